@@ -11,7 +11,7 @@ use Rattle.acd_terms.specs.declared.event.Columns.{Columns}
 use Rattle.acd_terms.specs.declared.event.Event.{Event}
 use Rattle.acd_model.specs.Scans.{group_of, agent_of}
 use Rattle.acd_model.specs.Figures.{figures_of, sum_of_figures}
-use Rattle.acd_model.specs.Told.{after, connection_told, Seat, no_seat, seat_told, enters, last_entry}
+use Rattle.acd_model.specs.Told.{known_after, connection_told, Seat, no_seat, seat_told, enters, last_entry}
 use Rattle.acd_model.specs.Watched.{is_external_caller, state_at, seat_of, HasPlace, IsWatched}
 use Rattle.acd_laws.specs.WatchedLaws.{TellsNoMore}
 use Rattle.acd_laws.proofs.Figures.CountedEvents.{figures_joined}
@@ -106,14 +106,14 @@ grown c list sound = grown_list c [] list sound (subst (Grown c) (ran_none c sou
 
 -- all that is shown is told by the events up to it
 
-shown_told : (c : Content) → IsSound c → (call device : ℕ) → shown_at c.rows call device ≡ after (connection_told call device) None c.events
+shown_told : (c : Content) → IsSound c → (call device : ℕ) → shown_at c.rows call device ≡ known_after (connection_told call device) None c.events
 shown_told c sound call device = by (is_external_caller c.rows call device) refl
   where
-    by : (b : Bool) → is_external_caller c.rows call device ≡ b → cond b None (state_at c.rows call device) ≡ after (connection_told call device) None c.events
+    by : (b : Bool) → is_external_caller c.rows call device ≡ b → cond b None (state_at c.rows call device) ≡ known_after (connection_told call device) None c.events
     by true e = sym ((sound_tells_no_more c sound).outside call device e)
     by false e = (sound_keeps_laws c sound).watched.connections call device e
 
-seat_shown : (c : Content) → IsSound c → (agent : ℕ) → seat_of (agent_of c.rows agent) ≡ after (seat_told agent) no_seat c.events
+seat_shown : (c : Content) → IsSound c → (agent : ℕ) → seat_of (agent_of c.rows agent) ≡ known_after (seat_told agent) no_seat c.events
 seat_shown c sound agent = (sound_keeps_laws c sound).watched.agents agent
 
 figures_counted : (c : Content) → IsSound c → (group : ℕ) → figures_shown (group_of c.rows group) ≡ figures_of group c.events
@@ -217,11 +217,11 @@ leads_by c d g before later = record {
   whole = g.whole;
   connections = λ call device.
       let told : Option ConnectionState → Columns → Option ConnectionState = connection_told call device in
-      shown_told d later call device ∙ ap (after told None) g.whole ∙ after-append told None c.events g.new
-      ∙ ap (λ (v : Option ConnectionState). after told v g.new) (sym (shown_told c before call device));
+      shown_told d later call device ∙ ap (known_after told None) g.whole ∙ after-append told None c.events g.new
+      ∙ ap (λ (v : Option ConnectionState). known_after told v g.new) (sym (shown_told c before call device));
   agents = λ agent.
-      seat_shown d later agent ∙ ap (after (seat_told agent) no_seat) g.whole ∙ after-append (seat_told agent) no_seat c.events g.new
-      ∙ ap (λ (v : Seat). after (seat_told agent) v g.new) (sym (seat_shown c before agent));
+      seat_shown d later agent ∙ ap (known_after (seat_told agent) no_seat) g.whole ∙ after-append (seat_told agent) no_seat c.events g.new
+      ∙ ap (λ (v : Seat). known_after (seat_told agent) v g.new) (sym (seat_shown c before agent));
   figures = λ group among.
       (sound_keeps_figures d later).groups group among ∙ ap (figures_of group.device) g.whole ∙ figures_joined group.device c.events g.new
       ∙ ap (λ (f : Figures). sum_of_figures f (figures_of group.device g.new)) (sym (figures_counted c before group.device));

@@ -21,7 +21,7 @@ use Rattle.acd_model.specs.Moves.{moved}
 use Rattle.acd_model.specs.Served.{Served, refuse_if, if_ok, ◌>>=◌, ◌>>◌, gives, outcome_of, moves_of}
 use Rattle.acd_model.specs.Services.{log_on, set_agent_state}
 use Rattle.acd_model.specs.Services.Serve.{serve}
-use Rattle.acd_model.specs.Step.{Stepped, step, step_by, executed_moment, next_stamp}
+use Rattle.acd_model.specs.Step.{Stepped, step, step_by, executed_moment, next_stamp, next_turn}
 use Rattle.acd_model.specs.declared.moves.Move.{Move}
 use Rattle.acd_book.specs.declared.kept.Kept.{Kept}
 use Rattle.acd_book.specs.Content.{Content, empty_content, committed}
@@ -32,6 +32,7 @@ use Rattle.acd_desk.specs.OldSound.{old_executed, old_run_from, IsOldRequested, 
 use Rattle.acd_desk.proofs.OldStates.{just_one, IsOldState, empty_is_old, moved_is_old, serve_old, step_is_old}
 use Rattle.acd_desk.proofs.OldOffers.{same_distribution}
 use Rattle.acd_desk.proofs.Sound.{firsts_own, length-arrivals}
+use Rattle.acd_terms.specs.declared.command.Turn.{Turn}
 
 -- a log-on in one group
 
@@ -44,33 +45,32 @@ one_test true q rest = refl
 one_test false true rest = refl
 one_test false false rest = refl
 
-same_log_on : (s : Rows) (m k agent device group : ℕ) → old_log_on s m k agent device group ≡ log_on s m k agent device (group ∷ [])
+same_log_on : (s : Rows) (turn : Turn) (agent device group : ℕ) → old_log_on s turn agent device group ≡ log_on s turn agent device (group ∷ [])
 unfolding old_log_on log_on refuse_if if_ok
-same_log_on s m k agent device group = λ i.
+same_log_on s turn agent device group = λ i.
     ok_or (agent_of s agent) UnknownAgent >>= (λ (a : AgentRecord).
     refuse_if (not (is_null a.state)) WrongAgentState >> (refuse_if (not (is_planned s device)) UnknownDevice >> (refuse_if (not (is_station s device)) NotStation
     >> (refuse_if (is_some (agent_at s device)) StationTaken
-    >> one_test (not (is_planned s group)) (not (is_group s group)) (gives (answer.State NotReady) (old_log_on_at m k a device group ∷ [])) i))))
+    >> one_test (not (is_planned s group)) (not (is_group s group)) (gives (answer.State NotReady) (old_log_on_at turn a device group ∷ [])) i))))
 
-same_set_agent_state : (s : Rows) (m k agent : ℕ) (q : Requested) → IsOldRequested q → old_set_agent_state s m k agent q ≡ set_agent_state s m k agent q
-same_set_agent_state s m k agent (requested.LoggedOn device groups) h =
+same_set_agent_state : (s : Rows) (turn : Turn) (agent : ℕ) (q : Requested) → IsOldRequested q → old_set_agent_state s turn agent q ≡ set_agent_state s turn agent q
+same_set_agent_state s turn agent (requested.LoggedOn device groups) h =
     let one = just_one groups h in
-    subst (λ (gs : List ℕ). old_set_agent_state s m k agent (requested.LoggedOn device gs) ≡ log_on s m k agent device gs) (sym one.1) (same_log_on s m k agent device one.0)
-same_set_agent_state s m k agent (requested.State wanted) h = refl
+    subst (λ (gs : List ℕ). old_set_agent_state s turn agent (requested.LoggedOn device gs) ≡ log_on s turn agent device gs) (sym one.1) (same_log_on s turn agent device one.0)
+same_set_agent_state s turn agent (requested.State wanted) h = refl
 
-same_serve : (s : Rows) (m k : ℕ) (c : Command) → IsOldCommand c → old_serve s m k c ≡ serve s m k c
-same_serve s m k (SetAgentState agent q) h = same_set_agent_state s m k agent q h
-same_serve s m k (SetGroupPriority device priority) h = absurd h
-same_serve s m k _ h = refl
+same_serve : (s : Rows) (turn : Turn) (c : Command) → IsOldCommand c → old_serve s turn c ≡ serve s turn c
+same_serve s turn (SetAgentState agent q) h = same_set_agent_state s turn agent q h
+same_serve s turn (SetGroupPriority device priority) h = absurd h
+same_serve s turn _ h = refl
 
 same_step : (s : Rows) (moment : ℕ) (c : Command) → IsOldCommand c → IsOldState s → old_step s moment c ≡ step s moment c
 unfolding old_step step
 same_step s moment c h o =
-    let m : ℕ = executed_moment s moment in
-    let k : ℕ = next_stamp s in
-    let v : Served = serve s m k c in
-    ap (old_step_at s m k) (same_serve s m k c h)
-    ∙ ap (λ (ms : List Move). step_by s m k (outcome_of v) (moves_of v ++ ms)) (same_distribution (moved s (moves_of v)) m (moved_is_old s (moves_of v) (serve_old s m k c h o) o))
+    let turn : Turn = next_turn s moment in
+    let v : Served = serve s turn c in
+    ap (old_step_at s turn) (same_serve s turn c h)
+    ∙ ap (λ (ms : List Move). step_by s turn (outcome_of v) (moves_of v ++ ms)) (same_distribution (moved s (moves_of v)) turn.moment (moved_is_old s (moves_of v) (serve_old s turn c h o) o))
 
 -- runs
 

@@ -19,7 +19,7 @@ use Rattle.acd_model.specs.Services.Serve.{serve}
 use Rattle.acd_model.specs.Distribution.{offer_at, offer_moves, with_offer, offers, distribution, station_of_agent}
 use Rattle.acd_model.specs.Choice.{offer_of}
 use Rattle.acd_model.specs.Tick.{return_to, return_moves, overdue_in, is_rested, rested_in, rest_moves, each, returns, rests, tick}
-use Rattle.acd_model.specs.Step.{step, step_moves, executed_moment, next_stamp}
+use Rattle.acd_model.specs.Step.{step, step_moves, next_turn}
 use Rattle.acd_model.specs.declared.moves.Ending.TheVariants.{NoAnswer}
 use Rattle.acd_model.specs.declared.moves.Change.TheVariants.{PutGroup, PutAgent}
 use Rattle.acd_model.specs.declared.moves.Release.TheVariants.{Stays, Goes}
@@ -29,6 +29,7 @@ use Rattle.acd_laws.proofs.Rules.Ended.{ascending_counting}
 use Rattle.acd_laws.proofs.Deeds.{by_refusal, by_found}
 use Rattle.acd_lemmas.proofs.State.{groups_total, agent_among}
 use Rattle.acd_desk.specs.OldSound.{IsOldRequested, IsOldCommand}
+use Rattle.acd_terms.specs.declared.command.Turn.{Turn}
 
 abbrev pub IsOneAtMost : List ℕ → Type 0
 IsOneAtMost [] = Unit {0}
@@ -88,13 +89,13 @@ moved_is_old s (x ∷ ms) h o = moved_is_old (changed s x.change) ms h.1 (change
 
 -- the moves of agents
 
-in_state_old : (state : AgentState) (m k : ℕ) (a : AgentRecord) → HasOneGroup a → HasOneGroup (in_state state m k a)
-in_state_old A.Null m k a h = tt
-in_state_old _ m k a h = h
+in_state_old : (state : AgentState) (turn : Turn) (a : AgentRecord) → HasOneGroup a → HasOneGroup (in_state state turn a)
+in_state_old A.Null turn a h = tt
+in_state_old _ turn a h = h
 
-goes_old : (m k : ℕ) (a : AgentRecord) (station : Option ℕ) (state : AgentState) → HasOneGroup a → IsOldMove (go_from m k a station state)
-goes_old m k a None state h = tt
-goes_old m k a (Some d) state h = in_state_old state m k a h
+goes_old : (turn : Turn) (a : AgentRecord) (station : Option ℕ) (state : AgentState) → HasOneGroup a → IsOldMove (go_from turn a station state)
+goes_old turn a None state h = tt
+goes_old turn a (Some d) state h = in_state_old state turn a h
 
 either : {T : Type 0} (P : T → Type 0) (b : Bool) (x y : T) → P x → P y → P (cond b x y)
 either P true x y h g = h
@@ -105,29 +106,29 @@ there_old : (s : Rows) (d : ℕ) → IsOldState s → (a : AgentRecord) → agen
 unfolding agent_at
 there_old s d o a e = every_among HasOneGroup s.agents a o.agents (find_among (λ (b : AgentRecord). has b.station d) s.agents a e)
 
-released_old : (m k : ℕ) (a : AgentRecord) (d : ℕ) (to : Release) → HasOneGroup a → IsOldMove (released m k a d to)
-released_old m k a d Stays h = h
-released_old m k a d (Goes state) h = in_state_old state m k a h
+released_old : (turn : Turn) (a : AgentRecord) (d : ℕ) (to : Release) → HasOneGroup a → IsOldMove (released turn a d to)
+released_old turn a d Stays h = h
+released_old turn a d (Goes state) h = in_state_old state turn a h
 
-releases_agent : (m k d : ℕ) (found : Option AgentRecord) (how : Ending) → ((a : AgentRecord) → found ≡ Some a → HasOneGroup a) → IsOldMove (release_agent m k found d how)
-releases_agent m k d None how h = tt
-releases_agent m k d (Some a) how h = released_old m k a d (release_of how a.pending) (h a refl)
+releases_agent : (turn : Turn) (d : ℕ) (found : Option AgentRecord) (how : Ending) → ((a : AgentRecord) → found ≡ Some a → HasOneGroup a) → IsOldMove (release_agent turn found d how)
+releases_agent turn d None how h = tt
+releases_agent turn d (Some a) how h = released_old turn a d (release_of how a.pending) (h a refl)
 
-release_old : (s : Rows) (m k : ℕ) (x : ConnectionRecord) (how : Ending) → IsOldState s → IsOldMove (release s m k x how)
+release_old : (s : Rows) (turn : Turn) (x : ConnectionRecord) (how : Ending) → IsOldState s → IsOldMove (release s turn x how)
 unfolding release
-release_old s m k x how o = either IsOldMove (is_distributed x) _ _ (releases_agent m k x.device (agent_at s x.device) how (there_old s x.device o)) tt
+release_old s turn x how o = either IsOldMove (is_distributed x) _ _ (releases_agent turn x.device (agent_at s x.device) how (there_old s x.device o)) tt
 
-busy_old : (m k d : ℕ) (found : Option AgentRecord) → ((a : AgentRecord) → found ≡ Some a → HasOneGroup a) → IsOldMove (busy_agent m k found d)
-busy_old m k d None h = tt
-busy_old m k d (Some a) h = h a refl
+busy_old : (turn : Turn) (d : ℕ) (found : Option AgentRecord) → ((a : AgentRecord) → found ≡ Some a → HasOneGroup a) → IsOldMove (busy_agent turn found d)
+busy_old turn d None h = tt
+busy_old turn d (Some a) h = h a refl
 
-occupy_old : (s : Rows) (m k : ℕ) (x : ConnectionRecord) → IsOldState s → IsOldMove (occupy s m k x)
+occupy_old : (s : Rows) (turn : Turn) (x : ConnectionRecord) → IsOldState s → IsOldMove (occupy s turn x)
 unfolding occupy
-occupy_old s m k x o = either IsOldMove (is_distributed x) _ _ (busy_old m k x.device (agent_at s x.device) (there_old s x.device o)) tt
+occupy_old s turn x o = either IsOldMove (is_distributed x) _ _ (busy_old turn x.device (agent_at s x.device) (there_old s x.device o)) tt
 
-release_other_old : (s : Rows) (m k : ℕ) (other : Option ConnectionRecord) → IsOldState s → IsOldMove (release_other s m k other)
-release_other_old s m k None o = tt
-release_other_old s m k (Some y) o = release_old s m k y (ending_of y) o
+release_other_old : (s : Rows) (turn : Turn) (other : Option ConnectionRecord) → IsOldState s → IsOldMove (release_other s turn other)
+release_other_old s turn None o = tt
+release_other_old s turn (Some y) o = release_old s turn y (ending_of y) o
 
 -- distribution and tick
 
@@ -153,32 +154,32 @@ distribution_old : (s : Rows) (m : ℕ) → Every IsOldMove (distribution s m)
 unfolding distribution
 distribution_old s m = offers_old _ s m
 
-return_old : (s : Rows) (m k : ℕ) (x : ConnectionRecord) (group : Option ℕ) → IsOldState s → Every IsOldMove (return_to s m k x group)
-return_old s m k x None o = tt
-return_old s m k x (Some g) o = (tt, (tt, (release_old s m k x NoAnswer o, tt)))
+return_old : (s : Rows) (turn : Turn) (x : ConnectionRecord) (group : Option ℕ) → IsOldState s → Every IsOldMove (return_to s turn x group)
+return_old s turn x None o = tt
+return_old s turn x (Some g) o = (tt, (tt, (release_old s turn x NoAnswer o, tt)))
 
-returns_old : (m k : ℕ) (s : Rows) (xs : List ConnectionRecord) → IsOldState s → Every IsOldMove (each (λ t x. return_moves t m k x) s xs)
-returns_old m k s [] o = tt
-returns_old m k s (x ∷ xs) o =
-    let first = return_old s m k x x.group o in
-    let t : Rows = moved s (return_moves s m k x) in
-    every-append IsOldMove (return_moves s m k x) (each (λ t x. return_moves t m k x) t xs) first
-    (returns_old m k t xs (moved_is_old s (return_moves s m k x) first o))
+returns_old : (turn : Turn) (s : Rows) (xs : List ConnectionRecord) → IsOldState s → Every IsOldMove (each (λ t x. return_moves t turn x) s xs)
+returns_old turn s [] o = tt
+returns_old turn s (x ∷ xs) o =
+    let first = return_old s turn x x.group o in
+    let t : Rows = moved s (return_moves s turn x) in
+    every-append IsOldMove (return_moves s turn x) (each (λ t x. return_moves t turn x) t xs) first
+    (returns_old turn t xs (moved_is_old s (return_moves s turn x) first o))
 
-rests_old : (m k : ℕ) (s : Rows) (xs : List AgentRecord) → Every HasOneGroup xs → Every IsOldMove (each (λ t a. rest_moves m k a) s xs)
-rests_old m k s [] h = tt
-rests_old m k s (a ∷ xs) h = (goes_old m k a a.station A.Ready h.0, rests_old m k (moved s (rest_moves m k a)) xs h.1)
+rests_old : (turn : Turn) (s : Rows) (xs : List AgentRecord) → Every HasOneGroup xs → Every IsOldMove (each (λ t a. rest_moves turn a) s xs)
+rests_old turn s [] h = tt
+rests_old turn s (a ∷ xs) h = (goes_old turn a a.station A.Ready h.0, rests_old turn (moved s (rest_moves turn a)) xs h.1)
 
 rested_old : (s : Rows) (m : ℕ) → IsOldState s → Every HasOneGroup (rested_in s m)
 unfolding rested_in
 rested_old s m o = every_from HasOneGroup (rested_in s m) (λ a i. every_among HasOneGroup s.agents a o.agents (filter_among (is_rested s m) s.agents a i).0)
 
-tick_old : (s : Rows) (m k : ℕ) → IsOldState s → Every IsOldMove (tick s m k)
+tick_old : (s : Rows) (turn : Turn) → IsOldState s → Every IsOldMove (tick s turn)
 unfolding tick returns rests
-tick_old s m k o =
-    let back = returns_old m k s (overdue_in s m) o in
-    let t : Rows = moved s (returns s m k) in
-    every-append IsOldMove (returns s m k) (rests t m k) back (rests_old m k t (rested_in t m) (rested_old t m (moved_is_old s (returns s m k) back o)))
+tick_old s turn o =
+    let back = returns_old turn s (overdue_in s turn.moment) o in
+    let t : Rows = moved s (returns s turn) in
+    every-append IsOldMove (returns s turn) (rests t turn) back (rests_old turn t (rested_in t turn.moment) (rested_old t turn.moment (moved_is_old s (returns s turn) back o)))
 
 -- the walk over refusals
 
@@ -204,25 +205,25 @@ add_station_old : (s : Rows) (device : ℕ) → IsOldServed (add_station s devic
 unfolding add_station
 add_station_old s device = unless _ _ _ (unless _ _ _ (tt, tt))
 
-add_agent_old : (s : Rows) (m k agent : ℕ) (name : List ℕ) → IsOldServed (add_agent s m k agent name)
+add_agent_old : (s : Rows) (turn : Turn) (agent : ℕ) (name : List ℕ) → IsOldServed (add_agent s turn agent name)
 unfolding add_agent
-add_agent_old s m k agent name = unless _ _ _ (unless _ _ _ (tt, tt))
+add_agent_old s turn agent name = unless _ _ _ (unless _ _ _ (tt, tt))
 
-arrive_call_old : (s : Rows) (m k caller called : ℕ) → IsOldServed (arrive_call s m k caller called)
+arrive_call_old : (s : Rows) (turn : Turn) (caller called : ℕ) → IsOldServed (arrive_call s turn caller called)
 unfolding arrive_call arrive
-arrive_call_old s m k caller called = unless _ _ _ (unless _ _ _ (unless _ _ _ (tt, (tt, (tt, tt)))))
+arrive_call_old s turn caller called = unless _ _ _ (unless _ _ _ (unless _ _ _ (tt, (tt, (tt, tt)))))
 
 make_call_old : (s : Rows) (m device called : ℕ) → IsOldServed (make_call s m device called)
 unfolding make_call
 make_call_old s m device called = unless _ _ _ (unless _ _ _ (unless _ _ _ (unless _ _ _ (unless _ _ _ (unless _ _ _ (tt, (tt, tt)))))))
 
-phone_off_hook_old : (s : Rows) (m k call device : ℕ) → IsOldServed (phone_off_hook s m k call device)
+phone_off_hook_old : (s : Rows) (turn : Turn) (call device : ℕ) → IsOldServed (phone_off_hook s turn call device)
 unfolding phone_off_hook arrive
-phone_off_hook_old s m k call device = with _ _ (λ c _. with _ _ (λ x _. unless _ _ _ (tt, (tt, tt))))
+phone_off_hook_old s turn call device = with _ _ (λ c _. with _ _ (λ x _. unless _ _ _ (tt, (tt, tt))))
 
-answer_call_old : (s : Rows) (m k call device : ℕ) → IsOldState s → IsOldServed (answer_call s m k call device)
+answer_call_old : (s : Rows) (turn : Turn) (call device : ℕ) → IsOldState s → IsOldServed (answer_call s turn call device)
 unfolding answer_call
-answer_call_old s m k call device o = with _ _ (λ _ _. with _ _ (λ x _. unless _ _ _ (tt, (occupy_old s m k x o, tt))))
+answer_call_old s turn call device o = with _ _ (λ _ _. with _ _ (λ x _. unless _ _ _ (tt, (occupy_old s turn x o, tt))))
 
 hold_call_old : (s : Rows) (call device : ℕ) → IsOldServed (hold_call s call device)
 unfolding hold_call
@@ -236,38 +237,38 @@ clear_other_old : (other : Option ConnectionRecord) → IsOldMove (clear_other o
 clear_other_old None = tt
 clear_other_old (Some y) = tt
 
-clear_connection_old : (s : Rows) (m k call device : ℕ) → IsOldState s → IsOldServed (clear_connection s m k call device)
+clear_connection_old : (s : Rows) (turn : Turn) (call device : ℕ) → IsOldState s → IsOldServed (clear_connection s turn call device)
 unfolding clear_connection
-clear_connection_old s m k call device o =
+clear_connection_old s turn call device o =
     with _ _ (λ _ _. with _ _ (λ x _.
-    (tt, (clear_other_old (other_of s x), (tt, (release_old s m k x (ending_of x) o, (release_other_old s m k (other_of s x) o, tt)))))))
+    (tt, (clear_other_old (other_of s x), (tt, (release_old s turn x (ending_of x) o, (release_other_old s turn (other_of s x) o, tt)))))))
 
-deflect_call_old : (s : Rows) (m k call device to : ℕ) → IsOldState s → IsOldServed (deflect_call s m k call device to)
+deflect_call_old : (s : Rows) (turn : Turn) (call device to : ℕ) → IsOldState s → IsOldServed (deflect_call s turn call device to)
 unfolding deflect_call arrive
-deflect_call_old s m k call device to o =
-    with _ _ (λ _ _. with _ _ (λ x _. unless _ _ _ (unless _ _ _ (unless _ _ _ (unless _ _ _ (tt, (tt, (release_old s m k x (ending_of x) o, tt))))))))
+deflect_call_old s turn call device to o =
+    with _ _ (λ _ _. with _ _ (λ x _. unless _ _ _ (unless _ _ _ (unless _ _ _ (unless _ _ _ (tt, (tt, (release_old s turn x (ending_of x) o, tt))))))))
 
-single_step_transfer_old : (s : Rows) (m k call device to : ℕ) → IsOldState s → IsOldServed (single_step_transfer s m k call device to)
+single_step_transfer_old : (s : Rows) (turn : Turn) (call device to : ℕ) → IsOldState s → IsOldServed (single_step_transfer s turn call device to)
 unfolding single_step_transfer arrive
-single_step_transfer_old s m k call device to o =
-    with _ _ (λ _ _. with _ _ (λ x _. unless _ _ _ (unless _ _ _ (unless _ _ _ (unless _ _ _ (unless _ _ _ (tt, (tt, (release_old s m k x (ending_of x) o, tt)))))))))
+single_step_transfer_old s turn call device to o =
+    with _ _ (λ _ _. with _ _ (λ x _. unless _ _ _ (unless _ _ _ (unless _ _ _ (unless _ _ _ (unless _ _ _ (tt, (tt, (release_old s turn x (ending_of x) o, tt)))))))))
 
-log_on_old : (s : Rows) (m k agent device group : ℕ) → IsOldServed (log_on s m k agent device (group ∷ []))
+log_on_old : (s : Rows) (turn : Turn) (agent device group : ℕ) → IsOldServed (log_on s turn agent device (group ∷ []))
 unfolding log_on
-log_on_old s m k agent device group =
+log_on_old s turn agent device group =
     with _ _ (λ a _. unless _ _ _ (unless _ _ _ (unless _ _ _ (unless _ _ _ (passes (all_groups s (group ∷ [])) _ (unless _ _ _ (tt, tt)))))))
 
-change_state_old : (s : Rows) (m k agent : ℕ) (wanted : Pending) → IsOldState s → IsOldServed (change_state s m k agent wanted)
+change_state_old : (s : Rows) (turn : Turn) (agent : ℕ) (wanted : Pending) → IsOldState s → IsOldServed (change_state s turn agent wanted)
 unfolding change_state
-change_state_old s m k agent wanted o =
+change_state_old s turn agent wanted o =
     with _ _ (λ a e.
     let one : HasOneGroup a = every_among HasOneGroup s.agents a o.agents (agent_among s agent a e) in
-    unless _ _ _ (either IsOldServed (is_occupied s a) _ _ (one, tt) (either IsOldServed (is_in a.state wanted) _ _ tt (goes_old m k a a.station (state_wanted wanted) one, tt))))
+    unless _ _ _ (either IsOldServed (is_occupied s a) _ _ (one, tt) (either IsOldServed (is_in a.state wanted) _ _ tt (goes_old turn a a.station (state_wanted wanted) one, tt))))
 
-set_agent_state_old : (s : Rows) (m k agent : ℕ) (q : Requested) → IsOldRequested q → IsOldState s → IsOldServed (set_agent_state s m k agent q)
-set_agent_state_old s m k agent (requested.LoggedOn device groups) h o =
-    let one = just_one groups h in subst (λ (gs : List ℕ). IsOldServed (log_on s m k agent device gs)) (sym one.1) (log_on_old s m k agent device one.0)
-set_agent_state_old s m k agent (requested.State wanted) h o = change_state_old s m k agent wanted o
+set_agent_state_old : (s : Rows) (turn : Turn) (agent : ℕ) (q : Requested) → IsOldRequested q → IsOldState s → IsOldServed (set_agent_state s turn agent q)
+set_agent_state_old s turn agent (requested.LoggedOn device groups) h o =
+    let one = just_one groups h in subst (λ (gs : List ℕ). IsOldServed (log_on s turn agent device gs)) (sym one.1) (log_on_old s turn agent device one.0)
+set_agent_state_old s turn agent (requested.State wanted) h o = change_state_old s turn agent wanted o
 
 monitor_start_old : (s : Rows) (device : ℕ) → IsOldServed (monitor_start s device)
 unfolding monitor_start
@@ -277,24 +278,24 @@ monitor_stop_old : (s : Rows) (monitor : ℕ) → IsOldServed (monitor_stop s mo
 unfolding monitor_stop
 monitor_stop_old s monitor = with _ _ (λ _ _. (tt, tt))
 
-pub serve_old : (s : Rows) (m k : ℕ) (c : Command) → IsOldCommand c → IsOldState s → Every IsOldMove (moves_of (serve s m k c))
-serve_old s m k (AddGroup device name ring wrap) h o = add_group_old s device name ring wrap
-serve_old s m k (AddStation device) h o = add_station_old s device
-serve_old s m k (AddAgent agent name) h o = add_agent_old s m k agent name
-serve_old s m k (ArriveCall caller called) h o = arrive_call_old s m k caller called
-serve_old s m k (MakeCall device called) h o = make_call_old s m device called
-serve_old s m k (PhoneOffHook call device) h o = phone_off_hook_old s m k call device
-serve_old s m k (AnswerCall call device) h o = answer_call_old s m k call device o
-serve_old s m k (HoldCall call device) h o = hold_call_old s call device
-serve_old s m k (RetrieveCall call device) h o = retrieve_call_old s call device
-serve_old s m k (ClearConnection call device) h o = clear_connection_old s m k call device o
-serve_old s m k (DeflectCall call device to) h o = deflect_call_old s m k call device to o
-serve_old s m k (SingleStepTransfer call device to) h o = single_step_transfer_old s m k call device to o
-serve_old s m k (SetAgentState agent q) h o = set_agent_state_old s m k agent q h o
-serve_old s m k (MonitorStart device) h o = monitor_start_old s device
-serve_old s m k (MonitorStop monitor) h o = monitor_stop_old s monitor
-serve_old s m k Tick h o = tick_old s m k o
-serve_old s m k (SetGroupPriority device priority) h o = absurd h
+pub serve_old : (s : Rows) (turn : Turn) (c : Command) → IsOldCommand c → IsOldState s → Every IsOldMove (moves_of (serve s turn c))
+serve_old s turn (AddGroup device name ring wrap) h o = add_group_old s device name ring wrap
+serve_old s turn (AddStation device) h o = add_station_old s device
+serve_old s turn (AddAgent agent name) h o = add_agent_old s turn agent name
+serve_old s turn (ArriveCall caller called) h o = arrive_call_old s turn caller called
+serve_old s turn (MakeCall device called) h o = make_call_old s turn.moment device called
+serve_old s turn (PhoneOffHook call device) h o = phone_off_hook_old s turn call device
+serve_old s turn (AnswerCall call device) h o = answer_call_old s turn call device o
+serve_old s turn (HoldCall call device) h o = hold_call_old s call device
+serve_old s turn (RetrieveCall call device) h o = retrieve_call_old s call device
+serve_old s turn (ClearConnection call device) h o = clear_connection_old s turn call device o
+serve_old s turn (DeflectCall call device to) h o = deflect_call_old s turn call device to o
+serve_old s turn (SingleStepTransfer call device to) h o = single_step_transfer_old s turn call device to o
+serve_old s turn (SetAgentState agent q) h o = set_agent_state_old s turn agent q h o
+serve_old s turn (MonitorStart device) h o = monitor_start_old s device
+serve_old s turn (MonitorStop monitor) h o = monitor_stop_old s monitor
+serve_old s turn Tick h o = tick_old s turn o
+serve_old s turn (SetGroupPriority device priority) h o = absurd h
 
 -- a whole step
 
@@ -305,9 +306,10 @@ counted_old es (g ∷ gs) h = (h.0, counted_old es gs h.1)
 pub step_is_old : (s : Rows) (moment : ℕ) (c : Command) → IsOldCommand c → IsOldState s → IsOldState (step s moment c).rows
 unfolding step with_last with_figures
 step_is_old s moment c h o =
-    let m : ℕ = executed_moment s moment in
-    let v : Served = serve s m (next_stamp s) c in
+    let turn : Turn = next_turn s moment in
+    let m : ℕ = turn.moment in
+    let v : Served = serve s turn c in
     let ms : List Move = step_moves s m v in
-    let first = serve_old s m (next_stamp s) c h o in
+    let first = serve_old s turn c h o in
     let t = moved_is_old s ms (every-append IsOldMove (moves_of v) (distribution (moved s (moves_of v)) m) first (distribution_old (moved s (moves_of v)) m)) o in
     record { agents = t.agents; groups = counted_old (events_of m ms) (moved s ms).groups t.groups; ascend = ascending_counting (events_of m ms) (moved s ms).groups t.ascend }

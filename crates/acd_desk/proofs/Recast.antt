@@ -18,7 +18,7 @@ use Rattle.acd_terms.specs.declared.event.Report.{Report}
 use Rattle.acd_terms.specs.declared.event.Report.TheVariants.{Queued}
 use Rattle.acd_model.specs.Scans.{has}
 use Rattle.acd_model.specs.Figures.{is_no_answer, is_entry}
-use Rattle.acd_model.specs.Told.{after, connection_told, Seat, no_seat, seat_told, enters, last_entry}
+use Rattle.acd_model.specs.Told.{known_after, connection_told, Seat, no_seat, seat_told, enters, last_entry}
 use Rattle.acd_model.specs.Watched.{waits_or_rings, HasPlace, HasEntered, IsWatched}
 use Rattle.acd_laws.specs.WatchedLaws.{TellsNoMore}
 use Rattle.acd_lemmas.proofs.Facts.{Rules, AlertingColumns, HasColumns, ConnectionRule}
@@ -56,9 +56,9 @@ same_seat : (s : Rows) (agent : ℕ) (v : Seat) (r : Report) → seat_told agent
 same_seat s agent v (Queued c g cause) = refl
 same_seat s agent v _ = refl
 
-after_recast : {T : Type 0} (f : T → Columns → T) (s : Rows) → ((v : T) (r : Report) → f v (columns_of (recast s r)) ≡ f v (columns_of r)) → (x : T) (es : List Event) → after f x (history s es) ≡ after f x es
+after_recast : {T : Type 0} (f : T → Columns → T) (s : Rows) → ((v : T) (r : Report) → f v (columns_of (recast s r)) ≡ f v (columns_of r)) → (x : T) (es : List Event) → known_after f x (history s es) ≡ known_after f x es
 after_recast f s h x [] = refl
-after_recast f s h x (e ∷ es) = after_recast f s h (f x (columns_of (recast s e.report))) es ∙ ap (λ v. after f v es) (h x e.report)
+after_recast f s h x (e ∷ es) = after_recast f s h (f x (columns_of (recast s e.report))) es ∙ ap (λ v. known_after f v es) (h x e.report)
 
 -- an entry of a call that is held is told as before, and no other is
 

@@ -7,7 +7,7 @@ use Rattle.acd_model.specs.Moves.{changed, moved, events_of}
 use Rattle.acd_model.specs.Writes.{with_group, with_station, with_agent, with_call, with_connection, with_monitor, without_call, without_connection, without_monitor, with_last}
 use Rattle.acd_model.specs.Figures.{with_figures}
 use Rattle.acd_model.specs.Services.Serve.{serve}
-use Rattle.acd_model.specs.Step.{step, step_at, step_moves, numbered, executed_moment, next_stamp}
+use Rattle.acd_model.specs.Step.{step, step_at, step_moves, numbered, executed_moment, next_stamp, next_turn, turn_at}
 use Rattle.acd_model.specs.declared.moves.Change.{Change}
 use Rattle.acd_model.specs.declared.moves.Change.TheVariants.{Nothing, PutGroup, PutStation, PutAgent, PutCall, PutConnection, PutMonitor, RemoveCall, RemoveConnection, RemoveMonitor}
 use Rattle.acd_model.specs.declared.moves.Move.{Move}
@@ -21,7 +21,7 @@ moved_limits s (x ∷ ms) = moved_limits (changed s x.change) ms ∙ limits-chan
 
 pub step_limits : (s : Rows) (m : ℕ) (c : Command) → (step s m c).rows.limits ≡ s.limits
 unfolding step with_last with_figures
-step_limits s m c = moved_limits s (step_moves s (executed_moment s m) (serve s (executed_moment s m) (next_stamp s) c))
+step_limits s m c = moved_limits s (step_moves s (executed_moment s m) (serve s (next_turn s m) c))
 
 pub step_stamp : (s : Rows) (m : ℕ) (c : Command) → (step s m c).rows.last_stamp ≡ s.last_stamp + 1
 unfolding step with_last
@@ -33,7 +33,7 @@ again m l = omega arith
 -- at the executed moment the step is the same
 pub step_raised : (s : Rows) (m : ℕ) (c : Command) → step s (executed_moment s m) c ≡ step s m c
 unfolding step
-step_raised s m c = ap (λ (x : ℕ). step_at s x (next_stamp s) (serve s x (next_stamp s) c)) (again m s.last_moment)
+step_raised s m c = ap (λ (x : ℕ). step_at s (turn_at x (next_stamp s)) (serve s (turn_at x (next_stamp s)) c)) (again m s.last_moment)
 
 pub raised_again : (s : Rows) (m : ℕ) → executed_moment s (executed_moment s m) ≡ executed_moment s m
 raised_again s m = again m s.last_moment
@@ -49,4 +49,4 @@ step_numbers s m c = numbered_go_on s.last_event _
 
 pub step_event : (s : Rows) (m : ℕ) (c : Command) → (step s m c).rows.last_event ≡ s.last_event + length (step s m c).events
 unfolding step with_last
-step_event s m c = ap (λ (n : ℕ). s.last_event + n) (sym (length-numbered s.last_event (events_of (executed_moment s m) (step_moves s (executed_moment s m) (serve s (executed_moment s m) (next_stamp s) c)))))
+step_event s m c = ap (λ (n : ℕ). s.last_event + n) (sym (length-numbered s.last_event (events_of (executed_moment s m) (step_moves s (executed_moment s m) (serve s (next_turn s m) c)))))

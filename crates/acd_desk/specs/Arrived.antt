@@ -1,7 +1,7 @@
 -- A request at a moment.
-use Rattle.std.specs.Prelude.{ℕ}
+use Rattle.acd_terms.specs.Numbers.{Moment}
 use Rattle.acd_terms.specs.declared.command.Arrival.{Arrival}
 use Rattle.acd_terms.specs.declared.command.Request.{Request}
 
-abbrev pub at : ℕ → Request → Arrival
+abbrev pub at : Moment → Request → Arrival
 at moment request = record { moment = moment; request = request }

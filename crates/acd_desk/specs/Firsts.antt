@@ -1,6 +1,7 @@
 -- The abstract desk: the switch run once over each request's first arrival.
 use Rattle.std.specs.Prelude.{ℕ, List, [], ◌∷◌, ◌++◌, take, Bool, cond}
 use Rattle.std.specs.List.{list_any}
+use Rattle.acd_terms.specs.Numbers.{Moment, Stamp}
 use Rattle.acd_terms.specs.declared.rows.Limits.{Limits}
 use Rattle.acd_terms.specs.declared.rows.Rows.{Rows}
 use Rattle.acd_terms.specs.declared.command.Arrival.{Arrival}
@@ -28,7 +29,7 @@ abbrev pub stepped : Rows → Arrival → Stepped
 stepped s a = step s a.moment a.request.command
 
 -- a record with the reply that an outcome gives
-abbrev pub kept_at : ℕ → ℕ → Request → Outcome → Kept
+abbrev pub kept_at : Stamp → Moment → Request → Outcome → Kept
 kept_at stamp moment r outcome =
     record { stamp = stamp; moment = moment; request = r; status = outcome_status outcome; body = reply_text r.requester r.invoke outcome }
 

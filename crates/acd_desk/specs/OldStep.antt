@@ -2,8 +2,9 @@
 -- has not changed since is shared, and so is what changed with the records' fields alone: an agent's new state leaves it its
 -- group, or none in null; an agent is planned with none, and a group with priority 0; and after-call work lasts as long as
 -- the agent's group has it, which is the one of least number.
-use Rattle.std.specs.Prelude.{ℕ, not, List, [], ◌∷◌, ◌++◌, Some, None, is_some, Err}
+use Rattle.std.specs.Prelude.{not, List, [], ◌∷◌, ◌++◌, Some, None, is_some, Err}
 use Rattle.std.specs.Option.{ok_or}
+use Rattle.acd_terms.specs.Numbers.{Device, Agent, Moment}
 use Rattle.acd_terms.specs.States.{is_null}
 use Rattle.acd_terms.specs.declared.rows.Rows.{Rows}
 use Rattle.acd_terms.specs.declared.record.AgentRecord.{AgentRecord}
@@ -34,18 +35,18 @@ use Rattle.acd_model.specs.Services.SetAgentState.{change_state}
 use Rattle.acd_model.specs.Services.MonitorStart.{monitor_start}
 use Rattle.acd_model.specs.Services.MonitorStop.{monitor_stop}
 use Rattle.acd_model.specs.Tick.{tick}
-use Rattle.acd_model.specs.Step.{Stepped, step_by, executed_moment, next_stamp}
+use Rattle.acd_model.specs.Step.{Stepped, step_by, next_turn}
 use Rattle.acd_model.specs.declared.moves.Move.{Move}
 use Rattle.acd_model.specs.declared.moves.Change.TheVariants.{PutAgent}
 use Rattle.acd_desk.specs.OldChoice.{old_distribution}
 
-abbrev pub old_log_on_at : ℕ → ℕ → AgentRecord → ℕ → ℕ → Move
-old_log_on_at m k a station group =
-    reported (PutAgent (record a { state = NotReady; pending = None; station = Some station; groups = group ∷ []; stamp = k; since = m }))
+abbrev pub old_log_on_at : Turn → AgentRecord → Device → Device → Move
+old_log_on_at turn a station group =
+    reported (PutAgent (record a { state = NotReady; pending = None; station = Some station; groups = group ∷ []; stamp = turn.stamp; since = turn.moment }))
     (AgentLoggedOn a.agent station (Some group))
 
-unfoldable pub old_log_on : Rows → ℕ → ℕ → ℕ → ℕ → ℕ → Served
-old_log_on s m k agent device group = do
+unfoldable pub old_log_on : Rows → Turn → Agent → Device → Device → Served
+old_log_on s turn agent device group = do
   a ← ok_or (agent_of s agent) UnknownAgent
   refuse_if (not (is_null a.state)) WrongAgentState
   refuse_if (not (is_planned s device)) UnknownDevice
@@ -53,42 +54,41 @@ old_log_on s m k agent device group = do
   refuse_if (is_some (agent_at s device)) StationTaken
   refuse_if (not (is_planned s group)) UnknownDevice
   refuse_if (not (is_group s group)) NotGroup
-  gives (answer.State NotReady) (old_log_on_at m k a device group ∷ [])
+  gives (answer.State NotReady) (old_log_on_at turn a device group ∷ [])
 
 -- no request named more groups, or none
-abbrev pub old_set_agent_state : Rows → ℕ → ℕ → ℕ → Requested → Served
-old_set_agent_state s m k agent (requested.LoggedOn device (group ∷ [])) = old_log_on s m k agent device group
-old_set_agent_state s m k agent (requested.LoggedOn device _) = Err NotGroup
-old_set_agent_state s m k agent (requested.State wanted) = change_state s m k agent wanted
+abbrev pub old_set_agent_state : Rows → Turn → Agent → Requested → Served
+old_set_agent_state s turn agent (requested.LoggedOn device (group ∷ [])) = old_log_on s turn agent device group
+old_set_agent_state s turn agent (requested.LoggedOn device _) = Err NotGroup
+old_set_agent_state s turn agent (requested.State wanted) = change_state s turn agent wanted
 
 -- sixteen services: the seventeenth was none
-abbrev pub old_serve : Rows → ℕ → ℕ → Command → Served
-old_serve s m k (AddGroup device name ring wrap) = add_group s device name ring wrap
-old_serve s m k (AddStation device) = add_station s device
-old_serve s m k (AddAgent agent name) = add_agent s m k agent name
-old_serve s m k (ArriveCall caller called) = arrive_call s m k caller called
-old_serve s m k (MakeCall device called) = make_call s m device called
-old_serve s m k (PhoneOffHook call device) = phone_off_hook s m k call device
-old_serve s m k (AnswerCall call device) = answer_call s m k call device
-old_serve s m k (HoldCall call device) = hold_call s call device
-old_serve s m k (RetrieveCall call device) = retrieve_call s call device
-old_serve s m k (ClearConnection call device) = clear_connection s m k call device
-old_serve s m k (DeflectCall call device to) = deflect_call s m k call device to
-old_serve s m k (SingleStepTransfer call device to) = single_step_transfer s m k call device to
-old_serve s m k (SetAgentState agent requested) = old_set_agent_state s m k agent requested
-old_serve s m k (MonitorStart device) = monitor_start s device
-old_serve s m k (MonitorStop monitor) = monitor_stop s monitor
-old_serve s m k Tick = gives answer.Nothing (tick s m k)
-old_serve s m k (SetGroupPriority device priority) = Err NotGroup
+abbrev pub old_serve : Rows → Turn → Command → Served
+old_serve s turn (AddGroup device name ring wrap) = add_group s device name ring wrap
+old_serve s turn (AddStation device) = add_station s device
+old_serve s turn (AddAgent agent name) = add_agent s turn agent name
+old_serve s turn (ArriveCall caller called) = arrive_call s turn caller called
+old_serve s turn (MakeCall device called) = make_call s turn.moment device called
+old_serve s turn (PhoneOffHook call device) = phone_off_hook s turn call device
+old_serve s turn (AnswerCall call device) = answer_call s turn call device
+old_serve s turn (HoldCall call device) = hold_call s call device
+old_serve s turn (RetrieveCall call device) = retrieve_call s call device
+old_serve s turn (ClearConnection call device) = clear_connection s turn call device
+old_serve s turn (DeflectCall call device to) = deflect_call s turn call device to
+old_serve s turn (SingleStepTransfer call device to) = single_step_transfer s turn call device to
+old_serve s turn (SetAgentState agent requested) = old_set_agent_state s turn agent requested
+old_serve s turn (MonitorStart device) = monitor_start s device
+old_serve s turn (MonitorStop monitor) = monitor_stop s monitor
+old_serve s turn Tick = gives answer.Nothing (tick s turn)
+old_serve s turn (SetGroupPriority device priority) = Err NotGroup
 
 -- the moves of a whole step: the service's, then the distribution's from the state that these leave
-abbrev pub old_step_moves : Rows → ℕ → Served → List Move
-old_step_moves s m v = moves_of v ++ old_distribution (moved s (moves_of v)) m
+abbrev pub old_step_moves : Rows → Moment → Served → List Move
+old_step_moves s moment v = moves_of v ++ old_distribution (moved s (moves_of v)) moment
 
-abbrev pub old_step_at : Rows → ℕ → ℕ → Served → Stepped
-old_step_at s m k v = step_by s m k (outcome_of v) (old_step_moves s m v)
+abbrev pub old_step_at : Rows → Turn → Served → Stepped
+old_step_at s turn v = step_by s turn (outcome_of v) (old_step_moves s turn.moment v)
 
 -- the outcome, the state and the events of a request
-unfoldable pub old_step : Rows → ℕ → Command → Stepped
-old_step s moment command =
-    old_step_at s (executed_moment s moment) (next_stamp s) (old_serve s (executed_moment s moment) (next_stamp s) command)
+unfoldable pub old_step : Rows → Moment → Command → Stepped
+old_step s moment command = old_step_at s (next_turn s moment) (old_serve s (next_turn s moment) command)

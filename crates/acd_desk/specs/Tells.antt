@@ -2,6 +2,7 @@
 use Rattle.std.specs.Prelude.{ℕ, ◌<◌, List, [], ◌∷◌, map, filter, max, nat_lt, Option, Some, None, is_some, option_map, String, string_bytes, if◌then◌else◌}
 use Rattle.std.specs.declared.cmp.Ordering.{Ordering}
 use Rattle.acd_terms.specs.Lists.{put_by}
+use Rattle.acd_terms.specs.Numbers.{Device, Agent, CallId, MonitorId, Moment, EventNumber}
 use Rattle.acd_terms.specs.declared.rows.Rows.{Rows}
 use Rattle.acd_terms.specs.declared.record.GroupRecord.{GroupRecord}
 use Rattle.acd_terms.specs.declared.record.StationRecord.{StationRecord}
@@ -37,15 +38,15 @@ in_order cmp [] = []
 in_order cmp (x ∷ xs) = put_by (cmp x) (in_order cmp xs) x
 
 -- an agent
-abbrev pub agent_read : Rows → ℕ → Option (List ℕ)
+abbrev pub agent_read : Rows → Agent → Option (List ℕ)
 agent_read s agent = option_map agent_text (agent_of s agent)
 
 -- a live call, its connections in ascending device
-abbrev pub call_read : Rows → ℕ → Option (List ℕ)
+abbrev pub call_read : Rows → CallId → Option (List ℕ)
 call_read s call = option_map (λ (r : CallRecord). call_text r (connections_of s call)) (call_of s call)
 
 -- a station with the agent who is logged on there, and its connections in ascending call
-abbrev pub station_in : Rows → ℕ → PlannedStation
+abbrev pub station_in : Rows → Device → PlannedStation
 station_in s station = record { device = station; agent = option_map (λ (a : AgentRecord). a.agent) (agent_at s station); connections = connections_at s station }
 
 abbrev pub or_group : Option GroupRecord → Option PlannedDevice → Option PlannedDevice
@@ -53,32 +54,32 @@ or_group (Some g) station = Some (planned.Group g)
 or_group None station = station
 
 -- a planned device
-abbrev pub device_in : Rows → ℕ → Option PlannedDevice
+abbrev pub device_in : Rows → Device → Option PlannedDevice
 device_in s device = or_group (group_of s device) (if is_station s device then Some (planned.Station (station_in s device)) else None)
 
-abbrev pub device_read : Rows → ℕ → Option (List ℕ)
+abbrev pub device_read : Rows → Device → Option (List ℕ)
 device_read s device = option_map device_text (device_in s device)
 
 -- those who wait in a group, by their places
 abbrev pub by_place : ConnectionRecord → ConnectionRecord → Ordering
 by_place x y = pair_cmp (waiting_pair x) (waiting_pair y)
 
-unfoldable pub queue_in : Rows → ℕ → List ConnectionRecord
+unfoldable pub queue_in : Rows → Device → List ConnectionRecord
 queue_in s group = in_order by_place (waiting_in s group)
 
 -- its eligible agents, by stamp and then by number
 abbrev pub by_stamp : AgentRecord → AgentRecord → Ordering
 by_stamp x y = pair_cmp (ready_pair x) (ready_pair y)
 
-unfoldable pub ready_in : Rows → ℕ → List ℕ
+unfoldable pub ready_in : Rows → Device → List Agent
 ready_in s group = map (λ (a : AgentRecord). a.agent) (in_order by_stamp (eligible_in s group))
 
 -- the queue of a planned group
-abbrev pub queue_read : Rows → ℕ → Option (List ℕ)
+abbrev pub queue_read : Rows → Device → Option (List ℕ)
 queue_read s group = if is_group s group then Some (queue_text group (queue_in s group) (ready_in s group)) else None
 
 -- the queue report at the moment, or at the last executed one where that is later
-abbrev pub report_read : Rows → ℕ → Option (List ℕ)
+abbrev pub report_read : Rows → Moment → Option (List ℕ)
 report_read s moment = Some (queue_report s (max moment s.last_moment))
 
 -- a live call with its connections in ascending device
@@ -118,17 +119,17 @@ abbrev pub history_size : ℕ
 history_size = 1000
 
 -- the first events above a number, so many at most, beside the number of the last one
-abbrev pub page_read : Content → ℕ → ℕ → Option (List ℕ)
+abbrev pub page_read : Content → EventNumber → ℕ → Option (List ℕ)
 page_read c after size = Some (page_text (events_behind c.events after size) c.rows.last_event)
 
-abbrev pub events_read : Content → ℕ → Option (List ℕ)
+abbrev pub events_read : Content → EventNumber → Option (List ℕ)
 events_read c after = page_read c after page_size
 
-abbrev pub history_read : Content → ℕ → Option (List ℕ)
+abbrev pub history_read : Content → EventNumber → Option (List ℕ)
 history_read c after = page_read c after history_size
 
 -- the same of a running monitor: the events at its device since it was started
-abbrev pub monitor_read : Content → ℕ → ℕ → Option (List ℕ)
+abbrev pub monitor_read : Content → MonitorId → EventNumber → Option (List ℕ)
 monitor_read c monitor after =
     if is_some (monitor_of c.rows monitor) then Some (page_text (events_of_monitor c monitor after page_size) c.rows.last_event) else None
 
@@ -137,15 +138,15 @@ abbrev pub export_read : Content → Option (List ℕ)
 export_read c = Some (events_csv c.events)
 
 -- the events stand in ascending number, each above the last number
-abbrev pub Rise : ℕ → List Event → Type 0
+abbrev pub Rise : EventNumber → List Event → Type 0
 Rise last [] = Unit {0}
 Rise last (e ∷ es) = (last < e.number) × Rise e.number es
 
 -- those above a number
-abbrev pub above : List Event → ℕ → List Event
+abbrev pub above : List Event → EventNumber → List Event
 above events number = filter (λ (e : Event). nat_lt number e.number) events
 
 -- the records of those that an export still has to tell, above the last one that it told
-abbrev pub records_left : List Event → Option ℕ → List ℕ
+abbrev pub records_left : List Event → Option EventNumber → List ℕ
 records_left events None = []
 records_left events (Some last) = records_text (above events last)

@@ -7,6 +7,7 @@ use Rattle.acd_terms.specs.declared.state.ConnectionState.TheVariants as S
 use Rattle.acd_model.specs.CallMoves.{plain, met_at, destination_of, arriving}
 use Rattle.acd_lemmas.proofs.Facts.{Bare, GroupColumn, IsCaller, StandsAt, ConnectionRule, RulesBut, Rules, AgentRule, ringing_at, talking_at, seated_at, ready_at, busy_at, pending_at, two_if}
 use Rattle.acd_lemmas.proofs.Lists.{none_counted, fewer, one, counted, both_fewer}
+use Rattle.acd_terms.specs.declared.command.Turn.{Turn}
 
 -- what stands at a destination
 pub record Arrived (s : Rows) (c d : ℕ) (y : ConnectionRecord) : Type 0 where
@@ -24,16 +25,16 @@ pub record Arrived (s : Rows) (c d : ℕ) (y : ConnectionRecord) : Type 0 where
 bare : (c d : ℕ) (state : ConnectionState) → Bare (plain c d state)
 bare c d state = record { place = refl; queued = refl; offered = refl }
 
-arrived_as : (q i : Bool) (s : Rows) (m k c d : ℕ) → is_group s d ≡ q → is_idle s d ≡ i → is_planned s d ≡ true → Arrived s c d (arriving (met_at q i) m k c d)
-arrived_as true i s m k c d e f p =
+arrived_as : (q i : Bool) (s : Rows) (turn : Turn) (c d : ℕ) → is_group s d ≡ q → is_idle s d ≡ i → is_planned s d ≡ true → Arrived s c d (arriving (met_at q i) turn c d)
+arrived_as true i s turn c d e f p =
     record { call = refl; device = refl; rule = (record { group = refl; place = refl; queued = refl; offered = refl }, e, e); not_initiated = refl; not_hold = refl; not_answered = refl; not_distributed = refl; not_ringing = refl; idle = λ q. absurd (cc (q)); alerting_idle = λ q. absurd (cc (q)) }
-arrived_as false true s m k c d e f p =
+arrived_as false true s turn c d e f p =
     record { call = refl; device = refl; rule = (bare c d S.Alerting, tt, rw e at p); not_initiated = refl; not_hold = refl; not_answered = refl; not_distributed = refl; not_ringing = refl; idle = λ q. f; alerting_idle = λ q. f }
-arrived_as false false s m k c d e f p =
+arrived_as false false s turn c d e f p =
     record { call = refl; device = refl; rule = ((bare c d S.Fail, refl), tt, rw e at p); not_initiated = refl; not_hold = refl; not_answered = refl; not_distributed = refl; not_ringing = refl; idle = λ q. absurd (cc (q)); alerting_idle = λ q. absurd (cc (q)) }
 
-pub arrived : (s : Rows) (m k c d : ℕ) → is_planned s d ≡ true → Arrived s c d (arriving (destination_of s d) m k c d)
-arrived s m k c d p = arrived_as (is_group s d) (is_idle s d) s m k c d refl refl p
+pub arrived : (s : Rows) (turn : Turn) (c d : ℕ) → is_planned s d ≡ true → Arrived s c d (arriving (destination_of s d) turn c d)
+arrived s turn c d p = arrived_as (is_group s d) (is_idle s d) s turn c d refl refl p
 
 -- at an idle station none is live, alerting or on hold
 is_at : ℕ → ConnectionRecord → Bool

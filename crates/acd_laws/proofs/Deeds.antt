@@ -25,6 +25,7 @@ use Rattle.acd_model.specs.declared.moves.Change.TheVariants.{PutGroup, PutStati
 use Rattle.acd_lemmas.proofs.Lists.{none_from}
 use Rattle.acd_lemmas.proofs.State.{found_key, own_key, agent_own}
 use Rattle.acd_laws.proofs.Offers.Distributing.{Offering}
+use Rattle.acd_terms.specs.declared.command.Turn.{Turn}
 
 pub by_refusal : (P : Served → Type 0) (b : Bool) (r : Refusal) (rest : Served) → ((r : Refusal) → P (Err r)) → (b ≡ false → P rest) → P (refuse_if b r >> rest)
 unfolding refuse_if if_ok
@@ -53,37 +54,37 @@ pub record Free (s : Rows) (x : ConnectionRecord) (to : ℕ) : Type 0 where
   pub apart : connection_of s x.call to ≡ None
 
 -- what distribution and tick do, once or more in a step
-pub data Round (s : Rows) (m k : ℕ) : List Move → Type 0 where
-  offers : (o : Offer) (x : ConnectionRecord) (a : AgentRecord) (d : ℕ) → Offering s o x a d → Round s m k (offer_at m (Some x) (Some d))
-  returns : (x : ConnectionRecord) (g : ℕ) → connection_of s x.call x.device ≡ Some x → is_alerting x.state ≡ true → x.group ≡ Some g → Round s m k (return_to s m k x (Some g))
-  rests : (a : AgentRecord) → agent_of s a.agent ≡ Some a → is_working_after_call a.state ≡ true → Round s m k (rest_moves m k a)
+pub data Round (s : Rows) (turn : Turn) : List Move → Type 0 where
+  offers : (o : Offer) (x : ConnectionRecord) (a : AgentRecord) (d : ℕ) → Offering s o x a d → Round s turn (offer_at turn.moment (Some x) (Some d))
+  returns : (x : ConnectionRecord) (g : ℕ) → connection_of s x.call x.device ≡ Some x → is_alerting x.state ≡ true → x.group ≡ Some g → Round s turn (return_to s turn x (Some g))
+  rests : (a : AgentRecord) → agent_of s a.agent ≡ Some a → is_working_after_call a.state ≡ true → Round s turn (rest_moves turn a)
 
 -- what a service does, with what its tests established
-pub data Deed (s : Rows) (m k : ℕ) : List Move → Type 0 where
-  nothing : Deed s m k []
-  adds_group : (device : ℕ) (name : List ℕ) (ring wrap : ℕ) → is_used s device ≡ false → nat_le s.limits.groups (length s.groups) ≡ false → Deed s m k (silent (PutGroup (new_group device name ring wrap)) ∷ [])
-  adds_station : (device : ℕ) → is_used s device ≡ false → nat_le s.limits.stations (length s.stations) ≡ false → Deed s m k (silent (PutStation (record { device = device })) ∷ [])
-  adds_agent : (agent : ℕ) (name : List ℕ) → agent_of s agent ≡ None → nat_le s.limits.agents (length s.agents) ≡ false → Deed s m k (silent (PutAgent (new_agent m k agent name)) ∷ [])
+pub data Deed (s : Rows) (turn : Turn) : List Move → Type 0 where
+  nothing : Deed s turn []
+  adds_group : (device : ℕ) (name : List ℕ) (ring wrap : ℕ) → is_used s device ≡ false → nat_le s.limits.groups (length s.groups) ≡ false → Deed s turn (silent (PutGroup (new_group device name ring wrap)) ∷ [])
+  adds_station : (device : ℕ) → is_used s device ≡ false → nat_le s.limits.stations (length s.stations) ≡ false → Deed s turn (silent (PutStation (record { device = device })) ∷ [])
+  adds_agent : (agent : ℕ) (name : List ℕ) → agent_of s agent ≡ None → nat_le s.limits.agents (length s.agents) ≡ false → Deed s turn (silent (PutAgent (new_agent turn agent name)) ∷ [])
   watches : (device : ℕ) → is_planned s device ≡ true → nat_le s.limits.monitors (length s.monitors) ≡ false
-      → Deed s m k (silent (PutMonitor (record { monitor = next_monitor s; device = device; after_event = s.last_event })) ∷ [])
-  unwatches : (monitor : ℕ) → Deed s m k (silent (RemoveMonitor monitor) ∷ [])
+      → Deed s turn (silent (PutMonitor (record { monitor = next_monitor s; device = device; after_event = s.last_event })) ∷ [])
+  unwatches : (monitor : ℕ) → Deed s turn (silent (RemoveMonitor monitor) ∷ [])
   arrives : (caller called : ℕ) → is_planned s caller ≡ false → is_planned s called ≡ true → has_no_call_left s ≡ false
-      → Deed s m k (begin (new_call s m caller called) ∷ connect_caller (next_call s) caller ∷ arrive s m k (next_call s) called NewCall ∷ [])
+      → Deed s turn (begin (new_call s turn.moment caller called) ∷ connect_caller (next_call s) caller ∷ arrive s turn (next_call s) called NewCall ∷ [])
   makes : (device called : ℕ) → is_planned s device ≡ true → is_station s device ≡ true → is_planned s called ≡ true → (called == device) ≡ false → is_live_at s device ≡ false → has_no_call_left s ≡ false
-      → Deed s m k (begin (new_call s m device called) ∷ initiate (next_call s) device ∷ [])
-  goes_out : (p : Party s) → is_initiated p.x.state ≡ true → Deed s m k (originate p.x p.about.called ∷ arrive s m k p.x.call p.about.called NewCall ∷ [])
-  answers : (p : Party s) → is_alerting p.x.state ≡ true → Deed s m k (answer m p.x ∷ occupy s m k p.x ∷ [])
-  holds : (p : Party s) → is_station s p.x.device ≡ true → is_connected p.x.state ≡ true → Deed s m k (hold p.x ∷ [])
-  retrieves : (p : Party s) → is_hold p.x.state ≡ true → is_live_at s p.x.device ≡ false → Deed s m k (retrieve p.x ∷ [])
-  clears : (p : Party s) → Deed s m k (clearing s m k p.x (other_of s p.x))
+      → Deed s turn (begin (new_call s turn.moment device called) ∷ initiate (next_call s) device ∷ [])
+  goes_out : (p : Party s) → is_initiated p.x.state ≡ true → Deed s turn (originate p.x p.about.called ∷ arrive s turn p.x.call p.about.called NewCall ∷ [])
+  answers : (p : Party s) → is_alerting p.x.state ≡ true → Deed s turn (answer turn.moment p.x ∷ occupy s turn p.x ∷ [])
+  holds : (p : Party s) → is_station s p.x.device ≡ true → is_connected p.x.state ≡ true → Deed s turn (hold p.x ∷ [])
+  retrieves : (p : Party s) → is_hold p.x.state ≡ true → is_live_at s p.x.device ≡ false → Deed s turn (retrieve p.x ∷ [])
+  clears : (p : Party s) → Deed s turn (clearing s turn p.x (other_of s p.x))
   deflects : (p : Party s) (to : ℕ) → (is_alerting p.x.state || is_queued p.x.state) ≡ true → Free s p.x to
-      → Deed s m k (divert p.x to Deflected ∷ arrive s m k p.x.call to Deflected ∷ release s m k p.x (ending_of p.x) ∷ [])
+      → Deed s turn (divert p.x to Deflected ∷ arrive s turn p.x.call to Deflected ∷ release s turn p.x (ending_of p.x) ∷ [])
   transfers : (p : Party s) (to : ℕ) → is_connected p.x.state ≡ true → is_answered_by (other_of s p.x) ≡ true → Free s p.x to
-      → Deed s m k (transfer p.x to ∷ arrive s m k p.x.call to Transferred ∷ release s m k p.x (ending_of p.x) ∷ [])
+      → Deed s turn (transfer p.x to ∷ arrive s turn p.x.call to Transferred ∷ release s turn p.x (ending_of p.x) ∷ [])
   logs_on : (a : AgentRecord) (device : ℕ) (groups : List ℕ) → agent_of s a.agent ≡ Some a → is_null a.state ≡ true → is_station s device ≡ true → agent_at s device ≡ None → ArePlannedGroups s groups
-      → Deed s m k (log_on_at m k a device groups ∷ [])
-  waits : (a : AgentRecord) (wanted : Pending) → agent_of s a.agent ≡ Some a → is_null a.state ≡ false → is_occupied s a ≡ true → Deed s m k (wait_for a (Some wanted) ∷ [])
-  goes : (a : AgentRecord) (wanted : Pending) → agent_of s a.agent ≡ Some a → is_null a.state ≡ false → is_occupied s a ≡ false → Deed s m k (go_from m k a a.station (state_wanted wanted) ∷ [])
+      → Deed s turn (log_on_at turn a device groups ∷ [])
+  waits : (a : AgentRecord) (wanted : Pending) → agent_of s a.agent ≡ Some a → is_null a.state ≡ false → is_occupied s a ≡ true → Deed s turn (wait_for a (Some wanted) ∷ [])
+  goes : (a : AgentRecord) (wanted : Pending) → agent_of s a.agent ≡ Some a → is_null a.state ≡ false → is_occupied s a ≡ false → Deed s turn (go_from turn a a.station (state_wanted wanted) ∷ [])
 
 -- what setGroupPriority does: no deed, so that its command alone changes a planned group's record
 pub data Ranks (s : Rows) : Command → List Move → Type 0 where
@@ -97,87 +98,87 @@ is_ranking _ = false
 
 -- the walk over refusals
 
-abbrev pub DeedBy : Rows → ℕ → ℕ → Served → Type 0
-DeedBy s m k v = Deed s m k (moves_of v)
+abbrev pub DeedBy : Rows → Turn → Served → Type 0
+DeedBy s turn v = Deed s turn (moves_of v)
 
-unless : {s : Rows} {m k : ℕ} {b : Bool} (r : Refusal) (rest : Served) → (b ≡ false → DeedBy s m k rest) → DeedBy s m k (refuse_if b r >> rest)
-unless {s} {m} {k} {b} r rest h = by_refusal (DeedBy s m k) b r rest (λ _. nothing) h
+unless : {s : Rows} {turn : Turn} {b : Bool} (r : Refusal) (rest : Served) → (b ≡ false → DeedBy s turn rest) → DeedBy s turn (refuse_if b r >> rest)
+unless {s} {turn} {b} r rest h = by_refusal (DeedBy s turn) b r rest (λ _. nothing) h
 
-with : {T : Type 0} {s : Rows} {m k : ℕ} {o : Option T} (r : Refusal) (rest : T → Served) → ((x : T) → o ≡ Some x → DeedBy s m k (rest x)) → DeedBy s m k (ok_or o r >>= rest)
-with {T} {s} {m} {k} {o} r rest h = by_found (DeedBy s m k) o r rest (λ _. nothing) h
+with : {T : Type 0} {s : Rows} {turn : Turn} {o : Option T} (r : Refusal) (rest : T → Served) → ((x : T) → o ≡ Some x → DeedBy s turn (rest x)) → DeedBy s turn (ok_or o r >>= rest)
+with {T} {s} {turn} {o} r rest h = by_found (DeedBy s turn) o r rest (λ _. nothing) h
 
 -- a connection of a live call
-party : {s : Rows} {m k call device : ℕ} (r q : Refusal) (rest : CallRecord → ConnectionRecord → Served)
-    → ((p : Party s) → p.x.call ≡ call → p.x.device ≡ device → DeedBy s m k (rest p.about p.x)) → DeedBy s m k (ok_or (call_of s call) r >>= (λ c. ok_or (connection_of s call device) q >>= rest c))
-party {s} {m} {k} {call} {device} r q rest h = with _ _ (λ c ec. with _ _ (λ x ex.
+party : {s : Rows} {turn : Turn} {call device : ℕ} (r q : Refusal) (rest : CallRecord → ConnectionRecord → Served)
+    → ((p : Party s) → p.x.call ≡ call → p.x.device ≡ device → DeedBy s turn (rest p.about p.x)) → DeedBy s turn (ok_or (call_of s call) r >>= (λ c. ok_or (connection_of s call device) q >>= rest c))
+party {s} {turn} {call} {device} r q rest h = with _ _ (λ c ec. with _ _ (λ x ex.
     let key = found_key s call device x ex in
     h (record { about = c; x = x; live = ap (call_of s) key.0 ∙ ec; found = own_key s call device x ex }) key.0 key.1))
 
 apart_if : {T : Type 0} (o : Option T) → is_some o ≡ false → o ≡ None
 apart_if o new = none_from o (λ z e. cc (new, ap is_some e))
 
-deed_add_group : (s : Rows) (m k device : ℕ) (name : List ℕ) (ring wrap : ℕ) → DeedBy s m k (add_group s device name ring wrap)
+deed_add_group : (s : Rows) (turn : Turn) (device : ℕ) (name : List ℕ) (ring wrap : ℕ) → DeedBy s turn (add_group s device name ring wrap)
 unfolding add_group
-deed_add_group s m k device name ring wrap = unless _ _ (λ free. unless _ _ (λ room. adds_group device name ring wrap free room))
+deed_add_group s turn device name ring wrap = unless _ _ (λ free. unless _ _ (λ room. adds_group device name ring wrap free room))
 
-deed_add_station : (s : Rows) (m k device : ℕ) → DeedBy s m k (add_station s device)
+deed_add_station : (s : Rows) (turn : Turn) (device : ℕ) → DeedBy s turn (add_station s device)
 unfolding add_station
-deed_add_station s m k device = unless _ _ (λ free. unless _ _ (λ room. adds_station device free room))
+deed_add_station s turn device = unless _ _ (λ free. unless _ _ (λ room. adds_station device free room))
 
-deed_add_agent : (s : Rows) (m k agent : ℕ) (name : List ℕ) → DeedBy s m k (add_agent s m k agent name)
+deed_add_agent : (s : Rows) (turn : Turn) (agent : ℕ) (name : List ℕ) → DeedBy s turn (add_agent s turn agent name)
 unfolding add_agent
-deed_add_agent s m k agent name = unless _ _ (λ new. unless _ _ (λ room. adds_agent agent name (apart_if (agent_of s agent) new) room))
+deed_add_agent s turn agent name = unless _ _ (λ new. unless _ _ (λ room. adds_agent agent name (apart_if (agent_of s agent) new) room))
 
-deed_arrive_call : (s : Rows) (m k caller called : ℕ) → DeedBy s m k (arrive_call s m k caller called)
+deed_arrive_call : (s : Rows) (turn : Turn) (caller called : ℕ) → DeedBy s turn (arrive_call s turn caller called)
 unfolding arrive_call
-deed_arrive_call s m k caller called = unless _ _ (λ outside. unless _ _ (λ known. unless _ _ (λ room. arrives caller called outside (not-false (is_planned s called) known) room)))
+deed_arrive_call s turn caller called = unless _ _ (λ outside. unless _ _ (λ known. unless _ _ (λ room. arrives caller called outside (not-false (is_planned s called) known) room)))
 
-deed_make_call : (s : Rows) (m k device called : ℕ) → DeedBy s m k (make_call s m device called)
+deed_make_call : (s : Rows) (turn : Turn) (device called : ℕ) → DeedBy s turn (make_call s turn.moment device called)
 unfolding make_call
-deed_make_call s m k device called =
+deed_make_call s turn device called =
     unless _ _ (λ planned. unless _ _ (λ station. unless _ _ (λ known. unless _ _ (λ differ. unless _ _ (λ free. unless _ _ (λ room.
     makes device called (not-false (is_planned s device) planned) (not-false (is_station s device) station) (not-false (is_planned s called) known) differ free room))))))
 
-deed_phone_off_hook : (s : Rows) (m k call device : ℕ) → DeedBy s m k (phone_off_hook s m k call device)
+deed_phone_off_hook : (s : Rows) (turn : Turn) (call device : ℕ) → DeedBy s turn (phone_off_hook s turn call device)
 unfolding phone_off_hook
-deed_phone_off_hook s m k call device = party _ _ _ (λ p same _. unless _ _ (λ state.
-    subst (λ n. Deed s m k (originate p.x p.about.called ∷ arrive s m k n p.about.called NewCall ∷ [])) same (goes_out p (not-false (is_initiated p.x.state) state))))
+deed_phone_off_hook s turn call device = party _ _ _ (λ p same _. unless _ _ (λ state.
+    subst (λ n. Deed s turn (originate p.x p.about.called ∷ arrive s turn n p.about.called NewCall ∷ [])) same (goes_out p (not-false (is_initiated p.x.state) state))))
 
-deed_answer_call : (s : Rows) (m k call device : ℕ) → DeedBy s m k (answer_call s m k call device)
+deed_answer_call : (s : Rows) (turn : Turn) (call device : ℕ) → DeedBy s turn (answer_call s turn call device)
 unfolding answer_call
-deed_answer_call s m k call device = party _ _ _ (λ p _ _. unless _ _ (λ state. answers p (not-false (is_alerting p.x.state) state)))
+deed_answer_call s turn call device = party _ _ _ (λ p _ _. unless _ _ (λ state. answers p (not-false (is_alerting p.x.state) state)))
 
-deed_hold_call : (s : Rows) (m k call device : ℕ) → DeedBy s m k (hold_call s call device)
+deed_hold_call : (s : Rows) (turn : Turn) (call device : ℕ) → DeedBy s turn (hold_call s call device)
 unfolding hold_call
-deed_hold_call s m k call device =
+deed_hold_call s turn call device =
     party _ _ _ (λ p _ at. unless _ _ (λ station. unless _ _ (λ state.
     holds p (ap (is_station s) at ∙ not-false (is_station s device) station) (not-false (is_connected p.x.state) state))))
 
-deed_retrieve_call : (s : Rows) (m k call device : ℕ) → DeedBy s m k (retrieve_call s call device)
+deed_retrieve_call : (s : Rows) (turn : Turn) (call device : ℕ) → DeedBy s turn (retrieve_call s call device)
 unfolding retrieve_call
-deed_retrieve_call s m k call device = party _ _ _ (λ p _ at. unless _ _ (λ state. unless _ _ (λ free. retrieves p (not-false (is_hold p.x.state) state) (ap (is_live_at s) at ∙ free))))
+deed_retrieve_call s turn call device = party _ _ _ (λ p _ at. unless _ _ (λ state. unless _ _ (λ free. retrieves p (not-false (is_hold p.x.state) state) (ap (is_live_at s) at ∙ free))))
 
-deed_clear_connection : (s : Rows) (m k call device : ℕ) → DeedBy s m k (clear_connection s m k call device)
+deed_clear_connection : (s : Rows) (turn : Turn) (call device : ℕ) → DeedBy s turn (clear_connection s turn call device)
 unfolding clear_connection
-deed_clear_connection s m k call device = party _ _ _ (λ p _ _. clears p)
+deed_clear_connection s turn call device = party _ _ _ (λ p _ _. clears p)
 
 -- the call can go to a planned device at which it has no connection
 free : (s : Rows) (call to : ℕ) (x : ConnectionRecord) → x.call ≡ call → not (is_planned s to) ≡ false → is_in_call s call to ≡ false → Free s x to
 free s call to x same known new = record { planned = not-false (is_planned s to) known; apart = ap (λ n. connection_of s n to) same ∙ apart_if (connection_of s call to) new }
 
-deed_deflect_call : (s : Rows) (m k call device to : ℕ) → DeedBy s m k (deflect_call s m k call device to)
+deed_deflect_call : (s : Rows) (turn : Turn) (call device to : ℕ) → DeedBy s turn (deflect_call s turn call device to)
 unfolding deflect_call
-deed_deflect_call s m k call device to =
+deed_deflect_call s turn call device to =
     party _ _ _ (λ p same _. unless _ _ (λ state. unless _ _ (λ known. unless _ _ (λ new. unless _ _ (λ _.
-    subst (λ n. Deed s m k (divert p.x to Deflected ∷ arrive s m k n to Deflected ∷ release s m k p.x (ending_of p.x) ∷ [])) same
+    subst (λ n. Deed s turn (divert p.x to Deflected ∷ arrive s turn n to Deflected ∷ release s turn p.x (ending_of p.x) ∷ [])) same
     (deflects p to (not-false (is_alerting p.x.state || is_queued p.x.state) state) (free s call to p.x same known new)))))))
 
-deed_single_step_transfer : (s : Rows) (m k call device to : ℕ) → DeedBy s m k (single_step_transfer s m k call device to)
+deed_single_step_transfer : (s : Rows) (turn : Turn) (call device to : ℕ) → DeedBy s turn (single_step_transfer s turn call device to)
 unfolding single_step_transfer
-deed_single_step_transfer s m k call device to =
+deed_single_step_transfer s turn call device to =
     party _ _ _ (λ p same _. unless _ _ (λ _. unless _ _ (λ state. unless _ _ (λ known. unless _ _ (λ new. unless _ _ (λ _.
     let both = and_parts (is_connected p.x.state) (is_answered_by (other_of s p.x)) (not-false (is_connected p.x.state && is_answered_by (other_of s p.x)) state) in
-    subst (λ n. Deed s m k (transfer p.x to ∷ arrive s m k n to Transferred ∷ release s m k p.x (ending_of p.x) ∷ [])) same
+    subst (λ n. Deed s turn (transfer p.x to ∷ arrive s turn n to Transferred ∷ release s turn p.x (ending_of p.x) ∷ [])) same
     (transfers p to both.0 both.1 (free s call to p.x same known new))))))))
 
 -- each of the groups is one where none of them is refused
@@ -192,40 +193,40 @@ all_are_groups s (g ∷ gs) e = by (is_planned s g) (is_group s g) refl e (all_a
     by true false h e more = absurd (cc (e))
     by false q h e more = absurd (cc (e))
 
-passes : {s : Rows} {m k : ℕ} (v : Result (Unit {0}) Refusal) (rest : Served) → (v ≡ Ok tt → DeedBy s m k rest) → DeedBy s m k (v >> rest)
+passes : {s : Rows} {turn : Turn} (v : Result (Unit {0}) Refusal) (rest : Served) → (v ≡ Ok tt → DeedBy s turn rest) → DeedBy s turn (v >> rest)
 unfolding if_ok
 passes (Ok u) rest h = h refl
 passes (Err r) rest h = nothing
 
-deed_log_on : (s : Rows) (m k agent device : ℕ) (groups : List ℕ) → DeedBy s m k (log_on s m k agent device groups)
+deed_log_on : (s : Rows) (turn : Turn) (agent device : ℕ) (groups : List ℕ) → DeedBy s turn (log_on s turn agent device groups)
 unfolding log_on
-deed_log_on s m k agent device groups =
+deed_log_on s turn agent device groups =
     with _ _ (λ a ea. unless _ _ (λ null. unless _ _ (λ _. unless _ _ (λ station. unless _ _ (λ taken. passes (all_groups s groups) _ (λ all. unless _ _ (λ choice.
     logs_on a device groups (agent_own s agent a ea) (not-false (is_null a.state) null) (not-false (is_station s device) station) (apart_if (agent_at s device) taken)
     (not-false (is_choice groups) choice, all_are_groups s groups all))))))))
 
-either : {s : Rows} {m k : ℕ} (b : Bool) (v w : Served) → (b ≡ true → DeedBy s m k v) → (b ≡ false → DeedBy s m k w) → DeedBy s m k (cond b v w)
+either : {s : Rows} {turn : Turn} (b : Bool) (v w : Served) → (b ≡ true → DeedBy s turn v) → (b ≡ false → DeedBy s turn w) → DeedBy s turn (cond b v w)
 either true v w h g = h refl
 either false v w h g = g refl
 
-deed_change_state : (s : Rows) (m k agent : ℕ) (wanted : Pending) → DeedBy s m k (change_state s m k agent wanted)
+deed_change_state : (s : Rows) (turn : Turn) (agent : ℕ) (wanted : Pending) → DeedBy s turn (change_state s turn agent wanted)
 unfolding change_state
-deed_change_state s m k agent wanted =
+deed_change_state s turn agent wanted =
     with _ _ (λ a ea. unless _ _ (λ seated.
     either (is_occupied s a) _ _ (λ busy. waits a wanted (agent_own s agent a ea) seated busy) (λ free.
     either (is_in a.state wanted) _ _ (λ _. nothing) (λ _. goes a wanted (agent_own s agent a ea) seated free))))
 
-deed_set_agent_state : (s : Rows) (m k agent : ℕ) (q : Requested) → DeedBy s m k (set_agent_state s m k agent q)
-deed_set_agent_state s m k agent (requested.LoggedOn device groups) = deed_log_on s m k agent device groups
-deed_set_agent_state s m k agent (requested.State wanted) = deed_change_state s m k agent wanted
+deed_set_agent_state : (s : Rows) (turn : Turn) (agent : ℕ) (q : Requested) → DeedBy s turn (set_agent_state s turn agent q)
+deed_set_agent_state s turn agent (requested.LoggedOn device groups) = deed_log_on s turn agent device groups
+deed_set_agent_state s turn agent (requested.State wanted) = deed_change_state s turn agent wanted
 
-deed_monitor_start : (s : Rows) (m k device : ℕ) → DeedBy s m k (monitor_start s device)
+deed_monitor_start : (s : Rows) (turn : Turn) (device : ℕ) → DeedBy s turn (monitor_start s device)
 unfolding monitor_start
-deed_monitor_start s m k device = unless _ _ (λ known. unless _ _ (λ room. watches device (not-false (is_planned s device) known) room))
+deed_monitor_start s turn device = unless _ _ (λ known. unless _ _ (λ room. watches device (not-false (is_planned s device) known) room))
 
-deed_monitor_stop : (s : Rows) (m k monitor : ℕ) → DeedBy s m k (monitor_stop s monitor)
+deed_monitor_stop : (s : Rows) (turn : Turn) (monitor : ℕ) → DeedBy s turn (monitor_stop s monitor)
 unfolding monitor_stop
-deed_monitor_stop s m k monitor = with _ _ (λ w _. unwatches monitor)
+deed_monitor_stop s turn monitor = with _ _ (λ w _. unwatches monitor)
 
 ranks_of : (s : Rows) (device priority : ℕ) → Ranks s (SetGroupPriority device priority) (moves_of (set_group_priority s device priority))
 unfolding set_group_priority refuse_if if_ok
@@ -241,22 +242,22 @@ ranks_of s device priority = by (group_of s device) refl
     by (Some g) e = ranks device priority g e
 
 -- what a command does: a deed or what tick does, and setGroupPriority what it does
-pub deed_of_serve : (s : Rows) (m k : ℕ) (c : Command)
-    → ((is_ranking c ≡ false) × (DeedBy s m k (serve s m k c) ⊎ (moves_of (serve s m k c) ≡ tick s m k))) ⊎ Ranks s c (moves_of (serve s m k c))
-deed_of_serve s m k (AddGroup device name ring wrap) = inl (refl, inl (deed_add_group s m k device name ring wrap))
-deed_of_serve s m k (AddStation device) = inl (refl, inl (deed_add_station s m k device))
-deed_of_serve s m k (AddAgent agent name) = inl (refl, inl (deed_add_agent s m k agent name))
-deed_of_serve s m k (ArriveCall caller called) = inl (refl, inl (deed_arrive_call s m k caller called))
-deed_of_serve s m k (MakeCall device called) = inl (refl, inl (deed_make_call s m k device called))
-deed_of_serve s m k (PhoneOffHook call device) = inl (refl, inl (deed_phone_off_hook s m k call device))
-deed_of_serve s m k (AnswerCall call device) = inl (refl, inl (deed_answer_call s m k call device))
-deed_of_serve s m k (HoldCall call device) = inl (refl, inl (deed_hold_call s m k call device))
-deed_of_serve s m k (RetrieveCall call device) = inl (refl, inl (deed_retrieve_call s m k call device))
-deed_of_serve s m k (ClearConnection call device) = inl (refl, inl (deed_clear_connection s m k call device))
-deed_of_serve s m k (DeflectCall call device to) = inl (refl, inl (deed_deflect_call s m k call device to))
-deed_of_serve s m k (SingleStepTransfer call device to) = inl (refl, inl (deed_single_step_transfer s m k call device to))
-deed_of_serve s m k (SetAgentState agent q) = inl (refl, inl (deed_set_agent_state s m k agent q))
-deed_of_serve s m k (MonitorStart device) = inl (refl, inl (deed_monitor_start s m k device))
-deed_of_serve s m k (MonitorStop monitor) = inl (refl, inl (deed_monitor_stop s m k monitor))
-deed_of_serve s m k Tick = inl (refl, inr refl)
-deed_of_serve s m k (SetGroupPriority device priority) = inr (ranks_of s device priority)
+pub deed_of_serve : (s : Rows) (turn : Turn) (c : Command)
+    → ((is_ranking c ≡ false) × (DeedBy s turn (serve s turn c) ⊎ (moves_of (serve s turn c) ≡ tick s turn))) ⊎ Ranks s c (moves_of (serve s turn c))
+deed_of_serve s turn (AddGroup device name ring wrap) = inl (refl, inl (deed_add_group s turn device name ring wrap))
+deed_of_serve s turn (AddStation device) = inl (refl, inl (deed_add_station s turn device))
+deed_of_serve s turn (AddAgent agent name) = inl (refl, inl (deed_add_agent s turn agent name))
+deed_of_serve s turn (ArriveCall caller called) = inl (refl, inl (deed_arrive_call s turn caller called))
+deed_of_serve s turn (MakeCall device called) = inl (refl, inl (deed_make_call s turn device called))
+deed_of_serve s turn (PhoneOffHook call device) = inl (refl, inl (deed_phone_off_hook s turn call device))
+deed_of_serve s turn (AnswerCall call device) = inl (refl, inl (deed_answer_call s turn call device))
+deed_of_serve s turn (HoldCall call device) = inl (refl, inl (deed_hold_call s turn call device))
+deed_of_serve s turn (RetrieveCall call device) = inl (refl, inl (deed_retrieve_call s turn call device))
+deed_of_serve s turn (ClearConnection call device) = inl (refl, inl (deed_clear_connection s turn call device))
+deed_of_serve s turn (DeflectCall call device to) = inl (refl, inl (deed_deflect_call s turn call device to))
+deed_of_serve s turn (SingleStepTransfer call device to) = inl (refl, inl (deed_single_step_transfer s turn call device to))
+deed_of_serve s turn (SetAgentState agent q) = inl (refl, inl (deed_set_agent_state s turn agent q))
+deed_of_serve s turn (MonitorStart device) = inl (refl, inl (deed_monitor_start s turn device))
+deed_of_serve s turn (MonitorStop monitor) = inl (refl, inl (deed_monitor_stop s turn monitor))
+deed_of_serve s turn Tick = inl (refl, inr refl)
+deed_of_serve s turn (SetGroupPriority device priority) = inr (ranks_of s device priority)

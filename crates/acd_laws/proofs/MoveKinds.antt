@@ -13,91 +13,92 @@ use Rattle.acd_lemmas.proofs.State.{agent_put, agent_there}
 use Rattle.acd_terms.specs.declared.state.ConnectionState.TheVariants.{Alerting, Fail}
 use Rattle.acd_terms.specs.declared.event.Report.TheVariants.{Queued, Delivered, Failed}
 use Rattle.acd_model.specs.CallMoves.{plain, queueing, met_at, arriving, arrival, arrive}
+use Rattle.acd_terms.specs.declared.command.Turn.{Turn}
 
 -- the agent in another state, at the same station unless it is null
-pub record Reseated (m k : ℕ) (a b : AgentRecord) : Type 0 where
+pub record Reseated (turn : Turn) (a b : AgentRecord) : Type 0 where
   pub agent : b.agent ≡ a.agent
   pub station : b.station ≡ while_logged_on b.state a.station
-  pub stamp : b.stamp ≡ k
-  pub since : b.since ≡ m
+  pub stamp : b.stamp ≡ turn.stamp
+  pub since : b.since ≡ turn.moment
 
 -- a move of an agent of whom K holds
-pub data AgentMove (K : AgentRecord → Type 0) (m k : ℕ) : Move → Type 0 where
-  stays : AgentMove K m k no_move
-  waits : (a : AgentRecord) (pending : Option Pending) → K a → AgentMove K m k (wait_for a pending)
-  tells : (a b : AgentRecord) (d : ℕ) → K a → Reseated m k a b → AgentMove K m k (reported (PutAgent b) (state_report b.state b.agent d))
+pub data AgentMove (K : AgentRecord → Type 0) (turn : Turn) : Move → Type 0 where
+  stays : AgentMove K turn no_move
+  waits : (a : AgentRecord) (pending : Option Pending) → K a → AgentMove K turn (wait_for a pending)
+  tells : (a b : AgentRecord) (d : ℕ) → K a → Reseated turn a b → AgentMove K turn (reported (PutAgent b) (state_report b.state b.agent d))
 
-pub goes_from : (K : AgentRecord → Type 0) (m k : ℕ) (a : AgentRecord) (o : Option ℕ) (st : AgentState) → K a → AgentMove K m k (go_from m k a o st)
-goes_from K m k a None st h = stays
-goes_from K m k a (Some d) st h = tells a (in_state st m k a) d h (record { agent = refl; station = refl; stamp = refl; since = refl })
+pub goes_from : (K : AgentRecord → Type 0) (turn : Turn) (a : AgentRecord) (o : Option ℕ) (st : AgentState) → K a → AgentMove K turn (go_from turn a o st)
+goes_from K turn a None st h = stays
+goes_from K turn a (Some d) st h = tells a (in_state st turn a) d h (record { agent = refl; station = refl; stamp = refl; since = refl })
 
-either : (K : AgentRecord → Type 0) (m k : ℕ) (b : Bool) (x : Move) → AgentMove K m k x → AgentMove K m k (cond b x no_move)
-either K m k true x h = h
-either K m k false x h = stays
+either : (K : AgentRecord → Type 0) (turn : Turn) (b : Bool) (x : Move) → AgentMove K turn x → AgentMove K turn (cond b x no_move)
+either K turn true x h = h
+either K turn false x h = stays
 
-releases_agent : (K : AgentRecord → Type 0) (m k d : ℕ) (o : Option AgentRecord) (how : Ending) → ((a : AgentRecord) → o ≡ Some a → K a) → AgentMove K m k (release_agent m k o d how)
-releases_agent K m k d None how h = stays
-releases_agent K m k d (Some a) how h = by (release_of how a.pending)
+releases_agent : (K : AgentRecord → Type 0) (turn : Turn) (d : ℕ) (o : Option AgentRecord) (how : Ending) → ((a : AgentRecord) → o ≡ Some a → K a) → AgentMove K turn (release_agent turn o d how)
+releases_agent K turn d None how h = stays
+releases_agent K turn d (Some a) how h = by (release_of how a.pending)
   where
-    by : (to : Release) → AgentMove K m k (released m k a d to)
+    by : (to : Release) → AgentMove K turn (released turn a d to)
     by Stays = waits a None (h a refl)
-    by (Goes st) = goes_from K m k a (Some d) st (h a refl)
+    by (Goes st) = goes_from K turn a (Some d) st (h a refl)
 
-pub releases : (K : AgentRecord → Type 0) (s : Rows) (m k : ℕ) (x : ConnectionRecord) (how : Ending) → ((a : AgentRecord) → agent_at s x.device ≡ Some a → K a) → AgentMove K m k (release s m k x how)
+pub releases : (K : AgentRecord → Type 0) (s : Rows) (turn : Turn) (x : ConnectionRecord) (how : Ending) → ((a : AgentRecord) → agent_at s x.device ≡ Some a → K a) → AgentMove K turn (release s turn x how)
 unfolding release
-releases K s m k x how h = either K m k (is_distributed x) _ (releases_agent K m k x.device (agent_at s x.device) how h)
+releases K s turn x how h = either K turn (is_distributed x) _ (releases_agent K turn x.device (agent_at s x.device) how h)
 
-occupies_agent : (K : AgentRecord → Type 0) (m k d : ℕ) (o : Option AgentRecord) → ((a : AgentRecord) → o ≡ Some a → K a) → AgentMove K m k (busy_agent m k o d)
-occupies_agent K m k d None h = stays
-occupies_agent K m k d (Some a) h = tells a (record a { state = A.Busy; stamp = k; since = m }) d (h a refl) (record { agent = refl; station = refl; stamp = refl; since = refl })
+occupies_agent : (K : AgentRecord → Type 0) (turn : Turn) (d : ℕ) (o : Option AgentRecord) → ((a : AgentRecord) → o ≡ Some a → K a) → AgentMove K turn (busy_agent turn o d)
+occupies_agent K turn d None h = stays
+occupies_agent K turn d (Some a) h = tells a (record a { state = A.Busy; stamp = turn.stamp; since = turn.moment }) d (h a refl) (record { agent = refl; station = refl; stamp = refl; since = refl })
 
-pub occupies : (K : AgentRecord → Type 0) (s : Rows) (m k : ℕ) (x : ConnectionRecord) → ((a : AgentRecord) → agent_at s x.device ≡ Some a → K a) → AgentMove K m k (occupy s m k x)
+pub occupies : (K : AgentRecord → Type 0) (s : Rows) (turn : Turn) (x : ConnectionRecord) → ((a : AgentRecord) → agent_at s x.device ≡ Some a → K a) → AgentMove K turn (occupy s turn x)
 unfolding occupy
-occupies K s m k x h = either K m k (is_distributed x) _ (occupies_agent K m k x.device (agent_at s x.device) h)
+occupies K s turn x h = either K turn (is_distributed x) _ (occupies_agent K turn x.device (agent_at s x.device) h)
 
 -- the agent is known with just this record
 abbrev pub Recorded : Rows → AgentRecord → Type 0
 Recorded t a = agent_of t a.agent ≡ Some a
 
-pub releases_here : (s : Rows) (m k : ℕ) (x : ConnectionRecord) (how : Ending) → IsAscending agent_order s.agents → AgentMove (Recorded s) m k (release s m k x how)
-releases_here s m k x how h = releases (Recorded s) s m k x how (λ a e. agent_there s h x.device a e)
+pub releases_here : (s : Rows) (turn : Turn) (x : ConnectionRecord) (how : Ending) → IsAscending agent_order s.agents → AgentMove (Recorded s) turn (release s turn x how)
+releases_here s turn x how h = releases (Recorded s) s turn x how (λ a e. agent_there s h x.device a e)
 
-pub occupies_here : (s : Rows) (m k : ℕ) (x : ConnectionRecord) → IsAscending agent_order s.agents → AgentMove (Recorded s) m k (occupy s m k x)
-occupies_here s m k x h = occupies (Recorded s) s m k x (λ a e. agent_there s h x.device a e)
+pub occupies_here : (s : Rows) (turn : Turn) (x : ConnectionRecord) → IsAscending agent_order s.agents → AgentMove (Recorded s) turn (occupy s turn x)
+occupies_here s turn x h = occupies (Recorded s) s turn x (λ a e. agent_there s h x.device a e)
 
 -- where nothing has to be known of the agent
 abbrev pub Anyone : AgentRecord → Type 0
 Anyone a = Unit {0}
 
-pub released_by : (s : Rows) (m k : ℕ) (x : ConnectionRecord) (how : Ending) → AgentMove Anyone m k (release s m k x how)
-released_by s m k x how = releases Anyone s m k x how (λ _ _. tt)
+pub released_by : (s : Rows) (turn : Turn) (x : ConnectionRecord) (how : Ending) → AgentMove Anyone turn (release s turn x how)
+released_by s turn x how = releases Anyone s turn x how (λ _ _. tt)
 
-pub occupied_by : (s : Rows) (m k : ℕ) (x : ConnectionRecord) → AgentMove Anyone m k (occupy s m k x)
-occupied_by s m k x = occupies Anyone s m k x (λ _ _. tt)
+pub occupied_by : (s : Rows) (turn : Turn) (x : ConnectionRecord) → AgentMove Anyone turn (occupy s turn x)
+occupied_by s turn x = occupies Anyone s turn x (λ _ _. tt)
 
 -- what it leaves
 
-pub agent_connections : {K : AgentRecord → Type 0} (m k : ℕ) (t : Rows) (x : Move) → AgentMove K m k x → (changed t x.change).connections ≡ t.connections
+pub agent_connections : {K : AgentRecord → Type 0} (turn : Turn) (t : Rows) (x : Move) → AgentMove K turn x → (changed t x.change).connections ≡ t.connections
 unfolding with_agent
-agent_connections m k t x stays = refl
-agent_connections m k t x (waits a pending _) = refl
-agent_connections m k t x (tells a b d _ _) = refl
+agent_connections turn t x stays = refl
+agent_connections turn t x (waits a pending _) = refl
+agent_connections turn t x (tells a b d _ _) = refl
 
-pub agent_others : (m k n : ℕ) (t : Rows) (x : Move) → AgentMove (λ a. (a.agent == n) ≡ false) m k x → agent_of (changed t x.change) n ≡ agent_of t n
-agent_others m k n t x stays = refl
-agent_others m k n t x (waits a pending h) = agent_put t (record a { pending = pending }) n ∙ cond-false (a.agent == n) _ _ h
-agent_others m k n t x (tells a b d h r) = agent_put t b n ∙ cond-false (b.agent == n) _ _ (ap (λ v. v == n) r.agent ∙ h)
+pub agent_others : (turn : Turn) (n : ℕ) (t : Rows) (x : Move) → AgentMove (λ a. (a.agent == n) ≡ false) turn x → agent_of (changed t x.change) n ≡ agent_of t n
+agent_others turn n t x stays = refl
+agent_others turn n t x (waits a pending h) = agent_put t (record a { pending = pending }) n ∙ cond-false (a.agent == n) _ _ h
+agent_others turn n t x (tells a b d h r) = agent_put t b n ∙ cond-false (b.agent == n) _ _ (ap (λ v. v == n) r.agent ∙ h)
 
-pub data Arrival (s : Rows) (m k call to : ℕ) (why : Cause) : Move → Type 0 where
-  queues : is_group s to ≡ true → Arrival s m k call to why (reported (PutConnection (queueing call to (Some k) (Some m))) (Queued call to why))
-  alerts : Arrival s m k call to why (reported (PutConnection (plain call to Alerting)) (Delivered call to why None))
-  fails : Arrival s m k call to why (reported (PutConnection (plain call to Fail)) (Failed call to))
+pub data Arrival (s : Rows) (turn : Turn) (call to : ℕ) (why : Cause) : Move → Type 0 where
+  queues : is_group s to ≡ true → Arrival s turn call to why (reported (PutConnection (queueing call to (Some turn.stamp) (Some turn.moment))) (Queued call to why))
+  alerts : Arrival s turn call to why (reported (PutConnection (plain call to Alerting)) (Delivered call to why None))
+  fails : Arrival s turn call to why (reported (PutConnection (plain call to Fail)) (Failed call to))
 
-pub arrival_of : (s : Rows) (m k call to : ℕ) (why : Cause) → Arrival s m k call to why (arrive s m k call to why)
+pub arrival_of : (s : Rows) (turn : Turn) (call to : ℕ) (why : Cause) → Arrival s turn call to why (arrive s turn call to why)
 unfolding arrive
-arrival_of s m k call to why = at (is_group s to) (is_idle s to) refl
+arrival_of s turn call to why = at (is_group s to) (is_idle s to) refl
   where
-    at : (q i : Bool) → is_group s to ≡ q → Arrival s m k call to why (reported (PutConnection (arriving (met_at q i) m k call to)) (arrival (met_at q i) call to why))
+    at : (q i : Bool) → is_group s to ≡ q → Arrival s turn call to why (reported (PutConnection (arriving (met_at q i) turn call to)) (arrival (met_at q i) call to why))
     at true i e = queues e
     at false true e = alerts
     at false false e = fails

@@ -19,6 +19,7 @@ use Rattle.acd_laws.proofs.MoveKinds.{releases, agent_others}
 use Rattle.acd_laws.proofs.Arriving.{with_agents, lone}
 use Rattle.acd_laws.proofs.Rules.KeptOffer.{ringing_is, talking_is}
 use Rattle.acd_lemmas.proofs.States.{ready_is}
+use Rattle.acd_terms.specs.declared.command.Turn.{Turn}
 
 -- a seat that a station has
 pub seat_from : (s : Rows) (a : AgentRecord) (d : ℕ) (st : AgentState) → SeatedAs s a st → a.station ≡ Some d → IsPlannedStation s a.station × ArePlannedGroups s a.groups
@@ -37,10 +38,10 @@ pub left_pending : (s : Rows) (a : AgentRecord) (st : AgentState) → SeatedAs s
 left_pending s a A.Null h = (h.0, h.1, refl)
 left_pending s a _ h = h
 
-pub left_state : (s : Rows) (a : AgentRecord) (st : AgentState) (m k : ℕ) → is_busy st ≡ false → IsPlannedStation s a.station × ArePlannedGroups s a.groups → Left s a (in_state st m k a)
-left_state s a A.Null m k n h = record { agent = refl; rule = (refl, refl, refl); station = λ e q. absurd (cc (q)); not_busy = refl; settled = refl }
-left_state s a A.Busy m k n h = absurd (cc (n))
-left_state s a _ m k n h = record { agent = refl; rule = h; station = λ e q. q; not_busy = refl; settled = refl }
+pub left_state : (s : Rows) (a : AgentRecord) (st : AgentState) (turn : Turn) → is_busy st ≡ false → IsPlannedStation s a.station × ArePlannedGroups s a.groups → Left s a (in_state st turn a)
+left_state s a A.Null turn n h = record { agent = refl; rule = (refl, refl, refl); station = λ e q. absurd (cc (q)); not_busy = refl; settled = refl }
+left_state s a A.Busy turn n h = absurd (cc (n))
+left_state s a _ turn n h = record { agent = refl; rule = h; station = λ e q. q; not_busy = refl; settled = refl }
 
 pub wanted_not_busy : (w : Pending) → is_busy (state_wanted w) ≡ false
 wanted_not_busy W.LoggedOff = refl
@@ -164,20 +165,20 @@ serving s x r among e =
 pub record Ends (x : ConnectionRecord) (how : Ending) : Type 0 where
   pub stays : is_distributed x ≡ true → (w : Option Pending) → release_of how w ≡ Stays → is_alerting x.state ≡ true
 
-left_by : (v : Rows) (a : AgentRecord) (to : Release) (m k d : ℕ) → AgentRule v a → IsPlannedStation v a.station × ArePlannedGroups v a.groups → (to ≡ Stays → is_busy a.state ≡ false) → NotBusy to
-    → (b : AgentRecord) × ((released m k a d to).change ≡ PutAgent b) × Left v a b
-left_by v a Stays m k d rule seat idle n = (record a { pending = None }, refl, record { agent = refl; rule = left_pending v a a.state rule; station = λ e q. q; not_busy = idle refl; settled = refl })
-left_by v a (Goes st) m k d rule seat idle n = (in_state st m k a, refl, left_state v a st m k n seat)
+left_by : (v : Rows) (a : AgentRecord) (to : Release) (turn : Turn) (d : ℕ) → AgentRule v a → IsPlannedStation v a.station × ArePlannedGroups v a.groups → (to ≡ Stays → is_busy a.state ≡ false) → NotBusy to
+    → (b : AgentRecord) × ((released turn a d to).change ≡ PutAgent b) × Left v a b
+left_by v a Stays turn d rule seat idle n = (record a { pending = None }, refl, record { agent = refl; rule = left_pending v a a.state rule; station = λ e q. q; not_busy = idle refl; settled = refl })
+left_by v a (Goes st) turn d rule seat idle n = (in_state st turn a, refl, left_state v a st turn n seat)
 
 -- after a release at the device of x
-released_agent : (loose : ℕ → Bool) (v : Rows) (o : Option AgentRecord) (a : AgentRecord) (x : ConnectionRecord) (how : Ending) (m k : ℕ) → RulesBut loose v → o ≡ Some a → agent_of v a.agent ≡ Some a → a.station ≡ Some x.device
+released_agent : (loose : ℕ → Bool) (v : Rows) (o : Option AgentRecord) (a : AgentRecord) (x : ConnectionRecord) (how : Ending) (turn : Turn) → RulesBut loose v → o ≡ Some a → agent_of v a.agent ≡ Some a → a.station ≡ Some x.device
     → count (is_distributed_at x.device) v.connections ≡ 0 → (release_of how a.pending ≡ Stays → is_busy a.state ≡ false)
-    → RulesBut (λ e. loose e && not (x.device == e)) (changed v (release_agent m k o x.device how).change)
-released_agent loose v None a x how m k r e there station vacant idle = absurd (cc (e))
-released_agent loose v (Some z) a x how m k r e there station vacant idle =
+    → RulesBut (λ e. loose e && not (x.device == e)) (changed v (release_agent turn o x.device how).change)
+released_agent loose v None a x how turn r e there station vacant idle = absurd (cc (e))
+released_agent loose v (Some z) a x how turn r e there station vacant idle =
     let same : z ≡ a = cc in
     let rule : AgentRule v a = every_among (AgentRule v) v.agents a r.agents (agent_among v a.agent a there) in
-    let l = left_by v a (release_of how a.pending) m k x.device rule (seat_from v a x.device a.state rule station) idle (release_not_busy how a.pending) in
+    let l = left_by v a (release_of how a.pending) turn x.device rule (seat_from v a x.device a.state rule station) idle (release_not_busy how a.pending) in
     rw same (subst (λ c. RulesBut (λ e. loose e && not (x.device == e)) (changed v c)) (sym l.1) (left_keeps loose v a l.0 x.device r there station vacant l.2))
 
 pub loosen : (p q : ℕ → Bool) (v : Rows) → ((e : ℕ) → q e ≡ true → p e ≡ true) → ((e : ℕ) → q e ≡ false → p e ≡ false) → RulesBut p v → RulesBut q v
@@ -195,15 +196,15 @@ not_and true = refl
 not_and false = refl
 
 -- s is the state before the service, v the one in which the agent is released
-pub after_release : (loose : ℕ → Bool) (s v : Rows) (x : ConnectionRecord) (how : Ending) (m k : ℕ) → RulesBut loose v → ((a : AgentRecord) → Serves s x a → agent_of v a.agent ≡ Some a) → Rules s → Among x s.connections
+pub after_release : (loose : ℕ → Bool) (s v : Rows) (x : ConnectionRecord) (how : Ending) (turn : Turn) → RulesBut loose v → ((a : AgentRecord) → Serves s x a → agent_of v a.agent ≡ Some a) → Rules s → Among x s.connections
     → (is_distributed x ≡ true → count (is_distributed_at x.device) v.connections ≡ 0) → Ends x how
-    → RulesBut (λ e. loose e && not (is_distributed x && (x.device == e))) (changed v (release s m k x how).change)
+    → RulesBut (λ e. loose e && not (is_distributed x && (x.device == e))) (changed v (release s turn x how).change)
 unfolding release
-after_release loose s v x how m k r kept rs among vacant ends =
-    (elim (is_distributed x) as (λ b. is_distributed x ≡ b → RulesBut (λ e. loose e && not (b && (x.device == e))) (changed v (cond b (release_agent m k (agent_at s x.device) x.device how) no_move).change)) [
+after_release loose s v x how turn r kept rs among vacant ends =
+    (elim (is_distributed x) as (λ b. is_distributed x ≡ b → RulesBut (λ e. loose e && not (b && (x.device == e))) (changed v (cond b (release_agent turn (agent_at s x.device) x.device how) no_move).change)) [
       | true ↦ λ e.
           let h = serving s x rs among e in
-          released_agent loose v (agent_at s x.device) h.0 x how m k r h.1.at_station (kept h.0 h.1) h.1.station (vacant e)
+          released_agent loose v (agent_at s x.device) h.0 x how turn r h.1.at_station (kept h.0 h.1) h.1.station (vacant e)
           (λ n. rw (ready_is h.0.state (h.1.ready (ends.stays e h.0.pending n))) refl)
       | false ↦ λ e. loosen loose (λ e. loose e && not false) v (λ e q. not_and (loose e) ∙ q) (λ e q. not_and (loose e) ∙ q) r
     ]) refl
@@ -223,5 +224,5 @@ ends_by s x rule = record {
 }
 
 -- a release leaves the agents of other numbers
-pub release_other_kept : (s t : Rows) (x : ConnectionRecord) (how : Ending) (m k n : ℕ) → ((a : AgentRecord) → agent_at s x.device ≡ Some a → (a.agent == n) ≡ false) → agent_of (changed t (release s m k x how).change) n ≡ agent_of t n
-release_other_kept s t x how m k n h = agent_others m k n t _ (releases (λ a. (a.agent == n) ≡ false) s m k x how h)
+pub release_other_kept : (s t : Rows) (x : ConnectionRecord) (how : Ending) (turn : Turn) (n : ℕ) → ((a : AgentRecord) → agent_at s x.device ≡ Some a → (a.agent == n) ≡ false) → agent_of (changed t (release s turn x how).change) n ≡ agent_of t n
+release_other_kept s t x how turn n h = agent_others turn n t _ (releases (λ a. (a.agent == n) ≡ false) s turn x how h)

@@ -1,7 +1,8 @@
 -- All laws of a state and of the events up to it, together.
-use Rattle.std.specs.Prelude.{◌≡◌, ℕ, ◌<◌, ◌≤◌, true, List, ◌++◌, length}
+use Rattle.std.specs.Prelude.{◌≡◌, ◌<◌, ◌≤◌, true, List, ◌++◌, length}
 use Rattle.acd_terms.specs.Limits.{limits_fit}
 use Rattle.acd_terms.specs.Rows.{empty_rows}
+use Rattle.acd_terms.specs.Numbers.{Moment}
 use Rattle.acd_terms.specs.declared.rows.Rows.{Rows}
 use Rattle.acd_terms.specs.declared.rows.Limits.{Limits}
 use Rattle.acd_terms.specs.declared.command.Command.{Command}
@@ -37,7 +38,7 @@ pub record LawsHold (s : Rows) (events : List Event) : Type 0 where
 
 -- a step keeps them all, while a request more is allowed
 abbrev pub StepKeepsLaws : Type 0
-StepKeepsLaws = (s : Rows) (events : List Event) (moment : ℕ) (command : Command) → s.last_stamp < s.limits.requests → LawsHold s events
+StepKeepsLaws = (s : Rows) (events : List Event) (moment : Moment) (command : Command) → s.last_stamp < s.limits.requests → LawsHold s events
     → LawsHold (step s moment command).rows (events ++ (step s moment command).events)
 
 -- they all hold of every run of no more requests than are allowed

@@ -1,7 +1,8 @@
 -- Each call that entered a group's queue waits, rings, was answered, was abandoned or was moved.
-use Rattle.std.specs.Prelude.{◌≡◌, ℕ, ◌+◌, List, ◌++◌}
+use Rattle.std.specs.Prelude.{◌≡◌, ◌+◌, List, ◌++◌}
 use Rattle.acd_terms.specs.Lists.{count}
 use Rattle.acd_terms.specs.Rows.{empty_rows}
+use Rattle.acd_terms.specs.Numbers.{Device, Moment}
 use Rattle.acd_terms.specs.declared.rows.Rows.{Rows}
 use Rattle.acd_terms.specs.declared.rows.Limits.{Limits}
 use Rattle.acd_terms.specs.declared.command.Command.{Command}
@@ -14,13 +15,13 @@ use Rattle.acd_model.specs.Rules.First.{BreaksNoRule}
 
 -- entered is what waits, rings, was answered, abandoned and moved, all counted from all events; of what is no group all are 0
 abbrev pub IsBalanced : Rows → List Event → Type 0
-IsBalanced s events = (group : ℕ) → (figures_of group events).entered
+IsBalanced s events = (group : Device) → (figures_of group events).entered
     ≡ count (waits_in group) s.connections + count (rings_from group) s.connections
     + (figures_of group events).answered + (figures_of group events).abandoned + (figures_of group events).moved
 
 -- rows that break no rule go on to balanced ones
 abbrev pub StepBalances : Type 0
-StepBalances = (s : Rows) (events : List Event) (moment : ℕ) (command : Command) → BreaksNoRule s → IsBalanced s events
+StepBalances = (s : Rows) (events : List Event) (moment : Moment) (command : Command) → BreaksNoRule s → IsBalanced s events
     → IsBalanced (step s moment command).rows (events ++ (step s moment command).events)
 
 -- every run is balanced

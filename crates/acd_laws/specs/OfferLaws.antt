@@ -1,7 +1,8 @@
 -- Distribution makes the offers that are to be made, and after every step no group has both a waiting call and an eligible agent.
-use Rattle.std.specs.Prelude.{◌≡◌, ◌↔◌, ℕ, true, List, [], ◌++◌}
+use Rattle.std.specs.Prelude.{◌≡◌, ◌↔◌, true, List, [], ◌++◌}
 use Rattle.acd_terms.specs.Lists.{Among}
 use Rattle.acd_terms.specs.Rows.{empty_rows}
+use Rattle.acd_terms.specs.Numbers.{Moment}
 use Rattle.acd_terms.specs.declared.rows.Rows.{Rows}
 use Rattle.acd_terms.specs.declared.rows.Limits.{Limits}
 use Rattle.acd_terms.specs.declared.record.GroupRecord.{GroupRecord}
@@ -11,7 +12,7 @@ use Rattle.acd_model.specs.Moves.{moved}
 use Rattle.acd_model.specs.Distribution.{offer_moves, distribution}
 use Rattle.acd_model.specs.Served.{moves_of}
 use Rattle.acd_model.specs.Services.Serve.{serve}
-use Rattle.acd_model.specs.Step.{step, executed_moment, next_stamp}
+use Rattle.acd_model.specs.Step.{step, next_turn}
 use Rattle.acd_model.specs.Run.{TimedCommand, run}
 use Rattle.acd_model.specs.Rules.Plan.{keeps_order, keeps_device, keeps_agent}
 use Rattle.acd_model.specs.Rules.Calls.{keeps_call, keeps_connection, keeps_parties, keeps_live}
@@ -25,9 +26,9 @@ abbrev pub LeavesNoOffer : Rows → Type 0
 LeavesNoOffer s = (g : GroupRecord) → Among g s.groups → HasNoOffer s g.device
 
 -- offers are made one after another, each the one that is to be made then, until there is none
-pub data IsDistribution (m : ℕ) : Rows → List Move → Type 0 where
-  ends : (s : Rows) → LeavesNoOffer s → IsDistribution m s []
-  goes_on : (s : Rows) (o : Offer) (more : List Move) → IsOffer s o → IsDistribution m (moved s (offer_moves s m o)) more → IsDistribution m s (offer_moves s m o ++ more)
+pub data IsDistribution (moment : Moment) : Rows → List Move → Type 0 where
+  ends : (s : Rows) → LeavesNoOffer s → IsDistribution moment s []
+  goes_on : (s : Rows) (o : Offer) (more : List Move) → IsOffer s o → IsDistribution moment (moved s (offer_moves s moment o)) more → IsDistribution moment s (offer_moves s moment o ++ more)
 
 -- the rules that are kept within a step too: those of sizes, counters, offers, monitors and figures hold again at its end
 pub record KeepsWithin (s : Rows) : Type 0 where
@@ -42,15 +43,15 @@ pub record KeepsWithin (s : Rows) : Type 0 where
 
 -- of rows that break no rule, where a step distributes: after the moves of its service
 abbrev pub RulesAreKeptWithin : Type 0
-RulesAreKeptWithin = (s : Rows) (moment : ℕ) (command : Command) → BreaksNoRule s
-    → KeepsWithin (moved s (moves_of (serve s (executed_moment s moment) (next_stamp s) command)))
+RulesAreKeptWithin = (s : Rows) (moment : Moment) (command : Command) → BreaksNoRule s
+    → KeepsWithin (moved s (moves_of (serve s (next_turn s moment) command)))
 
 -- the moves of a distribution are these, and no others
 abbrev pub FindsTheDistribution : Type 0
-FindsTheDistribution = (s : Rows) (m : ℕ) (moves : List Move) → KeepsWithin s → (moves ≡ distribution s m) ↔ IsDistribution m s moves
+FindsTheDistribution = (s : Rows) (moment : Moment) (moves : List Move) → KeepsWithin s → (moves ≡ distribution s moment) ↔ IsDistribution moment s moves
 
 abbrev pub StepLeavesNoOffer : Type 0
-StepLeavesNoOffer = (s : Rows) (moment : ℕ) (command : Command) → BreaksNoRule s → LeavesNoOffer (step s moment command).rows
+StepLeavesNoOffer = (s : Rows) (moment : Moment) (command : Command) → BreaksNoRule s → LeavesNoOffer (step s moment command).rows
 
 abbrev pub RunLeavesNoOffer : Type 0
 RunLeavesNoOffer = (limits : Limits) (commands : List TimedCommand) → LeavesNoOffer (run (empty_rows limits) commands).rows

@@ -1,6 +1,7 @@
 -- No agent has two distributed calls, and each distributed connection stands where its agent is logged on.
-use Rattle.std.specs.Prelude.{ℕ, List}
+use Rattle.std.specs.Prelude.{List}
 use Rattle.acd_terms.specs.Rows.{empty_rows}
+use Rattle.acd_terms.specs.Numbers.{Moment}
 use Rattle.acd_terms.specs.declared.rows.Rows.{Rows}
 use Rattle.acd_terms.specs.declared.rows.Limits.{Limits}
 use Rattle.acd_terms.specs.declared.command.Command.{Command}
@@ -15,7 +16,7 @@ RulesGiveOneOffer = (s : Rows) → BreaksNoRule s → HasOneOffer s
 
 -- and after each step from there
 abbrev pub StepKeepsOneOffer : Type 0
-StepKeepsOneOffer = (s : Rows) (moment : ℕ) (command : Command) → BreaksNoRule s → HasOneOffer (step s moment command).rows
+StepKeepsOneOffer = (s : Rows) (moment : Moment) (command : Command) → BreaksNoRule s → HasOneOffer (step s moment command).rows
 
 abbrev pub RunHasOneOffer : Type 0
 RunHasOneOffer = (limits : Limits) (commands : List TimedCommand) → HasOneOffer (run (empty_rows limits) commands).rows

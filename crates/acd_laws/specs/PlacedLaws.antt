@@ -3,6 +3,7 @@ use Rattle.std.specs.Prelude.{◌≡◌, ℕ, ◌<◌, ◌≤◌, ◌&&◌, nat_
 use Rattle.acd_terms.specs.Lists.{Every}
 use Rattle.acd_terms.specs.Rows.{empty_rows}
 use Rattle.acd_terms.specs.Columns.{columns_of}
+use Rattle.acd_terms.specs.Numbers.{CallId, Moment}
 use Rattle.acd_terms.specs.declared.rows.Rows.{Rows}
 use Rattle.acd_terms.specs.declared.rows.Limits.{Limits}
 use Rattle.acd_terms.specs.declared.command.Command.{Command}
@@ -14,7 +15,7 @@ use Rattle.acd_model.specs.Run.{TimedCommand, run}
 use Rattle.acd_model.specs.Rules.First.{BreaksNoRule}
 
 -- the call that may be named isn't above the last
-abbrev pub IsUpTo : ℕ → Option ℕ → Type 0
+abbrev pub IsUpTo : CallId → Option CallId → Type 0
 IsUpTo last None = Unit {0}
 IsUpTo last (Some call) = call ≤ last
 
@@ -23,32 +24,32 @@ abbrev pub NamesNoLaterCall : Rows → List Event → Type 0
 NamesNoLaterCall s events = Every (λ (e : Event). IsUpTo s.last_call (columns_of e.report).call) events
 
 -- a call up to the last that isn't live was cleared once, any other never
-abbrev pub clearings : Rows → ℕ → ℕ
+abbrev pub clearings : Rows → CallId → ℕ
 clearings s call = if nat_le call s.last_call && is_none (call_of s call) then 1 else 0
 
 -- the callCleared events of each call, counted from all events
 abbrev pub KeepsClearings : Rows → List Event → Type 0
-KeepsClearings s events = (call : ℕ) → 0 < call → cleared_by call events ≡ clearings s call
+KeepsClearings s events = (call : CallId) → 0 < call → cleared_by call events ≡ clearings s call
 
 abbrev pub StepNamesNoLaterCall : Type 0
-StepNamesNoLaterCall = (s : Rows) (events : List Event) (moment : ℕ) (command : Command) → BreaksNoRule s → NamesNoLaterCall s events
+StepNamesNoLaterCall = (s : Rows) (events : List Event) (moment : Moment) (command : Command) → BreaksNoRule s → NamesNoLaterCall s events
     → NamesNoLaterCall (step s moment command).rows (events ++ (step s moment command).events)
 
 abbrev pub RunNamesNoLaterCall : Type 0
 RunNamesNoLaterCall = (limits : Limits) (commands : List TimedCommand) → NamesNoLaterCall (run (empty_rows limits) commands).rows (run (empty_rows limits) commands).events
 
 abbrev pub StepKeepsClearings : Type 0
-StepKeepsClearings = (s : Rows) (events : List Event) (moment : ℕ) (command : Command) → BreaksNoRule s → KeepsClearings s events
+StepKeepsClearings = (s : Rows) (events : List Event) (moment : Moment) (command : Command) → BreaksNoRule s → KeepsClearings s events
     → KeepsClearings (step s moment command).rows (events ++ (step s moment command).events)
 
 -- from rows that break no rule, where each call was cleared as often as it has ended
 abbrev pub StepPlaces : Type 0
-StepPlaces = (s : Rows) (events : List Event) (moment : ℕ) (command : Command) → BreaksNoRule s → KeepsClearings s events
+StepPlaces = (s : Rows) (events : List Event) (moment : Moment) (command : Command) → BreaksNoRule s → KeepsClearings s events
     → IsPlaced (step s moment command).rows (events ++ (step s moment command).events)
 
 -- where each call stands in one of the three ways, and no event names a later call, each stands in one of them after a step, with its events added
 abbrev pub StepKeepsPlaces : Type 0
-StepKeepsPlaces = (s : Rows) (events : List Event) (moment : ℕ) (command : Command) → BreaksNoRule s → NamesNoLaterCall s events → IsPlaced s events
+StepKeepsPlaces = (s : Rows) (events : List Event) (moment : Moment) (command : Command) → BreaksNoRule s → NamesNoLaterCall s events → IsPlaced s events
     → IsPlaced (step s moment command).rows (events ++ (step s moment command).events)
 
 abbrev pub RunIsPlaced : Type 0
@@ -56,5 +57,5 @@ RunIsPlaced = (limits : Limits) (commands : List TimedCommand) → IsPlaced (run
 
 -- the three ways in which a call may stand exclude one another, so that just one of them holds
 abbrev pub PlacesExclude : Type 0
-PlacesExclude = (s : Rows) (events : List Event) (call : ℕ) → (IsCleared s events call → IsWaiting s events call → ⊥)
+PlacesExclude = (s : Rows) (events : List Event) (call : CallId) → (IsCleared s events call → IsWaiting s events call → ⊥)
     × (IsCleared s events call → IsAtDevices s events call → ⊥) × (IsWaiting s events call → IsAtDevices s events call → ⊥)

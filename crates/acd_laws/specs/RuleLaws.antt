@@ -1,8 +1,9 @@
 -- Rows that break no rule break none after a step.
-use Rattle.std.specs.Prelude.{◌≡◌, ℕ, ◌*◌, ◌^◌, ◌<◌, ◌≤◌, true, List, length}
+use Rattle.std.specs.Prelude.{◌≡◌, ◌*◌, ◌^◌, ◌<◌, ◌≤◌, true, List, length}
 use Rattle.acd_terms.specs.Lists.{Among}
 use Rattle.acd_terms.specs.Limits.{limits_fit}
 use Rattle.acd_terms.specs.Rows.{empty_rows}
+use Rattle.acd_terms.specs.Numbers.{Moment}
 use Rattle.acd_terms.specs.declared.rows.Rows.{Rows}
 use Rattle.acd_terms.specs.declared.rows.Limits.{Limits}
 use Rattle.acd_terms.specs.declared.record.GroupRecord.{GroupRecord}
@@ -13,7 +14,7 @@ use Rattle.acd_model.specs.Run.{TimedCommand, run}
 
 -- all thirteen rules, while one more request is allowed
 abbrev pub StepKeepsRules : Type 0
-StepKeepsRules = (s : Rows) (moment : ℕ) (command : Command) → BreaksNoRule s → s.last_stamp < s.limits.requests → BreaksNoRule (step s moment command).rows
+StepKeepsRules = (s : Rows) (moment : Moment) (command : Command) → BreaksNoRule s → s.last_stamp < s.limits.requests → BreaksNoRule (step s moment command).rows
 
 -- every run of no more requests than are allowed
 abbrev pub RunKeepsRules : Type 0

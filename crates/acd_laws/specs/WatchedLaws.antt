@@ -1,11 +1,12 @@
 -- The reports alone tell a watcher what the switch holds: as it goes from a state to the next.
-use Rattle.std.specs.Prelude.{◌≡◌, ℕ, ◌≤◌, true, List, ◌++◌, None}
+use Rattle.std.specs.Prelude.{◌≡◌, ◌≤◌, true, List, ◌++◌, None}
 use Rattle.acd_terms.specs.Rows.{empty_rows}
+use Rattle.acd_terms.specs.Numbers.{Device, CallId, Moment, Stamp}
 use Rattle.acd_terms.specs.declared.rows.Rows.{Rows}
 use Rattle.acd_terms.specs.declared.rows.Limits.{Limits}
 use Rattle.acd_terms.specs.declared.command.Command.{Command}
 use Rattle.acd_terms.specs.declared.event.Event.{Event}
-use Rattle.acd_model.specs.Told.{after, connection_told, last_entry}
+use Rattle.acd_model.specs.Told.{known_after, connection_told, last_entry}
 use Rattle.acd_model.specs.Watched.{is_external_caller, HasPlace, IsWatched}
 use Rattle.acd_model.specs.Step.{step}
 use Rattle.acd_model.specs.Run.{TimedCommand, run}
@@ -13,13 +14,13 @@ use Rattle.acd_model.specs.Rules.First.{BreaksNoRule}
 
 -- nothing is told of an external caller, no entry has a number above the last event's, and none that waits or rings a place above the last stamp
 pub record TellsNoMore (s : Rows) (events : List Event) : Type 0 where
-  pub outside : (call device : ℕ) → is_external_caller s call device ≡ true → after (connection_told call device) None events ≡ None
-  pub entries : (group call : ℕ) → last_entry group call 0 events ≤ s.last_event
-  pub places : (group call place : ℕ) → HasPlace s group call place → place ≤ s.last_stamp
+  pub outside : (call : CallId) (device : Device) → is_external_caller s call device ≡ true → known_after (connection_told call device) None events ≡ None
+  pub entries : (group : Device) (call : CallId) → last_entry group call 0 events ≤ s.last_event
+  pub places : (group : Device) (call : CallId) (place : Stamp) → HasPlace s group call place → place ≤ s.last_stamp
 
 -- what is watched of rows that break no rule goes on to the next state, by the new events
 abbrev pub StepKeepsWatched : Type 0
-StepKeepsWatched = (s : Rows) (events : List Event) (moment : ℕ) (command : Command) → BreaksNoRule s → IsWatched s events → TellsNoMore s events
+StepKeepsWatched = (s : Rows) (events : List Event) (moment : Moment) (command : Command) → BreaksNoRule s → IsWatched s events → TellsNoMore s events
     → IsWatched (step s moment command).rows (events ++ (step s moment command).events)
     × TellsNoMore (step s moment command).rows (events ++ (step s moment command).events)
 

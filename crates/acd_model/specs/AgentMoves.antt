@@ -1,6 +1,8 @@
 -- The moves of agents.
-use Rattle.std.specs.Prelude.{ℕ, List, [], Option, Some, None}
+use Rattle.std.specs.Prelude.{List, [], Option, Some, None}
 use Rattle.acd_terms.specs.Groups.{only_group}
+use Rattle.acd_terms.specs.Numbers.{Device, Agent}
+use Rattle.acd_terms.specs.declared.command.Turn.{Turn}
 use Rattle.acd_terms.specs.declared.record.AgentRecord.{AgentRecord}
 use Rattle.acd_terms.specs.declared.state.AgentState.{AgentState}
 use Rattle.acd_terms.specs.declared.state.AgentState.TheVariants.{Null, NotReady, Ready, Busy, WorkingAfterCall}
@@ -12,21 +14,21 @@ use Rattle.acd_model.specs.declared.moves.Move.{Move}
 use Rattle.acd_model.specs.declared.moves.Change.TheVariants.{PutAgent}
 
 -- the station that an agent has in a state: none in null
-abbrev pub while_logged_on : AgentState → Option ℕ → Option ℕ
+abbrev pub while_logged_on : AgentState → Option Device → Option Device
 while_logged_on Null device = None
 while_logged_on _ device = device
 
 -- and its groups
-abbrev pub groups_while_logged_on : AgentState → List ℕ → List ℕ
+abbrev pub groups_while_logged_on : AgentState → List Device → List Device
 groups_while_logged_on Null groups = []
 groups_while_logged_on _ groups = groups
 
 -- the agent in a state, with nothing pending; in null it has no station and no groups
-abbrev pub in_state : AgentState → ℕ → ℕ → AgentRecord → AgentRecord
-in_state state m k a = record a { state = state; pending = None; station = while_logged_on state a.station; groups = groups_while_logged_on state a.groups; stamp = k; since = m }
+abbrev pub in_state : AgentState → Turn → AgentRecord → AgentRecord
+in_state state turn a = record a { state = state; pending = None; station = while_logged_on state a.station; groups = groups_while_logged_on state a.groups; stamp = turn.stamp; since = turn.moment }
 
 -- the report of an agent's new state
-abbrev pub state_report : AgentState → ℕ → ℕ → Report
+abbrev pub state_report : AgentState → Agent → Device → Report
 state_report Null agent station = AgentLoggedOff agent station
 state_report NotReady agent station = AgentNotReady agent station
 state_report Ready agent station = AgentReady agent station
@@ -34,23 +36,23 @@ state_report Busy agent station = AgentBusy agent station
 state_report WorkingAfterCall agent station = AgentWorkingAfterCall agent station
 
 -- the agent at a station goes to a state
-abbrev pub go_to : ℕ → ℕ → AgentRecord → ℕ → AgentState → Move
-go_to m k a station state = reported (PutAgent (in_state state m k a)) (state_report state a.agent station)
+abbrev pub go_to : Turn → AgentRecord → Device → AgentState → Move
+go_to turn a station state = reported (PutAgent (in_state state turn a)) (state_report state a.agent station)
 
 -- the agent goes to a state, from the station at which it is logged on
-abbrev pub go_from : ℕ → ℕ → AgentRecord → Option ℕ → AgentState → Move
-go_from m k a None state = no_move
-go_from m k a (Some station) state = go_to m k a station state
+abbrev pub go_from : Turn → AgentRecord → Option Device → AgentState → Move
+go_from turn a None state = no_move
+go_from turn a (Some station) state = go_to turn a station state
 
 -- the report names the group of an agent who serves just one
-abbrev pub log_on_at : ℕ → ℕ → AgentRecord → ℕ → List ℕ → Move
-log_on_at m k a station groups =
-    reported (PutAgent (record a { state = NotReady; pending = None; station = Some station; groups = groups; stamp = k; since = m }))
+abbrev pub log_on_at : Turn → AgentRecord → Device → List Device → Move
+log_on_at turn a station groups =
+    reported (PutAgent (record a { state = NotReady; pending = None; station = Some station; groups = groups; stamp = turn.stamp; since = turn.moment }))
     (AgentLoggedOn a.agent station (only_group groups))
 
 -- busy, with the same pending state
-abbrev pub become_busy : ℕ → ℕ → AgentRecord → ℕ → Move
-become_busy m k a station = reported (PutAgent (record a { state = Busy; stamp = k; since = m })) (AgentBusy a.agent station)
+abbrev pub become_busy : Turn → AgentRecord → Device → Move
+become_busy turn a station = reported (PutAgent (record a { state = Busy; stamp = turn.stamp; since = turn.moment })) (AgentBusy a.agent station)
 
 -- another pending state, or none
 abbrev pub wait_for : AgentRecord → Option Pending → Move

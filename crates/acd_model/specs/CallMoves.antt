@@ -1,5 +1,7 @@
 -- The moves of calls and connections.
-use Rattle.std.specs.Prelude.{ℕ, ◌-◌, Bool, true, false, Option, Some, None, unwrap_or}
+use Rattle.std.specs.Prelude.{◌-◌, Bool, true, false, Option, Some, None, unwrap_or}
+use Rattle.acd_terms.specs.Numbers.{Device, CallId, Moment, Stamp}
+use Rattle.acd_terms.specs.declared.command.Turn.{Turn}
 use Rattle.acd_terms.specs.declared.rows.Rows.{Rows}
 use Rattle.acd_terms.specs.declared.record.CallRecord.{CallRecord}
 use Rattle.acd_terms.specs.declared.record.ConnectionRecord.{ConnectionRecord}
@@ -18,11 +20,11 @@ use Rattle.acd_model.specs.declared.moves.Destination.{Destination}
 use Rattle.acd_model.specs.declared.moves.Destination.TheVariants.{Queue, Idle, Busy}
 
 -- a connection that no group offered
-abbrev pub plain : ℕ → ℕ → ConnectionState → ConnectionRecord
+abbrev pub plain : CallId → Device → ConnectionState → ConnectionRecord
 plain call device state = record { call = call; device = device; state = state; group = None; place = None; queued = None; offered = None }
 
 -- a call in the queue of a group, at a place and since a moment
-abbrev pub queueing : ℕ → ℕ → Option ℕ → Option ℕ → ConnectionRecord
+abbrev pub queueing : CallId → Device → Option Stamp → Option Moment → ConnectionRecord
 queueing call group place since = record { call = call; device = group; state = Queued; group = Some group; place = place; queued = since; offered = None }
 
 -- a call begins
@@ -30,13 +32,13 @@ abbrev pub begin : CallRecord → Move
 begin c = silent (PutCall c)
 
 -- the side of an external caller
-abbrev pub connect_caller : ℕ → ℕ → Move
+abbrev pub connect_caller : CallId → Device → Move
 connect_caller call caller = silent (PutConnection (plain call caller Connected))
 
-abbrev pub initiate : ℕ → ℕ → Move
+abbrev pub initiate : CallId → Device → Move
 initiate call station = reported (PutConnection (plain call station Initiated)) (report.ServiceInitiated call station)
 
-abbrev pub originate : ConnectionRecord → ℕ → Move
+abbrev pub originate : ConnectionRecord → Device → Move
 originate x called = reported (PutConnection (record x { state = Connected })) (report.Originated x.call x.device called)
 
 -- what a call meets at a device
@@ -45,35 +47,35 @@ met_at true idle = Queue
 met_at false true = Idle
 met_at false false = Busy
 
-abbrev pub destination_of : Rows → ℕ → Destination
+abbrev pub destination_of : Rows → Device → Destination
 destination_of s to = met_at (is_group s to) (is_idle s to)
 
 -- the connection there: it enters the queue with the stamp as its place, alerts, or fails
-abbrev pub arriving : Destination → ℕ → ℕ → ℕ → ℕ → ConnectionRecord
-arriving Queue m k call to = queueing call to (Some k) (Some m)
-arriving Idle m k call to = plain call to Alerting
-arriving Busy m k call to = plain call to Fail
+abbrev pub arriving : Destination → Turn → CallId → Device → ConnectionRecord
+arriving Queue turn call to = queueing call to (Some turn.stamp) (Some turn.moment)
+arriving Idle turn call to = plain call to Alerting
+arriving Busy turn call to = plain call to Fail
 
-abbrev pub arrival : Destination → ℕ → ℕ → Cause → Report
+abbrev pub arrival : Destination → CallId → Device → Cause → Report
 arrival Queue call to cause = report.Queued call to cause
 arrival Idle call to cause = report.Delivered call to cause None
 arrival Busy call to cause = report.Failed call to
 
 -- the call comes to a destination
-unfoldable pub arrive : Rows → ℕ → ℕ → ℕ → ℕ → Cause → Move
-arrive s m k call to cause = reported (PutConnection (arriving (destination_of s to) m k call to)) (arrival (destination_of s to) call to cause)
+unfoldable pub arrive : Rows → Turn → CallId → Device → Cause → Move
+arrive s turn call to cause = reported (PutConnection (arriving (destination_of s to) turn call to)) (arrival (destination_of s to) call to cause)
 
 -- a connection once it is answered keeps its group alone
 abbrev pub talking : ConnectionRecord → ConnectionRecord
 talking x = record x { state = Connected; place = None; queued = None; offered = None }
 
 -- the moment less the moment at which the call was queued, where it was distributed
-abbrev pub waited_by : ℕ → Option ℕ → Option ℕ → Option Waited
-waited_by m queued None = None
-waited_by m queued (Some group) = Some (record { group = group; seconds = m - unwrap_or queued 0 })
+abbrev pub waited_by : Moment → Option Moment → Option Device → Option Waited
+waited_by moment queued None = None
+waited_by moment queued (Some group) = Some (record { group = group; seconds = moment - unwrap_or queued 0 })
 
-abbrev pub answer : ℕ → ConnectionRecord → Move
-answer m x = reported (PutConnection (talking x)) (report.Established x.call x.device (waited_by m x.queued x.group))
+abbrev pub answer : Moment → ConnectionRecord → Move
+answer moment x = reported (PutConnection (talking x)) (report.Established x.call x.device (waited_by moment x.queued x.group))
 
 abbrev pub hold : ConnectionRecord → Move
 hold x = reported (PutConnection (record x { state = Hold })) (report.Held x.call x.device)
@@ -82,26 +84,26 @@ abbrev pub retrieve : ConnectionRecord → Move
 retrieve x = reported (PutConnection (record x { state = Connected })) (report.Retrieved x.call x.device)
 
 -- the queued connection offered at a station, with its place and queued moment
-abbrev pub ringing : ℕ → ConnectionRecord → ℕ → ConnectionRecord
-ringing m x station = record x { device = station; state = Alerting; offered = Some m }
+abbrev pub ringing : Moment → ConnectionRecord → Device → ConnectionRecord
+ringing moment x station = record x { device = station; state = Alerting; offered = Some moment }
 
-abbrev pub offer : ℕ → ConnectionRecord → ℕ → Move
-offer m x station = reported (PutConnection (ringing m x station)) (report.Delivered x.call station Distributed x.group)
+abbrev pub offer : Moment → ConnectionRecord → Device → Move
+offer moment x station = reported (PutConnection (ringing moment x station)) (report.Delivered x.call station Distributed x.group)
 
 -- the offered call goes back to its group, at its old place and queued moment
-abbrev pub go_back : ConnectionRecord → ℕ → Move
+abbrev pub go_back : ConnectionRecord → Device → Move
 go_back x group = reported (PutConnection (queueing x.call group x.place x.queued)) (report.Queued x.call group NoAnswer)
 
 -- the connection ends, and its call goes elsewhere
-abbrev pub divert : ConnectionRecord → ℕ → Cause → Move
+abbrev pub divert : ConnectionRecord → Device → Cause → Move
 divert x to cause = reported (RemoveConnection x.call x.device) (report.Diverted x.call x.device to cause x.group)
 
-abbrev pub transfer : ConnectionRecord → ℕ → Move
+abbrev pub transfer : ConnectionRecord → Device → Move
 transfer x to = reported (RemoveConnection x.call x.device) (report.Transferred x.call x.device to)
 
 -- the connection ends
 abbrev pub clear : ConnectionRecord → Move
 clear x = reported (RemoveConnection x.call x.device) (report.ConnectionCleared x.call x.device)
 
-abbrev pub end_call : ℕ → Option ℕ → Move
+abbrev pub end_call : CallId → Option Device → Move
 end_call call group = reported (RemoveCall call) (report.CallCleared call group)

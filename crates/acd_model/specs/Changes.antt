@@ -1,5 +1,6 @@
 -- The changes of records that a step makes: those of its moves, then the groups whose figures grew.
 use Rattle.std.specs.Prelude.{ℕ, ◌+◌, List, [], ◌∷◌, ◌++◌, Option, Some, None, if◌then◌else◌}
+use Rattle.acd_terms.specs.Numbers.{Device, Moment, Stamp}
 use Rattle.acd_terms.specs.declared.rows.Rows.{Rows}
 use Rattle.acd_terms.specs.declared.record.GroupRecord.{GroupRecord}
 use Rattle.acd_terms.specs.declared.command.Command.{Command}
@@ -10,7 +11,7 @@ use Rattle.acd_model.specs.Scans.{group_of}
 use Rattle.acd_model.specs.Writes.{with_last}
 use Rattle.acd_model.specs.Moves.{changed, moved, events_of}
 use Rattle.acd_model.specs.Figures.{is_no_answer, is_deflected, counting}
-use Rattle.acd_model.specs.Step.{step_moves, executed_moment, next_stamp}
+use Rattle.acd_model.specs.Step.{step_moves, executed_moment, next_turn}
 use Rattle.acd_model.specs.Services.Serve.{serve}
 use Rattle.acd_model.specs.declared.moves.Move.{Move}
 use Rattle.acd_model.specs.declared.moves.Change.{Change}
@@ -31,7 +32,7 @@ changed_by s [] = s
 changed_by s (change ∷ changes) = changed_by (changed s change) changes
 
 -- the group whose figures a report adds to
-abbrev pub counted_group : Report → Option ℕ
+abbrev pub counted_group : Report → Option Device
 counted_group (Queued call group cause) = if is_no_answer cause then None else Some group
 counted_group (Established call station (Some w)) = Some w.group
 counted_group (CallCleared call group) = group
@@ -43,7 +44,7 @@ abbrev pub grown : Option GroupRecord → Event → List Change
 grown None e = []
 grown (Some g) e = PutGroup (counting (e ∷ []) g) ∷ []
 
-abbrev pub growth_in : Rows → Option ℕ → Event → List Change
+abbrev pub growth_in : Rows → Option Device → Event → List Change
 growth_in s None e = []
 growth_in s (Some group) e = grown (group_of s group) e
 
@@ -56,13 +57,13 @@ growth s [] = []
 growth s (e ∷ es) = growth_by s e ++ growth (changed_by s (growth_by s e)) es
 
 -- the changes of a whole step: those of its moves, then the groups whose figures grew by its events
-abbrev pub step_changes_by : Rows → ℕ → List Move → List Change
-step_changes_by s m moves = changes_of moves ++ growth (moved s moves) (events_of m moves)
+abbrev pub step_changes_by : Rows → Moment → List Move → List Change
+step_changes_by s moment moves = changes_of moves ++ growth (moved s moves) (events_of moment moves)
 
-unfoldable pub step_changes : Rows → ℕ → Command → List Change
+unfoldable pub step_changes : Rows → Moment → Command → List Change
 step_changes s moment command =
-    step_changes_by s (executed_moment s moment) (step_moves s (executed_moment s moment) (serve s (executed_moment s moment) (next_stamp s) command))
+    step_changes_by s (executed_moment s moment) (step_moves s (executed_moment s moment) (serve s (next_turn s moment) command))
 
 -- the state that changes make, with the counters of the executed request and so many events more
-abbrev pub rows_made : Rows → List Change → ℕ → ℕ → ℕ → Rows
+abbrev pub rows_made : Rows → List Change → Stamp → Moment → ℕ → Rows
 rows_made s changes stamp moment events = with_last (changed_by s changes) stamp moment (s.last_event + events)

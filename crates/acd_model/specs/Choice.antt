@@ -1,5 +1,6 @@
 -- Which waiting call goes to which ready agent.
 use Rattle.std.specs.Prelude.{ℕ, Bool, ◌&&◌, ◌||◌, ◌==◌, nat_lt, List, [], ◌∷◌, Option, Some, None, option_and_then, is_some, filter, map, unwrap_or, if◌then◌else◌}
+use Rattle.acd_terms.specs.Numbers.{Device, Agent, CallId, Stamp}
 use Rattle.acd_terms.specs.declared.rows.Rows.{Rows}
 use Rattle.acd_terms.specs.declared.record.GroupRecord.{GroupRecord}
 use Rattle.acd_terms.specs.declared.record.AgentRecord.{AgentRecord}
@@ -22,23 +23,23 @@ least_from best [] = best
 least_from best (p ∷ ps) = least_from (Some (lesser best p)) ps
 
 -- the place and call of a waiting connection
-abbrev pub waiting_pair : ConnectionRecord → ℕ × ℕ
+abbrev pub waiting_pair : ConnectionRecord → Stamp × CallId
 waiting_pair c = (unwrap_or c.place 0, c.call)
 
 -- the stamp and number of an agent
-abbrev pub ready_pair : AgentRecord → ℕ × ℕ
+abbrev pub ready_pair : AgentRecord → Stamp × Agent
 ready_pair a = (a.stamp, a.agent)
 
 -- the place and call of the one that waits first in a group
-unfoldable pub first_waiting : Rows → ℕ → Option (ℕ × ℕ)
+unfoldable pub first_waiting : Rows → Device → Option (Stamp × CallId)
 first_waiting s group = least_from None (map waiting_pair (waiting_in s group))
 
 -- the stamp and number of the agent that is ready longest in a group
-unfoldable pub first_eligible : Rows → ℕ → Option (ℕ × ℕ)
+unfoldable pub first_eligible : Rows → Device → Option (Stamp × Agent)
 first_eligible s group = least_from None (map ready_pair (eligible_in s group))
 
 -- the first call of a group goes to its first agent, where it has both
-abbrev pub offer_by : ℕ → Option (ℕ × ℕ) → Option (ℕ × ℕ) → Option Offer
+abbrev pub offer_by : Device → Option (Stamp × CallId) → Option (Stamp × Agent) → Option Offer
 offer_by g (Some w) (Some r) = Some (record { group = g; call = w.1; agent = r.1 })
 offer_by g _ _ = None
 

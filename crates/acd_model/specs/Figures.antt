@@ -1,6 +1,7 @@
 -- The figures of a group, counted from the events.
-use Rattle.std.specs.Prelude.{ℕ, ◌+◌, Bool, true, false, not, ◌&&◌, ◌==◌, List, Some, map, if◌then◌else◌}
+use Rattle.std.specs.Prelude.{◌+◌, Bool, true, false, not, ◌&&◌, ◌==◌, List, Some, map, if◌then◌else◌}
 use Rattle.acd_terms.specs.Lists.{count, total}
+use Rattle.acd_terms.specs.Numbers.{Device, Seconds}
 use Rattle.acd_terms.specs.declared.rows.Rows.{Rows}
 use Rattle.acd_terms.specs.declared.record.Figures.{Figures}
 use Rattle.acd_terms.specs.declared.record.GroupRecord.{GroupRecord}
@@ -20,31 +21,31 @@ is_deflected Deflected = true
 is_deflected _ = false
 
 -- queued at the group with a cause other than noAnswer
-abbrev pub is_entry : ℕ → Report → Bool
+abbrev pub is_entry : Device → Report → Bool
 is_entry g (Queued call group cause) = group == g && not (is_no_answer cause)
 is_entry g _ = false
 
 -- established with the group
-abbrev pub is_answer : ℕ → Report → Bool
+abbrev pub is_answer : Device → Report → Bool
 is_answer g (Established call station (Some w)) = w.group == g
 is_answer g _ = false
 
 -- for how long the call had waited there
-abbrev pub waited_there : ℕ → Report → ℕ
+abbrev pub waited_there : Device → Report → Seconds
 waited_there g (Established call station (Some w)) = if w.group == g then w.seconds else 0
 waited_there g _ = 0
 
 -- callCleared with the group
-abbrev pub is_abandonment : ℕ → Report → Bool
+abbrev pub is_abandonment : Device → Report → Bool
 is_abandonment g (CallCleared call group) = has group g
 is_abandonment g _ = false
 
 -- diverted with cause deflected and the group
-abbrev pub is_moving_away : ℕ → Report → Bool
+abbrev pub is_moving_away : Device → Report → Bool
 is_moving_away g (Diverted call device to cause group) = is_deflected cause && has group g
 is_moving_away g _ = false
 
-unfoldable pub figures_of : ℕ → List Event → Figures
+unfoldable pub figures_of : Device → List Event → Figures
 figures_of g events = record {
   entered = count (λ (e : Event). is_entry g e.report) events;
   answered = count (λ (e : Event). is_answer g e.report) events;

@@ -1,5 +1,6 @@
 -- A move: the change of one record at most, and the report of it, if there is one.
-use Rattle.std.specs.Prelude.{ℕ, List, [], ◌∷◌, Option, Some, None}
+use Rattle.std.specs.Prelude.{List, [], ◌∷◌, Option, Some, None}
+use Rattle.acd_terms.specs.Numbers.{Moment}
 use Rattle.acd_terms.specs.declared.rows.Rows.{Rows}
 use Rattle.acd_terms.specs.declared.event.Event.{Event}
 use Rattle.acd_terms.specs.declared.event.Report.{Report}
@@ -36,14 +37,14 @@ moved s [] = s
 moved s (move ∷ moves) = moved (changed s move.change) moves
 
 -- an event before it has a number
-abbrev pub event_at : ℕ → Report → Event
-event_at m report = record { number = 0; moment = m; report = report }
+abbrev pub event_at : Moment → Report → Event
+event_at moment report = record { number = 0; moment = moment; report = report }
 
-abbrev pub with_event : ℕ → Option Report → List Event → List Event
-with_event m None events = events
-with_event m (Some report) events = event_at m report ∷ events
+abbrev pub with_event : Moment → Option Report → List Event → List Event
+with_event moment None events = events
+with_event moment (Some report) events = event_at moment report ∷ events
 
 -- the events of moves
-abbrev pub events_of : ℕ → List Move → List Event
-events_of m [] = []
-events_of m (move ∷ moves) = with_event m move.report (events_of m moves)
+abbrev pub events_of : Moment → List Move → List Event
+events_of moment [] = []
+events_of moment (move ∷ moves) = with_event moment move.report (events_of moment moves)

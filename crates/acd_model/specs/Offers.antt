@@ -2,6 +2,7 @@
 use Rattle.std.specs.Prelude.{◌≡◌, ◌⊎◌, ◌↔◌, ℕ, true, false, List, [], map, Option, Some, None}
 use Rattle.std.specs.Ordering.{nat_cmp}
 use Rattle.acd_terms.specs.Lists.{Among, IsAscending}
+use Rattle.acd_terms.specs.Numbers.{Device, Stamp}
 use Rattle.acd_terms.specs.declared.rows.Rows.{Rows}
 use Rattle.acd_terms.specs.declared.record.GroupRecord.{GroupRecord}
 use Rattle.acd_model.specs.Scans.{waiting_in, eligible_in}
@@ -20,14 +21,14 @@ pub record FindsLeast (found : Option (ℕ × ℕ)) (ps : List (ℕ × ℕ)) : T
 
 -- the call that waits first in a group has the least place there
 abbrev pub FindsFirstWaiting : Type 0
-FindsFirstWaiting = (s : Rows) (group : ℕ) → FindsLeast (first_waiting s group) (map waiting_pair (waiting_in s group))
+FindsFirstWaiting = (s : Rows) (group : Device) → FindsLeast (first_waiting s group) (map waiting_pair (waiting_in s group))
 
 -- the agent that is ready longest has the least stamp, and among equal stamps the least number
 abbrev pub FindsFirstEligible : Type 0
-FindsFirstEligible = (s : Rows) (group : ℕ) → FindsLeast (first_eligible s group) (map ready_pair (eligible_in s group))
+FindsFirstEligible = (s : Rows) (group : Device) → FindsLeast (first_eligible s group) (map ready_pair (eligible_in s group))
 
 -- the group has no waiting call, or no eligible agent
-abbrev pub HasNoOffer : Rows → ℕ → Type 0
+abbrev pub HasNoOffer : Rows → Device → Type 0
 HasNoOffer s group = (waiting_in s group ≡ []) ⊎ (eligible_in s group ≡ [])
 
 -- the call that waits first in the group goes to the agent that is ready longest there, and no group that is served before it has both
@@ -35,9 +36,9 @@ pub record IsOffer (s : Rows) (o : Offer) : Type 0 where
   pub group : GroupRecord
   pub planned : Among group s.groups
   pub named : group.device ≡ o.group
-  pub place : ℕ
+  pub place : Stamp
   pub call : IsLeast (place, o.call) (map waiting_pair (waiting_in s o.group))
-  pub stamp : ℕ
+  pub stamp : Stamp
   pub agent : IsLeast (stamp, o.agent) (map ready_pair (eligible_in s o.group))
   pub first : (g : GroupRecord) → Among g s.groups → is_served_before g group ≡ true → HasNoOffer s g.device
 

@@ -1,14 +1,15 @@
 -- No agent has two distributed calls.
-use Rattle.std.specs.Prelude.{◌≡◌, ℕ, ◌≤◌, Bool, true, false, ◌&&◌, ◌==◌, Some}
+use Rattle.std.specs.Prelude.{◌≡◌, ◌≤◌, Bool, true, false, ◌&&◌, ◌==◌, Some}
 use Rattle.acd_terms.specs.Lists.{Among, count}
 use Rattle.acd_terms.specs.States.{is_distributed, is_null, is_alerting, is_answered}
+use Rattle.acd_terms.specs.Numbers.{Device}
 use Rattle.acd_terms.specs.declared.rows.Rows.{Rows}
 use Rattle.acd_terms.specs.declared.record.AgentRecord.{AgentRecord}
 use Rattle.acd_terms.specs.declared.record.ConnectionRecord.{ConnectionRecord}
 use Rattle.acd_terms.specs.declared.state.AgentState.TheVariants.{Ready, Busy}
 use Rattle.acd_model.specs.Scans.{agent_at, is_station}
 
-abbrev pub is_distributed_at : ℕ → ConnectionRecord → Bool
+abbrev pub is_distributed_at : Device → ConnectionRecord → Bool
 is_distributed_at device x = is_distributed x && x.device == device
 
 -- it stands at a station, where an agent is logged on who is ready while it alerts and busy once it is answered
@@ -34,6 +35,6 @@ pub record IsTalking (s : Rows) (a : AgentRecord) : Type 0 where
 
 -- one distributed connection at a device at most, each with its agent, and no other agent is busy
 pub record HasOneOffer (s : Rows) : Type 0 where
-  pub one : (device : ℕ) → count (is_distributed_at device) s.connections ≤ 1
+  pub one : (device : Device) → count (is_distributed_at device) s.connections ≤ 1
   pub attended : EachIsAttended s
   pub no_other : (a : AgentRecord) → Among a s.agents → a.state ≡ Busy → IsTalking s a

@@ -1,6 +1,8 @@
 -- What becomes of an agent whose distributed connection ends.
-use Rattle.std.specs.Prelude.{ℕ, Option, Some, None, if◌then◌else◌}
+use Rattle.std.specs.Prelude.{Option, Some, None, if◌then◌else◌}
 use Rattle.acd_terms.specs.States.{is_distributed, is_answered, state_wanted}
+use Rattle.acd_terms.specs.Numbers.{Device}
+use Rattle.acd_terms.specs.declared.command.Turn.{Turn}
 use Rattle.acd_terms.specs.declared.rows.Rows.{Rows}
 use Rattle.acd_terms.specs.declared.record.AgentRecord.{AgentRecord}
 use Rattle.acd_terms.specs.declared.record.ConnectionRecord.{ConnectionRecord}
@@ -26,18 +28,18 @@ release_of NoAnswer (Some pending.Ready) = Goes NotReady
 release_of _ (Some wanted) = Goes (state_wanted wanted)
 
 -- nothing is pending any more
-abbrev pub released : ℕ → ℕ → AgentRecord → ℕ → Release → Move
-released m k a station Stays = wait_for a None
-released m k a station (Goes state) = go_to m k a station state
+abbrev pub released : Turn → AgentRecord → Device → Release → Move
+released turn a station Stays = wait_for a None
+released turn a station (Goes state) = go_to turn a station state
 
-abbrev pub release_agent : ℕ → ℕ → Option AgentRecord → ℕ → Ending → Move
-release_agent m k None station how = no_move
-release_agent m k (Some a) station how = released m k a station (release_of how a.pending)
+abbrev pub release_agent : Turn → Option AgentRecord → Device → Ending → Move
+release_agent turn None station how = no_move
+release_agent turn (Some a) station how = released turn a station (release_of how a.pending)
 
 -- how a connection ends that is cleared, deflected or transferred
 abbrev pub ending_of : ConnectionRecord → Ending
 ending_of x = if is_answered x.state then Answered else Unanswered
 
 -- where a distributed connection ends, the agent at its station is released
-unfoldable pub release : Rows → ℕ → ℕ → ConnectionRecord → Ending → Move
-release s m k x how = if is_distributed x then release_agent m k (agent_at s x.device) x.device how else no_move
+unfoldable pub release : Rows → Turn → ConnectionRecord → Ending → Move
+release s turn x how = if is_distributed x then release_agent turn (agent_at s x.device) x.device how else no_move

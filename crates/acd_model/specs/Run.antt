@@ -1,5 +1,6 @@
 -- A run: commands at their moments, one step after another.
-use Rattle.std.specs.Prelude.{ℕ, List, [], ◌∷◌, ◌++◌}
+use Rattle.std.specs.Prelude.{List, [], ◌∷◌, ◌++◌}
+use Rattle.acd_terms.specs.Numbers.{Moment}
 use Rattle.acd_terms.specs.declared.rows.Rows.{Rows}
 use Rattle.acd_terms.specs.declared.command.Command.{Command}
 use Rattle.acd_terms.specs.declared.event.Event.{Event}
@@ -8,7 +9,7 @@ use Rattle.acd_model.specs.Step.{Stepped, step}
 
 -- a command at its moment
 pub record TimedCommand : Type 0 where
-  pub moment : ℕ
+  pub moment : Moment
   pub command : Command
 
 -- the state after a run, one outcome for each command, and all events in order

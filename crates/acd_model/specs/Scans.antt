@@ -6,6 +6,7 @@ use Rattle.std.specs.Ordering.{nat_cmp, ordering_then}
 use Rattle.acd_terms.specs.Lists.{find_by}
 use Rattle.acd_terms.specs.Groups.{is_one_of}
 use Rattle.acd_terms.specs.States.{is_ready, is_live, is_occupying, is_queued, is_distributed}
+use Rattle.acd_terms.specs.Numbers.{Device, Agent, CallId, MonitorId}
 use Rattle.acd_terms.specs.declared.rows.Rows.{Rows}
 use Rattle.acd_terms.specs.declared.record.GroupRecord.{GroupRecord}
 use Rattle.acd_terms.specs.declared.record.StationRecord.{StationRecord}
@@ -15,51 +16,51 @@ use Rattle.acd_terms.specs.declared.record.ConnectionRecord.{ConnectionRecord}
 use Rattle.acd_terms.specs.declared.record.MonitorRecord.{MonitorRecord}
 
 -- the orders of the keys
-abbrev pub at_group : ℕ → GroupRecord → Ordering
+abbrev pub at_group : Device → GroupRecord → Ordering
 at_group device r = nat_cmp device r.device
 
-abbrev pub at_station : ℕ → StationRecord → Ordering
+abbrev pub at_station : Device → StationRecord → Ordering
 at_station device r = nat_cmp device r.device
 
-abbrev pub at_agent : ℕ → AgentRecord → Ordering
+abbrev pub at_agent : Agent → AgentRecord → Ordering
 at_agent agent r = nat_cmp agent r.agent
 
-abbrev pub at_call : ℕ → CallRecord → Ordering
+abbrev pub at_call : CallId → CallRecord → Ordering
 at_call call r = nat_cmp call r.call
 
-abbrev pub at_connection : ℕ → ℕ → ConnectionRecord → Ordering
+abbrev pub at_connection : CallId → Device → ConnectionRecord → Ordering
 at_connection call device r = ordering_then (nat_cmp call r.call) (nat_cmp device r.device)
 
-abbrev pub at_monitor : ℕ → MonitorRecord → Ordering
+abbrev pub at_monitor : MonitorId → MonitorRecord → Ordering
 at_monitor monitor r = nat_cmp monitor r.monitor
 
 -- the records of a state
-unfoldable pub group_of : Rows → ℕ → Option GroupRecord
+unfoldable pub group_of : Rows → Device → Option GroupRecord
 group_of s device = find_by (at_group device) s.groups
 
-unfoldable pub station_of : Rows → ℕ → Option StationRecord
+unfoldable pub station_of : Rows → Device → Option StationRecord
 station_of s device = find_by (at_station device) s.stations
 
-unfoldable pub agent_of : Rows → ℕ → Option AgentRecord
+unfoldable pub agent_of : Rows → Agent → Option AgentRecord
 agent_of s agent = find_by (at_agent agent) s.agents
 
-unfoldable pub call_of : Rows → ℕ → Option CallRecord
+unfoldable pub call_of : Rows → CallId → Option CallRecord
 call_of s call = find_by (at_call call) s.calls
 
-unfoldable pub connection_of : Rows → ℕ → ℕ → Option ConnectionRecord
+unfoldable pub connection_of : Rows → CallId → Device → Option ConnectionRecord
 connection_of s call device = find_by (at_connection call device) s.connections
 
-unfoldable pub monitor_of : Rows → ℕ → Option MonitorRecord
+unfoldable pub monitor_of : Rows → MonitorId → Option MonitorRecord
 monitor_of s monitor = find_by (at_monitor monitor) s.monitors
 
-abbrev pub is_group : Rows → ℕ → Bool
+abbrev pub is_group : Rows → Device → Bool
 is_group s device = is_some (group_of s device)
 
-abbrev pub is_station : Rows → ℕ → Bool
+abbrev pub is_station : Rows → Device → Bool
 is_station s device = is_some (station_of s device)
 
 -- groups and stations are planned, external callers are not
-abbrev pub is_planned : Rows → ℕ → Bool
+abbrev pub is_planned : Rows → Device → Bool
 is_planned s device = is_group s device || is_station s device
 
 -- the value that may be there is this number
@@ -68,10 +69,10 @@ has None d = false
 has (Some x) d = x == d
 
 -- the agent logged on at a station
-unfoldable pub agent_at : Rows → ℕ → Option AgentRecord
+unfoldable pub agent_at : Rows → Device → Option AgentRecord
 agent_at s station = find (λ a. has a.station station) s.agents
 
-unfoldable pub connections_of : Rows → ℕ → List ConnectionRecord
+unfoldable pub connections_of : Rows → CallId → List ConnectionRecord
 connections_of s call = filter (λ c. c.call == call) s.connections
 
 -- the other party of a connection's call
@@ -79,11 +80,11 @@ unfoldable pub other_of : Rows → ConnectionRecord → Option ConnectionRecord
 other_of s x = find (λ y. y.call == x.call && not (y.device == x.device)) s.connections
 
 -- a connection at the station is initiated, alerting or connected
-unfoldable pub is_live_at : Rows → ℕ → Bool
+unfoldable pub is_live_at : Rows → Device → Bool
 is_live_at s station = list_any (λ c. c.device == station && is_live c.state) s.connections
 
 -- no connection at the station is one of these or on hold
-unfoldable pub is_idle : Rows → ℕ → Bool
+unfoldable pub is_idle : Rows → Device → Bool
 is_idle s station = not (list_any (λ c. c.device == station && is_occupying c.state) s.connections)
 
 -- a distributed connection is at the agent's station
@@ -91,26 +92,26 @@ unfoldable pub is_occupied : Rows → AgentRecord → Bool
 is_occupied s a = list_any (λ c. has a.station c.device && is_distributed c) s.connections
 
 -- the connections queued at a group
-unfoldable pub waiting_in : Rows → ℕ → List ConnectionRecord
+unfoldable pub waiting_in : Rows → Device → List ConnectionRecord
 waiting_in s group = filter (λ c. c.device == group && is_queued c.state) s.connections
 
-abbrev pub is_idle_there : Rows → Option ℕ → Bool
+abbrev pub is_idle_there : Rows → Option Device → Bool
 is_idle_there s None = false
 is_idle_there s (Some station) = is_idle s station
 
 -- of the group, ready and unoccupied, at an idle station
-unfoldable pub is_eligible : Rows → ℕ → AgentRecord → Bool
+unfoldable pub is_eligible : Rows → Device → AgentRecord → Bool
 is_eligible s group a = is_one_of a.groups group && is_ready a.state && not (is_occupied s a) && is_idle_there s a.station
 
-unfoldable pub eligible_in : Rows → ℕ → List AgentRecord
+unfoldable pub eligible_in : Rows → Device → List AgentRecord
 eligible_in s group = filter (is_eligible s group) s.agents
 
 -- the caller of a live call has the number
-unfoldable pub is_calling : Rows → ℕ → Bool
+unfoldable pub is_calling : Rows → Device → Bool
 is_calling s device = list_any (λ c. c.caller == device) s.calls
 
 -- the number is planned, or that of an external caller of a live call
-abbrev pub is_used : Rows → ℕ → Bool
+abbrev pub is_used : Rows → Device → Bool
 is_used s device = is_planned s device || is_calling s device
 
 -- the connections in a queue

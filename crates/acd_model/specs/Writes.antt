@@ -1,6 +1,7 @@
 -- The changes of one record, and of the counters.
-use Rattle.std.specs.Prelude.{ℕ, max}
+use Rattle.std.specs.Prelude.{max}
 use Rattle.acd_terms.specs.Lists.{put_by, remove_by}
+use Rattle.acd_terms.specs.Numbers.{Device, CallId, MonitorId, Moment, Stamp, EventNumber}
 use Rattle.acd_terms.specs.declared.rows.Rows.{Rows}
 use Rattle.acd_terms.specs.declared.record.GroupRecord.{GroupRecord}
 use Rattle.acd_terms.specs.declared.record.StationRecord.{StationRecord}
@@ -30,17 +31,17 @@ with_connection s r = record s { connections = put_by (at_connection r.call r.de
 unfoldable pub with_monitor : Rows → MonitorRecord → Rows
 with_monitor s r = record s { monitors = put_by (at_monitor r.monitor) s.monitors r; last_monitor = max s.last_monitor r.monitor }
 
-unfoldable pub without_call : Rows → ℕ → Rows
+unfoldable pub without_call : Rows → CallId → Rows
 without_call s call = record s { calls = remove_by (at_call call) s.calls }
 
-unfoldable pub without_connection : Rows → ℕ → ℕ → Rows
+unfoldable pub without_connection : Rows → CallId → Device → Rows
 without_connection s call device = record s { connections = remove_by (at_connection call device) s.connections }
 
-unfoldable pub without_monitor : Rows → ℕ → Rows
+unfoldable pub without_monitor : Rows → MonitorId → Rows
 without_monitor s monitor = record s { monitors = remove_by (at_monitor monitor) s.monitors }
 
-unfoldable pub with_last : Rows → ℕ → ℕ → ℕ → Rows
+unfoldable pub with_last : Rows → Stamp → Moment → EventNumber → Rows
 with_last s stamp moment event = record s { last_stamp = stamp; last_moment = moment; last_event = event }
 
-unfoldable pub with_last_ids : Rows → ℕ → ℕ → Rows
+unfoldable pub with_last_ids : Rows → CallId → MonitorId → Rows
 with_last_ids s call monitor = record s { last_call = call; last_monitor = monitor }

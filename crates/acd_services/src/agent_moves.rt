@@ -25,7 +25,7 @@ fn groups_while_logged_on(state: AgentState, groups: Groups) -> Groups
 }
 
 fn in_state(state: AgentState, at: Turn, agent: &AgentRecord) -> AgentRecord
-    ensures { result ≡ in_state state at.moment at.stamp agent.now }
+    ensures { result ≡ in_state state at agent.now }
 {
     AgentRecord {
         state,
@@ -52,7 +52,7 @@ fn state_report(state: AgentState, agent: AgentId, station: DeviceId) -> Report
 
 /// The agent at a station goes to a state, with nothing pending.
 pub fn go_to(at: Turn, agent: &AgentRecord, station: DeviceId, state: AgentState) -> Move
-    ensures { result ≡ go_to at.moment at.stamp agent.now station state }
+    ensures { result ≡ go_to at agent.now station state }
 {
     reported(
         Change::PutAgent(in_state(state, at, agent)),
@@ -62,7 +62,7 @@ pub fn go_to(at: Turn, agent: &AgentRecord, station: DeviceId, state: AgentState
 
 /// The agent goes to a state, from the station at which it is logged on.
 pub fn go_from(at: Turn, agent: &AgentRecord, state: AgentState) -> Move
-    ensures { result ≡ go_from at.moment at.stamp agent.now agent.now.station state }
+    ensures { result ≡ go_from at agent.now agent.now.station state }
 {
     match agent.station {
         None => no_move(),
@@ -72,7 +72,7 @@ pub fn go_from(at: Turn, agent: &AgentRecord, state: AgentState) -> Move
 
 /// The agent logs on. The report names the group of one who serves just one.
 pub fn log_on_at(at: Turn, agent: &AgentRecord, station: DeviceId, groups: Groups) -> Move
-    ensures { result ≡ log_on_at at.moment at.stamp agent.now station groups }
+    ensures { result ≡ log_on_at at agent.now station groups }
 {
     let logged_on = AgentRecord {
         state: AgentState::NotReady,
@@ -95,7 +95,7 @@ pub fn log_on_at(at: Turn, agent: &AgentRecord, station: DeviceId, groups: Group
 
 /// The agent becomes busy, and what is pending stays.
 pub fn become_busy(at: Turn, agent: &AgentRecord, station: DeviceId) -> Move
-    ensures { result ≡ become_busy at.moment at.stamp agent.now station }
+    ensures { result ≡ become_busy at agent.now station }
 {
     let busy = AgentRecord {
         state: AgentState::Busy,

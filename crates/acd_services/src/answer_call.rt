@@ -13,7 +13,7 @@ use acd_terms::{Answer, ConnectionRecord, DeviceId, Turn};
 // Where the connection was distributed, the agent at its station becomes busy.
 #[tactic(auto, unfolding(acd_model::specs::Services::AnswerCall::occupy))]
 fn occupy(tables: &Tables, at: Turn, connection: &ConnectionRecord) -> Move
-    ensures { result ≡ occupy tables.now at.moment at.stamp connection.now }
+    ensures { result ≡ occupy tables.now at connection.now }
 {
     if !connection.is_distributed() {
         return no_move();
@@ -27,7 +27,7 @@ fn occupy(tables: &Tables, at: Turn, connection: &ConnectionRecord) -> Move
 /// An alerting connection is answered (Answer Call of ECMA-269).
 #[tactic(auto, unfolding(acd_model::specs::Services::AnswerCall::answer_call, acd_model::specs::Served::if_ok))]
 pub fn answer_call(tables: &Tables, at: Turn, call: u64, device: DeviceId) -> Served
-    ensures { result ≡ answer_call tables.now at.moment at.stamp call device }
+    ensures { result ≡ answer_call tables.now at call device }
 {
     tables.call(call).ok_or(UnknownCall)?;
     let connection = tables.connection(call, device).ok_or(UnknownConnection)?;

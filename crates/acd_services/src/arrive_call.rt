@@ -13,7 +13,7 @@ use acd_terms::{Answer, CallRecord, Cause, DeviceId, Turn};
 #[tactic(auto, unfolding(acd_model::specs::Services::ArriveCall::arrive_call, acd_model::specs::Served::if_ok))]
 pub fn arrive_call(tables: &Tables, at: Turn, caller: DeviceId, called: DeviceId) -> Served
     requires { tables.now.last_call < 2 ^ 64 - 1 }
-    ensures { result ≡ arrive_call tables.now at.moment at.stamp caller called }
+    ensures { result ≡ arrive_call tables.now at caller called }
 {
     refuse_if(tables.is_planned(caller), CallerPlanned)?;
     refuse_if(!tables.is_planned(called), UnknownDevice)?;

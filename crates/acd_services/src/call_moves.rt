@@ -92,7 +92,7 @@ fn destination_of(tables: &Tables, to: DeviceId) -> Destination
 }
 
 fn arriving(destination: Destination, at: Turn, call: u64, to: DeviceId) -> ConnectionRecord
-    ensures { result ≡ arriving destination at.moment at.stamp call to }
+    ensures { result ≡ arriving destination at call to }
 {
     match destination {
         Destination::Queue => queueing(call, to, Some(at.stamp), Some(at.moment)),
@@ -123,7 +123,7 @@ fn arrival(destination: Destination, call: u64, to: DeviceId, cause: Cause) -> R
 /// The call comes to a destination: it enters a queue, alerts, or fails.
 #[tactic(auto, unfolding(acd_model::specs::CallMoves::arrive))]
 pub fn arrive(tables: &Tables, at: Turn, call: u64, to: DeviceId, cause: Cause) -> Move
-    ensures { result ≡ arrive tables.now at.moment at.stamp call to cause }
+    ensures { result ≡ arrive tables.now at call to cause }
 {
     let destination = destination_of(tables, to);
     reported(

@@ -43,7 +43,7 @@ fn clear_other(other: &Option<ConnectionRecord>) -> Move
 }
 
 fn release_other(tables: &Tables, at: Turn, other: &Option<ConnectionRecord>) -> Move
-    ensures { result ≡ release_other tables.now at.moment at.stamp other.now }
+    ensures { result ≡ release_other tables.now at other.now }
 {
     match other {
         None => no_move(),
@@ -54,7 +54,7 @@ fn release_other(tables: &Tables, at: Turn, other: &Option<ConnectionRecord>) ->
 /// The call ends (Clear Connection of ECMA-269, which here clears the other party too).
 #[tactic(auto, unfolding(acd_model::specs::Services::ClearConnection::clear_connection, acd_model::specs::Served::if_ok))]
 pub fn clear_connection(tables: &Tables, at: Turn, call: u64, device: DeviceId) -> Served
-    ensures { result ≡ clear_connection tables.now at.moment at.stamp call device }
+    ensures { result ≡ clear_connection tables.now at call device }
 {
     tables.call(call).ok_or(UnknownCall)?;
     let connection = tables.connection(call, device).ok_or(UnknownConnection)?;

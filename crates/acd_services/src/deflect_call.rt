@@ -17,7 +17,7 @@ use acd_terms::{Answer, Cause, DeviceId, Turn};
 /// An alerting or queued call goes to another device (Deflect Call of ECMA-269).
 #[tactic(auto, unfolding(acd_model::specs::Services::DeflectCall::deflect_call, acd_model::specs::Served::if_ok))]
 pub fn deflect_call(tables: &Tables, at: Turn, call: u64, device: DeviceId, to: DeviceId) -> Served
-    ensures { result ≡ deflect_call tables.now at.moment at.stamp call device to }
+    ensures { result ≡ deflect_call tables.now at call device to }
 {
     tables.call(call).ok_or(UnknownCall)?;
     let connection = tables.connection(call, device).ok_or(UnknownConnection)?;

@@ -21,7 +21,7 @@ fn release_of(how: Ending, pending: Option<Pending>) -> Release
 }
 
 fn released(at: Turn, agent: &AgentRecord, station: DeviceId, release: Release) -> Move
-    ensures { result ≡ released at.moment at.stamp agent.now station release }
+    ensures { result ≡ released at agent.now station release }
 {
     match release {
         Release::Stays => wait_for(agent, None),
@@ -43,7 +43,7 @@ pub fn ending_of(connection: &ConnectionRecord) -> Ending
 /// Where a distributed connection ends, the agent at its station is released.
 #[tactic(auto, unfolding(acd_model::specs::Release::release))]
 pub fn release(tables: &Tables, at: Turn, connection: &ConnectionRecord, how: Ending) -> Move
-    ensures { result ≡ release tables.now at.moment at.stamp connection.now how }
+    ensures { result ≡ release tables.now at connection.now how }
 {
     if !connection.is_distributed() {
         return no_move();

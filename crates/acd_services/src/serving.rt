@@ -33,7 +33,7 @@ pub fn decide(tables: &Tables, at: Turn, command: &Command) -> Served
     requires calls { tables.now.last_call < 2 ^ 64 - 1 }
     requires monitors { tables.now.last_monitor < 2 ^ 64 - 1 }
     requires no_tick { IsNoTick command.now }
-    ensures { result ≡ serve tables.now at.moment at.stamp command.now }
+    ensures { result ≡ serve tables.now at command.now }
 {
     match *command {
         Command::AddGroup {
@@ -83,9 +83,9 @@ pub fn serve(
     requires calls { tables.old.last_call < 2 ^ 64 - 1 }
     requires monitors { tables.old.last_monitor < 2 ^ 64 - 1 }
     requires no_tick { IsNoTick command.now }
-    ensures outcome { IfOk result (λ o. o ≡ outcome_of (serve tables.old at.moment at.stamp command.now)) }
-    ensures rows { OnOk result (tables.new ≡ moved tables.old (moves_of (serve tables.old at.moment at.stamp command.now))) }
-    ensures events { OnOk result (events.new.items ≡ events.old.items ++ events_of at.moment (moves_of (serve tables.old at.moment at.stamp command.now))) }
+    ensures outcome { IfOk result (λ o. o ≡ outcome_of (serve tables.old at command.now)) }
+    ensures rows { OnOk result (tables.new ≡ moved tables.old (moves_of (serve tables.old at command.now))) }
+    ensures events { OnOk result (events.new.items ≡ events.old.items ++ events_of at.moment (moves_of (serve tables.old at command.now))) }
 {
     match decide(tables, at, command) {
         Err(refusal) => Ok(Outcome::Refused(refusal)),

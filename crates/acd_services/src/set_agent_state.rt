@@ -43,7 +43,7 @@ fn all_groups(tables: &Tables, groups: &[DeviceId]) -> Result<(), Refusal>
 // An agent in null logs on at a station, in some groups.
 #[tactic(auto, unfolding(acd_model::specs::Services::SetAgentState::log_on, acd_model::specs::Served::if_ok, acd_model::specs::Served::refuse_if))]
 fn log_on(tables: &Tables, at: Turn, agent: AgentId, device: DeviceId, groups: SomeGroups) -> Served
-    ensures { result ≡ log_on tables.now at.moment at.stamp agent device groups }
+    ensures { result ≡ log_on tables.now at agent device groups }
 {
     let agent = tables.agent(agent).ok_or(UnknownAgent)?;
     refuse_if(!agent.state.is_null(), WrongAgentState)?;
@@ -58,7 +58,7 @@ fn log_on(tables: &Tables, at: Turn, agent: AgentId, device: DeviceId, groups: S
 
 // An occupied agent waits for the state, any other goes to it.
 fn go_or_wait(tables: &Tables, at: Turn, agent: &AgentRecord, wanted: Pending) -> Served
-    ensures { result ≡ go_or_wait tables.now at.moment at.stamp agent.now wanted }
+    ensures { result ≡ go_or_wait tables.now at agent.now wanted }
 {
     let state = agent.state;
     if tables.is_occupied(agent) {
@@ -78,7 +78,7 @@ fn go_or_wait(tables: &Tables, at: Turn, agent: &AgentRecord, wanted: Pending) -
 // An agent who is logged on asks for another state.
 #[tactic(auto, unfolding(acd_model::specs::Services::SetAgentState::change_state, acd_model::specs::Served::if_ok))]
 fn change_state(tables: &Tables, at: Turn, agent: AgentId, wanted: Pending) -> Served
-    ensures { result ≡ change_state tables.now at.moment at.stamp agent wanted }
+    ensures { result ≡ change_state tables.now at agent wanted }
 {
     let agent = tables.agent(agent).ok_or(UnknownAgent)?;
     refuse_if(agent.state.is_null(), WrongAgentState)?;
@@ -87,7 +87,7 @@ fn change_state(tables: &Tables, at: Turn, agent: AgentId, wanted: Pending) -> S
 
 /// Set Agent State of ECMA-269.
 pub fn set_agent_state(tables: &Tables, at: Turn, agent: AgentId, requested: Requested) -> Served
-    ensures { result ≡ set_agent_state tables.now at.moment at.stamp agent requested }
+    ensures { result ≡ set_agent_state tables.now at agent requested }
 {
     match requested {
         Requested::LoggedOn { device, groups } => log_on(tables, at, agent, device, groups),

@@ -32,7 +32,7 @@ pub fn single_step_transfer(
     device: DeviceId,
     to: DeviceId,
 ) -> Served
-    ensures { result ≡ single_step_transfer tables.now at.moment at.stamp call device to }
+    ensures { result ≡ single_step_transfer tables.now at call device to }
 {
     tables.call(call).ok_or(UnknownCall)?;
     let connection = tables.connection(call, device).ok_or(UnknownConnection)?;

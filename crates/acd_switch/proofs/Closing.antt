@@ -7,7 +7,7 @@ use Rattle.acd_model.specs.declared.moves.Move.{Move}
 use Rattle.acd_model.specs.Served.{Served, moves_of, outcome_of}
 use Rattle.acd_model.specs.Moves.{moved, events_of}
 use Rattle.acd_model.specs.Distribution.{distribution}
-use Rattle.acd_model.specs.Step.{Stepped, step, step_at, step_moves, numbered, executed_moment, next_stamp}
+use Rattle.acd_model.specs.Step.{Stepped, step, step_at, step_moves, numbered, executed_moment, next_stamp, next_turn, turn_at}
 use Rattle.acd_model.specs.Services.Serve.{serve}
 use Rattle.acd_switch.specs.Room.{closed}
 use Rattle.acd_terms.specs.Lists.{IsAscending}
@@ -34,45 +34,45 @@ told_after told joined s t m v none es fs n e f g =
     ∙ sym (joined (moves_of v) (distribution (moved s (moves_of v)) m))
 
 -- the step, from the moment and stamp that the code computes
-step_is : (s : Rows) (moment m k : ℕ) (command : Command) → m ≡ executed_moment s moment → k ≡ next_stamp s → step s moment command ≡ step_at s m k (serve s m k command)
+step_is : (s : Rows) (moment m k : ℕ) (command : Command) → m ≡ executed_moment s moment → k ≡ next_stamp s → step s moment command ≡ step_at s (turn_at m k) (serve s (turn_at m k) command)
 unfolding step
 step_is s moment m k command e f = rw (e, f) refl
 
 module _ (s t u : Rows) (moment m k last : ℕ) (command : Command) (none es fs : List Event)
     (executed : m ≡ executed_moment s moment) (stamp : k ≡ next_stamp s) (known : last ≡ s.last_event) (start : none ≡ [])
-    (served : t ≡ moved s (moves_of (serve s m k command))) (told : es ≡ none ++ events_of m (moves_of (serve s m k command)))
+    (served : t ≡ moved s (moves_of (serve s (turn_at m k) command))) (told : es ≡ none ++ events_of m (moves_of (serve s (turn_at m k) command)))
     (offered : u ≡ moved t (distribution t m)) (more : fs ≡ es ++ events_of m (distribution t m)) where
-  pub rows_is : closed u m k last fs ≡ (step s moment command).rows
+  pub rows_is : closed u (turn_at m k) last fs ≡ (step s moment command).rows
   rows_is =
-      ap (λ (x : Rows). closed x m k last fs) (rows_after s t u m (serve s m k command) served offered)
-      ∙ ap (λ (l : List Event). closed (moved s (step_moves s m (serve s m k command))) m k last l) (told_after (events_of m) (events_of_append m) s t m (serve s m k command) none es fs start served told more)
-      ∙ ap (λ (n : ℕ). closed (moved s (step_moves s m (serve s m k command))) m k n (events_of m (step_moves s m (serve s m k command)))) known
+      ap (λ (x : Rows). closed x (turn_at m k) last fs) (rows_after s t u m (serve s (turn_at m k) command) served offered)
+      ∙ ap (λ (l : List Event). closed (moved s (step_moves s m (serve s (turn_at m k) command))) (turn_at m k) last l) (told_after (events_of m) (events_of_append m) s t m (serve s (turn_at m k) command) none es fs start served told more)
+      ∙ ap (λ (n : ℕ). closed (moved s (step_moves s m (serve s (turn_at m k) command))) (turn_at m k) n (events_of m (step_moves s m (serve s (turn_at m k) command)))) known
       ∙ ap (λ (x : Stepped). x.rows) (sym (step_is s moment m k command executed stamp))
 
   pub events_is : numbered last fs ≡ (step s moment command).events
   events_is =
-      ap (λ (l : List Event). numbered last l) (told_after (events_of m) (events_of_append m) s t m (serve s m k command) none es fs start served told more)
-      ∙ ap (λ (n : ℕ). numbered n (events_of m (step_moves s m (serve s m k command)))) known
+      ap (λ (l : List Event). numbered last l) (told_after (events_of m) (events_of_append m) s t m (serve s (turn_at m k) command) none es fs start served told more)
+      ∙ ap (λ (n : ℕ). numbered n (events_of m (step_moves s m (serve s (turn_at m k) command)))) known
       ∙ ap (λ (x : Stepped). x.events) (sym (step_is s moment m k command executed stamp))
 
-pub outcome_is : (s : Rows) (moment m k : ℕ) (command : Command) → m ≡ executed_moment s moment → k ≡ next_stamp s → outcome_of (serve s m k command) ≡ (step s moment command).outcome
+pub outcome_is : (s : Rows) (moment m k : ℕ) (command : Command) → m ≡ executed_moment s moment → k ≡ next_stamp s → outcome_of (serve s (turn_at m k) command) ≡ (step s moment command).outcome
 outcome_is s moment m k command e f = ap (λ (x : Stepped). x.outcome) (sym (step_is s moment m k command e f))
 
 -- the changes, with those of the figures behind those of the moves
 pub changes_are : (s t u : Rows) (moment m k : ℕ) (command : Command) (none es fs : List Event) (blank cs ds rs : List Change) → m ≡ executed_moment s moment → k ≡ next_stamp s → none ≡ [] → blank ≡ []
-    → t ≡ moved s (moves_of (serve s m k command)) → u ≡ moved t (distribution t m)
-    → es ≡ none ++ events_of m (moves_of (serve s m k command)) → fs ≡ es ++ events_of m (distribution t m)
-    → cs ≡ blank ++ changes_of (moves_of (serve s m k command)) → ds ≡ cs ++ changes_of (distribution t m) → rs ≡ ds ++ growth u fs → rs ≡ step_changes s moment command
+    → t ≡ moved s (moves_of (serve s (turn_at m k) command)) → u ≡ moved t (distribution t m)
+    → es ≡ none ++ events_of m (moves_of (serve s (turn_at m k) command)) → fs ≡ es ++ events_of m (distribution t m)
+    → cs ≡ blank ++ changes_of (moves_of (serve s (turn_at m k) command)) → ds ≡ cs ++ changes_of (distribution t m) → rs ≡ ds ++ growth u fs → rs ≡ step_changes s moment command
 unfolding step_changes
 changes_are s t u moment m k command none es fs blank cs ds rs executed stamp n b served offered told more noted yet grown =
-    let v : Served = serve s m k command in
+    let v : Served = serve s (turn_at m k) command in
     grown ∙ ap (λ l. l ++ growth u fs) (told_after changes_of changes_of_append s t m v blank cs ds b served noted yet)
     ∙ ap (λ (x : Rows). changes_of (step_moves s m v) ++ growth x fs) (rows_after s t u m v served offered)
     ∙ ap (λ (l : List Event). changes_of (step_moves s m v) ++ growth (moved s (step_moves s m v)) l) (told_after (events_of m) (events_of_append m) s t m v none es fs n served told more)
     ∙ by_numbers s moment m k command executed stamp
   where
     by_numbers : (s : Rows) (moment m k : ℕ) (command : Command) → m ≡ executed_moment s moment → k ≡ next_stamp s
-        → step_changes_by s m (step_moves s m (serve s m k command)) ≡ step_changes_by s (executed_moment s moment) (step_moves s (executed_moment s moment) (serve s (executed_moment s moment) (next_stamp s) command))
+        → step_changes_by s m (step_moves s m (serve s (turn_at m k) command)) ≡ step_changes_by s (executed_moment s moment) (step_moves s (executed_moment s moment) (serve s (next_turn s moment) command))
     by_numbers s moment m k command e f = rw (e, f) refl
 
 -- the groups are still in order then

@@ -12,12 +12,12 @@ use Rattle.acd_model.specs.Rules.Plan.{group_order}
 use Rattle.acd_lemmas.proofs.Lists.{every_among, found_among}
 use Rattle.acd_laws.proofs.Made.ChangesMade.{one_grown, counting_more, counting_both}
 use Rattle.acd_laws.proofs.Figures.CountedEvents.{no_events, sum_nothing}
-use Rattle.acd_switch.specs.Counting.{figures_in, AreFitting, AllFit, FiguresFit}
+use Rattle.acd_switch.specs.Counting.{figures_by, AreFitting, AllFit, CountingFits}
 
 -- what one event counts
-pub figures_of_one : (g : ℕ) (e : Event) → figures_of g (e ∷ []) ≡ figures_in g e.report
-unfolding figures_of figures_in
-figures_of_one g e = sum_nothing (figures_in g e.report) (figures_of g []) (no_events g)
+pub figures_of_one : (g : ℕ) (e : Event) → figures_of g (e ∷ []) ≡ figures_by g e.report
+unfolding figures_of figures_by
+figures_of_one g e = sum_nothing (figures_by g e.report) (figures_of g []) (no_events g)
 
 -- a part of a sum that fits, fits
 fitting_part : (a b : Figures) → AreFitting (sum_of_figures a b) → AreFitting a
@@ -36,13 +36,13 @@ first_fits e es (g ∷ gs) h = (
   first_fits e es gs h.1,
 )
 
-pub one_fits : (s : Rows) (e : Event) (es : List Event) → FiguresFit s (e ∷ es) → FiguresFit s (e ∷ [])
+pub one_fits : (s : Rows) (e : Event) (es : List Event) → CountingFits s (e ∷ es) → CountingFits s (e ∷ [])
 one_fits s e es h = first_fits e es s.groups h
 
 -- after the first event the others fit
-pub others_fit : (s t : Rows) (e : Event) (es : List Event) → IsAscending group_order s.groups → t ≡ changed_by s (growth_by s e) → FiguresFit s (e ∷ es) → FiguresFit t es
+pub others_fit : (s t : Rows) (e : Event) (es : List Event) → IsAscending group_order s.groups → t ≡ changed_by s (growth_by s e) → CountingFits s (e ∷ es) → CountingFits t es
 unfolding with_figures
-others_fit s t e es a k h = subst (λ (r : Rows). FiguresFit r es) (sym (k ∙ one_grown s e a)) (subst AllFit (sym (counting_both e es s.groups)) h)
+others_fit s t e es a k h = subst (λ (r : Rows). CountingFits r es) (sym (k ∙ one_grown s e a)) (subst AllFit (sym (counting_both e es s.groups)) h)
 
 mapped_fit : (es : List Event) (gs : List GroupRecord) (g : GroupRecord) → AllFit (map (counting es) gs) → Among g gs → AreFitting (counting es g).figures
 mapped_fit es gs g h a = every_among (λ (x : GroupRecord). AreFitting (counting es x).figures) gs g (under es gs h) a
@@ -52,6 +52,6 @@ mapped_fit es gs g h a = every_among (λ (x : GroupRecord). AreFitting (counting
     under es (x ∷ xs) h = (h.0, under es xs h.1)
 
 -- the figures of a group that is found
-pub found_fits : (s : Rows) (e : Event) (d : ℕ) (g : GroupRecord) → FiguresFit s (e ∷ []) → group_of s d ≡ Some g → AreFitting (counting (e ∷ []) g).figures
+pub found_fits : (s : Rows) (e : Event) (d : ℕ) (g : GroupRecord) → CountingFits s (e ∷ []) → group_of s d ≡ Some g → AreFitting (counting (e ∷ []) g).figures
 unfolding group_of
 found_fits s e d g h f = mapped_fit (e ∷ []) s.groups g h (found_among (at_group d) s.groups g f)

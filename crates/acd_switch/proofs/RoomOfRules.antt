@@ -14,7 +14,7 @@ use Rattle.acd_model.specs.Rules.First.{BreaksNoRule}
 use Rattle.acd_switch.specs.Counting.{AreFitting, AllFit}
 use Rattle.acd_lemmas.proofs.Facts.{IsCountedUpTo, AddsUp}
 use Rattle.acd_laws.proofs.Rules.DecidedAll.{keeps_read}
-use Rattle.acd_switch.specs.Room.{HasRoom, Fits}
+use Rattle.acd_switch.specs.Room.{HasRoom, CountersFit}
 use Rattle.acd_lemmas.proofs.Changes.{requests_few}
 
 -- one more request, call and monitor can be numbered
@@ -45,7 +45,7 @@ all_fitting : (s : Rows) (m : ℕ) (gs : List GroupRecord) → s.last_stamp ≤ 
 all_fitting s m [] few small h b = tt
 all_fitting s m (g ∷ gs) few small h b = (fitting s m g few small h.0 b.0, all_fitting s m gs few small h.1 b.1)
 
-pub fits : (s : Rows) → BreaksNoRule s → s.last_stamp ≤ 1000000000 → s.last_moment < 2 ^ 32 → Fits s
+pub fits : (s : Rows) → BreaksNoRule s → s.last_stamp ≤ 1000000000 → s.last_moment < 2 ^ 32 → CountersFit s
 fits s h few small =
     let k = keeps_read s h in
     record {
@@ -62,7 +62,7 @@ pub moment_after : (s : Rows) (moment : ℕ) (command : Command) → (step s mom
 unfolding step with_last
 moment_after s moment command = refl
 
-pub fits_after : (s : Rows) (moment : ℕ) (command : Command) → BreaksNoRule s → s.last_stamp < s.limits.requests → BreaksNoRule (step s moment command).rows → executed_moment s moment < 2 ^ 32 → Fits (step s moment command).rows
+pub fits_after : (s : Rows) (moment : ℕ) (command : Command) → BreaksNoRule s → s.last_stamp < s.limits.requests → BreaksNoRule (step s moment command).rows → executed_moment s moment < 2 ^ 32 → CountersFit (step s moment command).rows
 fits_after s moment command h room kept small =
     let few = requests_few s.limits (keeps_read s h).sizes.limits in
     let stamp = stamp_after s moment command in

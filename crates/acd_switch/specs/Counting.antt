@@ -1,6 +1,7 @@
 -- Figures that grow by the reports of a request.
-use Rattle.std.specs.Prelude.{ℕ, ◌^◌, ◌<◌, List, map, if◌then◌else◌}
+use Rattle.std.specs.Prelude.{◌^◌, ◌<◌, List, map, if◌then◌else◌}
 use Rattle.acd_terms.specs.Lists.{Every}
+use Rattle.acd_terms.specs.Numbers.{Device}
 use Rattle.acd_terms.specs.declared.rows.Rows.{Rows}
 use Rattle.acd_terms.specs.declared.record.Figures.{Figures}
 use Rattle.acd_terms.specs.declared.record.GroupRecord.{GroupRecord}
@@ -9,8 +10,8 @@ use Rattle.acd_terms.specs.declared.event.Report.{Report}
 use Rattle.acd_model.specs.Figures.{is_entry, is_answer, is_abandonment, is_moving_away, waited_there, counting}
 
 -- what one report counts for a group
-unfoldable pub figures_in : ℕ → Report → Figures
-figures_in g r = record {
+unfoldable pub figures_by : Device → Report → Figures
+figures_by g r = record {
   entered = if is_entry g r then 1 else 0;
   answered = if is_answer g r then 1 else 0;
   abandoned = if is_abandonment g r then 1 else 0;
@@ -31,5 +32,5 @@ abbrev pub AllFit : List GroupRecord → Type 0
 AllFit groups = Every (λ (g : GroupRecord). AreFitting g.figures) groups
 
 -- no figure of a group wraps by what the events count
-abbrev pub FiguresFit : Rows → List Event → Type 0
-FiguresFit s events = AllFit (map (counting events) s.groups)
+abbrev pub CountingFits : Rows → List Event → Type 0
+CountingFits s events = AllFit (map (counting events) s.groups)

@@ -1,5 +1,6 @@
 -- What the switch tells of a group and of an outcome.
-use Rattle.std.specs.Prelude.{ℕ, Option, option_map}
+use Rattle.std.specs.Prelude.{Option, option_map}
+use Rattle.acd_terms.specs.Numbers.{Device}
 use Rattle.acd_terms.specs.declared.rows.Rows.{Rows}
 use Rattle.acd_terms.specs.declared.record.Figures.{Figures}
 use Rattle.acd_terms.specs.declared.record.GroupRecord.{GroupRecord}
@@ -8,7 +9,7 @@ use Rattle.acd_terms.specs.declared.answer.Outcome.TheVariants.{Done, Refused}
 use Rattle.acd_model.specs.Scans.{group_of}
 
 -- the figures of a planned group, and none of any other device
-abbrev pub figures_at : Rows → ℕ → Option Figures
+abbrev pub figures_at : Rows → Device → Option Figures
 figures_at s group = option_map (λ (g : GroupRecord). g.figures) (group_of s group)
 
 abbrev pub IsRefused : Outcome → Type 0

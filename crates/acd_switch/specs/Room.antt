@@ -1,5 +1,6 @@
 -- Where the counters of a state have room in their types.
-use Rattle.std.specs.Prelude.{ℕ, ◌<◌, ◌-◌, ◌+◌, ◌^◌, List, length}
+use Rattle.std.specs.Prelude.{◌<◌, ◌-◌, ◌+◌, ◌^◌, List, length}
+use Rattle.acd_terms.specs.Numbers.{EventNumber}
 use Rattle.acd_switch.specs.Counting.{AllFit}
 use Rattle.acd_terms.specs.declared.rows.Rows.{Rows}
 use Rattle.acd_terms.specs.declared.event.Event.{Event}
@@ -13,10 +14,10 @@ pub record HasRoom (s : Rows) : Type 0 where
   pub monitor : s.last_monitor < 2 ^ 64 - 1
 
 -- the last event and the figures are numbers of 64 bits
-pub record Fits (s : Rows) : Type 0 where
+pub record CountersFit (s : Rows) : Type 0 where
   pub event : s.last_event < 2 ^ 64
   pub figures : AllFit s.groups
 
 -- the state once the events are counted and numbered on from the last one
-abbrev pub closed : Rows → ℕ → ℕ → ℕ → List Event → Rows
-closed s m k last events = with_last (with_figures s events) k m (last + length events)
+abbrev pub closed : Rows → Turn → EventNumber → List Event → Rows
+closed s turn last events = with_last (with_figures s events) turn.stamp turn.moment (last + length events)

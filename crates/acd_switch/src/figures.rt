@@ -3,7 +3,7 @@
 ghost use Rattle.std.specs.Prelude.{◌≡◌, ◌∷◌, []};
 ghost use Rattle.acd_model.specs.Figures.{sum_of_figures, counting};
 ghost use Rattle.acd_model.specs.Changes.{counted_group};
-ghost use Rattle.acd_switch.specs.Counting.{figures_in, AreFitting};
+ghost use Rattle.acd_switch.specs.Counting.{figures_by, AreFitting};
 
 use acd_terms::{Cause, DeviceId, Event, Figures, GroupRecord, Report};
 
@@ -36,9 +36,9 @@ pub fn counted_group(report: &Report) -> Option<DeviceId>
 }
 
 // What one report counts for the group.
-#[tactic(auto, unfolding(crate::specs::Counting::figures_in))]
-fn figures_in(group: DeviceId, report: &Report) -> Figures
-    ensures { result ≡ figures_in group report.now }
+#[tactic(auto, unfolding(crate::specs::Counting::figures_by))]
+fn figures_by(group: DeviceId, report: &Report) -> Figures
+    ensures { result ≡ figures_by group report.now }
 {
     match *report {
         Report::Queued {
@@ -95,6 +95,6 @@ pub fn counting(group: GroupRecord, event: &Event) -> GroupRecord
     requires { AreFitting (counting (event.now ∷ []) group).figures }
     ensures { result ≡ counting (event.now ∷ []) group }
 {
-    let figures = sum_of(group.figures, figures_in(group.device, &event.report));
+    let figures = sum_of(group.figures, figures_by(group.device, &event.report));
     GroupRecord { figures, ..group }
 }

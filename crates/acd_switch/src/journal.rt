@@ -6,7 +6,7 @@ ghost use Rattle.acd_model.specs.Moves.{changed, moved, with_event, events_of};
 ghost use Rattle.acd_model.specs.Changes.{with_change, changes_of, changed_by, growth_by, growth};
 ghost use Rattle.acd_model.specs.Figures.{with_figures};
 ghost use Rattle.acd_model.specs.Rules.Plan.{group_order};
-ghost use Rattle.acd_switch.specs.Counting.{FiguresFit};
+ghost use Rattle.acd_switch.specs.Counting.{CountingFits};
 
 use crate::figures::{counted_group, counting};
 use acd_model::{Change, Move};
@@ -75,7 +75,7 @@ impl Journal {
     /// dropped.
     pub fn grow(&mut self, tables: &mut Tables) -> Result<(), AllocError>
         requires order { IsAscending group_order tables.old.groups }
-        requires room { FiguresFit tables.old self.old.events.items }
+        requires room { CountingFits tables.old self.old.events.items }
         ensures rows { OnOk result (tables.new ≡ with_figures tables.old self.old.events.items) }
         ensures events { self.new.events.items ≡ self.old.events.items }
         ensures changes { OnOk result (self.new.changes.items ≡ self.old.changes.items ++ growth tables.old self.old.events.items) }
@@ -110,7 +110,7 @@ fn note<T: Copy + Drop>(more: &[T], noted: &mut Vec<T>) -> Result<(), AllocError
 
 // The group that the event counts for grows, where there is one.
 fn grow_by(tables: &mut Tables, event: &Event, changes: &mut Vec<Change>) -> Result<(), AllocError>
-    requires { FiguresFit tables.old (event.now ∷ []) }
+    requires { CountingFits tables.old (event.now ∷ []) }
     ensures rows { OnOk result (tables.new ≡ changed_by tables.old (growth_by tables.old event.now)) }
     ensures changes { OnOk result (changes.new.items ≡ changes.old.items ++ growth_by tables.old event.now) }
 {
@@ -129,7 +129,7 @@ fn grow_by_all(
     changes: &mut Vec<Change>,
 ) -> Result<(), AllocError>
     requires order { IsAscending group_order tables.old.groups }
-    requires room { FiguresFit tables.old events.now }
+    requires room { CountingFits tables.old events.now }
     ensures rows { OnOk result (tables.new ≡ with_figures tables.old events.now) }
     ensures changes { OnOk result (changes.new.items ≡ changes.old.items ++ growth tables.old events.now) }
 {

@@ -13,7 +13,7 @@ ghost use Rattle.acd_model.specs.Rules.First.{BreaksNoRule};
 ghost use Rattle.acd_model.specs.Rules.Plan.{group_order};
 ghost use Rattle.acd_services.specs.NoTick.{IsNoTick};
 ghost use Rattle.acd_switch.specs.RowFaults.{IsFaultOf};
-ghost use Rattle.acd_switch.specs.Room.{HasRoom, Fits, closed};
+ghost use Rattle.acd_switch.specs.Room.{HasRoom, CountersFit, closed};
 ghost use Rattle.acd_switch.specs.Kept.{figures_at, IsRefused};
 ghost use Rattle.acd_laws.specs.RefusalLaws.{ChangesNothing};
 
@@ -199,8 +199,8 @@ fn execute(
 // Counts the events in the figures, numbers them on from the last one, and sets the counters.
 fn close(tables: &mut Tables, at: Turn, last: u64, journal: &mut Journal) -> Result<(), AllocError>
     requires order { IsAscending group_order tables.old.groups }
-    requires room { Fits (closed tables.old at.moment at.stamp last journal.old.events.items) }
-    ensures rows { OnOk result (tables.new ≡ closed tables.old at.moment at.stamp last journal.old.events.items) }
+    requires room { CountersFit (closed tables.old at last journal.old.events.items) }
+    ensures rows { OnOk result (tables.new ≡ closed tables.old at last journal.old.events.items) }
     ensures events { OnOk result (journal.new.events.items ≡ numbered last journal.old.events.items) }
     ensures changes { OnOk result (journal.new.changes.items ≡ journal.old.changes.items ++ growth tables.old journal.old.events.items) }
 {
@@ -220,10 +220,10 @@ fn run_command(
     journal: &mut Journal,
 ) -> Result<Outcome, AllocError>
     requires { HasRoom tables.old }
-    ensures outcome { IfOk result (λ o. o ≡ outcome_of (serve tables.old at.moment at.stamp command.now)) }
-    ensures rows { OnOk result (tables.new ≡ moved tables.old (moves_of (serve tables.old at.moment at.stamp command.now))) }
-    ensures events { OnOk result (journal.new.events.items ≡ journal.old.events.items ++ events_of at.moment (moves_of (serve tables.old at.moment at.stamp command.now))) }
-    ensures changes { OnOk result (journal.new.changes.items ≡ journal.old.changes.items ++ changes_of (moves_of (serve tables.old at.moment at.stamp command.now))) }
+    ensures outcome { IfOk result (λ o. o ≡ outcome_of (serve tables.old at command.now)) }
+    ensures rows { OnOk result (tables.new ≡ moved tables.old (moves_of (serve tables.old at command.now))) }
+    ensures events { OnOk result (journal.new.events.items ≡ journal.old.events.items ++ events_of at.moment (moves_of (serve tables.old at command.now))) }
+    ensures changes { OnOk result (journal.new.changes.items ≡ journal.old.changes.items ++ changes_of (moves_of (serve tables.old at command.now))) }
 {
     match command {
         Command::Tick => {
@@ -242,10 +242,10 @@ fn run_service(
 ) -> Result<Outcome, AllocError>
     requires room { HasRoom tables.old }
     requires no_tick { IsNoTick command.now }
-    ensures outcome { IfOk result (λ o. o ≡ outcome_of (serve tables.old at.moment at.stamp command.now)) }
-    ensures rows { OnOk result (tables.new ≡ moved tables.old (moves_of (serve tables.old at.moment at.stamp command.now))) }
-    ensures events { OnOk result (journal.new.events.items ≡ journal.old.events.items ++ events_of at.moment (moves_of (serve tables.old at.moment at.stamp command.now))) }
-    ensures changes { OnOk result (journal.new.changes.items ≡ journal.old.changes.items ++ changes_of (moves_of (serve tables.old at.moment at.stamp command.now))) }
+    ensures outcome { IfOk result (λ o. o ≡ outcome_of (serve tables.old at command.now)) }
+    ensures rows { OnOk result (tables.new ≡ moved tables.old (moves_of (serve tables.old at command.now))) }
+    ensures events { OnOk result (journal.new.events.items ≡ journal.old.events.items ++ events_of at.moment (moves_of (serve tables.old at command.now))) }
+    ensures changes { OnOk result (journal.new.changes.items ≡ journal.old.changes.items ++ changes_of (moves_of (serve tables.old at command.now))) }
 {
     let served = decide(tables, at, command);
     match &served {

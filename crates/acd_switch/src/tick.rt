@@ -108,9 +108,9 @@ fn take_back(
     connection: &ConnectionRecord,
     journal: &mut Journal,
 ) -> Result<(), AllocError>
-    ensures rows { OnOk result (tables.new ≡ moved tables.old (return_moves tables.old at.moment at.stamp connection.now)) }
-    ensures events { OnOk result (journal.new.events.items ≡ journal.old.events.items ++ events_of at.moment (return_moves tables.old at.moment at.stamp connection.now)) }
-    ensures changes { OnOk result (journal.new.changes.items ≡ journal.old.changes.items ++ changes_of (return_moves tables.old at.moment at.stamp connection.now)) }
+    ensures rows { OnOk result (tables.new ≡ moved tables.old (return_moves tables.old at connection.now)) }
+    ensures events { OnOk result (journal.new.events.items ≡ journal.old.events.items ++ events_of at.moment (return_moves tables.old at connection.now)) }
+    ensures changes { OnOk result (journal.new.changes.items ≡ journal.old.changes.items ++ changes_of (return_moves tables.old at connection.now)) }
 {
     let Some(group) = connection.group else {
         return Ok(());
@@ -130,9 +130,9 @@ fn end_work(
     agent: &AgentRecord,
     journal: &mut Journal,
 ) -> Result<(), AllocError>
-    ensures rows { OnOk result (tables.new ≡ moved tables.old (rest_moves at.moment at.stamp agent.now)) }
-    ensures events { OnOk result (journal.new.events.items ≡ journal.old.events.items ++ events_of at.moment (rest_moves at.moment at.stamp agent.now)) }
-    ensures changes { OnOk result (journal.new.changes.items ≡ journal.old.changes.items ++ changes_of (rest_moves at.moment at.stamp agent.now)) }
+    ensures rows { OnOk result (tables.new ≡ moved tables.old (rest_moves at agent.now)) }
+    ensures events { OnOk result (journal.new.events.items ≡ journal.old.events.items ++ events_of at.moment (rest_moves at agent.now)) }
+    ensures changes { OnOk result (journal.new.changes.items ≡ journal.old.changes.items ++ changes_of (rest_moves at agent.now)) }
 {
     let moves = [go_from(at, agent, AgentState::Ready)];
     journal.make_all(tables, at.moment, &moves)
@@ -145,9 +145,9 @@ fn return_overdue(
     at: Turn,
     journal: &mut Journal,
 ) -> Result<(), AllocError>
-    ensures rows { OnOk result (tables.new ≡ moved tables.old (returns tables.old at.moment at.stamp)) }
-    ensures events { OnOk result (journal.new.events.items ≡ journal.old.events.items ++ events_of at.moment (returns tables.old at.moment at.stamp)) }
-    ensures changes { OnOk result (journal.new.changes.items ≡ journal.old.changes.items ++ changes_of (returns tables.old at.moment at.stamp)) }
+    ensures rows { OnOk result (tables.new ≡ moved tables.old (returns tables.old at)) }
+    ensures events { OnOk result (journal.new.events.items ≡ journal.old.events.items ++ events_of at.moment (returns tables.old at)) }
+    ensures changes { OnOk result (journal.new.changes.items ≡ journal.old.changes.items ++ changes_of (returns tables.old at)) }
 {
     let overdue = overdue_in(alloc, tables, at.moment)?;
     for connection in overdue.as_slice() {
@@ -163,9 +163,9 @@ fn end_rested(
     at: Turn,
     journal: &mut Journal,
 ) -> Result<(), AllocError>
-    ensures rows { OnOk result (tables.new ≡ moved tables.old (rests tables.old at.moment at.stamp)) }
-    ensures events { OnOk result (journal.new.events.items ≡ journal.old.events.items ++ events_of at.moment (rests tables.old at.moment at.stamp)) }
-    ensures changes { OnOk result (journal.new.changes.items ≡ journal.old.changes.items ++ changes_of (rests tables.old at.moment at.stamp)) }
+    ensures rows { OnOk result (tables.new ≡ moved tables.old (rests tables.old at)) }
+    ensures events { OnOk result (journal.new.events.items ≡ journal.old.events.items ++ events_of at.moment (rests tables.old at)) }
+    ensures changes { OnOk result (journal.new.changes.items ≡ journal.old.changes.items ++ changes_of (rests tables.old at)) }
 {
     let rested = rested_in(alloc, tables, at.moment)?;
     for agent in rested.as_slice() {
@@ -183,9 +183,9 @@ pub fn tick(
     at: Turn,
     journal: &mut Journal,
 ) -> Result<(), AllocError>
-    ensures rows { OnOk result (tables.new ≡ moved tables.old (tick tables.old at.moment at.stamp)) }
-    ensures events { OnOk result (journal.new.events.items ≡ journal.old.events.items ++ events_of at.moment (tick tables.old at.moment at.stamp)) }
-    ensures changes { OnOk result (journal.new.changes.items ≡ journal.old.changes.items ++ changes_of (tick tables.old at.moment at.stamp)) }
+    ensures rows { OnOk result (tables.new ≡ moved tables.old (tick tables.old at)) }
+    ensures events { OnOk result (journal.new.events.items ≡ journal.old.events.items ++ events_of at.moment (tick tables.old at)) }
+    ensures changes { OnOk result (journal.new.changes.items ≡ journal.old.changes.items ++ changes_of (tick tables.old at)) }
 {
     return_overdue(alloc, tables, at, journal)?;
     end_rested(alloc, tables, at, journal)

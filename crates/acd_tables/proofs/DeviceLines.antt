@@ -15,7 +15,7 @@ use Rattle.acd_lemmas.proofs.Keyed.{cmp_self}
 use Rattle.acd_tables.specs.Indexed.{pair_cmp, joins}
 use Rattle.acd_tables.specs.Uses.{first_line, past_lines}
 use Rattle.acd_tables.proofs.NearLemmas.{less, greater}
-use Rattle.acd_tables.proofs.TurnLemmas.{pair_key}
+use Rattle.acd_tables.proofs.SwapLemmas.{pair_key}
 
 -- the bounds of a device stand in their order
 pub lines-forward : (d : ℕ) (lo hi : Bound (ℕ × ℕ)) → lo ≡ first_line d → hi ≡ past_lines d → IsForward (IsLeBy pair_cmp) (IsLtBy pair_cmp) lo hi

@@ -12,7 +12,7 @@ use Rattle.std.proofs.lemmas.Cmp.{nat_cmp_total}
 use Rattle.std.specs.BTreeMap.{BTreeMap}
 use Rattle.std.specs.BTreeSet.{BTreeSet}
 use Rattle.acd_tables.specs.Sets.{holds, is_at_key, Sets, Stays}
-use Rattle.acd_tables.specs.Turns.{is_entry, Enters, Leaves, Undoes}
+use Rattle.acd_tables.specs.Swaps.{is_entry, Enters, Leaves, Undoes}
 use Rattle.acd_tables.proofs.SetLemmas.{holds-same}
 use Rattle.acd_lemmas.proofs.Keyed.{eq_key}
 

@@ -22,7 +22,7 @@ use Rattle.acd_lemmas.proofs.Least.{least_is, none_served, served_is}
 use Rattle.acd_lemmas.proofs.Lists.{none_from, filter_among, among-filter, eq_is}
 use Rattle.acd_lemmas.proofs.State.{group_among, group_key, group_found}
 use Rattle.acd_tables.specs.Indexed.{IsIndexed, OfferKey, offer_cmp, offer_key}
-use Rattle.acd_tables.specs.FirstOffer.{if_ranked, offer_at, first_given}
+use Rattle.acd_tables.specs.FirstOffer.{if_ranked, offer_by_key, first_given}
 use Rattle.acd_tables.specs.declared.indexes.Indexes.{Indexes}
 use Rattle.acd_tables.proofs.Firsts.{waiting-among, eligible-among}
 use Rattle.acd_tables.proofs.FirstGiven.{IsFirst, one_first, first_sorted}
@@ -64,7 +64,7 @@ parts d (Some v) (Some u) e = (v, (u, (refl, refl)))
 
 module _ (s : Rows) (ascending : IsAscending group_order s.groups) where
   -- what is given at a key: the offer of a planned group there that has both
-  at_key : (j : OfferKey) (o : Offer) → offer_at s j ≡ Some o → (g : GroupRecord) × (Among g s.groups × ((has_both s g ≡ true) × ◌≡◌ {A = OfferKey} (offer_key g) j))
+  at_key : (j : OfferKey) (o : Offer) → offer_by_key s j ≡ Some o → (g : GroupRecord) × (Among g s.groups × ((has_both s g ≡ true) × ◌≡◌ {A = OfferKey} (offer_key g) j))
   at_key j o e = by (group_of s j.1) refl e
     where
       ranked : (g : GroupRecord) → group_of s j.1 ≡ Some g → (b : Bool) → (g.priority == j.0.0) ≡ b → cond b (offer_in s g) None ≡ Some o
@@ -79,7 +79,7 @@ module _ (s : Rows) (ascending : IsAscending group_order s.groups) where
       by (Some g) q e = ranked g q (g.priority == j.0.0) refl e
 
   -- and at the key of a group its own offer
-  own_offer : (g : GroupRecord) → Among g s.groups → offer_at s (offer_key g) ≡ offer_in s g
+  own_offer : (g : GroupRecord) → Among g s.groups → offer_by_key s (offer_key g) ≡ offer_in s g
   own_offer g a = ap (option_and_then (if_ranked s g.priority)) (group_found s ascending g a) ∙ rw (eq-eqb g.priority g.priority refl) refl
 
   has_offer : (g : GroupRecord) → has_both s g ≡ true → (o : Offer) × (offer_in s g ≡ Some o)
@@ -87,22 +87,22 @@ module _ (s : Rows) (ascending : IsAscending group_order s.groups) where
       let p = parts g.device (first_waiting s g.device) (first_eligible s g.device) e in
       (record { group = g.device; call = p.0.1; agent = p.1.0.1 }, ap₂ (offer_by g.device) p.1.1.0 p.1.1.1)
 
-  first_of : IsFirst offer_cmp key_total key_exact (offer_at s) (offer_of s)
+  first_of : IsFirst offer_cmp key_total key_exact (offer_by_key s) (offer_of s)
   unfolding offer_of
   first_of = by (first_served None (filter (has_both s) s.groups)) refl
     where
-      by : (f : Option GroupRecord) → first_served None (filter (has_both s) s.groups) ≡ f → IsFirst offer_cmp key_total key_exact (offer_at s) (option_and_then (offer_in s) f)
-      by None e = λ j. none_from (offer_at s j) (λ o k.
+      by : (f : Option GroupRecord) → first_served None (filter (has_both s) s.groups) ≡ f → IsFirst offer_cmp key_total key_exact (offer_by_key s) (option_and_then (offer_in s) f)
+      by None e = λ j. none_from (offer_by_key s j) (λ o k.
           let q = at_key j o k in
           subst (λ l. Among q.0 l) (none_served (filter (has_both s) s.groups) e) (among-filter (has_both s) s.groups q.0 q.1.0 q.1.1.0))
       by (Some g) e =
           let f = served_is (filter (has_both s) s.groups) g e in
           let there = filter_among (has_both s) s.groups g f.there in
           let o = has_offer g there.1 in
-          subst (IsFirst offer_cmp key_total key_exact (offer_at s)) (sym o.1) (
+          subst (IsFirst offer_cmp key_total key_exact (offer_by_key s)) (sym o.1) (
             offer_key g,
             own_offer g there.0 ∙ o.1,
-            λ j l. none_from (offer_at s j) (λ x k.
+            λ j l. none_from (offer_by_key s j) (λ x k.
                 let q = at_key j x k in
                 before_is q.0 g (f.first q.0 (among-filter (has_both s) s.groups q.0 q.1.0 q.1.1.0)) (ap (λ z. offer_cmp z (offer_key g)) q.1.1.1 ∙ l)),
           )
@@ -117,9 +117,9 @@ module _ (s : Rows) (x : Indexes) (h : IsIndexed s x) where
       (h.waiting g.device p.0 ∙ (waiting-among s g.device p.0 h.connections).1 (least_is _ p.0 p.1.1.0).there)
       (h.able g.device p.1.0 ∙ (eligible-among s g.device p.1.0 h.agents).1 (least_is _ p.1.0 p.1.1.1).there)
 
-  pub first-offer : IsStrictlySortedBy offer_cmp x.offering.keys → first_given (offer_at s) x.offering.keys ≡ offer_of s
-  first-offer sorted = one_first offer_cmp key_total key_exact (offer_at s) _ _
-      (first_sorted offer_cmp key_total key_exact (offer_at s) x.offering.keys sorted (λ j o e.
+  pub first-offer : IsStrictlySortedBy offer_cmp x.offering.keys → first_given (offer_by_key s) x.offering.keys ≡ offer_of s
+  first-offer sorted = one_first offer_cmp key_total key_exact (offer_by_key s) _ _
+      (first_sorted offer_cmp key_total key_exact (offer_by_key s) x.offering.keys sorted (λ j o e.
       let q = at_key s h.groups j o e in
       subst (λ z. Among z x.offering.keys) q.1.1.1 (contained offer_cmp (λ j k e. key_exact j k (eq_is (offer_cmp j k) e)) x.offering (offer_key q.0) (noted q.0 q.1.0 q.1.1.0))))
       (first_of s h.groups)

@@ -25,14 +25,14 @@ use Rattle.acd_model.specs.Scans.{is_group, group_of, agent_of, connection_of, a
 use Rattle.acd_model.specs.Writes.{with_group, with_station, with_agent, with_call, with_connection, with_monitor, without_call, without_connection, without_monitor, with_last, with_last_ids}
 use Rattle.acd_tables.specs.Sets.{holds, holds_in, has_set, Stays, SameMembers, HasSet, Noted, Forgotten}
 use Rattle.acd_tables.specs.Indexed.{PairSets, pair_cmp, lists, waits_at, is_busying, is_busy_at, is_free, is_able_since, rings, works, own_station, Seats, Lines, Ringing, Working, IsIndexed, SeatMap, OfferKey, offer_cmp, offer_key, ListsOffers}
-use Rattle.acd_tables.specs.Turns.{is_entry, Entered, Undone, Untouched, TakenOut, TurnsTo, IsAt, with_or_without, one_queued, IsBlank, has_rank, loses_rank}
+use Rattle.acd_tables.specs.Swaps.{is_entry, Entered, Undone, Untouched, TakenOut, SwapsTo, IsAt, with_or_without, one_queued, IsBlank, has_rank, loses_rank}
 use Rattle.acd_tables.specs.declared.indexes.Indexes.{Indexes}
 use Rattle.acd_tables.specs.declared.indexes.Entries.{Entries}
-use Rattle.acd_tables.specs.declared.indexes.Turn.{Turn}
+use Rattle.acd_tables.specs.declared.indexes.Swap.{Swap}
 use Rattle.acd_lemmas.proofs.Lists.{some_is, count_length, ascending-put, filter_length}
 use Rattle.acd_lemmas.proofs.State.{agents_total, groups_total, group_put, group_put_found, group_key, count_new, count_old, count_less}
 use Rattle.acd_tables.proofs.OfferLemmas.{undone, offers-same, offers-of, offers-more, own_key, key_number, key_priority}
-use Rattle.acd_tables.proofs.TurnLemmas.{Replaces-put, Replaces-removed}
+use Rattle.acd_tables.proofs.SwapLemmas.{Replaces-put, Replaces-removed}
 use Rattle.acd_tables.proofs.NoteLemmas.{Ringing-put, Lines-removed, Working-kept, Seats-kept}
 use Rattle.acd_lemmas.proofs.Keyed.{eq_key}
 
@@ -82,21 +82,21 @@ unfolding group_of
 groups_same s t groups g = ap (λ (l : List GroupRecord). is_some (find_by (at_group g) l)) groups
 
 -- what enters and leaves makes the sets of the new rows
-pub IsIndexed-turned : (s t : Rows) (x y z : Indexes) (seats : SeatMap) (lines : BTreeSet (ℕ × ℕ)) (ringing : BTreeSet (ℕ × ℕ)) (working : BTreeSet ℕ) (turn : Turn) (n : ℕ) → IsIndexed s x → Entered s x y turn.entering
-    → TakenOut t (record y { seats = seats; lines = lines; ringing = ringing; working = working }) z turn.leaving → TurnsTo s t turn
+pub IsIndexed-swapped : (s t : Rows) (x y z : Indexes) (seats : SeatMap) (lines : BTreeSet (ℕ × ℕ)) (ringing : BTreeSet (ℕ × ℕ)) (working : BTreeSet ℕ) (swap : Swap) (n : ℕ) → IsIndexed s x → Entered s x y swap.entering
+    → TakenOut t (record y { seats = seats; lines = lines; ringing = ringing; working = working }) z swap.leaving → SwapsTo s t swap
     → t.groups ≡ s.groups → IsAscending agent_order t.agents → IsAscending connection_order t.connections → Seats t seats → Lines t lines → Ringing t ringing → Working t working → n ≡ length (queued_in_all t)
     → IsIndexed t (record z { queued = n })
-IsIndexed-turned s t x y z at_seats listed rung worked turn n h e o w groups agents connections seats lines ringing working queued = record {
+IsIndexed-swapped s t x y z at_seats listed rung worked swap n h e o w groups agents connections seats lines ringing working queued = record {
   groups = subst (IsAscending group_order) (sym groups) h.groups;
   agents = agents;
   connections = connections;
   queues = λ g f. o.queues.sets g ∙ e.queues.sets g ∙ h.queues g (sym (groups_same s t groups g) ∙ f);
   readies = λ g f. o.ready.sets g ∙ e.ready.sets g ∙ h.readies g (sym (groups_same s t groups g) ∙ f);
   waiting = λ g p. o.queues.members g p
-      ∙ ap (λ b. not (is_entry pair_cmp turn.leaving.queue g p) && b) (e.queues.members g p ∙ ap (λ b. is_entry pair_cmp turn.entering.queue g p || b) (h.waiting g p))
+      ∙ ap (λ b. not (is_entry pair_cmp swap.leaving.queue g p) && b) (e.queues.members g p ∙ ap (λ b. is_entry pair_cmp swap.entering.queue g p || b) (h.waiting g p))
       ∙ sym (w.waiting g p);
   able = λ g p. o.ready.members g p
-      ∙ ap (λ b. not (is_entry pair_cmp turn.leaving.ready g p) && b) (e.ready.members g p ∙ ap (λ b. is_entry pair_cmp turn.entering.ready g p || b) (h.able g p))
+      ∙ ap (λ b. not (is_entry pair_cmp swap.leaving.ready g p) && b) (e.ready.members g p ∙ ap (λ b. is_entry pair_cmp swap.entering.ready g p || b) (h.able g p))
       ∙ sym (w.able g p);
   offers = o.offers;
   seats = subst (Seats t) (sym o.rest.seats) seats;
@@ -115,10 +115,10 @@ removed_none at (x ∷ xs) e = by (is_eq (at x)) e (removed_none at xs)
     by true f more = absurd (cc f)
     by false f more = ap (λ l. x ∷ l) (more f)
 
-pub queued-turned : (s : Rows) (call device : ℕ) (new : Option ConnectionRecord) → IsAscending connection_order s.connections → IsAt call device new
+pub queued-swapped : (s : Rows) (call device : ℕ) (new : Option ConnectionRecord) → IsAscending connection_order s.connections → IsAt call device new
     → length (queued_in_all (with_or_without s call device new)) + one_queued (connection_of s call device) ≡ one_queued new + length (queued_in_all s)
 unfolding queued_in_all with_connection without_connection connection_of
-queued-turned s call device None ascending at = by (connection_of s call device) refl
+queued-swapped s call device None ascending at = by (connection_of s call device) refl
   where
     by : (o : Option ConnectionRecord) → connection_of s call device ≡ o → length (filter (λ (c : ConnectionRecord). is_queued c.state) (remove_by (at_connection call device) s.connections)) + one_queued o ≡ 0 + length (filter (λ (c : ConnectionRecord). is_queued c.state) s.connections)
     by None e = ap (λ (l : List ConnectionRecord). length (filter (λ (c : ConnectionRecord). is_queued c.state) l) + 0) (removed_none (at_connection call device) s.connections e) ∙ omega arith
@@ -128,7 +128,7 @@ queued-turned s call device None ascending at = by (connection_of s call device)
         let a = count_length f (remove_by (at_connection call device) s.connections) in
         let b = count_length f s.connections in
         omega (arith, less, a, b)
-queued-turned s call device (Some c) ascending at = by (connection_of s call device) refl
+queued-swapped s call device (Some c) ascending at = by (connection_of s call device) refl
   where
     by : (o : Option ConnectionRecord) → connection_of s call device ≡ o → length (filter (λ (c : ConnectionRecord). is_queued c.state) (put_by (connection_order c) s.connections c)) + one_queued o ≡ one_queued (Some c) + length (filter (λ (c : ConnectionRecord). is_queued c.state) s.connections)
     by None e =
@@ -151,7 +151,7 @@ unfolding queued_in_all
 queued_most s = filter_length (λ (c : ConnectionRecord). is_queued c.state) s.connections
 
 pub queued_least : (s : Rows) (call device : ℕ) → IsAscending connection_order s.connections → one_queued (connection_of s call device) ≤ length (queued_in_all s)
-queued_least s call device ascending = let e = queued-turned s call device None ascending tt in omega (arith, e)
+queued_least s call device ascending = let e = queued-swapped s call device None ascending tt in omega (arith, e)
 
 -- other rows with the same agents and connections
 module _ (s t : Rows) (agents : t.agents ≡ s.agents) (connections : t.connections ≡ s.connections) where
@@ -350,11 +350,11 @@ pub IsIndexed-noted_more : (s : Rows) (x : Indexes) (offering : BTreeSet OfferKe
 IsIndexed-noted_more s x offering h more = IsIndexed-offering s x offering h (offers-more s x.queues x.ready offering x.offering h.offers more)
 
 -- an agent's record is put
-pub IsIndexed-agent : (s : Rows) (item : AgentRecord) (x y z : Indexes) (seats : SeatMap) (working : BTreeSet ℕ) (turn : Turn) → IsIndexed s x → Entered s x y turn.entering
-    → TakenOut (with_agent s item) (record y { seats = seats; working = working }) z turn.leaving → TurnsTo s (with_agent s item) turn → Seats (with_agent s item) seats → Working (with_agent s item) working → IsIndexed (with_agent s item) z
+pub IsIndexed-agent : (s : Rows) (item : AgentRecord) (x y z : Indexes) (seats : SeatMap) (working : BTreeSet ℕ) (swap : Swap) → IsIndexed s x → Entered s x y swap.entering
+    → TakenOut (with_agent s item) (record y { seats = seats; working = working }) z swap.leaving → SwapsTo s (with_agent s item) swap → Seats (with_agent s item) seats → Working (with_agent s item) working → IsIndexed (with_agent s item) z
 unfolding with_agent group_of connection_of queued_in_all
-IsIndexed-agent s item x y z at_seats worked turn h e o w seats working =
-    IsIndexed-turned s (with_agent s item) x y z at_seats y.lines y.ringing worked turn z.queued h e o w refl (ascending-put agent_order agents_total item s.agents h.agents) h.connections seats
+IsIndexed-agent s item x y z at_seats worked swap h e o w seats working =
+    IsIndexed-swapped s (with_agent s item) x y z at_seats y.lines y.ringing worked swap z.queued h e o w refl (ascending-put agent_order agents_total item s.agents h.agents) h.connections seats
     (subst (Lines s) (sym e.rest.lines) h.lines) (subst (Ringing s) (sym e.rest.ringing) h.ringing) working (o.rest.queued ∙ e.rest.queued ∙ h.queued)
 
 -- and one that wasn't put
@@ -384,12 +384,12 @@ unfolding without_connection
 groups_less s c d = refl
 
 -- a connection is put
-pub IsIndexed-put : (s : Rows) (c : ConnectionRecord) (x y z : Indexes) (lines : BTreeSet (ℕ × ℕ)) (ringing : BTreeSet (ℕ × ℕ)) (turn : Turn) (n : ℕ) → IsIndexed s x → Entered s x y turn.entering
-    → TakenOut (with_connection s c) (record y { lines = lines; ringing = ringing }) z turn.leaving → TurnsTo s (with_connection s c) turn
+pub IsIndexed-put : (s : Rows) (c : ConnectionRecord) (x y z : Indexes) (lines : BTreeSet (ℕ × ℕ)) (ringing : BTreeSet (ℕ × ℕ)) (swap : Swap) (n : ℕ) → IsIndexed s x → Entered s x y swap.entering
+    → TakenOut (with_connection s c) (record y { lines = lines; ringing = ringing }) z swap.leaving → SwapsTo s (with_connection s c) swap
     → Lines (with_connection s c) lines → Ringing (with_connection s c) ringing → n ≡ length (queued_in_all (with_connection s c)) → IsIndexed (with_connection s c) (record z { queued = n })
-IsIndexed-put s c x y z listed rung turn n h e o w lines ringing queued =
+IsIndexed-put s c x y z listed rung swap n h e o w lines ringing queued =
     let r = Replaces-put s c h.connections in
-    IsIndexed-turned s (with_connection s c) x y z y.seats listed rung y.working turn n h e o w (groups_put s c) (agents_put s c h.agents) r.ascending
+    IsIndexed-swapped s (with_connection s c) x y z y.seats listed rung y.working swap n h e o w (groups_put s c) (agents_put s c h.agents) r.ascending
     (subst (Seats (with_connection s c)) (sym e.rest.seats) (Seats-kept s (with_connection s c) x.seats r.agents h.seats)) lines ringing
     (subst (Working (with_connection s c)) (sym e.rest.working) (Working-kept s (with_connection s c) x.working r.agents h.working)) queued
 
@@ -400,16 +400,16 @@ IsIndexed-no_put s x y z listed rung entries undo h e u o lines ringing =
     IsIndexed-undone s x y z y.seats listed rung y.working entries undo h e u o (subst (Seats s) (sym e.rest.seats) h.seats) lines ringing (subst (Working s) (sym e.rest.working) h.working)
 
 -- a connection is removed
-pub IsIndexed-removed : (s : Rows) (call device : ℕ) (x y z : Indexes) (lines : BTreeSet (ℕ × ℕ)) (ringing : BTreeSet (ℕ × ℕ)) (turn : Turn) (n : ℕ) (gone : Bool) → IsIndexed s x → Entered s x y turn.entering
-    → TakenOut (without_connection s call device) (record y { lines = lines; ringing = ringing }) z turn.leaving → TurnsTo s (without_connection s call device) turn
+pub IsIndexed-removed : (s : Rows) (call device : ℕ) (x y z : Indexes) (lines : BTreeSet (ℕ × ℕ)) (ringing : BTreeSet (ℕ × ℕ)) (swap : Swap) (n : ℕ) (gone : Bool) → IsIndexed s x → Entered s x y swap.entering
+    → TakenOut (without_connection s call device) (record y { lines = lines; ringing = ringing }) z swap.leaving → SwapsTo s (without_connection s call device) swap
     → gone ≡ rings (connection_of s call device) → Forgotten pair_cmp y.ringing ringing (call, device) gone → Forgotten pair_cmp y.lines lines (device, call) true → n ≡ length (queued_in_all (without_connection s call device))
     → IsIndexed (without_connection s call device) (record z { queued = n })
-IsIndexed-removed s call device x y z listed rung turn n gone h e o w g forgotten unlisted queued =
+IsIndexed-removed s call device x y z listed rung swap n gone h e o w g forgotten unlisted queued =
     let t : Rows = without_connection s call device in
     let r = Replaces-removed s call device h.connections in
     let lines : Lines t listed = Lines-removed s t call device None r y.lines listed refl (subst (Lines s) (sym e.rest.lines) h.lines) unlisted in
     let ringing : Ringing t rung = Ringing-put s t call device None r y.ringing y.ringing rung false gone refl (g ∙ still (rings (connection_of s call device))) (subst (Ringing s) (sym e.rest.ringing) h.ringing) (λ p. refl) forgotten in
-    IsIndexed-turned s t x y z y.seats listed rung y.working turn n h e o w (groups_less s call device) (agents_less s call device h.agents) r.ascending
+    IsIndexed-swapped s t x y z y.seats listed rung y.working swap n h e o w (groups_less s call device) (agents_less s call device h.agents) r.ascending
     (subst (Seats t) (sym e.rest.seats) (Seats-kept s t x.seats r.agents h.seats)) lines ringing (subst (Working t) (sym e.rest.working) (Working-kept s t x.working r.agents h.working)) queued
   where
     still : (b : Bool) → b ≡ (b && not false)

@@ -20,7 +20,7 @@ use Rattle.acd_tables.specs.Sets.{Noted, Forgotten}
 use Rattle.acd_tables.specs.Near.{of_key, HasKeys}
 use Rattle.acd_tables.proofs.NoteLemmas.{notes-come, notes-gone, notes-left}
 use Rattle.acd_tables.proofs.Picked.{picked, contained, exact_pair}
-use Rattle.acd_tables.proofs.TurnLemmas.{pair_key}
+use Rattle.acd_tables.proofs.SwapLemmas.{pair_key}
 
 pub flipped : (b c : Bool) → b ≡ not c → c ≡ not b
 flipped true true e = absurd (cc (e))

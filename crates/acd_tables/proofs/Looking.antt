@@ -12,7 +12,7 @@ use Rattle.acd_model.specs.Rules.Plan.{agent_order, connection_order}
 use Rattle.acd_model.specs.Scans.{agent_of, agent_at, connection_of, has}
 use Rattle.acd_lemmas.proofs.Lists.{any_found, any_some, find_passes, find_among, some_from, some_found, none_from, some_is}
 use Rattle.acd_lemmas.proofs.State.{connection_among, connection_found, found_key, agent_among, agent_at_find, agent_seat, agent_there, has_is}
-use Rattle.acd_tables.specs.Indexed.{Seats, SeatMap, seat_of, own_station}
+use Rattle.acd_tables.specs.Indexed.{Seats, SeatMap, agent_seated, own_station}
 use Rattle.acd_tables.specs.Uses.{is_there_and}
 
 -- a connection at the device that passes
@@ -60,8 +60,8 @@ any-listed s u d but ks ascending listed = both_ways _ _ to from
 
 module _ (s : Rows) (seats : SeatMap) (ascending : IsAscending agent_order s.agents) (listed : Seats s seats) where
   -- the agent that stands at the station
-  seat : (n d : ℕ) (a : AgentRecord) → agent_of s n ≡ Some a → a.station ≡ Some d → seat_of seats d ≡ Some n
-  seat n d a e f = has_is (seat_of seats d) n (listed n d ∙ ap (λ o. has (own_station o) d) e ∙ ap (λ o. has o d) f ∙ eq-eqb d d refl)
+  seat : (n d : ℕ) (a : AgentRecord) → agent_of s n ≡ Some a → a.station ≡ Some d → agent_seated seats d ≡ Some n
+  seat n d a e f = has_is (agent_seated seats d) n (listed n d ∙ ap (λ o. has (own_station o) d) e ∙ ap (λ o. has o d) f ∙ eq-eqb d d refl)
 
   -- an agent with the station is the one that a scan finds
   pub seated : (n d : ℕ) (a : AgentRecord) → agent_of s n ≡ Some a → a.station ≡ Some d → agent_at s d ≡ Some a
@@ -76,10 +76,10 @@ module _ (s : Rows) (seats : SeatMap) (ascending : IsAscending agent_order s.age
       found ∙ ap Some same
 
   -- nobody has a station at which nobody stands
-  pub seat-none : (d : ℕ) → seat_of seats d ≡ None → agent_at s d ≡ None
+  pub seat-none : (d : ℕ) → agent_seated seats d ≡ None → agent_at s d ≡ None
   seat-none d none = none_from (agent_at s d) (λ b e. let there = seat b.agent d b (agent_there s ascending d b e) (agent_seat s d b e).1 in cc (there, none))
 
-  pub seat-some : (d n : ℕ) → seat_of seats d ≡ Some n → agent_at s d ≡ agent_of s n
+  pub seat-some : (d n : ℕ) → agent_seated seats d ≡ Some n → agent_at s d ≡ agent_of s n
   seat-some d n there = by (agent_of s n) refl
     where
       stands : (o : Option AgentRecord) → agent_of s n ≡ o → has (own_station o) d ≡ true

@@ -12,9 +12,9 @@ use Rattle.acd_model.specs.Scans.{agent_of, connection_of, has}
 use Rattle.acd_model.specs.Writes.{with_agent}
 use Rattle.acd_lemmas.proofs.State.{agent_put, has_is}
 use Rattle.acd_tables.specs.Sets.{Notes, Noted, Forgotten}
-use Rattle.acd_tables.specs.Indexed.{pair_cmp, rings, works, own_station, Ringing, Working, Lines, Seats, SeatMap, seat_of}
-use Rattle.acd_tables.specs.Turns.{IsFreeFor, Sits, Rises, quits}
-use Rattle.acd_tables.proofs.TurnLemmas.{Replaces, pair_key}
+use Rattle.acd_tables.specs.Indexed.{pair_cmp, rings, works, own_station, Ringing, Working, Lines, Seats, SeatMap, agent_seated}
+use Rattle.acd_tables.specs.Swaps.{IsFreeFor, Sits, GetsUp, quits}
+use Rattle.acd_tables.proofs.SwapLemmas.{Replaces, pair_key}
 use Rattle.acd_lemmas.proofs.Keyed.{eq_key}
 
 -- x is whether a key was there, which at the key that changes is `was`
@@ -193,25 +193,25 @@ module _ (agent n : ℕ) (o : Option ℕ) (x : Bool) (is : has o n ≡ x) where
 
 module _ (s : Rows) (item : AgentRecord) (old : SeatMap) (h : Seats s old) where
   -- the agent stands at the station that it has
-  pub stands : (from : Option ℕ) → from ≡ own_station (agent_of s item.agent) → (d : ℕ) → has from d ≡ true → seat_of old d ≡ Some item.agent
-  stands from own d e = has_is (seat_of old d) item.agent (h item.agent d ∙ ap (λ o. has o d) (sym own) ∙ e)
+  pub stands : (from : Option ℕ) → from ≡ own_station (agent_of s item.agent) → (d : ℕ) → has from d ≡ true → agent_seated old d ≡ Some item.agent
+  stands from own d e = has_is (agent_seated old d) item.agent (h item.agent d ∙ ap (λ o. has o d) (sym own) ∙ e)
 
   module _ (mid new : SeatMap) (from : Option ℕ) (own : from ≡ own_station (agent_of s item.agent)) (free : IsFreeFor old item) (sits : Sits old mid item.station item.agent) where
     at_own : (n d : ℕ) → (item.agent == n) ≡ true → has (own_station (agent_of s n)) d ≡ has from d
     at_own n d e = ap (λ k. has (own_station (agent_of s k)) d) (sym (eqb-true item.agent n e)) ∙ ap (λ o. has o d) (sym own)
 
-    pub Seats-put : Rises mid new from item.station → Seats (with_agent s item) new
+    pub Seats-put : GetsUp mid new from item.station → Seats (with_agent s item) new
     Seats-put rises n d =
         ap (λ o. has o n) (rises d ∙ ap (λ o. cond (quits from item.station d) None o) (sits d))
-        ∙ put_seat item.agent n (seat_of old d) (has (own_station (agent_of s n)) d) (h n d) (has item.station d) (has from d) (item.agent == n) refl (at_own n d) (free d n) (stands from own d)
+        ∙ put_seat item.agent n (agent_seated old d) (has (own_station (agent_of s n)) d) (h n d) (has item.station d) (has from d) (item.agent == n) refl (at_own n d) (free d n) (stands from own d)
         ∙ sym (ap (λ o. has (own_station o) d) (agent_put s item n) ∙ tested (λ o. has (own_station o) d) (item.agent == n) (Some item) (agent_of s n))
 
-    pub Seats-back : Rises mid new item.station from → Seats s new
+    pub Seats-back : GetsUp mid new item.station from → Seats s new
     Seats-back rises n d =
         ap (λ o. has o n) (rises d ∙ ap (λ o. cond (quits item.station from d) None o) (sits d))
-        ∙ back_seat item.agent n (seat_of old d) (has (own_station (agent_of s n)) d) (h n d) (has item.station d) (has from d) (item.agent == n) refl (at_own n d) (free d n) (stands from own d)
+        ∙ back_seat item.agent n (agent_seated old d) (has (own_station (agent_of s n)) d) (h n d) (has item.station d) (has from d) (item.agent == n) refl (at_own n d) (free d n) (stands from own d)
 
-pub Seats-same : (s : Rows) (old new : SeatMap) → ((d : ℕ) → seat_of new d ≡ seat_of old d) → Seats s old → Seats s new
+pub Seats-same : (s : Rows) (old new : SeatMap) → ((d : ℕ) → agent_seated new d ≡ agent_seated old d) → Seats s old → Seats s new
 Seats-same s old new w h n d = ap (λ o. has o n) (w d) ∙ h n d
 
 pub Seats-kept : (s t : Rows) (seats : SeatMap) → ((n : ℕ) → agent_of t n ≡ agent_of s n) → Seats s seats → Seats t seats

@@ -15,7 +15,7 @@ use Rattle.acd_lemmas.proofs.Keyed.{cmp_self}
 use Rattle.acd_lemmas.proofs.State.{group_key}
 use Rattle.acd_tables.specs.Sets.{Forgotten}
 use Rattle.acd_tables.specs.Indexed.{PairSets, pair_cmp, lists, OfferKey, offer_cmp, offer_key, ListsOffers}
-use Rattle.acd_tables.specs.Turns.{is_entry, is_of_group, Enters, Leaves, Undoes}
+use Rattle.acd_tables.specs.Swaps.{is_entry, is_of_group, Enters, Leaves, Undoes}
 
 both_equal : (a b : Ordering) → is_eq (ordering_then a b) ≡ true → (a ≡ Equal) × (b ≡ Equal)
 both_equal Less b e = absurd (cc (e))

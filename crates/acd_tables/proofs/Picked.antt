@@ -23,7 +23,7 @@ use Rattle.acd_lemmas.proofs.State.{connections_total, agents_total, connection_
 use Rattle.acd_tables.specs.AtDevice.{is_at_device, connections_at, line_at}
 use Rattle.acd_tables.specs.Indexed.{pair_cmp, is_ringing, is_working, rings, works, Ringing, Working}
 use Rattle.acd_tables.specs.Uses.{kept}
-use Rattle.acd_tables.proofs.TurnLemmas.{pair_key}
+use Rattle.acd_tables.proofs.SwapLemmas.{pair_key}
 
 module _ {X : Type 0} (cmp : X → X → Ordering) (o : IsTotalOrder cmp) where
   not_both : (x y : X) → cmp x y ≡ Less → cmp y x ≡ Less → ⊥

@@ -1,15 +1,16 @@
 -- The connections at a device.
-use Rattle.std.specs.Prelude.{ℕ, Bool, ◌==◌, List, filter, Option, None, if◌then◌else◌}
+use Rattle.std.specs.Prelude.{Bool, ◌==◌, List, filter, Option, None, if◌then◌else◌}
+use Rattle.acd_terms.specs.Numbers.{Device, CallId}
 use Rattle.acd_terms.specs.declared.rows.Rows.{Rows}
 use Rattle.acd_terms.specs.declared.record.ConnectionRecord.{ConnectionRecord}
 use Rattle.acd_model.specs.Scans.{connection_of}
 
-abbrev pub is_at_device : ℕ → ConnectionRecord → Bool
+abbrev pub is_at_device : Device → ConnectionRecord → Bool
 is_at_device device c = c.device == device
 
-unfoldable pub connections_at : Rows → ℕ → List ConnectionRecord
+unfoldable pub connections_at : Rows → Device → List ConnectionRecord
 connections_at s device = filter (is_at_device device) s.connections
 
 -- the connection there of a call that may be listed there
-abbrev pub line_at : Rows → ℕ → ℕ × ℕ → Option ConnectionRecord
+abbrev pub line_at : Rows → Device → Device × CallId → Option ConnectionRecord
 line_at s device p = if p.0 == device then connection_of s p.1 device else None

@@ -12,6 +12,7 @@ use Rattle.std.specs.declared.cmp.Reverse.{Reverse}
 use Rattle.acd_terms.specs.Lists.{IsAscending}
 use Rattle.acd_terms.specs.Groups.{is_one_of}
 use Rattle.acd_terms.specs.States.{is_distributed, is_queued, is_alerting, is_ready, is_working_after_call, is_occupying}
+use Rattle.acd_terms.specs.Numbers.{Device, Agent, CallId, Stamp, Priority}
 use Rattle.acd_terms.specs.declared.rows.Rows.{Rows}
 use Rattle.acd_terms.specs.declared.record.GroupRecord.{GroupRecord}
 use Rattle.acd_terms.specs.declared.record.AgentRecord.{AgentRecord}
@@ -22,26 +23,26 @@ use Rattle.acd_tables.specs.Sets.{holds, has_set, Notes}
 use Rattle.acd_tables.specs.declared.indexes.Indexes.{Indexes}
 
 abbrev pub PairSets : Type 0
-PairSets = BTreeMap ℕ (BTreeSet (ℕ × ℕ))
+PairSets = BTreeMap Device (BTreeSet (ℕ × ℕ))
 
 abbrev pub pair_cmp : ℕ × ℕ → ℕ × ℕ → Ordering
 pair_cmp p q = ordering_then (nat_cmp p.0 q.0) (nat_cmp p.1 q.1)
 
--- the set of the group has the pair
-abbrev pub lists : PairSets → ℕ → ℕ × ℕ → Bool
+-- the set of the group has the pair: a stamp, and a call or an agent
+abbrev pub lists : PairSets → Device → ℕ × ℕ → Bool
 lists m g p = holds nat_cmp pair_cmp m g p
 
 -- the call is listed at the device
-abbrev pub joins : BTreeSet (ℕ × ℕ) → ℕ → ℕ → Bool
+abbrev pub joins : BTreeSet (Device × CallId) → Device → CallId → Bool
 joins lines device call = contains pair_cmp lines (device, call)
 
 -- the first member of the set of the group, if there is one
-abbrev pub IsFirstIn : {E : Type 0} → (E → E → Ordering) → BTreeMap ℕ (BTreeSet E) → ℕ → Option E → Type 0
+abbrev pub IsFirstIn : {E : Type 0} → (E → E → Ordering) → BTreeMap Device (BTreeSet E) → Device → Option E → Type 0
 IsFirstIn {E} cmp m g None = (e : E) → holds nat_cmp cmp m g e ≡ false
 IsFirstIn {E} cmp m g (Some k) = (holds nat_cmp cmp m g k ≡ true) × ((e : E) → holds nat_cmp cmp m g e ≡ true → is_gt (cmp k e) ≡ false)
 
 -- the connection waits at the place
-abbrev pub waits_at : ℕ → Option ConnectionRecord → Bool
+abbrev pub waits_at : Stamp → Option ConnectionRecord → Bool
 waits_at place None = false
 waits_at place (Some c) = is_queued c.state && unwrap_or c.place 0 == place
 
@@ -49,25 +50,25 @@ waits_at place (Some c) = is_queued c.state && unwrap_or c.place 0 == place
 abbrev pub is_busying : ConnectionRecord → Bool
 is_busying c = is_occupying c.state || is_distributed c
 
-unfoldable pub is_busy_at : Rows → ℕ → Bool
+unfoldable pub is_busy_at : Rows → Device → Bool
 is_busy_at s device = list_any (λ c. c.device == device && is_busying c) s.connections
 
-abbrev pub is_free : Rows → Option ℕ → Bool
+abbrev pub is_free : Rows → Option Device → Bool
 is_free s None = false
 is_free s (Some station) = not (is_busy_at s station)
 
 -- of the group, ready, and at a station that takes an offer
-abbrev pub is_able : Rows → ℕ → AgentRecord → Bool
+abbrev pub is_able : Rows → Device → AgentRecord → Bool
 is_able s group a = is_one_of a.groups group && (is_ready a.state && is_free s a.station)
 
 -- the agent is able since the stamp
-abbrev pub is_able_since : Rows → ℕ → ℕ → Option AgentRecord → Bool
+abbrev pub is_able_since : Rows → Device → Stamp → Option AgentRecord → Bool
 is_able_since s group stamp None = false
 is_able_since s group stamp (Some a) = a.stamp == stamp && is_able s group a
 
 -- a group's place among those that may have an offer
 abbrev pub OfferKey : Type 0
-OfferKey = Reverse ℕ × ℕ
+OfferKey = Reverse Priority × Device
 
 -- by descending priority, and then by ascending number
 abbrev pub offer_cmp : OfferKey → OfferKey → Ordering
@@ -78,28 +79,28 @@ offer_key g = (record { 0 = g.priority }, g.device)
 
 -- a planned group with members in both is noted at its priority
 abbrev pub ListsOffers : Rows → PairSets → PairSets → BTreeSet OfferKey → Type 0
-ListsOffers s queues ready offering = (g : ℕ) (r : GroupRecord) (p q : ℕ × ℕ) → group_of s g ≡ Some r → lists queues g p ≡ true → lists ready g q ≡ true
+ListsOffers s queues ready offering = (g : Device) (r : GroupRecord) (p q : ℕ × ℕ) → group_of s g ≡ Some r → lists queues g p ≡ true → lists ready g q ≡ true
     → contains offer_cmp offering (offer_key r) ≡ true
 
 -- stations and the agents there
 abbrev pub SeatMap : Type 0
-SeatMap = HashMap ℕ ℕ (BuildHasherDefault FoldHasher)
+SeatMap = HashMap Device Agent (BuildHasherDefault FoldHasher)
 
 -- the agent at the station
-abbrev pub seat_of : SeatMap → ℕ → Option ℕ
-seat_of seats d = get_by (λ e. d == e) seats
+abbrev pub agent_seated : SeatMap → Device → Option Agent
+agent_seated seats d = get_by (λ e. d == e) seats
 
 -- the station of the agent that may be there
-abbrev pub own_station : Option AgentRecord → Option ℕ
+abbrev pub own_station : Option AgentRecord → Option Device
 own_station None = None
 own_station (Some a) = a.station
 
 -- an agent stands at a station exactly where it is its own
 abbrev pub Seats : Rows → SeatMap → Type 0
-Seats s seats = (n d : ℕ) → has (seat_of seats d) n ≡ has (own_station (agent_of s n)) d
+Seats s seats = (n : Agent) (d : Device) → has (agent_seated seats d) n ≡ has (own_station (agent_of s n)) d
 
 -- the calls at a device are exactly those of its connections
-abbrev pub Lines : Rows → BTreeSet (ℕ × ℕ) → Type 0
+abbrev pub Lines : Rows → BTreeSet (Device × CallId) → Type 0
 Lines s = Notes pair_cmp (λ p. is_some (connection_of s p.1 p.0))
 
 -- offered by distribution, and not answered
@@ -120,11 +121,11 @@ works None = false
 works (Some a) = is_working a
 
 -- exactly the offers that ring are noted
-abbrev pub Ringing : Rows → BTreeSet (ℕ × ℕ) → Type 0
+abbrev pub Ringing : Rows → BTreeSet (CallId × Device) → Type 0
 Ringing s = Notes pair_cmp (λ p. rings (connection_of s p.0 p.1))
 
 -- exactly the agents in after-call work are noted
-abbrev pub Working : Rows → BTreeSet ℕ → Type 0
+abbrev pub Working : Rows → BTreeSet Agent → Type 0
 Working s = Notes nat_cmp (λ n. works (agent_of s n))
 
 -- the indexes are those of the rows
@@ -133,11 +134,11 @@ pub record IsIndexed (s : Rows) (x : Indexes) : Type 0 where
   pub agents : IsAscending agent_order s.agents
   pub connections : IsAscending connection_order s.connections
   -- each group has its two sets
-  pub queues : (g : ℕ) → is_group s g ≡ true → has_set nat_cmp pair_cmp x.queues g ≡ true
-  pub readies : (g : ℕ) → is_group s g ≡ true → has_set nat_cmp pair_cmp x.ready g ≡ true
+  pub queues : (g : Device) → is_group s g ≡ true → has_set nat_cmp pair_cmp x.queues g ≡ true
+  pub readies : (g : Device) → is_group s g ≡ true → has_set nat_cmp pair_cmp x.ready g ≡ true
   -- who waits, and who is able
-  pub waiting : (g : ℕ) (p : ℕ × ℕ) → lists x.queues g p ≡ waits_at p.0 (connection_of s p.1 g)
-  pub able : (g : ℕ) (p : ℕ × ℕ) → lists x.ready g p ≡ is_able_since s g p.0 (agent_of s p.1)
+  pub waiting : (g : Device) (p : ℕ × ℕ) → lists x.queues g p ≡ waits_at p.0 (connection_of s p.1 g)
+  pub able : (g : Device) (p : ℕ × ℕ) → lists x.ready g p ≡ is_able_since s g p.0 (agent_of s p.1)
   pub offers : ListsOffers s x.queues x.ready x.offering
   -- who is at a station, and the calls at a device
   pub seats : Seats s x.seats

@@ -4,7 +4,7 @@ pub mod Sets
 pub mod Indexed
 pub mod Uses
 pub mod Alone
-pub mod Turns
+pub mod Swaps
 pub mod Near
 pub mod FirstOffer
 pub mod AtDevice

@@ -1,9 +1,10 @@
 -- How connections use a station.
-use Rattle.std.specs.Prelude.{ℕ, ◌+◌, ◌-◌, ◌^◌, Bool, false, not, ◌&&◌, ◌==◌, Option, Some, None, if◌then◌else◌}
+use Rattle.std.specs.Prelude.{◌+◌, ◌-◌, ◌^◌, Bool, false, not, ◌&&◌, ◌==◌, Option, Some, None, if◌then◌else◌}
 use Rattle.std.specs.List.{list_any}
 use Rattle.std.specs.declared.ops.Bound.{Bound}
 use Rattle.std.specs.declared.ops.Bound.TheVariants.{Included, Excluded, Unbounded}
 use Rattle.acd_terms.specs.States.{is_distributed, is_live, is_occupying}
+use Rattle.acd_terms.specs.Numbers.{Device, CallId}
 use Rattle.acd_terms.specs.declared.rows.Rows.{Rows}
 use Rattle.acd_terms.specs.declared.record.ConnectionRecord.{ConnectionRecord}
 use Rattle.acd_model.specs.Scans.{has}
@@ -23,15 +24,15 @@ is_there_and u None = false
 is_there_and u (Some c) = u c
 
 -- a connection at the device, but for one of the call, uses it so
-abbrev pub is_in_use : Rows → ℕ → Option ℕ → Use → Bool
+abbrev pub is_in_use : Rows → Device → Option CallId → Use → Bool
 is_in_use s device but kind = list_any (λ c. c.device == device && (not (has but c.call) && uses kind c)) s.connections
 
 -- at the calls of the device
-unfoldable pub first_line : ℕ → Bound (ℕ × ℕ)
+unfoldable pub first_line : Device → Bound (Device × CallId)
 first_line device = Included (device, 0)
 
 -- behind the calls of the device, where a number follows
-unfoldable pub past_lines : ℕ → Bound (ℕ × ℕ)
+unfoldable pub past_lines : Device → Bound (Device × CallId)
 past_lines device = if device == 2 ^ 64 - 1 then Unbounded else Excluded (device + 1, 0)
 
 -- what may be there, if it passes

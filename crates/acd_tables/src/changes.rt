@@ -5,7 +5,7 @@ ghost use Rattle.acd_model.specs.Scans.{connection_of, queued_in_all};
 ghost use Rattle.acd_model.specs.Writes.{with_group, with_agent, with_connection, without_connection};
 ghost use Rattle.std.specs.BTreeSet.{contains};
 ghost use Rattle.acd_tables.specs.Indexed.{IsIndexed, OfferKey, offer_cmp};
-ghost use Rattle.acd_tables.specs.Turns.{IsAt, with_or_without, one_queued, has_rank, loses_rank};
+ghost use Rattle.acd_tables.specs.Swaps.{IsAt, with_or_without, one_queued, has_rank, loses_rank};
 
 use crate::alone::Alone;
 use crate::indexes::{Indexes, OfferKey, may_offer, offer_key};
@@ -13,7 +13,7 @@ use crate::lines::unlist;
 use crate::noting::{put_listed, put_seated, rings};
 use crate::records::Records;
 use crate::sets::{add_set, forget, note};
-use crate::turns::{agent_turn, connection_turn};
+use crate::swaps::{agent_swap, connection_swap};
 use acd_terms::{AgentRecord, ConnectionRecord, DeviceId, Few, GroupRecord, Priority};
 use std::alloc::{AllocError, Global};
 use std::collections::BTreeSet;
@@ -76,8 +76,8 @@ pub(crate) fn put_agent(
 {
     let (_few, _alone) = (Few::none(), None::<Alone>);
     let old = records.agent(item.agent);
-    let turn = agent_turn(records, indexes, &old, item);
-    let undo = indexes.enter(records, &turn.entering)?;
+    let swap = agent_swap(records, indexes, &old, item);
+    let undo = indexes.enter(records, &swap.entering)?;
     match put_seated(
         records,
         &mut indexes.seats,
@@ -86,7 +86,7 @@ pub(crate) fn put_agent(
         item,
     ) {
         Ok(()) => {
-            indexes.settle(records, &turn);
+            indexes.settle(records, &swap);
             Ok(())
         }
         Err(error) => {
@@ -140,9 +140,9 @@ pub(crate) fn put_connection(
     let (call, device) = (item.call, item.device);
     let old = records.connection(call, device);
     let new = Some(*item);
-    let turn = connection_turn(records, indexes, call, device, &old, &new);
+    let swap = connection_swap(records, indexes, call, device, &old, &new);
     let queued = queued_after(records, indexes, call, device, &old, &new);
-    let undo = indexes.enter(records, &turn.entering)?;
+    let undo = indexes.enter(records, &swap.entering)?;
     match put_listed(
         records,
         &mut indexes.lines,
@@ -151,7 +151,7 @@ pub(crate) fn put_connection(
         item,
     ) {
         Ok(()) => {
-            indexes.settle(records, &turn);
+            indexes.settle(records, &swap);
             indexes.queued = queued;
             Ok(())
         }
@@ -176,13 +176,13 @@ pub(crate) fn remove_connection(
 {
     let (_few, _alone) = (Few::none(), None::<Alone>);
     let old = records.connection(call, device);
-    let turn = connection_turn(records, indexes, call, device, &old, &None);
+    let swap = connection_swap(records, indexes, call, device, &old, &None);
     let queued = queued_after(records, indexes, call, device, &old, &None);
-    indexes.enter(records, &turn.entering)?;
+    indexes.enter(records, &swap.entering)?;
     records.remove_connection(call, device);
     forget(&mut indexes.ringing, (call, device), rings(&old));
     unlist(&mut indexes.lines, device, call, true);
-    indexes.settle(records, &turn);
+    indexes.settle(records, &swap);
     indexes.queued = queued;
     Ok(())
 }

@@ -9,7 +9,7 @@ ghost use Rattle.acd_model.specs.Scans.{group_of};
 ghost use Rattle.std.specs.BTreeSet.{contains};
 ghost use Rattle.acd_tables.specs.Sets.{holds, Stays};
 ghost use Rattle.acd_tables.specs.Indexed.{lists, OfferKey, offer_cmp, offer_key, ListsOffers};
-ghost use Rattle.acd_tables.specs.Turns.{is_entry, Enters, Leaves, Undoes, LeavesBut, NotesGroups, left_of, is_of_group, Offers, Entered, Undone, Untouched, TakenOut, IsBlank};
+ghost use Rattle.acd_tables.specs.Swaps.{is_entry, Enters, Leaves, Undoes, LeavesBut, NotesGroups, left_of, is_of_group, Offers, Entered, Undone, Untouched, TakenOut, IsBlank};
 
 use crate::alone::Alone;
 use crate::records::Records;
@@ -52,7 +52,7 @@ pub struct Entries {
 
 /// What a change takes in and then takes out.
 #[derive(Clone, Copy)]
-pub struct Turn {
+pub struct Swap {
     pub(crate) entering: Entries,
     pub(crate) leaving: Entries,
 }
@@ -108,13 +108,13 @@ impl Indexes {
         self.prune(records, entries);
     }
 
-    /// Takes out what leaves, and the groups of the turn that have no offer.
-    pub(crate) fn settle(&mut self, records: &Records, turn: &Turn)
+    /// Takes out what leaves, and the groups of the swap that have no offer.
+    pub(crate) fn settle(&mut self, records: &Records, swap: &Swap)
         requires { Offers records.now self.old }
-        ensures { TakenOut records.now self.old self.new turn.now.leaving }
+        ensures { TakenOut records.now self.old self.new swap.now.leaving }
     {
-        self.take_out(records, &turn.leaving);
-        self.prune(records, &turn.entering);
+        self.take_out(records, &swap.leaving);
+        self.prune(records, &swap.entering);
     }
 
     // Takes the groups of the entries that have no offer out of those that may have one.

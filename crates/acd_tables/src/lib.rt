@@ -23,9 +23,9 @@ mod noting;
 mod records;
 mod scans;
 mod sets;
+mod swaps;
 mod table;
 mod tables;
-mod turns;
 mod uses;
 mod writes;
 

@@ -6,8 +6,8 @@ ghost use Rattle.acd_terms.specs.Lists.{IsAscending};
 ghost use Rattle.acd_model.specs.Rules.Plan.{connection_order};
 ghost use Rattle.acd_model.specs.Scans.{agent_of, connection_of, has};
 ghost use Rattle.acd_model.specs.Writes.{with_agent, with_connection};
-ghost use Rattle.acd_tables.specs.Indexed.{seat_of, own_station, rings, works, Seats, Lines, Ringing, Working};
-ghost use Rattle.acd_tables.specs.Turns.{IsFreeFor, Sits, Rises};
+ghost use Rattle.acd_tables.specs.Indexed.{agent_seated, own_station, rings, works, Seats, Lines, Ringing, Working};
+ghost use Rattle.acd_tables.specs.Swaps.{IsFreeFor, Sits, GetsUp};
 
 use crate::lines::{list, unlist};
 use crate::records::Records;
@@ -72,7 +72,7 @@ fn take_seat(
     agent: AgentId,
 ) -> Result<(), AllocError>
     ensures ok { OnOk result (Sits seats.old seats.new station agent) }
-    ensures err { OnErr result ((d : ℕ) → seat_of seats.new d ≡ seat_of seats.old d) }
+    ensures err { OnErr result ((d : ℕ) → agent_seated seats.new d ≡ agent_seated seats.old d) }
 {
     if let Some(station) = station {
         seats.insert(station, agent)?;
@@ -86,7 +86,7 @@ fn leave_seat(
     one: &Option<DeviceId>,
     other: &Option<DeviceId>,
 )
-    ensures { Rises seats.old seats.new one.now other.now }
+    ensures { GetsUp seats.old seats.new one.now other.now }
 {
     if *one == *other {
         return;
@@ -103,10 +103,10 @@ fn sit(
     from: &Option<DeviceId>,
     item: &AgentRecord,
 ) -> Result<(), AllocError>
-    requires { (d : ℕ) → has from.now d ≡ true → seat_of seats.old d ≡ Some item.now.agent }
+    requires { (d : ℕ) → has from.now d ≡ true → agent_seated seats.old d ≡ Some item.now.agent }
     ensures ok { OnOk result (Sits seats.old seats.new item.now.station item.now.agent) }
     ensures free { OnOk result (IsFreeFor seats.old item.now) }
-    ensures err { OnErr result ((d : ℕ) → seat_of seats.new d ≡ seat_of seats.old d) }
+    ensures err { OnErr result ((d : ℕ) → agent_seated seats.new d ≡ agent_seated seats.old d) }
 {
     if *from == item.station {
         return Ok(());

@@ -7,7 +7,7 @@ ghost use Rattle.acd_model.specs.Scans.{is_group, agent_of, agent_at, connection
 ghost use Rattle.acd_model.specs.Choice.{first_waiting, first_eligible, waiting_pair, ready_pair, offer_of};
 ghost use Rattle.acd_tables.specs.Indexed.{pair_cmp, is_ringing, is_working};
 ghost use Rattle.acd_tables.specs.Uses.{kept, is_in_use};
-ghost use Rattle.acd_tables.specs.FirstOffer.{offer_at};
+ghost use Rattle.acd_tables.specs.FirstOffer.{offer_by_key};
 ghost use Rattle.acd_tables.specs.AtDevice.{line_at, connections_at};
 ghost use Rattle.std.specs.List.{filter_map};
 
@@ -188,8 +188,8 @@ impl Tables {
     }
 
     // The offer in the group of the key, if it still has that priority, and has both.
-    fn offer_at(&self, key: &OfferKey) -> Option<Offer>
-        ensures { result ≡ offer_at self.now key.now }
+    fn offer_by_key(&self, key: &OfferKey) -> Option<Offer>
+        ensures { result ≡ offer_by_key self.now key.now }
     {
         let group = self.group(key.1)?;
         if group.priority != key.0.0 {
@@ -211,7 +211,7 @@ impl Tables {
         ensures { result ≡ offer_of self.now }
     {
         for key in &self.indexes.offering {
-            let offer = self.offer_at(key);
+            let offer = self.offer_by_key(key);
             if offer.is_some() {
                 return offer;
             }

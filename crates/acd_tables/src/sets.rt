@@ -4,7 +4,7 @@ ghost use Rattle.std.specs.Prelude.{◌≡◌, ◌≤◌, ◌<◌, ◌++◌, [],
 ghost use Rattle.std.specs.Ordering.{nat_cmp};
 ghost use Rattle.acd_tables.specs.Indexed.{IsFirstIn};
 ghost use Rattle.acd_tables.specs.Sets.{holds, Sets, Stays, HasSet, Noted, Forgotten};
-ghost use Rattle.acd_tables.specs.Turns.{Enters, Leaves, Undoes};
+ghost use Rattle.acd_tables.specs.Swaps.{Enters, Leaves, Undoes};
 ghost use Rattle.std.specs.BTreeSet.{contains};
 
 use acd_terms::{DeviceId, Few};

@@ -2,16 +2,16 @@
 use Rattle.std.proofs.Common.{◌≡◌, ℕ, suc, ◌+◌, ◌-◌, ◌<◌, List, [], ◌∷◌, ◌++◌, length, take, drop, replicate, slice_set, sym, ap, ◌∙◌, arith, length-take-le}
 use Rattle.std.proofs.lemmas.List.{set_split, take_more_set, length-set, drop-replicate, append_assoc}
 use Rattle.std.proofs.Math.Seq.{drop-append-add}
-use Rattle.acd_terms.specs.Few.{IsHeld}
+use Rattle.acd_terms.specs.Few.{AreHeld}
 
 behind : (p : List ℕ) (n len : ℕ) → length p ≡ len → drop (len + 1) (p ++ replicate n 10) ≡ replicate (n - 1) 10
 behind p n len e = rw (sym e) (drop-append-add p (replicate n 10) 1 ∙ drop-replicate 1 n 10)
 
-left : (cells : List ℕ) (len : ℕ) → IsHeld cells len → drop (len + 1) cells ≡ replicate (8 - len - 1) 10
+left : (cells : List ℕ) (len : ℕ) → AreHeld cells len → drop (len + 1) cells ≡ replicate (8 - len - 1) 10
 left cells len h =
     ap (drop (len + 1)) h.cells_are ∙ behind (take len cells) (8 - len) len (length-take-le len cells (omega (arith, h.fits, h.size_is)))
 
-pub pushed : (cells : List ℕ) (len d : ℕ) → IsHeld cells len → len < 8 → IsHeld (slice_set cells len d) (len + 1)
+pub pushed : (cells : List ℕ) (len d : ℕ) → AreHeld cells len → len < 8 → AreHeld (slice_set cells len d) (len + 1)
 pushed cells len d h room =
     let inside : len < length cells = omega (arith, h.size_is, room) in
     let more : suc len ≡ len + 1 = omega (arith) in

@@ -2,6 +2,7 @@ pub mod ShortText
 pub mod Forms
 pub mod States
 pub mod Refusals
+pub mod Numbers
 pub mod Limits
 pub mod Rows
 pub mod Columns

@@ -14,13 +14,13 @@ pub struct Few {
 
 impl Model for Few {
     ghost use Rattle.std.specs.Prelude.{ℕ, List, take, ◌++◌, ◌-◌, length, replicate};
-    ghost use Rattle.acd_terms.specs.Few.{IsHeld, cells-inverse, len-inverse};
+    ghost use Rattle.acd_terms.specs.Few.{AreHeld, cells-inverse, len-inverse};
 
     ghost Value = { List ℕ };
 
     ghost view = { λ f. take f.len f.cells };
 
-    ghost invariant = { λ f. IsHeld f.cells f.len };
+    ghost invariant = { λ f. AreHeld f.cells f.len };
 
     ghost inverse = { λ ds. record { cells = ds ++ replicate (8 - length ds) 10; len = length ds } };
 

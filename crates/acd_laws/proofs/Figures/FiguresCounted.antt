@@ -21,13 +21,14 @@ use Rattle.acd_laws.proofs.Deeds.{Party, Round, offers, returns, rests, Deed, no
 use Rattle.acd_model.specs.Figures.{figures_of, sum_of_figures, counting, with_figures}
 use Rattle.acd_model.specs.Services.Serve.{serve}
 use Rattle.acd_model.specs.Run.{TimedCommand, run}
-use Rattle.acd_model.specs.Step.{numbered, executed_moment, next_stamp, step_moves, step}
+use Rattle.acd_model.specs.Step.{numbered, step_moves, step, next_turn}
 use Rattle.acd_laws.specs.FigureLaws.{KeepsFigures, RunKeepsFigures, ranked}
 use Rattle.acd_terms.specs.Limits.{greatest_priority}
 use Rattle.acd_terms.specs.declared.command.Command.TheVariants.{SetGroupPriority}
 use Rattle.acd_laws.proofs.Rules.Ended.{rules_step, rules_first, kept_by_run, KeptByRules}
 use Rattle.acd_laws.proofs.Offers.Distributing.{Kept}
 use Rattle.acd_laws.proofs.Rules.RulesKept.{by_deeds, by_parts}
+use Rattle.acd_terms.specs.declared.command.Turn.{Turn}
 
 -- there is no group, or it is one of these
 abbrev pub IsAmongGroups : List GroupRecord → Option ℕ → Type 0
@@ -64,18 +65,18 @@ fits_state : (gs : List GroupRecord) (a : AgentRecord) (state : AgentState) (age
 fits_state gs a Null agent station = (tt, tt)
 fits_state gs a _ agent station = (tt, tt)
 
-fits_agent : {K : AgentRecord → Type 0} {m k : ℕ} {x : Move} (gs : List GroupRecord) → AgentMove K m k x → Fits gs x
+fits_agent : {K : AgentRecord → Type 0} {turn : Turn} {x : Move} (gs : List GroupRecord) → AgentMove K turn x → Fits gs x
 fits_agent gs stays = (tt, tt)
 fits_agent gs (puts a pending _) = (tt, tt)
 fits_agent gs (tells a b d _ _) = fits_state gs b b.state b.agent d
 
-fits_arrival : (s : Rows) {m k call to : ℕ} {why : Cause} {x : Move} → Arrival s m k call to why x → Fits s.groups x
+fits_arrival : (s : Rows) {turn : Turn} {call to : ℕ} {why : Cause} {x : Move} → Arrival s turn call to why x → Fits s.groups x
 fits_arrival s (queues e) = (tt, known_group s _ e)
 fits_arrival s alerts = (tt, tt)
 fits_arrival s fails = (tt, tt)
 
-fits_arrive : (s : Rows) (m k call to : ℕ) (why : Cause) → Fits s.groups (arrive s m k call to why)
-fits_arrive s m k call to why = fits_arrival s (arrival_of s m k call to why)
+fits_arrive : (s : Rows) (turn : Turn) (call to : ℕ) (why : Cause) → Fits s.groups (arrive s turn call to why)
+fits_arrive s turn call to why = fits_arrival s (arrival_of s turn call to why)
 
 fits_answered : (gs : List GroupRecord) (m : ℕ) (x : ConnectionRecord) (o : Option ℕ) → IsAmongGroups gs o → IsAmongGroups gs (group_counted (Established x.call x.device (waited_by m x.queued o)))
 fits_answered gs m x None w = tt
@@ -90,11 +91,11 @@ among_first : (gs : List GroupRecord) (o p : Option ℕ) → IsAmongGroups gs o 
 among_first gs None p h g = g
 among_first gs (Some a) p h g = h
 
-fits_clearing : (s : Rows) (m k : ℕ) (x : ConnectionRecord) (o : Option ConnectionRecord) → IsAmongGroups s.groups x.group → ((y : ConnectionRecord) → o ≡ Some y → IsAmongGroups s.groups y.group) → AllFit s.groups (clearing s m k x o)
-fits_clearing s m k x None h g = ((tt, tt), ((tt, tt), ((tt, among_waiting s.groups x h), (fits_agent s.groups (released_by s m k x (ending_of x)), ((tt, tt), tt)))))
-fits_clearing s m k x (Some y) h g =
+fits_clearing : (s : Rows) (turn : Turn) (x : ConnectionRecord) (o : Option ConnectionRecord) → IsAmongGroups s.groups x.group → ((y : ConnectionRecord) → o ≡ Some y → IsAmongGroups s.groups y.group) → AllFit s.groups (clearing s turn x o)
+fits_clearing s turn x None h g = ((tt, tt), ((tt, tt), ((tt, among_waiting s.groups x h), (fits_agent s.groups (released_by s turn x (ending_of x)), ((tt, tt), tt)))))
+fits_clearing s turn x (Some y) h g =
     let first = among_first s.groups (waiting_group x) (waiting_group y) (among_waiting s.groups x h) (among_waiting s.groups y (g y refl)) in
-    ((tt, tt), ((tt, tt), ((tt, first), (fits_agent s.groups (released_by s m k x (ending_of x)), (fits_agent s.groups (released_by s m k y (ending_of y)), tt)))))
+    ((tt, tt), ((tt, tt), ((tt, first), (fits_agent s.groups (released_by s turn x (ending_of x)), (fits_agent s.groups (released_by s turn y (ending_of y)), tt)))))
 
 -- each deed: it fits, or adds a group
 
@@ -104,32 +105,32 @@ pub record Adds (s : Rows) (ms : List Move) : Type 0 where
   pub fresh : is_group s group.device ≡ false
   pub new : group.figures ≡ no_figures
 
-pub fits_deed : (s : Rows) (m k : ℕ) (ms : List Move) → Deed s m k ms → Rules s → AllFit s.groups ms ⊎ Adds s ms
-fits_deed s m k _ nothing r = inl tt
-fits_deed s m k _ (adds_group device name ring wrap free _) r =
+pub fits_deed : (s : Rows) (turn : Turn) (ms : List Move) → Deed s turn ms → Rules s → AllFit s.groups ms ⊎ Adds s ms
+fits_deed s turn _ nothing r = inl tt
+fits_deed s turn _ (adds_group device name ring wrap free _) r =
     inr (record { group = new_group device name ring wrap; alone = refl; fresh = (or_parts (is_group s device) (is_station s device) (or_parts (is_planned s device) (is_calling s device) free).0).0; new = refl })
-fits_deed s m k _ (adds_station _ _ _) r = inl ((tt, tt), tt)
-fits_deed s m k _ (adds_agent _ _ _ _) r = inl ((tt, tt), tt)
-fits_deed s m k _ (watches _ _ _) r = inl ((tt, tt), tt)
-fits_deed s m k _ (unwatches _) r = inl ((tt, tt), tt)
-fits_deed s m k _ (arrives caller called _ _ _) r = inl ((tt, tt), ((tt, tt), (fits_arrive s m k _ called _, tt)))
-fits_deed s m k _ (makes _ _ _ _ _ _ _ _) r = inl ((tt, tt), ((tt, tt), tt))
-fits_deed s m k _ (goes_out p _) r = inl ((tt, tt), (fits_arrive s m k _ p.about.called _, tt))
-fits_deed s m k _ (answers p _) r = inl ((tt, fits_answered s.groups m p.x p.x.group (party_known s p r)), (fits_agent s.groups (occupied_by s m k p.x), tt))
-fits_deed s m k _ (holds _ _ _) r = inl ((tt, tt), tt)
-fits_deed s m k _ (retrieves _ _ _) r = inl ((tt, tt), tt)
-fits_deed s m k _ (clears p) r = inl (fits_clearing s m k p.x (other_of s p.x) (party_known s p r) (λ y e. known s y r (other_among s p.x y e)))
-fits_deed s m k _ (deflects p to _ _) r = inl ((tt, party_known s p r), (fits_arrive s m k _ to _, (fits_agent s.groups (released_by s m k p.x (ending_of p.x)), tt)))
-fits_deed s m k _ (transfers p to _ _ _) r = inl ((tt, tt), (fits_arrive s m k _ to _, (fits_agent s.groups (released_by s m k p.x (ending_of p.x)), tt)))
-fits_deed s m k _ (logs_on _ _ _ _ _ _ _ _) r = inl ((tt, tt), tt)
-fits_deed s m k _ (waits _ _ _ _ _) r = inl ((tt, tt), tt)
-fits_deed s m k _ (goes a wanted _ _ _) r = inl (fits_agent s.groups (goes_from Anyone m k a a.station (state_wanted wanted) tt), tt)
+fits_deed s turn _ (adds_station _ _ _) r = inl ((tt, tt), tt)
+fits_deed s turn _ (adds_agent _ _ _ _) r = inl ((tt, tt), tt)
+fits_deed s turn _ (watches _ _ _) r = inl ((tt, tt), tt)
+fits_deed s turn _ (unwatches _) r = inl ((tt, tt), tt)
+fits_deed s turn _ (arrives caller called _ _ _) r = inl ((tt, tt), ((tt, tt), (fits_arrive s turn _ called _, tt)))
+fits_deed s turn _ (makes _ _ _ _ _ _ _ _) r = inl ((tt, tt), ((tt, tt), tt))
+fits_deed s turn _ (goes_out p _) r = inl ((tt, tt), (fits_arrive s turn _ p.about.called _, tt))
+fits_deed s turn _ (answers p _) r = inl ((tt, fits_answered s.groups turn.moment p.x p.x.group (party_known s p r)), (fits_agent s.groups (occupied_by s turn p.x), tt))
+fits_deed s turn _ (holds _ _ _) r = inl ((tt, tt), tt)
+fits_deed s turn _ (retrieves _ _ _) r = inl ((tt, tt), tt)
+fits_deed s turn _ (clears p) r = inl (fits_clearing s turn p.x (other_of s p.x) (party_known s p r) (λ y e. known s y r (other_among s p.x y e)))
+fits_deed s turn _ (deflects p to _ _) r = inl ((tt, party_known s p r), (fits_arrive s turn _ to _, (fits_agent s.groups (released_by s turn p.x (ending_of p.x)), tt)))
+fits_deed s turn _ (transfers p to _ _ _) r = inl ((tt, tt), (fits_arrive s turn _ to _, (fits_agent s.groups (released_by s turn p.x (ending_of p.x)), tt)))
+fits_deed s turn _ (logs_on _ _ _ _ _ _ _ _) r = inl ((tt, tt), tt)
+fits_deed s turn _ (waits _ _ _ _ _) r = inl ((tt, tt), tt)
+fits_deed s turn _ (goes a wanted _ _ _) r = inl (fits_agent s.groups (goes_from Anyone turn a a.station (state_wanted wanted) tt), tt)
 
-pub fits_round : (s : Rows) (m k : ℕ) (ms : List Move) → Round s m k ms → Rules s → AllFit s.groups ms
-fits_round s m k _ (offers o x a d h) r = ((tt, known s x r h.there), ((tt, tt), tt))
-fits_round s m k _ (returns x g there _ e) r =
-    let own = known s x r (connection_among s x.call x.device x there) in ((tt, own), ((tt, subst (IsAmongGroups s.groups) e own), (fits_agent s.groups (released_by s m k x NoAnswer), tt)))
-fits_round s m k _ (rests a _ _) r = (fits_agent s.groups (goes_from Anyone m k a a.station Ready tt), tt)
+pub fits_round : (s : Rows) (turn : Turn) (ms : List Move) → Round s turn ms → Rules s → AllFit s.groups ms
+fits_round s turn _ (offers o x a d h) r = ((tt, known s x r h.there), ((tt, tt), tt))
+fits_round s turn _ (returns x g there _ e) r =
+    let own = known s x r (connection_among s x.call x.device x there) in ((tt, own), ((tt, subst (IsAmongGroups s.groups) e own), (fits_agent s.groups (released_by s turn x NoAnswer), tt)))
+fits_round s turn _ (rests a _ _) r = (fits_agent s.groups (goes_from Anyone turn a a.station Ready tt), tt)
 
 -- moves that fit leave the groups, and what they report counts for these alone
 
@@ -198,11 +199,11 @@ uncounted_with : (old : List Event) (m : ℕ) (s : Rows) (es : List Event) (g : 
 unfolding with_group group_of
 uncounted_with old m s es g fresh new k = subst (Uncounted old (put_by (at_group g.device) s.groups g)) (sym (append-nil es)) (uncounted_added old s.groups es g fresh new k)
 
-uncounted_deed : (old : List Event) (m k : ℕ) (s : Rows) (es : List Event) (ms : List Move) → Deed s m k ms → Rules s → UncountedIn old s es → Kept (UncountedIn old) m s es ms
-uncounted_deed old m k s es ms d r h =
-    elim (fits_deed s m k ms d r) [
-      | inl f ↦ uncounted_moved old m s es ms f h
-      | inr a ↦ subst (Kept (UncountedIn old) m s es) (sym a.alone) (uncounted_with old m s es a.group a.fresh a.new h)
+uncounted_deed : (old : List Event) (turn : Turn) (s : Rows) (es : List Event) (ms : List Move) → Deed s turn ms → Rules s → UncountedIn old s es → Kept (UncountedIn old) turn.moment s es ms
+uncounted_deed old turn s es ms d r h =
+    elim (fits_deed s turn ms d r) [
+      | inl f ↦ uncounted_moved old turn.moment s es ms f h
+      | inr a ↦ subst (Kept (UncountedIn old) turn.moment s es) (sym a.alone) (uncounted_with old turn.moment s es a.group a.fresh a.new h)
     ]
 
 uncounted_ranks : (old : List Event) (m : ℕ) (s : Rows) (es : List Event) (c : Command) (ms : List Move) → Ranks s c ms → UncountedIn old s es → Kept (UncountedIn old) m s es ms
@@ -241,11 +242,12 @@ keeps_ended t old es n a b c r k = record {
 pub step_keeps_figures : KeptByRules KeepsFigures
 unfolding step
 step_keeps_figures s events moment command r k =
-    let m : ℕ = executed_moment s moment in
-    let ms : List Move = step_moves s m (serve s m (next_stamp s) command) in
-    keeps_ended (moved s ms) events (events_of m ms) s.last_event (next_stamp s) m (s.last_event + length (events_of m ms)) (rules_step s moment command r)
-    (by_deeds (UncountedIn events) m (next_stamp s) command (λ _ t es ns d rt h. uncounted_deed events m (next_stamp s) t es ns d rt h) (λ t es ns d rt h. uncounted_ranks events m t es command ns d h)
-    (λ t es ns d rt h. uncounted_moved events m t es ns (fits_round t m (next_stamp s) ns d rt) h) s [] r (over_lists s events k))
+    let turn : Turn = next_turn s moment in
+    let m : ℕ = turn.moment in
+    let ms : List Move = step_moves s m (serve s turn command) in
+    keeps_ended (moved s ms) events (events_of m ms) s.last_event turn.stamp m (s.last_event + length (events_of m ms)) (rules_step s moment command r)
+    (by_deeds (UncountedIn events) turn command (λ _ t es ns d rt h. uncounted_deed events turn t es ns d rt h) (λ t es ns d rt h. uncounted_ranks events m t es command ns d h)
+    (λ t es ns d rt h. uncounted_moved events m t es ns (fits_round t turn ns d rt) h) s [] r (over_lists s events k))
 
 -- runs
 
@@ -316,14 +318,13 @@ pub step_adds_figures : (s : Rows) (moment : ℕ) (command : Command) (d : ℕ) 
     → group_of (step s moment command).rows d ≡ Some (counting (step s moment command).events (ranked command g))
 unfolding step
 step_adds_figures s moment command d g r e =
-    let m : ℕ = executed_moment s moment in
-    let k : ℕ = next_stamp s in
-    let ms : List Move = step_moves s m (serve s m k command) in
+    let turn : Turn = next_turn s moment in
+    let ms : List Move = step_moves s turn.moment (serve s turn command) in
     let left : is_ranking command ≡ false → (t : Rows) → group_of t d ≡ Some g → group_of t d ≡ Some (ranked command g) = λ other t h. h ∙ ap Some (sym (unranked command g other)) in
-    found_ended (moved s ms) (events_of m ms) s.last_event k m (s.last_event + length (events_of m ms)) d (ranked command g)
-    (by_parts (λ t es. group_of t d ≡ Some g) (λ t es. group_of t d ≡ Some (ranked command g)) m k command
-    (λ other t es ns deed rt h. left other (moved t ns) (elim (fits_deed t m k ns deed rt) [
+    found_ended (moved s ms) (events_of turn.moment ms) s.last_event turn.stamp turn.moment (s.last_event + length (events_of turn.moment ms)) d (ranked command g)
+    (by_parts (λ t es. group_of t d ≡ Some g) (λ t es. group_of t d ≡ Some (ranked command g)) turn command
+    (λ other t es ns deed rt h. left other (moved t ns) (elim (fits_deed t turn ns deed rt) [
       | inl f ↦ found_moved t ns d g f h
       | inr a ↦ subst (λ w. group_of (moved t w) d ≡ Some g) (sym a.alone) (found_added t a.group g d a.fresh h)
     ])) (λ t es ns rank rt h. found_ranks t command ns d g rank h) (λ other t es h. left other t h)
-    (λ t es ns round rt h. found_moved t ns d (ranked command g) (fits_round t m k ns round rt) h) s [] r e)
+    (λ t es ns round rt h. found_moved t ns d (ranked command g) (fits_round t turn ns round rt) h) s [] r e)

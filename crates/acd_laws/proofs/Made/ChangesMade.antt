@@ -12,7 +12,7 @@ use Rattle.acd_model.specs.Changes.{changes_of, changed_by, counted_group, grown
 use Rattle.acd_model.specs.Figures.{is_no_answer, is_deflected, figures_of, sum_of_figures, counting, with_figures}
 use Rattle.acd_model.specs.Services.{no_figures}
 use Rattle.acd_model.specs.Services.Serve.{serve}
-use Rattle.acd_model.specs.Step.{numbered, executed_moment, next_stamp, step_moves, step, counted}
+use Rattle.acd_model.specs.Step.{numbered, executed_moment, next_stamp, step_moves, step, counted, turn_at, next_turn}
 use Rattle.acd_model.specs.declared.moves.Change.TheVariants.{PutGroup}
 use Rattle.acd_model.proofs.ChangeLemmas.{changed_by_append, moved_by_changes}
 use Rattle.acd_laws.specs.ChangeLaws.{StepMakesItsChanges}
@@ -157,7 +157,7 @@ pub step_makes_its_changes : StepMakesItsChanges
 unfolding step step_changes
 step_makes_its_changes s moment command h =
     let m : ℕ = executed_moment s moment in
-    let ms : List Move = step_moves s m (serve s m (next_stamp s) command) in
+    let ms : List Move = step_moves s m (serve s (next_turn s moment) command) in
     ap (λ t. with_last t (next_stamp s) m (s.last_event + length (numbered s.last_event (events_of m ms)))) (changes_made s m ms (keeps_read s h).rules.orders.groups)
     ∙ ap (λ n. with_last (with_figures (moved s ms) (events_of m ms)) (next_stamp s) m (s.last_event + n)) (length-numbered s.last_event (events_of m ms))
 
@@ -171,7 +171,7 @@ no_moves : (s : Rows) (m : ℕ) (v : Served) → moves_of v ≡ [] → offer_of 
 unfolding distribution
 no_moves s m v e h = rw e (no_offers (length (queued_in_all s)) s m h)
 
-nothing_changed : (s : Rows) (k m : ℕ) (moves : List Move) → moves ≡ [] → counted s m k moves ≡ with_last s k m s.last_event
+nothing_changed : (s : Rows) (k m : ℕ) (moves : List Move) → moves ≡ [] → counted s (turn_at m k) moves ≡ with_last s k m s.last_event
 unfolding with_last
 nothing_changed s k m moves e = rw e (rw (figures_none s, add-zero) refl)
 
@@ -179,7 +179,7 @@ nothing_changed s k m moves e = rw e (rw (figures_none s, add-zero) refl)
 pub refused : (s : Rows) (moment : ℕ) (command : Command) (r : Refusal) → offer_of s ≡ None → (step s moment command).outcome ≡ outcome.Refused r → ChangesNothing s moment command
 unfolding step
 refused s moment command r h e =
-    let v = serve s (executed_moment s moment) (next_stamp s) command in
+    let v = serve s (next_turn s moment) command in
     let none = no_moves s (executed_moment s moment) v (refused_moves v r e) h in
     record {
       events = ap (λ (ms : List Move). numbered s.last_event (events_of (executed_moment s moment) ms)) none;

@@ -27,6 +27,7 @@ use Rattle.acd_model.specs.Tick.{is_overdue_offer, is_overdue, overdue_in, retur
 use Rattle.acd_laws.proofs.MoveKinds.{goes_from, released_by, agent_connections, agent_others}
 use Rattle.acd_laws.proofs.Rules.KeptEnds.{kept_return_to}
 use Rattle.acd_laws.proofs.Rules.KeptPlan.{kept_rest_moves}
+use Rattle.acd_terms.specs.declared.command.Turn.{Turn}
 
 -- an offer is of a connection that waits in the group, and of an agent who may take it
 pub record Offering (s : Rows) (o : Offer) (x : ConnectionRecord) (a : AgentRecord) (d : ℕ) : Type 0 where
@@ -216,10 +217,10 @@ kept-append P m s es ms ns h =
 
 -- offers that go back, one after the other
 
-pub return_stays : (t : Rows) (m k g : ℕ) (x z : ConnectionRecord) → Among z t.connections → (z.call ≡ x.call → ⊥) → Among z (moved t (return_to t m k x (Some g))).connections
+pub return_stays : (t : Rows) (turn : Turn) (g : ℕ) (x z : ConnectionRecord) → Among z t.connections → (z.call ≡ x.call → ⊥) → Among z (moved t (return_to t turn x (Some g))).connections
 unfolding with_connection without_connection
-return_stays t m k g x z a ne =
-    subst (Among z) (sym (agent_connections m k _ _ (released_by t m k x NoAnswer)))
+return_stays t turn g x z a ne =
+    subst (Among z) (sym (agent_connections turn _ _ (released_by t turn x NoAnswer)))
     (among-put_other (at_connection x.call g) (queueing x.call g x.place x.queued) (remove_by (at_connection x.call x.device) t.connections) z
     (among-remove_other (at_connection x.call x.device) t.connections z a (connection_key x.call x.device z ∙ false_from_ne_true (is_of x.call x.device z) (λ e. ne (is_of_true x.call x.device z e).0)))
     (λ e. ne (sym (order_equal (queueing x.call g x.place x.queued) z e).0)))
@@ -236,13 +237,13 @@ other_call t x z r a b ax az l e =
     let o = r.one_open x.call in absurd (omega (arith, two, o))
 
 -- what a return of a call keeps
-abbrev pub ReturnKeeps : (Rows → List Event → Type 0) → ℕ → ℕ → Type 0
-ReturnKeeps P m k = (t : Rows) (es : List Event) (x : ConnectionRecord) (g : ℕ) → Rules t → P t es → connection_of t x.call x.device ≡ Some x → is_alerting x.state ≡ true → x.group ≡ Some g
-    → Kept P m t es (return_to t m k x (Some g))
+abbrev pub ReturnKeeps : (Rows → List Event → Type 0) → Turn → Type 0
+ReturnKeeps P turn = (t : Rows) (es : List Event) (x : ConnectionRecord) (g : ℕ) → Rules t → P t es → connection_of t x.call x.device ≡ Some x → is_alerting x.state ≡ true → x.group ≡ Some g
+    → Kept P turn.moment t es (return_to t turn x (Some g))
 
 -- what an end of after-call work keeps
-abbrev pub RestKeeps : (Rows → List Event → Type 0) → ℕ → ℕ → Type 0
-RestKeeps P m k = (t : Rows) (es : List Event) (a : AgentRecord) → Rules t → P t es → agent_of t a.agent ≡ Some a → is_working_after_call a.state ≡ true → Kept P m t es (rest_moves m k a)
+abbrev pub RestKeeps : (Rows → List Event → Type 0) → Turn → Type 0
+RestKeeps P turn = (t : Rows) (es : List Event) (a : AgentRecord) → Rules t → P t es → agent_of t a.agent ≡ Some a → is_working_after_call a.state ≡ true → Kept P turn.moment t es (rest_moves turn a)
 
 -- a connection that is to go back
 record Back (t : Rows) (z : ConnectionRecord) : Type 0 where
@@ -254,41 +255,41 @@ grouped_offer : (s : Rows) (m : ℕ) (g o : Option ℕ) → is_overdue_offer s m
 grouped_offer s m None o e = absurd (cc (e))
 grouped_offer s m (Some g) o e = refl
 
-returns_keep : (P : Rows → List Event → Type 0) (m k : ℕ) → ReturnKeeps P m k → (t : Rows) (es : List Event) (xs : List ConnectionRecord) → IsAscending connection_order xs → ((z : ConnectionRecord) → Among z xs → Back t z) → Rules t → P t es
-    → Rules (moved t (each (λ t x. return_moves t m k x) t xs)) × Kept P m t es (each (λ t x. return_moves t m k x) t xs)
-returns_keep P m k f t es [] so b r h = (r, kept_nothing P m t es h)
-returns_keep P m k f t es (x ∷ xs) so b r h =
+returns_keep : (P : Rows → List Event → Type 0) (turn : Turn) → ReturnKeeps P turn → (t : Rows) (es : List Event) (xs : List ConnectionRecord) → IsAscending connection_order xs → ((z : ConnectionRecord) → Among z xs → Back t z) → Rules t → P t es
+    → Rules (moved t (each (λ t x. return_moves t turn x) t xs)) × Kept P turn.moment t es (each (λ t x. return_moves t turn x) t xs)
+returns_keep P turn f t es [] so b r h = (r, kept_nothing P turn.moment t es h)
+returns_keep P turn f t es (x ∷ xs) so b r h =
     let bx = b x (inl refl) in
     let g = some_from x.group bx.grouped in
     let own : connection_of t x.call x.device ≡ Some x = connection_there t r x bx.there in
-    let one : List Move = return_moves t m k x in
-    let same : return_to t m k x (Some g.0) ≡ one = ap (return_to t m k x) (sym g.1) in
-    let rest : List Move = each (λ t x. return_moves t m k x) (moved t one) xs in
-    let r1 : Rules (moved t one) = subst (λ ms. Rules (moved t ms)) same (kept_return_to t m k g.0 x r own bx.alerting g.1) in
-    let h1 : Kept P m t es one = subst (Kept P m t es) same (f t es x g.0 r h own bx.alerting g.1) in
-    let ih = returns_keep P m k f (moved t one) (es ++ events_of m one) xs so.1
+    let one : List Move = return_moves t turn x in
+    let same : return_to t turn x (Some g.0) ≡ one = ap (return_to t turn x) (sym g.1) in
+    let rest : List Move = each (λ t x. return_moves t turn x) (moved t one) xs in
+    let r1 : Rules (moved t one) = subst (λ ms. Rules (moved t ms)) same (kept_return_to t turn g.0 x r own bx.alerting g.1) in
+    let h1 : Kept P turn.moment t es one = subst (Kept P turn.moment t es) same (f t es x g.0 r h own bx.alerting g.1) in
+    let ih = returns_keep P turn f (moved t one) (es ++ events_of turn.moment one) xs so.1
     (λ z a. let bz = b z (inr a) in record {
-      there = subst (λ ms. Among z (moved t ms).connections) same (return_stays t m k g.0 x z bz.there (other_call t x z r bx.there bz.there bx.alerting bz.alerting (after_among connection_order x xs z so.0 a)));
+      there = subst (λ ms. Among z (moved t ms).connections) same (return_stays t turn g.0 x z bz.there (other_call t x z r bx.there bz.there bx.alerting bz.alerting (after_among connection_order x xs z so.0 a)));
       alerting = bz.alerting;
       grouped = bz.grouped;
     }) r1 h1 in
-    (subst Rules (sym (moved_append t one rest)) ih.0, kept-append P m t es one rest ih.1)
+    (subst Rules (sym (moved_append t one rest)) ih.0, kept-append P turn.moment t es one rest ih.1)
 
 -- ends of after-call work, one after the other
 
-rests_keep : (P : Rows → List Event → Type 0) (m k : ℕ) → RestKeeps P m k → (t : Rows) (es : List Event) (xs : List AgentRecord) → IsAscending agent_order xs → ((a : AgentRecord) → Among a xs → (agent_of t a.agent ≡ Some a) × (is_working_after_call a.state ≡ true)) → Rules t → P t es
-    → Rules (moved t (each (λ t a. rest_moves m k a) t xs)) × Kept P m t es (each (λ t a. rest_moves m k a) t xs)
-rests_keep P m k f t es [] so b r h = (r, kept_nothing P m t es h)
-rests_keep P m k f t es (a ∷ xs) so b r h =
+rests_keep : (P : Rows → List Event → Type 0) (turn : Turn) → RestKeeps P turn → (t : Rows) (es : List Event) (xs : List AgentRecord) → IsAscending agent_order xs → ((a : AgentRecord) → Among a xs → (agent_of t a.agent ≡ Some a) × (is_working_after_call a.state ≡ true)) → Rules t → P t es
+    → Rules (moved t (each (λ t a. rest_moves turn a) t xs)) × Kept P turn.moment t es (each (λ t a. rest_moves turn a) t xs)
+rests_keep P turn f t es [] so b r h = (r, kept_nothing P turn.moment t es h)
+rests_keep P turn f t es (a ∷ xs) so b r h =
     let ba = b a (inl refl) in
-    let one : List Move = rest_moves m k a in
-    let rest : List Move = each (λ t a. rest_moves m k a) (moved t one) xs in
-    let r1 : Rules (moved t one) = kept_rest_moves t m k a r ba.0 ba.1 in
-    let h1 : Kept P m t es one = f t es a r h ba.0 ba.1 in
-    let ih = rests_keep P m k f (moved t one) (es ++ events_of m one) xs so.1
+    let one : List Move = rest_moves turn a in
+    let rest : List Move = each (λ t a. rest_moves turn a) (moved t one) xs in
+    let r1 : Rules (moved t one) = kept_rest_moves t turn a r ba.0 ba.1 in
+    let h1 : Kept P turn.moment t es one = f t es a r h ba.0 ba.1 in
+    let ih = rests_keep P turn f (moved t one) (es ++ events_of turn.moment one) xs so.1
     (λ c i. let bc = b c (inr i) in
-    (agent_others m k c.agent t _ (goes_from (λ d. (d.agent == c.agent) ≡ false) m k a a.station A.Ready (false_from_ne_true (a.agent == c.agent) (λ q. cc (after_among agent_order a xs c so.0 i, cmp_self a.agent c.agent (eqb-true a.agent c.agent q))))) ∙ bc.0, bc.1)) r1 h1 in
-    (subst Rules (sym (moved_append t one rest)) ih.0, kept-append P m t es one rest ih.1)
+    (agent_others turn c.agent t _ (goes_from (λ d. (d.agent == c.agent) ≡ false) turn a a.station A.Ready (false_from_ne_true (a.agent == c.agent) (λ q. cc (after_among agent_order a xs c so.0 i, cmp_self a.agent c.agent (eqb-true a.agent c.agent q))))) ∙ bc.0, bc.1)) r1 h1 in
+    (subst Rules (sym (moved_append t one rest)) ih.0, kept-append P turn.moment t es one rest ih.1)
 
 overdue_back : (s : Rows) (m : ℕ) (z : ConnectionRecord) → Among z (overdue_in s m) → Back s z
 unfolding overdue_in is_overdue
@@ -311,18 +312,18 @@ rested_ascend : (s : Rows) (m : ℕ) → Rules s → IsAscending agent_order (re
 unfolding rested_in
 rested_ascend s m r = ascending-filter agent_order (is_rested s m) s.agents r.orders.agents
 
-pub returned : (P : Rows → List Event → Type 0) (m k : ℕ) → ReturnKeeps P m k → (s : Rows) (es : List Event) → Rules s → P s es → Rules (moved s (returns s m k)) × Kept P m s es (returns s m k)
+pub returned : (P : Rows → List Event → Type 0) (turn : Turn) → ReturnKeeps P turn → (s : Rows) (es : List Event) → Rules s → P s es → Rules (moved s (returns s turn)) × Kept P turn.moment s es (returns s turn)
 unfolding returns
-returned P m k f s es r h = returns_keep P m k f s es (overdue_in s m) (overdue_ascend s m r) (overdue_back s m) r h
+returned P turn f s es r h = returns_keep P turn f s es (overdue_in s turn.moment) (overdue_ascend s turn.moment r) (overdue_back s turn.moment) r h
 
-rested : (P : Rows → List Event → Type 0) (m k : ℕ) → RestKeeps P m k → (s : Rows) (es : List Event) → Rules s → P s es → Rules (moved s (rests s m k)) × Kept P m s es (rests s m k)
+rested : (P : Rows → List Event → Type 0) (turn : Turn) → RestKeeps P turn → (s : Rows) (es : List Event) → Rules s → P s es → Rules (moved s (rests s turn)) × Kept P turn.moment s es (rests s turn)
 unfolding rests
-rested P m k f s es r h = rests_keep P m k f s es (rested_in s m) (rested_ascend s m r) (λ a i. rested_works s m a r i) r h
+rested P turn f s es r h = rests_keep P turn f s es (rested_in s turn.moment) (rested_ascend s turn.moment r) (λ a i. rested_works s turn.moment a r i) r h
 
-pub tick_keeps : (P : Rows → List Event → Type 0) (m k : ℕ) → ReturnKeeps P m k → RestKeeps P m k → (s : Rows) (es : List Event) → Rules s → P s es → Rules (moved s (tick s m k)) × Kept P m s es (tick s m k)
+pub tick_keeps : (P : Rows → List Event → Type 0) (turn : Turn) → ReturnKeeps P turn → RestKeeps P turn → (s : Rows) (es : List Event) → Rules s → P s es → Rules (moved s (tick s turn)) × Kept P turn.moment s es (tick s turn)
 unfolding tick
-tick_keeps P m k f g s es r h =
-    let t : Rows = moved s (returns s m k) in
-    let a = returned P m k f s es r h in
-    let b = rested P m k g t (es ++ events_of m (returns s m k)) a.0 a.1 in
-    (subst Rules (sym (moved_append s (returns s m k) (rests t m k))) b.0, kept-append P m s es (returns s m k) (rests t m k) b.1)
+tick_keeps P turn f g s es r h =
+    let t : Rows = moved s (returns s turn) in
+    let a = returned P turn f s es r h in
+    let b = rested P turn g t (es ++ events_of turn.moment (returns s turn)) a.0 a.1 in
+    (subst Rules (sym (moved_append s (returns s turn) (rests t turn))) b.0, kept-append P turn.moment s es (returns s turn) (rests t turn) b.1)

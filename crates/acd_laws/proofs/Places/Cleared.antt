@@ -23,6 +23,7 @@ use Rattle.acd_model.specs.Release.{release, ending_of}
 use Rattle.acd_model.specs.Services.{next_call, cleared_group, clear_other, release_other, clearing}
 use Rattle.acd_model.specs.declared.moves.Ending.TheVariants.{NoAnswer}
 use Rattle.acd_laws.proofs.Deeds.{new_call, Party, Round, offers, returns, rests, Deed, nothing, adds_group, adds_station, adds_agent, watches, unwatches, arrives, makes, goes_out, answers, holds, retrieves, clears as clears_call, deflects, transfers, logs_on, waits, goes, Ranks, refuses, ranks}
+use Rattle.acd_terms.specs.declared.command.Turn.{Turn}
 
 -- what a report that may be there clears and names
 
@@ -185,19 +186,19 @@ plain_nothing = record { leaves = tt; cleared = λ n. refl; named = tt }
 pub plain_reported : {last : ℕ} {c : Change} {r : Report} → LeavesCalls c → ((n : ℕ) → clears n r ≡ false) → IsUpTo last (columns_of r).call → Plain last (reported c r)
 plain_reported h f l = record { leaves = h; cleared = λ n. ap one (f n); named = l }
 
-plain_arrival : {s : Rows} {last m k call to : ℕ} {why : Cause} {x : Move} → Arrival s m k call to why x → call ≤ last → Plain last x
+plain_arrival : {s : Rows} {last : ℕ} {turn : Turn} {call to : ℕ} {why : Cause} {x : Move} → Arrival s turn call to why x → call ≤ last → Plain last x
 plain_arrival (queues _) l = plain_reported tt (λ n. refl) l
 plain_arrival alerts l = plain_reported tt (λ n. refl) l
 plain_arrival fails l = plain_reported tt (λ n. refl) l
 
-pub plain_arrive : {last : ℕ} (s : Rows) (m k call to : ℕ) (why : Cause) → call ≤ last → Plain last (arrive s m k call to why)
-plain_arrive s m k call to why l = plain_arrival (arrival_of s m k call to why) l
+pub plain_arrive : {last : ℕ} (s : Rows) (turn : Turn) (call to : ℕ) (why : Cause) → call ≤ last → Plain last (arrive s turn call to why)
+plain_arrive s turn call to why l = plain_arrival (arrival_of s turn call to why) l
 
 plain_state : {last : ℕ} (a : AgentRecord) (st : AgentState) (n d : ℕ) → Plain last (reported (PutAgent a) (state_report st n d))
 plain_state a A.Null n d = plain_reported tt (λ n. refl) tt
 plain_state a st n d = plain_reported tt (λ n. refl) tt
 
-pub plain_agent : {K : AgentRecord → Type 0} {last m k : ℕ} {x : Move} → AgentMove K m k x → Plain last x
+pub plain_agent : {K : AgentRecord → Type 0} {last : ℕ} {turn : Turn} {x : Move} → AgentMove K turn x → Plain last x
 plain_agent stays = plain_nothing
 plain_agent (pends a pending _) = plain_silent tt
 plain_agent (tells a b d _ _) = plain_state b b.state b.agent d
@@ -284,23 +285,23 @@ plain_clear_other : {last : ℕ} (o : Option ConnectionRecord) → ((y : Connect
 plain_clear_other None h = plain_nothing
 plain_clear_other (Some y) h = plain_clear y (h y refl)
 
-plain_release_other : {last : ℕ} (s : Rows) (m k : ℕ) (o : Option ConnectionRecord) → Plain last (release_other s m k o)
-plain_release_other s m k None = plain_nothing
-plain_release_other s m k (Some y) = plain_agent (released_by s m k y (ending_of y))
+plain_release_other : {last : ℕ} (s : Rows) (turn : Turn) (o : Option ConnectionRecord) → Plain last (release_other s turn o)
+plain_release_other s turn None = plain_nothing
+plain_release_other s turn (Some y) = plain_agent (released_by s turn y (ending_of y))
 
-counted_clearing : (s : Rows) (m k : ℕ) (p : Party s) → Rules s → AllCounted s (clearing s m k p.x (other_of s p.x))
-counted_clearing s m k p r =
+counted_clearing : (s : Rows) (turn : Turn) (p : Party s) → Rules s → AllCounted s (clearing s turn p.x (other_of s p.x))
+counted_clearing s turn p r =
     let x : ConnectionRecord = p.x in
     let o : Option ConnectionRecord = other_of s x in
     let le = party_up_to s p r in
     let two : List Move = clear x ∷ clear_other o ∷ [] in
-    let last : List Move = release s m k x (ending_of x) ∷ release_other s m k o ∷ [] in
+    let last : List Move = release s turn x (ending_of x) ∷ release_other s turn o ∷ [] in
     let plain_two : Every (Plain s.last_call) two = (plain_clear x le, (plain_clear_other o (λ y e. let same = (other_device s x y e).0 in omega (arith, same, le)), tt)) in
     let t : Rows = moved s two in
     let same : SameCalls s t = plain_calls s.last_call s two plain_two in
     counted-append s two (end_call x.call (cleared_group x o) ∷ last) (counted_plain s two plain_two) (
       counted_end t x.call (cleared_group x o) p.about (subst (IsAscending call_order) (sym same.0) r.orders.calls) (same_call s t same x.call ∙ p.live) (let e = same.1 in omega (arith, e, le)),
-      counted_plain (changed t (RemoveCall x.call)) last (plain_agent (released_by s m k x (ending_of x)), (plain_release_other s m k o, tt)),
+      counted_plain (changed t (RemoveCall x.call)) last (plain_agent (released_by s turn x (ending_of x)), (plain_release_other s turn o, tt)),
     )
 
 -- each deed and each round
@@ -309,36 +310,36 @@ counted_clearing s m k p r =
 counted_new : (s : Rows) (c : CallRecord) (ms : List Move) → Rules s → c.call ≡ s.last_call + 1 → ((l : ℕ) → c.call ≤ l → Every (Plain l) ms) → AllCounted s (begin c ∷ ms)
 counted_new s c ms r n h = (counted_begin s c r n, counted_plain (with_call s c) ms (h (with_call s c).last_call (let e = last_begun s c in omega (arith, e))))
 
-pub counted_deed : (s : Rows) (m k : ℕ) (ms : List Move) → Deed s m k ms → Rules s → AllCounted s ms
-counted_deed s m k _ nothing r = tt
-counted_deed s m k ms (adds_group _ _ _ _ _ _) r = counted_plain s ms (plain_silent tt, tt)
-counted_deed s m k ms (adds_station _ _ _) r = counted_plain s ms (plain_silent tt, tt)
-counted_deed s m k ms (adds_agent _ _ _ _) r = counted_plain s ms (plain_silent tt, tt)
-counted_deed s m k ms (watches _ _ _) r = counted_plain s ms (plain_silent tt, tt)
-counted_deed s m k ms (unwatches _) r = counted_plain s ms (plain_silent tt, tt)
-counted_deed s m k _ (arrives caller called _ _ _) r =
-    counted_new s (new_call s m caller called) (connect_caller (next_call s) caller ∷ arrive s m k (next_call s) called NewCall ∷ []) r refl (λ l up. (plain_silent tt, (plain_arrive s m k _ _ _ up, tt)))
-counted_deed s m k _ (makes device called _ _ _ _ _ _) r = counted_new s (new_call s m device called) (initiate (next_call s) device ∷ []) r refl (λ l up. (plain_reported tt (λ _. refl) up, tt))
-counted_deed s m k ms (goes_out p _) r = counted_plain s ms (plain_reported tt (λ _. refl) (party_up_to s p r), (plain_arrive s m k _ _ _ (party_up_to s p r), tt))
-counted_deed s m k ms (answers p _) r = counted_plain s ms (plain_reported tt (λ _. refl) (party_up_to s p r), (plain_agent (occupied_by s m k p.x), tt))
-counted_deed s m k ms (holds p _ _) r = counted_plain s ms (plain_reported tt (λ _. refl) (party_up_to s p r), tt)
-counted_deed s m k ms (retrieves p _ _) r = counted_plain s ms (plain_reported tt (λ _. refl) (party_up_to s p r), tt)
-counted_deed s m k _ (clears_call p) r = counted_clearing s m k p r
-counted_deed s m k ms (deflects p to _ _) r =
-    let le = party_up_to s p r in counted_plain s ms (plain_reported tt (λ _. refl) le, (plain_arrive s m k _ _ _ le, (plain_agent (released_by s m k p.x (ending_of p.x)), tt)))
-counted_deed s m k ms (transfers p to _ _ _) r =
-    let le = party_up_to s p r in counted_plain s ms (plain_reported tt (λ _. refl) le, (plain_arrive s m k _ _ _ le, (plain_agent (released_by s m k p.x (ending_of p.x)), tt)))
-counted_deed s m k ms (logs_on _ _ _ _ _ _ _ _) r = counted_plain s ms (plain_reported tt (λ _. refl) tt, tt)
-counted_deed s m k ms (waits _ _ _ _ _) r = counted_plain s ms (plain_silent tt, tt)
-counted_deed s m k ms (goes a wanted _ _ _) r = counted_plain s ms (plain_agent (goes_from Anyone m k a a.station (state_wanted wanted) tt), tt)
+pub counted_deed : (s : Rows) (turn : Turn) (ms : List Move) → Deed s turn ms → Rules s → AllCounted s ms
+counted_deed s turn _ nothing r = tt
+counted_deed s turn ms (adds_group _ _ _ _ _ _) r = counted_plain s ms (plain_silent tt, tt)
+counted_deed s turn ms (adds_station _ _ _) r = counted_plain s ms (plain_silent tt, tt)
+counted_deed s turn ms (adds_agent _ _ _ _) r = counted_plain s ms (plain_silent tt, tt)
+counted_deed s turn ms (watches _ _ _) r = counted_plain s ms (plain_silent tt, tt)
+counted_deed s turn ms (unwatches _) r = counted_plain s ms (plain_silent tt, tt)
+counted_deed s turn _ (arrives caller called _ _ _) r =
+    counted_new s (new_call s turn.moment caller called) (connect_caller (next_call s) caller ∷ arrive s turn (next_call s) called NewCall ∷ []) r refl (λ l up. (plain_silent tt, (plain_arrive s turn _ _ _ up, tt)))
+counted_deed s turn _ (makes device called _ _ _ _ _ _) r = counted_new s (new_call s turn.moment device called) (initiate (next_call s) device ∷ []) r refl (λ l up. (plain_reported tt (λ _. refl) up, tt))
+counted_deed s turn ms (goes_out p _) r = counted_plain s ms (plain_reported tt (λ _. refl) (party_up_to s p r), (plain_arrive s turn _ _ _ (party_up_to s p r), tt))
+counted_deed s turn ms (answers p _) r = counted_plain s ms (plain_reported tt (λ _. refl) (party_up_to s p r), (plain_agent (occupied_by s turn p.x), tt))
+counted_deed s turn ms (holds p _ _) r = counted_plain s ms (plain_reported tt (λ _. refl) (party_up_to s p r), tt)
+counted_deed s turn ms (retrieves p _ _) r = counted_plain s ms (plain_reported tt (λ _. refl) (party_up_to s p r), tt)
+counted_deed s turn _ (clears_call p) r = counted_clearing s turn p r
+counted_deed s turn ms (deflects p to _ _) r =
+    let le = party_up_to s p r in counted_plain s ms (plain_reported tt (λ _. refl) le, (plain_arrive s turn _ _ _ le, (plain_agent (released_by s turn p.x (ending_of p.x)), tt)))
+counted_deed s turn ms (transfers p to _ _ _) r =
+    let le = party_up_to s p r in counted_plain s ms (plain_reported tt (λ _. refl) le, (plain_arrive s turn _ _ _ le, (plain_agent (released_by s turn p.x (ending_of p.x)), tt)))
+counted_deed s turn ms (logs_on _ _ _ _ _ _ _ _) r = counted_plain s ms (plain_reported tt (λ _. refl) tt, tt)
+counted_deed s turn ms (waits _ _ _ _ _) r = counted_plain s ms (plain_silent tt, tt)
+counted_deed s turn ms (goes a wanted _ _ _) r = counted_plain s ms (plain_agent (goes_from Anyone turn a a.station (state_wanted wanted) tt), tt)
 
 pub counted_ranks : (s : Rows) (c : Command) (ms : List Move) → Ranks s c ms → AllCounted s ms
 counted_ranks s _ _ (refuses _ _ _) = tt
 counted_ranks s _ ms (ranks _ _ _ _) = counted_plain s ms (plain_silent tt, tt)
 
-pub counted_round : (s : Rows) (m k : ℕ) (ms : List Move) → Round s m k ms → Rules s → AllCounted s ms
-counted_round s m k ms (offers o x a d h) r = let le = up_to s r x h.there in counted_plain s ms (plain_reported tt (λ _. refl) le, (plain_reported tt (λ _. refl) le, tt))
-counted_round s m k ms (returns x g there _ _) r =
+pub counted_round : (s : Rows) (turn : Turn) (ms : List Move) → Round s turn ms → Rules s → AllCounted s ms
+counted_round s turn ms (offers o x a d h) r = let le = up_to s r x h.there in counted_plain s ms (plain_reported tt (λ _. refl) le, (plain_reported tt (λ _. refl) le, tt))
+counted_round s turn ms (returns x g there _ _) r =
     let le = up_to s r x (connection_among s x.call x.device x there) in
-    counted_plain s ms (plain_reported tt (λ _. refl) le, (plain_reported tt (λ _. refl) le, (plain_agent (released_by s m k x NoAnswer), tt)))
-counted_round s m k ms (rests a _ _) r = counted_plain s ms (plain_agent (goes_from Anyone m k a a.station Ready tt), tt)
+    counted_plain s ms (plain_reported tt (λ _. refl) le, (plain_reported tt (λ _. refl) le, (plain_agent (released_by s turn x NoAnswer), tt)))
+counted_round s turn ms (rests a _ _) r = counted_plain s ms (plain_agent (goes_from Anyone turn a a.station Ready tt), tt)

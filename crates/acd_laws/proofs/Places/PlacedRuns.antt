@@ -11,7 +11,7 @@ use Rattle.acd_lemmas.proofs.Lists.{one, every_among, counted, fewer, both_fewer
 use Rattle.acd_lemmas.proofs.Decided.{zero_or}
 use Rattle.acd_model.specs.Figures.{with_figures}
 use Rattle.acd_model.specs.Services.Serve.{serve}
-use Rattle.acd_model.specs.Step.{executed_moment, next_stamp, step_moves, step}
+use Rattle.acd_model.specs.Step.{step_moves, step, next_turn}
 use Rattle.acd_laws.proofs.Offers.Distributing.{Kept}
 use Rattle.acd_laws.proofs.Rules.RulesKept.{by_deeds}
 use Rattle.acd_laws.proofs.Rules.Ended.{rules_step, ended, kept_by_run, rules_first, KeptByRules}
@@ -19,6 +19,7 @@ use Rattle.acd_laws.proofs.Places.Cleared.{AllCounted, Named, SameCalls, same_cl
 use Rattle.std.proofs.lemmas.Bool.Decides.{leb_tells}
 use Rattle.acd_terms.specs.Columns.{columns_of}
 use Rattle.acd_terms.specs.declared.event.Report.TheVariants as report
+use Rattle.acd_terms.specs.declared.command.Turn.{Turn}
 
 queued_or_alerting : (c : ℕ) (x : ConnectionRecord) → one (is_queued_of c x) + one (is_alerting_of c x) ≤ one (open_of c x)
 queued_or_alerting c x = go x.state (x.call == c)
@@ -90,10 +91,10 @@ pub places_exclude : PlacesExclude
 places_exclude s events c = (λ a b. cc (a.ended, b.there), λ a b. cc (a.ended, b.there), λ a b. let e = a.once in let z = b.none_queued in absurd (omega (arith, e, z)))
 
 -- what counted moves keep, deeds and rounds keep, and so a step's moves
-moves_keep : (P : Rows → List Event → Type 0) (m k : ℕ) → ((s : Rows) (es : List Event) (ms : List Move) → AllCounted s ms → P s es → Kept P m s es ms)
-    → (s : Rows) (es : List Event) (c : Command) → Rules s → P s es → Kept P m s es (step_moves s m (serve s m k c))
-moves_keep P m k f s es c r h =
-    by_deeds P m k c (λ _ v fs ms d rv p. f v fs ms (counted_deed v m k ms d rv) p) (λ v fs ms d rv p. f v fs ms (counted_ranks v c ms d) p) (λ v fs ms d rv p. f v fs ms (counted_round v m k ms d rv) p) s es r h
+moves_keep : (P : Rows → List Event → Type 0) (turn : Turn) → ((s : Rows) (es : List Event) (ms : List Move) → AllCounted s ms → P s es → Kept P turn.moment s es ms)
+    → (s : Rows) (es : List Event) (c : Command) → Rules s → P s es → Kept P turn.moment s es (step_moves s turn.moment (serve s turn c))
+moves_keep P turn f s es c r h =
+    by_deeds P turn c (λ _ v fs ms d rv p. f v fs ms (counted_deed v turn ms d rv) p) (λ v fs ms d rv p. f v fs ms (counted_ranks v c ms d) p) (λ v fs ms d rv p. f v fs ms (counted_round v turn ms d rv) p) s es r h
 
 -- the end of a step sets figures and counters: calls stay
 calls_ended : (t : Rows) (es : List Event) (k m n : ℕ) → SameCalls t (ended t es k m n)
@@ -103,27 +104,25 @@ calls_ended t es k m n = (refl, refl)
 pub step_names_no_later_call : KeptByRules NamesNoLaterCall
 unfolding step
 step_names_no_later_call s events moment command r h =
-    let m : ℕ = executed_moment s moment in
-    let k : ℕ = next_stamp s in
-    let ms : List Move = step_moves s m (serve s m k command) in
-    let es : List Event = events_of m ms in
+    let turn : Turn = next_turn s moment in
+    let ms : List Move = step_moves s turn.moment (serve s turn command) in
+    let es : List Event = events_of turn.moment ms in
     let t : Rows = moved s ms in
-    let same = calls_ended t es k m (s.last_event + length es) in
-    let kept : NamesNoLaterCall t (events ++ es) = moves_keep NamesNoLaterCall m k (names_moved m) s events command r h in
-    names_numbered (ended t es k m (s.last_event + length es)).last_call events es s.last_event
+    let same = calls_ended t es turn.stamp turn.moment (s.last_event + length es) in
+    let kept : NamesNoLaterCall t (events ++ es) = moves_keep NamesNoLaterCall turn (names_moved turn.moment) s events command r h in
+    names_numbered (ended t es turn.stamp turn.moment (s.last_event + length es)).last_call events es s.last_event
     (subst (λ (l : ℕ). Every (Named l) (events ++ es)) (sym same.1) kept)
 
 pub step_keeps_clearings : KeptByRules KeepsClearings
 unfolding step
 step_keeps_clearings s events moment command r h n p =
-    let m : ℕ = executed_moment s moment in
-    let k : ℕ = next_stamp s in
-    let ms : List Move = step_moves s m (serve s m k command) in
-    let es : List Event = events_of m ms in
+    let turn : Turn = next_turn s moment in
+    let ms : List Move = step_moves s turn.moment (serve s turn command) in
+    let es : List Event = events_of turn.moment ms in
     let t : Rows = moved s ms in
-    let same = calls_ended t es k m (s.last_event + length es) in
-    let kept : KeepsClearings t (events ++ es) = moves_keep KeepsClearings m k (clearings_moved m) s events command r h in
-    clearings_numbered t events es s.last_event kept n p ∙ sym (same_clearings t (ended t es k m (s.last_event + length es)) same n)
+    let same = calls_ended t es turn.stamp turn.moment (s.last_event + length es) in
+    let kept : KeepsClearings t (events ++ es) = moves_keep KeepsClearings turn (clearings_moved turn.moment) s events command r h in
+    clearings_numbered t events es s.last_event kept n p ∙ sym (same_clearings t (ended t es turn.stamp turn.moment (s.last_event + length es)) same n)
 
 pub step_places : (s : Rows) (events : List Event) (moment : ℕ) (command : Command) → Rules s → KeepsClearings s events → IsPlaced (step s moment command).rows (events ++ (step s moment command).events)
 step_places s events moment command r h = placed_from _ _ (rules_step s moment command r) (step_keeps_clearings s events moment command r h)

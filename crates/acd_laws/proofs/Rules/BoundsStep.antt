@@ -28,11 +28,12 @@ use Rattle.acd_model.specs.Figures.{is_entry}
 use Rattle.acd_model.specs.Services.Serve.{serve}
 use Rattle.acd_model.specs.Distribution.{distribution}
 use Rattle.acd_model.specs.Tick.{tick}
-use Rattle.acd_model.specs.Step.{step_moves}
+use Rattle.acd_model.specs.Step.{step_moves, turn_at}
 use Rattle.acd_model.proofs.MoveLemmas.{moved_append, events_of_append}
 use Rattle.acd_laws.proofs.Rules.RulesKept.{rules_serve}
 use Rattle.acd_laws.proofs.Rules.Rounds.{AllWait, Within, steps_entered, steps_wait, distribution_within, tick_within, returns_agents}
 use Rattle.acd_laws.proofs.Rules.Numbers.{events_length, connections_length, greatest, distribution_length, tick_length}
+use Rattle.acd_terms.specs.declared.command.Turn.{Turn}
 
 -- what holds before a step
 pub record Before (s : Rows) (k m : ℕ) : Type 0 where
@@ -178,9 +179,9 @@ steady_clears : (s : Rows) (o : Option ConnectionRecord) → Steady (knows s) (c
 steady_clears s None = tt
 steady_clears s (Some y) = tt
 
-releases_other : (s : Rows) (m k : ℕ) (o : Option ConnectionRecord) → IsAscending agent_order s.agents → AgentMove (Recorded s) m k (release_other s m k o)
-releases_other s m k None h = stays
-releases_other s m k (Some y) h = releases_here s m k y (ending_of y) h
+releases_other : (s : Rows) (turn : Turn) (o : Option ConnectionRecord) → IsAscending agent_order s.agents → AgentMove (Recorded s) turn (release_other s turn o)
+releases_other s turn None h = stays
+releases_other s turn (Some y) h = releases_here s turn y (ending_of y) h
 
 waits_answer : (m c d : ℕ) (q o : Option ℕ) → WaitsUpTo m (Some (report.Established c d (waited_by m q o)))
 waits_answer m c d q None = tt
@@ -192,33 +193,33 @@ steadily {s} {k} {m} {e} {ms} b h few a = record { comes = e; steps = h; few = f
 
 -- a connection ends, its call comes to a device, and an agent is released
 given : (s : Rows) (k m to : ℕ) (x : ConnectionRecord) (e : Report) (why : Cause) → Before s k m → WaitsUpTo m (Some e) → ((g : ℕ) → entry_by g (Some e) ≡ 0)
-    → Behaves s k m (reported (RemoveConnection x.call x.device) e ∷ arrive s m k x.call to why ∷ release s m k x (ending_of x) ∷ [])
+    → Behaves s k m (reported (RemoveConnection x.call x.device) e ∷ arrive s (turn_at m k) x.call to why ∷ release s (turn_at m k) x (ending_of x) ∷ [])
 given s k m to x e why b w n =
-    let h = releases_here s m k x (ending_of x) b.rules.orders.agents in steadily b
+    let h = releases_here s (turn_at m k) x (ending_of x) b.rules.orders.agents in steadily b
     (neat (neat_remove x.call x.device e w n) (comes (comes_to s k m x.call to why b.stamp) (neat (neat_agent s b.stamp b.timed h) done)))
-    (omega arith) (tt, (steady_arrive s s m k x.call to why, (steady_agent s h, tt)))
+    (omega arith) (tt, (steady_arrive s s (turn_at m k) x.call to why, (steady_agent s h, tt)))
 
-agent_behaves : (s : Rows) (k m : ℕ) (x : Move) → Before s k m → AgentMove (Recorded s) m k x → Behaves s k m (x ∷ [])
+agent_behaves : (s : Rows) (k m : ℕ) (x : Move) → Before s k m → AgentMove (Recorded s) (turn_at m k) x → Behaves s k m (x ∷ [])
 agent_behaves s k m x b h = steadily b (neat (neat_agent s b.stamp b.timed h) done) (omega arith) (steady_agent s h, tt)
 
-pub behaves_deed : (s : Rows) (k m : ℕ) (ms : List Move) → Deed s m k ms → Before s k m → Behaves s k m ms
+pub behaves_deed : (s : Rows) (k m : ℕ) (ms : List Move) → Deed s (turn_at m k) ms → Before s k m → Behaves s k m ms
 behaves_deed s k m _ nothing b = steadily b done (omega arith) tt
 behaves_deed s k m _ (adds_group device name ring wrap free room) b =
     behaves_group s k m (new_group device name ring wrap) room (refl, (or_parts (is_group s device) (is_station s device) (or_parts (is_planned s device) (is_calling s device) free).0).0, refl)
 behaves_deed s k m _ (adds_station device _ room) b = behaves_station s k m (record { device = device }) room
-behaves_deed s k m _ (adds_agent agent name _ room) b = behaves_agent s k m (new_agent m k agent name) room (record { above = b.stamp; stamp = omega arith; since = omega arith })
+behaves_deed s k m _ (adds_agent agent name _ room) b = behaves_agent s k m (new_agent (turn_at m k) agent name) room (record { above = b.stamp; stamp = omega arith; since = omega arith })
 behaves_deed s k m _ (watches device planned room) b = behaves_monitor s k m (record { monitor = next_monitor s; device = device; after_event = s.last_event }) room planned refl refl
 behaves_deed s k m _ (unwatches monitor) b = steadily b (neat (neat_silent (RemoveMonitor monitor) tt tt) done) (omega arith) (tt, tt)
 behaves_deed s k m _ (arrives caller called _ _ room) b =
     let n : ℕ = next_call s in
     let c : CallRecord = new_call s m caller called in
     let u : Rows = with_call s c in
-    let rest : List Move = connect_caller n caller ∷ arrive s m k n called NewCall ∷ [] in
+    let rest : List Move = connect_caller n caller ∷ arrive s (turn_at m k) n called NewCall ∷ [] in
     record {
       comes = true;
       steps = neat (neat_silent (PutCall c) (omega arith) tt) (neat (neat_put (plain n caller S.Connected) None (timed_plain k m n caller S.Connected) refl tt (λ g. refl)) (comes (comes_to s k m n called NewCall b.stamp) done));
       few = omega arith;
-      settled = settled_call s c rest room refl (steadied u rest (ascending_called s c b.rules.orders.agents) (tt, (steady_arrive s u m k n called NewCall, tt)));
+      settled = settled_call s c rest room refl (steadied u rest (ascending_called s c b.rules.orders.agents) (tt, (steady_arrive s u (turn_at m k) n called NewCall, tt)));
     }
 behaves_deed s k m _ (makes device called _ _ _ _ _ room) b =
     let n : ℕ = next_call s in
@@ -232,9 +233,9 @@ behaves_deed s k m _ (makes device called _ _ _ _ _ room) b =
     }
 behaves_deed s k m _ (goes_out p _) b = steadily b
     (neat (neat_turned s p.x S.Connected (report.Originated p.x.call p.x.device p.about.called) b.timed b.rules.orders.connections p.found tt (λ g. refl)) (comes (comes_to s k m p.x.call p.about.called NewCall b.stamp) done))
-    (omega arith) (tt, (steady_arrive s s m k p.x.call p.about.called NewCall, tt))
+    (omega arith) (tt, (steady_arrive s s (turn_at m k) p.x.call p.about.called NewCall, tt))
 behaves_deed s k m _ (answers p _) b =
-    let h = occupies_here s m k p.x b.rules.orders.agents in
+    let h = occupies_here s (turn_at m k) p.x b.rules.orders.agents in
     let e : Report = report.Established p.x.call p.x.device (waited_by m p.x.queued p.x.group) in
     let t : ConnectionTimed k m (talking p.x) = record { place = tt; queued = tt; offered = tt; order = tt } in steadily b
     (neat (neat_put (talking p.x) (Some e) t refl (waits_answer m p.x.call p.x.device p.x.queued p.x.group) (λ g. refl)) (neat (neat_agent s b.stamp b.timed h) done)) (omega arith) (tt, (steady_agent s h, tt))
@@ -243,8 +244,8 @@ behaves_deed s k m _ (retrieves p _ _) b = steadily b (neat (neat_turned s p.x S
 behaves_deed s k m _ (clears p) b =
     let x : ConnectionRecord = p.x in
     let o : Option ConnectionRecord = other_of s x in
-    let h = releases_here s m k x (ending_of x) b.rules.orders.agents in
-    let g = releases_other s m k o b.rules.orders.agents in steadily b
+    let h = releases_here s (turn_at m k) x (ending_of x) b.rules.orders.agents in
+    let g = releases_other s (turn_at m k) o b.rules.orders.agents in steadily b
     (neat (neat_remove x.call x.device (report.ConnectionCleared x.call x.device) tt (λ g. refl)) (neat (clears_other o) (neat (neat_quiet (RemoveCall x.call) (Some (report.CallCleared x.call (cleared_group x o))) tt tt tt (λ g. refl))
     (neat (neat_agent s b.stamp b.timed h) (neat (neat_agent s b.stamp b.timed g) done)))))
     (omega arith) (tt, (steady_clears s o, (tt, (steady_agent s h, (steady_agent s g, tt)))))
@@ -254,7 +255,7 @@ behaves_deed s k m _ (logs_on a device groups own _ _ _ _) b =
     let c : AgentRecord = record a { state = A.NotReady; pending = None; station = Some device; groups = groups; stamp = k; since = m } in
     steadily b (neat (neat_quiet (PutAgent c) (Some (report.AgentLoggedOn a.agent device (only_group groups))) (record { above = b.stamp; stamp = omega arith; since = omega arith }) tt tt (λ g. refl)) done) (omega arith) (ap is_some own, tt)
 behaves_deed s k m _ (waits a wanted own _ _) b = agent_behaves s k m _ b (pends a (Some wanted) own)
-behaves_deed s k m _ (goes a wanted own _ _) b = agent_behaves s k m _ b (goes_from (Recorded s) m k a a.station (state_wanted wanted) own)
+behaves_deed s k m _ (goes a wanted own _ _) b = agent_behaves s k m _ b (goes_from (Recorded s) (turn_at m k) a a.station (state_wanted wanted) own)
 
 behaves_ranks : (s : Rows) (k m : ℕ) (c : Command) (ms : List Move) → Ranks s c ms → Before s k m → Behaves s k m ms
 behaves_ranks s k m _ _ (refuses device priority none) b = steadily b done (omega arith) tt
@@ -322,19 +323,19 @@ after_rounds s k m most more t u es fs a w l = record {
 after_nothing : (s : Rows) (k m : ℕ) → Before s k m → After s k m 0 s []
 after_nothing s k m b = record { timed = b.timed; places = λ p. omega arith; sizes = b.sizes; monitors = b.monitors; groups = λ g i. inl i; limits = refl; last_call = omega arith; last_monitor = omega arith; last_event = refl; entries = λ g. omega arith; waits = tt; few = omega arith }
 
-after_tick : (s : Rows) (k m : ℕ) → Before s k m → After s k m 13000 (moved s (tick s m k)) (events_of m (tick s m k))
+after_tick : (s : Rows) (k m : ℕ) → Before s k m → After s k m 13000 (moved s (tick s (turn_at m k))) (events_of m (tick s (turn_at m k)))
 after_tick s k m b =
     let w = tick_within s k m b.stamp b.rules b.timed in
-    let a = events_length m (tick s m k) in
-    let c = tick_length s m k in
+    let a = events_length m (tick s (turn_at m k)) in
+    let c = tick_length s (turn_at m k) in
     let d = connections_length s b.rules in
     let e = returns_agents s k m b.stamp b.rules b.timed in
     let f = greatest s b.sizes.limits in
     let x = b.sizes.calls in let y = b.sizes.agents in let fc = f.calls in let fa = f.agents in
-    after_rounds s k m 0 13000 s (moved s (tick s m k)) [] (events_of m (tick s m k)) (after_nothing s k m b) w (omega (arith, a, c, d, e, x, y, fc, fa))
+    after_rounds s k m 0 13000 s (moved s (tick s (turn_at m k))) [] (events_of m (tick s (turn_at m k))) (after_nothing s k m b) w (omega (arith, a, c, d, e, x, y, fc, fa))
 
-after_serve : (s : Rows) (k m : ℕ) (c : Command) → Before s k m → After s k m 13000 (moved s (moves_of (serve s m k c))) (events_of m (moves_of (serve s m k c)))
-after_serve s k m c b = elim (deed_of_serve s m k c) [
+after_serve : (s : Rows) (k m : ℕ) (c : Command) → Before s k m → After s k m 13000 (moved s (moves_of (serve s (turn_at m k) c))) (events_of m (moves_of (serve s (turn_at m k) c)))
+after_serve s k m c b = elim (deed_of_serve s (turn_at m k) c) [
   | inl w ↦ elim w.1 [
     | inl d ↦ after_service s k m _ b (behaves_deed s k m _ d b)
     | inr e ↦ subst (λ ms. After s k m 13000 (moved s ms) (events_of m ms)) (sym e) (after_tick s k m b)
@@ -344,13 +345,13 @@ after_serve s k m c b = elim (deed_of_serve s m k c) [
 
 -- the service, then the distribution
 pub after_moves : (s : Rows) (k m : ℕ) (c : Command) → Before s k m
-    → After s k m 21000 (moved s (step_moves s m (serve s m k c))) (events_of m (step_moves s m (serve s m k c)))
+    → After s k m 21000 (moved s (step_moves s m (serve s (turn_at m k) c))) (events_of m (step_moves s m (serve s (turn_at m k) c)))
 after_moves s k m c b =
-    let ms : List Move = moves_of (serve s m k c) in
+    let ms : List Move = moves_of (serve s (turn_at m k) c) in
     let t : Rows = moved s ms in
     let ns : List Move = distribution t m in
     let a = after_serve s k m c b in
-    let r : Rules t = rules_serve s m k c b.rules in
+    let r : Rules t = rules_serve s (turn_at m k) c b.rules in
     let w = distribution_within t k m b.stamp r a.timed in
     let e = events_length m ns in
     let f = distribution_length t m in

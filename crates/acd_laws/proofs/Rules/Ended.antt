@@ -6,7 +6,7 @@ use Rattle.acd_terms.specs.declared.state.AgentState.TheVariants as A
 use Rattle.acd_lemmas.proofs.Facts.{Rules, IsPlannedStation, ArePlannedGroups, SeatedAs, AgentRule, CallRule, IsCaller, ConnectionRule, two_if}
 use Rattle.acd_lemmas.proofs.Lists.{every_among, every_from}
 use Rattle.acd_model.specs.Figures.{counting, with_figures}
-use Rattle.acd_model.specs.Step.{step, executed_moment, next_stamp}
+use Rattle.acd_model.specs.Step.{step, next_stamp, next_turn}
 use Rattle.acd_lemmas.proofs.State.{group_counted_found, is_some_mapped}
 use Rattle.acd_laws.proofs.Arriving.{rule_same}
 use Rattle.acd_laws.proofs.Rules.RulesKept.{rules_moves}
@@ -71,7 +71,7 @@ rules_ended t es k m n r =
 
 pub rules_step : (s : Rows) (moment : ℕ) (c : Command) → Rules s → Rules (step s moment c).rows
 unfolding step
-rules_step s moment c r = rules_ended _ _ (next_stamp s) _ _ (rules_moves s (executed_moment s moment) (next_stamp s) c r)
+rules_step s moment c r = rules_ended _ _ (next_stamp s) _ _ (rules_moves s (next_turn s moment) c r)
 
 -- a fact of a state and of all events up to it, which a step keeps
 abbrev pub KeptByStep : (Rows → List Event → Type 0) → Type 0

@@ -18,6 +18,7 @@ use Rattle.acd_laws.proofs.Releasing.{Ends, after_release, loosen, ends_by, rele
 use Rattle.acd_model.specs.Tick.{return_to}
 use Rattle.acd_model.specs.Release.{ending_of, release}
 use Rattle.acd_model.specs.Services.{clearing, cleared_group, waiting_group, is_answered_by}
+use Rattle.acd_terms.specs.declared.command.Turn.{Turn}
 
 -- a connection at a group is queued
 at_group_queued : (s : Rows) (z : ConnectionRecord) (st : ConnectionState) → ((d : ℕ) → IsTrue (is_group s d) → IsFalse (is_station s d)) → StandsAt s z st → IsTrue (is_group s z.device) → st ≡ S.Queued
@@ -48,10 +49,10 @@ return_new s g x r ex alerting group =
     let l = r.one_open x.call in omega (arith, two, l))
 
 -- the connection x ends and its call comes to y: where x is open, or none of the call is
-pub moved_on : (s : Rows) (m k : ℕ) (x y : ConnectionRecord) (d : ℕ) (how : Ending) → Rules s → connection_of s x.call x.device ≡ Some x → Arrived s x.call d y → connection_of s x.call d ≡ None → is_initiated x.state ≡ false
-    → count (open_of x.call) s.connections ≤ one (is_open x.state) → Ends x how → Rules (changed (changed (changed s (RemoveConnection x.call x.device)) (PutConnection y)) (release s m k x how).change)
+pub moved_on : (s : Rows) (turn : Turn) (x y : ConnectionRecord) (d : ℕ) (how : Ending) → Rules s → connection_of s x.call x.device ≡ Some x → Arrived s x.call d y → connection_of s x.call d ≡ None → is_initiated x.state ≡ false
+    → count (open_of x.call) s.connections ≤ one (is_open x.state) → Ends x how → Rules (changed (changed (changed s (RemoveConnection x.call x.device)) (PutConnection y)) (release s turn x how).change)
 unfolding with_connection without_connection call_of connection_of agent_of group_of station_of
-moved_on s m k x y d how r ex a none_d not_initiated opens ends =
+moved_on s turn x y d how r ex a none_d not_initiated opens ends =
     let u : Rows = changed s (RemoveConnection x.call x.device) in
     let v : Rows = changed u (PutConnection y) in
     let among : Among x s.connections = connection_among s x.call x.device x ex in
@@ -78,11 +79,11 @@ moved_on s m k x y d how r ex a none_d not_initiated opens ends =
       free = free;
     }) in
     loosen (λ e. loose e && not (loose e)) (λ _. false) _ (λ e q. absurd (cc (q))) (λ e q. and_not (loose e))
-    (after_release loose s v x how m k rv (λ a h. h.there) r among (λ d. free x.device (and_from _ _ d (eqb_self x.device))) ends)
+    (after_release loose s v x how turn rv (λ a h. h.there) r among (λ d. free x.device (and_from _ _ d (eqb_self x.device))) ends)
 
 -- an offer goes back to its group
-pub kept_return_to : (s : Rows) (m k g : ℕ) (x : ConnectionRecord) → Rules s → connection_of s x.call x.device ≡ Some x → is_alerting x.state ≡ true → x.group ≡ Some g → Rules (moved s (return_to s m k x (Some g)))
-kept_return_to s m k g x r ex alerting group =
+pub kept_return_to : (s : Rows) (turn : Turn) (g : ℕ) (x : ConnectionRecord) → Rules s → connection_of s x.call x.device ≡ Some x → is_alerting x.state ≡ true → x.group ≡ Some g → Rules (moved s (return_to s turn x (Some g)))
+kept_return_to s turn g x r ex alerting group =
     let y : ConnectionRecord = queueing x.call g x.place x.queued in
     let xs : x.state ≡ S.Alerting = alerting_is x.state alerting in
     let rule : ConnectionRule s x = connection_rule s r x.call x.device x ex in
@@ -90,7 +91,7 @@ kept_return_to s m k g x r ex alerting group =
     let at_g : IsTrue (is_group s g) = subst (GroupColumn s) group rule.1 in
     let back : Arrived s x.call g y = record { call = refl; device = refl; rule = (record { group = refl; place = columns.place; queued = columns.queued; offered = refl }, at_g, at_g); not_initiated = refl; not_hold = refl; not_answered = refl; not_distributed = refl; not_ringing = refl; idle = λ q. absurd (cc (q)); alerting_idle = λ q. absurd (cc (q)) } in
     let o = r.one_open x.call in let f : one (is_open x.state) ≡ 1 = rw xs refl in
-    moved_on s m k x y g NoAnswer r ex back (return_new s g x r ex alerting group) (rw xs refl) (omega (arith, o, f)) (record { stays = λ _ w q. alerting })
+    moved_on s turn x y g NoAnswer r ex back (return_new s g x r ex alerting group) (rw xs refl) (omega (arith, o, f)) (record { stays = λ _ w q. alerting })
 
 -- a call ends: l is what is left of the connections
 ended : (s : Rows) (call : ℕ) (l : List ConnectionRecord) (loose : ℕ → Bool) → Rules s → IsAscending connection_order l → ((z : ConnectionRecord) → Among z l → Among z s.connections)
@@ -142,10 +143,10 @@ either_and_not true false = refl
 either_and_not false true = refl
 either_and_not false false = refl
 
-pub kept_clear : (s : Rows) (m k : ℕ) (x : ConnectionRecord) (o : Option ConnectionRecord) → other_of s x ≡ o → Rules s → connection_of s x.call x.device ≡ Some x
-    → Rules (moved s (clearing s m k x o))
+pub kept_clear : (s : Rows) (turn : Turn) (x : ConnectionRecord) (o : Option ConnectionRecord) → other_of s x ≡ o → Rules s → connection_of s x.call x.device ≡ Some x
+    → Rules (moved s (clearing s turn x o))
 unfolding with_connection without_connection without_call call_of connection_of agent_of group_of station_of other_of
-kept_clear s m k x None eo r ex =
+kept_clear s turn x None eo r ex =
     let call : ℕ = x.call in
     let among : Among x s.connections = connection_among s x.call x.device x ex in
     let l : List ConnectionRecord = remove_by (at_connection x.call x.device) s.connections in
@@ -155,7 +156,7 @@ kept_clear s m k x None eo r ex =
     false_from_ne_true (z.call == call) (λ q.
     let same : (z.call == x.call) ≡ true = q in
     let other = find_none (λ (w : ConnectionRecord). w.call == x.call && not (w.device == x.device)) s.connections eo z h.0 in
-    let elsewhere : (z.device == x.device) ≡ false = false_from_ne_true _ (λ w. let k : is_of x.call x.device z ≡ true = and_from _ _ same w in cc (rw k at h.1)) in
+    let elsewhere : (z.device == x.device) ≡ false = false_from_ne_true _ (λ w. let own : is_of x.call x.device z ≡ true = and_from _ _ same w in cc (rw own at h.1)) in
     cc (other, and_from _ _ same (ap not elsewhere)))) in
     let v : Rows = moved s (clear x ∷ end_call x.call (waiting_group x) ∷ []) in
     let loose : ℕ → Bool = λ e. is_distributed x && (x.device == e) in
@@ -168,9 +169,9 @@ kept_clear s m k x None eo r ex =
     let f : one (talking_at e x) ≡ 0 = ap one (false_from_ne_true (talking_at e x) (λ w. cc (talking_is e x w, q))) in omega (arith, a, f))
     (λ e q. let a = counts (is_distributed_at e) in let f : one (is_distributed_at e x) ≡ 0 = ap one q in omega (arith, a, f))
     free in
-    let r1 = after_release loose s v x (ending_of x) m k rv (λ a h. h.there) r among (λ d. free x.device (and_from _ _ d (eqb_self x.device))) (ends_by s x (connection_rule s r x.call x.device x ex)) in
+    let r1 = after_release loose s v x (ending_of x) turn rv (λ a h. h.there) r among (λ d. free x.device (and_from _ _ d (eqb_self x.device))) (ends_by s x (connection_rule s r x.call x.device x ex)) in
     loosen (λ e. loose e && not (loose e)) (λ _. false) _ (λ e q. absurd (cc (q))) (λ e q. and_not (loose e)) r1
-kept_clear s m k x (Some y) eo r ex =
+kept_clear s turn x (Some y) eo r ex =
     let call : ℕ = x.call in
     let among : Among x s.connections = connection_among s x.call x.device x ex in
     let among_y : Among y s.connections = other_among s x y eo in
@@ -202,10 +203,10 @@ kept_clear s m k x (Some y) eo r ex =
     (λ e q. let a = counts (is_distributed_at e) in let w = or_parts (is_distributed x && (x.device == e)) (is_distributed y && (y.device == e)) q in
     let f : one (is_distributed_at e x) ≡ 0 = ap one w.0 in let g : one (is_distributed_at e y) ≡ 0 = ap one w.1 in omega (arith, a, f, g))
     free in
-    let r1 = after_release loose s v x (ending_of x) m k rv (λ a h. h.there) r among (λ d. free x.device (or_left _ _ (and_from _ _ d (eqb_self x.device)))) (ends_by s x (connection_rule s r x.call x.device x ex)) in
+    let r1 = after_release loose s v x (ending_of x) turn rv (λ a h. h.there) r among (λ d. free x.device (or_left _ _ (and_from _ _ d (eqb_self x.device)))) (ends_by s x (connection_rule s r x.call x.device x ex)) in
     let apart : (x.device == y.device) ≡ false = false_from_ne_true _ (λ q. od.1 (eqb-true x.device y.device q)) in
-    let r2 = after_release (λ e. loose e && not (is_distributed x && (x.device == e))) s (changed v (release s m k x (ending_of x)).change) y (ending_of y) m k r1
-    (λ b h. release_other_kept s v x (ending_of x) m k b.agent (λ a e. other_agents s r.orders.agents x.device y.device a b e h.at_station od.1) ∙ h.there) r among_y
+    let r2 = after_release (λ e. loose e && not (is_distributed x && (x.device == e))) s (changed v (release s turn x (ending_of x)).change) y (ending_of y) turn r1
+    (λ b h. release_other_kept s v x (ending_of x) turn b.agent (λ a e. other_agents s r.orders.agents x.device y.device a b e h.at_station od.1) ∙ h.there) r among_y
     (λ d. r1.free y.device (and_from _ _ (or_right (is_distributed x && (x.device == y.device)) _ (and_from _ _ d (eqb_self y.device))) (ap not (and_right (is_distributed x) (x.device == y.device) apart))))
     (ends_by s y (connection_rule s r y.call y.device y ey)) in
     loosen _ (λ _. false) _ (λ e q. absurd (cc (q))) (λ e q. either_and_not (is_distributed x && (x.device == e)) (is_distributed y && (y.device == e))) r2

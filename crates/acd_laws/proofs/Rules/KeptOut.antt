@@ -18,6 +18,7 @@ use Rattle.acd_lemmas.proofs.States.{alerting_is, ready_is, initiated_is, connec
 use Rattle.acd_laws.proofs.Releasing.{Serves, serving}
 use Rattle.acd_model.specs.Services.{occupy, busy_agent}
 use Rattle.acd_laws.proofs.Rules.KeptEnds.{two_le}
+use Rattle.acd_terms.specs.declared.command.Turn.{Turn}
 
 -- an answer: the connection is connected, and agents are filter after it
 after_answer : (s : Rows) (x : ConnectionRecord) (agents : List AgentRecord) → Rules s → connection_of s x.call x.device ≡ Some x → is_alerting x.state ≡ true
@@ -52,11 +53,11 @@ after_answer s x agents r ex alerting sorted rules one_agent ready busy pending 
     }
 
 -- the agent of a distributed connection becomes busy
-answer_busy : (s : Rows) (m k : ℕ) (x : ConnectionRecord) → Rules s → connection_of s x.call x.device ≡ Some x → is_alerting x.state ≡ true → is_distributed x ≡ true → (a : AgentRecord) → Serves s x a
-    → Rules (changed (changed s (PutConnection (talking x))) (become_busy m k a x.device).change)
+answer_busy : (s : Rows) (turn : Turn) (x : ConnectionRecord) → Rules s → connection_of s x.call x.device ≡ Some x → is_alerting x.state ≡ true → is_distributed x ≡ true → (a : AgentRecord) → Serves s x a
+    → Rules (changed (changed s (PutConnection (talking x))) (become_busy turn a x.device).change)
 unfolding with_connection with_agent call_of connection_of agent_of group_of station_of
-answer_busy s m k x r ex alerting dist a h =
-    let b : AgentRecord = record a { state = A.Busy; stamp = k; since = m } in
+answer_busy s turn x r ex alerting dist a h =
+    let b : AgentRecord = record a { state = A.Busy; stamp = turn.stamp; since = turn.moment } in
     let xs : x.state ≡ S.Alerting = alerting_is x.state alerting in
     let is : a.state ≡ A.Ready = ready_is a.state (h.ready alerting) in
     let counts : (p : AgentRecord → Bool) → count p (put_by (agent_order b) s.agents b) + one (p a) ≡ one (p b) + count p s.agents = λ p. count_agent p s b a r.orders.agents h.there in
@@ -77,17 +78,17 @@ answer_plain s x r ex alerting dist =
     after_answer s x s.agents r ex alerting r.orders.agents r.agents r.one_agent
     (λ d. let o = r.ready d refl in omega (arith, o)) (λ d. let o = r.busy d refl in let f = none d in omega (arith, o, f)) (λ d. r.pending d refl)
 
-busy_by : (s : Rows) (m k : ℕ) (x : ConnectionRecord) (o : Option AgentRecord) (a : AgentRecord) → o ≡ Some a → Rules (changed (changed s (PutConnection (talking x))) (become_busy m k a x.device).change) → Rules (changed (changed s (PutConnection (talking x))) (busy_agent m k o x.device).change)
-busy_by s m k x None a e r = absurd (cc (e))
-busy_by s m k x (Some z) a e r = let same : z ≡ a = cc in rw same r
+busy_by : (s : Rows) (turn : Turn) (x : ConnectionRecord) (o : Option AgentRecord) (a : AgentRecord) → o ≡ Some a → Rules (changed (changed s (PutConnection (talking x))) (become_busy turn a x.device).change) → Rules (changed (changed s (PutConnection (talking x))) (busy_agent turn o x.device).change)
+busy_by s turn x None a e r = absurd (cc (e))
+busy_by s turn x (Some z) a e r = let same : z ≡ a = cc in rw same r
 
-pub kept_answer : (s : Rows) (m k : ℕ) (x : ConnectionRecord) → Rules s → connection_of s x.call x.device ≡ Some x → is_alerting x.state ≡ true
-    → Rules (changed (changed s (PutConnection (talking x))) (occupy s m k x).change)
+pub kept_answer : (s : Rows) (turn : Turn) (x : ConnectionRecord) → Rules s → connection_of s x.call x.device ≡ Some x → is_alerting x.state ≡ true
+    → Rules (changed (changed s (PutConnection (talking x))) (occupy s turn x).change)
 unfolding occupy
-kept_answer s m k x r ex alerting =
-    (elim (is_distributed x) as (λ b. is_distributed x ≡ b → Rules (changed (changed s (PutConnection (talking x))) (cond b (busy_agent m k (agent_at s x.device) x.device) no_move).change)) [
+kept_answer s turn x r ex alerting =
+    (elim (is_distributed x) as (λ b. is_distributed x ≡ b → Rules (changed (changed s (PutConnection (talking x))) (cond b (busy_agent turn (agent_at s x.device) x.device) no_move).change)) [
       | true ↦ λ e. let h = serving s x r (connection_among s x.call x.device x ex) e in
-          busy_by s m k x (agent_at s x.device) h.0 h.1.at_station (answer_busy s m k x r ex alerting e h.0 h.1)
+          busy_by s turn x (agent_at s x.device) h.0 h.1.at_station (answer_busy s turn x r ex alerting e h.0 h.1)
       | false ↦ λ e. answer_plain s x r ex alerting e
     ]) refl
 

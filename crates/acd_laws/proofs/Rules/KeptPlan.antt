@@ -19,6 +19,7 @@ use Rattle.acd_laws.proofs.Rules.KeptOffer.{unoccupied}
 use Rattle.acd_laws.proofs.Releasing.{seat_from, loosen, left_keeps, left_state, alerting_or_answered}
 use Rattle.acd_model.specs.Tick.{rest_moves}
 use Rattle.acd_lemmas.proofs.States.{null_is}
+use Rattle.acd_terms.specs.declared.command.Turn.{Turn}
 
 any_false : {X : Type 0} (p : X → Bool) (xs : List X) → list_any p xs ≡ false → (x : X) → Among x xs → p x ≡ false
 any_false p xs e x a = false_from_ne_true (p x) (λ q. cc (any_some p xs x a q, e))
@@ -147,10 +148,10 @@ kept_station s g r free =
     }
 
 -- an agent is planned, in null
-pub kept_new_agent : (s : Rows) (m k agent : ℕ) (name : List ℕ) → Rules s → agent_of s agent ≡ None → Rules (changed s (PutAgent (new_agent m k agent name)))
+pub kept_new_agent : (s : Rows) (turn : Turn) (agent : ℕ) (name : List ℕ) → Rules s → agent_of s agent ≡ None → Rules (changed s (PutAgent (new_agent turn agent name)))
 unfolding with_agent call_of connection_of group_of station_of
-kept_new_agent s m k agent name r none =
-    let b : AgentRecord = new_agent m k agent name in
+kept_new_agent s turn agent name r none =
+    let b : AgentRecord = new_agent turn agent name in
     let counts : (p : AgentRecord → Bool) → count p (put_by (agent_order b) s.agents b) ≡ one (p b) + count p s.agents = λ p.
     count-put_new agent_order (λ (y : AgentRecord). y.agent == agent) p b (λ y q. eq-eqb y.agent agent (sym (cmp_equal agent y.agent q))) s.agents (sym (agent_find s agent) ∙ none) in
     with_agents (λ _. false) (λ _. false) s (put_by (agent_order b) s.agents b) r (λ d e. e) (record {
@@ -250,17 +251,17 @@ kept_wait s a w r there seated occupied =
     rule _ e h = h
 
 -- an unoccupied agent goes to a state other than busy
-kept_go_to : (s : Rows) (a : AgentRecord) (st : AgentState) (m k d : ℕ) → Rules s → agent_of s a.agent ≡ Some a → a.station ≡ Some d → is_occupied s a ≡ false → is_busy st ≡ false → Rules (changed s (go_to m k a d st).change)
-kept_go_to s a st m k d r there station free not_busy =
+kept_go_to : (s : Rows) (a : AgentRecord) (st : AgentState) (turn : Turn) (d : ℕ) → Rules s → agent_of s a.agent ≡ Some a → a.station ≡ Some d → is_occupied s a ≡ false → is_busy st ≡ false → Rules (changed s (go_to turn a d st).change)
+kept_go_to s a st turn d r there station free not_busy =
     let seat = seat_from s a d a.state (every_among (AgentRule s) s.agents a r.agents (agent_among s a.agent a there)) station in
     loosen (λ e. false && not (d == e)) (λ _. false) _ (λ e q. absurd (cc (q))) (λ e q. refl)
-    (left_keeps (λ _. false) s a (in_state st m k a) d r there station (unoccupied s a d station free) (left_state s a st m k not_busy seat))
+    (left_keeps (λ _. false) s a (in_state st turn a) d r there station (unoccupied s a d station free) (left_state s a st turn not_busy seat))
 
-pub kept_go_from : (s : Rows) (m k : ℕ) (a : AgentRecord) (st : AgentState) → Rules s → agent_of s a.agent ≡ Some a → is_occupied s a ≡ false → is_busy st ≡ false → Rules (changed s (go_from m k a a.station st).change)
-kept_go_from s m k a st r there free not_busy =
-    (elim a.station as (λ o. a.station ≡ o → Rules (changed s (go_from m k a o st).change)) [
+pub kept_go_from : (s : Rows) (turn : Turn) (a : AgentRecord) (st : AgentState) → Rules s → agent_of s a.agent ≡ Some a → is_occupied s a ≡ false → is_busy st ≡ false → Rules (changed s (go_from turn a a.station st).change)
+kept_go_from s turn a st r there free not_busy =
+    (elim a.station as (λ o. a.station ≡ o → Rules (changed s (go_from turn a o st).change)) [
       | None ↦ λ _. r
-      | Some d ↦ λ e. kept_go_to s a st m k d r there e free not_busy
+      | Some d ↦ λ e. kept_go_to s a st turn d r there e free not_busy
     ]) refl
 
 none_seated : (s : Rows) (d : ℕ) → agent_at s d ≡ None → count (seated_at d) s.agents ≡ 0
@@ -268,10 +269,10 @@ unfolding agent_at
 none_seated s d e = count_zero (seated_at d) s.agents (λ a i. find_none (seated_at d) s.agents e a i)
 
 -- an agent in null logs on at a free station
-pub kept_log_on : (s : Rows) (a : AgentRecord) (d : ℕ) (gs : List ℕ) (m k : ℕ) → Rules s → agent_of s a.agent ≡ Some a → is_null a.state ≡ true → IsTrue (is_station s d) → ArePlannedGroups s gs → agent_at s d ≡ None → Rules (changed s (log_on_at m k a d gs).change)
-kept_log_on s a d gs m k r there null station planned free =
+pub kept_log_on : (s : Rows) (a : AgentRecord) (d : ℕ) (gs : List ℕ) (turn : Turn) → Rules s → agent_of s a.agent ≡ Some a → is_null a.state ≡ true → IsTrue (is_station s d) → ArePlannedGroups s gs → agent_at s d ≡ None → Rules (changed s (log_on_at turn a d gs).change)
+kept_log_on s a d gs turn r there null station planned free =
     let st : a.state ≡ A.Null = null_is a.state null in
-    same_agent s a (record a { state = A.NotReady; pending = None; station = Some d; groups = gs; stamp = k; since = m }) r there refl (station, planned)
+    same_agent s a (record a { state = A.NotReady; pending = None; station = Some d; groups = gs; stamp = turn.stamp; since = turn.moment }) r there refl (station, planned)
     (λ e. let o = r.one_agent e in
     (elim (d == e) as (λ b. (d == e) ≡ b → count (seated_at e) s.agents + one b ≤ one (seated_at e a) + 1) [
       | true ↦ λ q. let z : count (seated_at e) s.agents ≡ 0 = subst (λ w. count (seated_at w) s.agents ≡ 0) (eqb-true d e q) (none_seated s d free) in omega (arith, z)
@@ -306,7 +307,7 @@ not_working A.WorkingAfterCall e = (refl, refl)
 not_working _ e = absurd (cc (e))
 
 -- after-call work ends
-pub kept_rest_moves : (s : Rows) (m k : ℕ) (a : AgentRecord) → Rules s → agent_of s a.agent ≡ Some a → is_working_after_call a.state ≡ true → Rules (moved s (rest_moves m k a))
-kept_rest_moves s m k a r there working =
+pub kept_rest_moves : (s : Rows) (turn : Turn) (a : AgentRecord) → Rules s → agent_of s a.agent ≡ Some a → is_working_after_call a.state ≡ true → Rules (moved s (rest_moves turn a))
+kept_rest_moves s turn a r there working =
     let n = not_working a.state working in
-    kept_go_from s m k a A.Ready r there (false_from_ne_true (is_occupied s a) (λ e. elim (occupied_state s a r there e) [ inl w ↦ cc (w, n.0) | inr w ↦ cc (w, n.1) ])) refl
+    kept_go_from s turn a A.Ready r there (false_from_ne_true (is_occupied s a) (λ e. elim (occupied_state s a r there e) [ inl w ↦ cc (w, n.0) | inr w ↦ cc (w, n.1) ])) refl

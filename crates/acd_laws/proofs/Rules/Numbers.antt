@@ -13,6 +13,7 @@ use Rattle.acd_model.specs.Distribution.{offer_at, offer_moves, with_offer, offe
 use Rattle.acd_model.specs.Tick.{return_to, return_moves, rest_moves, each, is_overdue, overdue_in, is_rested, rested_in, returns, rests, tick}
 use Rattle.acd_laws.proofs.Rules.KeptEnds.{two_le}
 use Rattle.acd_lemmas.proofs.Decided.{◌and◌, within}
+use Rattle.acd_terms.specs.declared.command.Turn.{Turn}
 
 -- no more events than moves
 event_length : (m : ℕ) (o : Option Report) (es : List Event) → length (with_event m o es) ≤ 1 + length es
@@ -91,31 +92,31 @@ pub distribution_length : (s : Rows) (m : ℕ) → length (distribution s m) ≤
 unfolding distribution queued_in_all
 distribution_length s m = let a = offers_length (length (queued_in_all s)) s m in let b = filter_length (λ (c : ConnectionRecord). is_queued c.state) s.connections in omega (arith, a, b)
 
-return_length : (s : Rows) (m k : ℕ) (x : ConnectionRecord) (o : Option ℕ) → length (return_to s m k x o) ≤ 3
-return_length s m k x None = omega arith
-return_length s m k x (Some g) = omega arith
+return_length : (s : Rows) (turn : Turn) (x : ConnectionRecord) (o : Option ℕ) → length (return_to s turn x o) ≤ 3
+return_length s turn x None = omega arith
+return_length s turn x (Some g) = omega arith
 
-each_returns : (m k : ℕ) (t : Rows) (xs : List ConnectionRecord) → length (each (λ t x. return_moves t m k x) t xs) ≤ 3 * length xs
-each_returns m k t [] = omega arith
-each_returns m k t (x ∷ xs) =
-    let ms : List Move = return_moves t m k x in
-    let a = length-append ms (each (λ t x. return_moves t m k x) (moved t ms) xs) in let b = return_length t m k x x.group in let c = each_returns m k (moved t ms) xs in omega (arith, a, b, c)
+each_returns : (turn : Turn) (t : Rows) (xs : List ConnectionRecord) → length (each (λ t x. return_moves t turn x) t xs) ≤ 3 * length xs
+each_returns turn t [] = omega arith
+each_returns turn t (x ∷ xs) =
+    let ms : List Move = return_moves t turn x in
+    let a = length-append ms (each (λ t x. return_moves t turn x) (moved t ms) xs) in let b = return_length t turn x x.group in let c = each_returns turn (moved t ms) xs in omega (arith, a, b, c)
 
-each_rests : (m k : ℕ) (t : Rows) (xs : List AgentRecord) → length (each (λ t a. rest_moves m k a) t xs) ≤ length xs
-each_rests m k t [] = omega arith
-each_rests m k t (a ∷ xs) =
-    let ms : List Move = rest_moves m k a in
-    let b = length-append ms (each (λ t a. rest_moves m k a) (moved t ms) xs) in let c = each_rests m k (moved t ms) xs in omega (arith, b, c)
+each_rests : (turn : Turn) (t : Rows) (xs : List AgentRecord) → length (each (λ t a. rest_moves turn a) t xs) ≤ length xs
+each_rests turn t [] = omega arith
+each_rests turn t (a ∷ xs) =
+    let ms : List Move = rest_moves turn a in
+    let b = length-append ms (each (λ t a. rest_moves turn a) (moved t ms) xs) in let c = each_rests turn (moved t ms) xs in omega (arith, b, c)
 
-returns_length : (s : Rows) (m k : ℕ) → length (returns s m k) ≤ 3 * length s.connections
+returns_length : (s : Rows) (turn : Turn) → length (returns s turn) ≤ 3 * length s.connections
 unfolding returns overdue_in
-returns_length s m k = let a = each_returns m k s (filter (is_overdue s m) s.connections) in let b = filter_length (is_overdue s m) s.connections in omega (arith, a, b)
+returns_length s turn = let a = each_returns turn s (filter (is_overdue s turn.moment) s.connections) in let b = filter_length (is_overdue s turn.moment) s.connections in omega (arith, a, b)
 
-rests_length : (s : Rows) (m k : ℕ) → length (rests s m k) ≤ length s.agents
+rests_length : (s : Rows) (turn : Turn) → length (rests s turn) ≤ length s.agents
 unfolding rests rested_in
-rests_length s m k = let a = each_rests m k s (filter (is_rested s m) s.agents) in let b = filter_length (is_rested s m) s.agents in omega (arith, a, b)
+rests_length s turn = let a = each_rests turn s (filter (is_rested s turn.moment) s.agents) in let b = filter_length (is_rested s turn.moment) s.agents in omega (arith, a, b)
 
-pub tick_length : (s : Rows) (m k : ℕ) → length (tick s m k) ≤ 3 * length s.connections + length (moved s (returns s m k)).agents
+pub tick_length : (s : Rows) (turn : Turn) → length (tick s turn) ≤ 3 * length s.connections + length (moved s (returns s turn)).agents
 unfolding tick
-tick_length s m k =
-    let a = length-append (returns s m k) (rests (moved s (returns s m k)) m k) in let b = returns_length s m k in let c = rests_length (moved s (returns s m k)) m k in omega (arith, a, b, c)
+tick_length s turn =
+    let a = length-append (returns s turn) (rests (moved s (returns s turn)) turn) in let b = returns_length s turn in let c = rests_length (moved s (returns s turn)) turn in omega (arith, a, b, c)

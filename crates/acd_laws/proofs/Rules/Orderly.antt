@@ -19,6 +19,8 @@ use Rattle.acd_model.specs.AgentMoves.{state_report}
 use Rattle.acd_model.specs.Figures.{is_entry}
 use Rattle.acd_laws.proofs.MoveKinds.{LeavesConnections, left_connections, AgentMove, stays, waits, tells, Recorded, Arrival, queues, alerts, fails, arrival_of}
 use Rattle.acd_laws.proofs.Watched.Order.{entries, entry_by}
+use Rattle.acd_terms.specs.declared.command.Turn.{Turn}
+use Rattle.acd_model.specs.Step.{turn_at}
 
 -- a change that puts no record but a connection, or the record of an agent who is known
 abbrev pub Steady : (ℕ → Bool) → Change → Type 0
@@ -299,12 +301,12 @@ neat_state a st n d h = neat_quiet (PutAgent a) (Some (state_report st n d)) h t
 pub agent_timed : (s : Rows) (k m : ℕ) (a : AgentRecord) → Timed k m s → agent_of s a.agent ≡ Some a → AgentTimed k m a
 agent_timed s k m a h e = every_among (AgentTimed k m) s.agents a h.agents (agent_among s a.agent a e)
 
-pub neat_agent : {k m : ℕ} {t : Rows} {x : Move} (s : Rows) → 1 ≤ k → Timed k m s → AgentMove (Recorded s) m k x → Neat k m t x
+pub neat_agent : {k m : ℕ} {t : Rows} {x : Move} (s : Rows) → 1 ≤ k → Timed k m s → AgentMove (Recorded s) (turn_at m k) x → Neat k m t x
 neat_agent s l h stays = neat_silent Nothing tt tt
 neat_agent {k} {m} s l h (waits a pending e) = let w = agent_timed s k m a h e in neat_silent (PutAgent (record a { pending = pending })) (record { above = w.above; stamp = w.stamp; since = w.since }) tt
-neat_agent s l h (tells a b d e r) = let x = r.stamp in let y = r.since in neat_state b b.state b.agent d (record { above = omega (arith, x, l); stamp = omega (arith, x); since = omega (arith, y) })
+neat_agent {k} {m} s l h (tells a b d e r) = let x : b.stamp ≡ k = r.stamp in let y : b.since ≡ m = r.since in neat_state b b.state b.agent d (record { above = omega (arith, x, l); stamp = omega (arith, x); since = omega (arith, y) })
 
-pub steady_agent : {m k : ℕ} {x : Move} (s : Rows) → AgentMove (Recorded s) m k x → Steady (knows s) x.change
+pub steady_agent : {turn : Turn} {x : Move} (s : Rows) → AgentMove (Recorded s) turn x → Steady (knows s) x.change
 steady_agent s stays = tt
 steady_agent s (waits a pending e) = ap is_some e
 steady_agent s (tells a b d e r) = ap is_some (ap (agent_of s) r.agent ∙ e)
@@ -328,14 +330,14 @@ neat_turned {k} {m} t x st r h o ex w e =
     let v = connection_timed t k m x h ex in
     record { fit = record { place = v.place; queued = v.queued; offered = v.offered; order = v.order }; waits = w; entry = e; places = λ p. (let c = count_old (at_place p) t (record x { state = st }) x o ex in omega (arith, c)) }
 
-comes_arrival : {s t : Rows} {k m c d : ℕ} {why : Cause} {x : Move} → 1 ≤ k → Arrival s m k c d why x → Comes k m t x
+comes_arrival : {s t : Rows} {k m c d : ℕ} {why : Cause} {x : Move} → 1 ≤ k → Arrival s (turn_at m k) c d why x → Comes k m t x
 comes_arrival {s} {t} {k} {m} {c} {d} l (queues _) = record { fit = record { place = (l, omega arith); queued = omega arith; offered = tt; order = tt }; waits = tt; places = places_put t (queueing c d (Some k) (Some m)) }
 comes_arrival {s} {t} {k} {m} {c} {d} l alerts = record { fit = timed_plain k m c d S.Alerting; waits = tt; places = λ p. (let a = places_put t (plain c d S.Alerting) p in omega (arith, a)) }
 comes_arrival {s} {t} {k} {m} {c} {d} l fails = record { fit = timed_plain k m c d S.Fail; waits = tt; places = λ p. (let a = places_put t (plain c d S.Fail) p in omega (arith, a)) }
 
-pub comes_to : {t : Rows} (s : Rows) (k m c d : ℕ) (why : Cause) → 1 ≤ k → Comes k m t (arrive s m k c d why)
-comes_to s k m c d why l = comes_arrival l (arrival_of s m k c d why)
+pub comes_to : {t : Rows} (s : Rows) (k m c d : ℕ) (why : Cause) → 1 ≤ k → Comes k m t (arrive s (turn_at m k) c d why)
+comes_to s k m c d why l = comes_arrival l (arrival_of s (turn_at m k) c d why)
 
-pub steady_arrive : (s t : Rows) (m k c d : ℕ) (why : Cause) → Steady (knows t) (arrive s m k c d why).change
+pub steady_arrive : (s t : Rows) (turn : Turn) (c d : ℕ) (why : Cause) → Steady (knows t) (arrive s turn c d why).change
 unfolding arrive
-steady_arrive s t m k c d why = tt
+steady_arrive s t turn c d why = tt

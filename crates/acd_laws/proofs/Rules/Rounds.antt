@@ -22,6 +22,7 @@ use Rattle.acd_laws.proofs.MoveKinds.{Recorded, goes_from, releases_here}
 use Rattle.acd_laws.proofs.Deeds.{offers, returns, rests}
 use Rattle.acd_laws.proofs.Rules.RulesKept.{RoundKeeps, by_rounds, by_tick}
 use Rattle.acd_laws.proofs.Rules.Orderly.{AllSteady, Steadied, steadied, steadied_then, unchanged, WaitsUpTo, Carries, Steps, done, neat, comes, carries, steps_timed, steps_enter, steps_place, places_put, connection_timed, neat_agent, steady_agent}
+use Rattle.acd_model.specs.Step.{turn_at}
 
 -- the entries of moves are those of their events
 entered_event : (g m : ℕ) (o : Option Report) (es : List Event) → count (λ (e : Event). is_entry g e.report) (with_event m o es) ≡ entry_by g o + count (λ (e : Event). is_entry g e.report) es
@@ -96,25 +97,25 @@ carried : {k m : ℕ} (t : Rows) (x y : ConnectionRecord) (e f : Report) → Tim
     → ((g : ℕ) → entry_by g (Some e) + entry_by g (Some f) ≡ 0) → Carries k m t (reported (RemoveConnection x.call x.device) e) (reported (PutConnection y) f)
 carried {k} {m} t x y e f h ex same place we wf n = record { fit = (tt, same (connection_timed t k m x h ex)); waits = (we, wf); entry = n; places = λ p. places_carried t x y p ex place }
 
-within_round : (s : Rows) (k m : ℕ) → 1 ≤ k → RoundKeeps (Within s k m) m k
+within_round : (s : Rows) (k m : ℕ) → 1 ≤ k → RoundKeeps (Within s k m) (turn_at m k)
 within_round s k m l t es _ (offers o x a d i) r h =
     within s k m t es (divert x d Distributed ∷ offer m x d ∷ []) h
     (carries (carried t x (ringing m x d) (report.Diverted x.call x.device d Distributed x.group) (report.Delivered x.call d Distributed x.group) h.timed (connection_there t r x i.there) (timed_ringing k m d x) refl tt tt (λ g. refl)) done) (tt, (tt, tt))
 within_round s k m l t es _ (returns x g own _ _) r h =
-    let w = releases_here t m k x NoAnswer r.orders.agents in
-    within s k m t es (divert x g Unanswered ∷ go_back x g ∷ release t m k x NoAnswer ∷ []) h
+    let w = releases_here t (turn_at m k) x NoAnswer r.orders.agents in
+    within s k m t es (divert x g Unanswered ∷ go_back x g ∷ release t (turn_at m k) x NoAnswer ∷ []) h
     (carries (carried t x (queueing x.call g x.place x.queued) (report.Diverted x.call x.device g Unanswered x.group) (report.Queued x.call g Unanswered) h.timed own (timed_back k m g x) refl tt tt (λ i. ap (λ b. 0 + one b) (and_right (g == i) false refl)))
     (neat (neat_agent t l h.timed w) done)) (tt, (tt, (steady_agent t w, tt)))
 within_round s k m l t es _ (rests a own _) r h =
-    let w = goes_from (Recorded t) m k a a.station Ready own in within s k m t es _ h (neat (neat_agent t l h.timed w) done) (steady_agent t w, tt)
+    let w = goes_from (Recorded t) (turn_at m k) a a.station Ready own in within s k m t es _ h (neat (neat_agent t l h.timed w) done) (steady_agent t w, tt)
 
 pub distribution_within : (s : Rows) (k m : ℕ) → 1 ≤ k → Rules s → Timed k m s → Within s k m (moved s (distribution s m)) (events_of m (distribution s m))
-distribution_within s k m l r t = by_rounds (Within s k m) m k (within_round s k m l) s [] r (within_nothing s k m r.orders.agents t)
+distribution_within s k m l r t = by_rounds (Within s k m) (turn_at m k) (within_round s k m l) s [] r (within_nothing s k m r.orders.agents t)
 
-pub tick_within : (s : Rows) (k m : ℕ) → 1 ≤ k → Rules s → Timed k m s → Within s k m (moved s (tick s m k)) (events_of m (tick s m k))
-tick_within s k m l r t = by_tick (Within s k m) m k (within_round s k m l) s [] r (within_nothing s k m r.orders.agents t)
+pub tick_within : (s : Rows) (k m : ℕ) → 1 ≤ k → Rules s → Timed k m s → Within s k m (moved s (tick s (turn_at m k))) (events_of m (tick s (turn_at m k)))
+tick_within s k m l r t = by_tick (Within s k m) (turn_at m k) (within_round s k m l) s [] r (within_nothing s k m r.orders.agents t)
 
 -- the agents are as many after the returns
-pub returns_agents : (s : Rows) (k m : ℕ) → 1 ≤ k → Rules s → Timed k m s → length (moved s (all_returns s m k)).agents ≡ length s.agents
+pub returns_agents : (s : Rows) (k m : ℕ) → 1 ≤ k → Rules s → Timed k m s → length (moved s (all_returns s (turn_at m k))).agents ≡ length s.agents
 returns_agents s k m l r t =
-    (returned (Within s k m) m k (λ u es x g ru h own alerting group. within_round s k m l u es _ (returns x g own alerting group) ru h) s [] r (within_nothing s k m r.orders.agents t)).1.steady.agents
+    (returned (Within s k m) (turn_at m k) (λ u es x g ru h own alerting group. within_round s k m l u es _ (returns x g own alerting group) ru h) s [] r (within_nothing s k m r.orders.agents t)).1.steady.agents

@@ -14,7 +14,7 @@ use Rattle.acd_model.specs.Figures.{is_answer, waited_there, figures_of, countin
 use Rattle.acd_model.specs.Services.{no_figures}
 use Rattle.acd_model.specs.Rules.Occupied.{waits_in, rings_from}
 use Rattle.acd_model.specs.Rules.First.{BreaksNoRule}
-use Rattle.acd_model.specs.Step.{step, executed_moment, next_stamp}
+use Rattle.acd_model.specs.Step.{step, next_turn}
 use Rattle.acd_model.specs.Run.{TimedCommand, run}
 use Rattle.acd_laws.specs.RuleLaws.{StepKeepsRules, RunKeepsRules, RulesBound, RulesLeaveRoom}
 use Rattle.acd_laws.proofs.Watched.Order.{holding}
@@ -32,6 +32,7 @@ use Rattle.acd_laws.proofs.Figures.FiguresCounted.{step_keeps_figures, figures_k
 use Rattle.acd_laws.proofs.Offers.OneOffer.{step_keeps_one_offer, run_has_one_offer}
 use Rattle.acd_laws.proofs.Places.PlacedRuns.{step_names_no_later_call, run_names_no_later_call, run_is_placed, step_keeps_places}
 use Rattle.std.proofs.lemmas.List.{length-map}
+use Rattle.acd_terms.specs.declared.command.Turn.{Turn}
 
 -- places
 
@@ -161,11 +162,10 @@ keeps_ended s t es k m h e l a b rules offers =
 step_on : (s : Rows) (moment : ℕ) (c : Command) → KeepsRules s → KeepsRules (step s moment c).rows × ((step s moment c).rows.last_stamp ≡ s.last_stamp + 1) × ((step s moment c).rows.limits ≡ s.limits)
 unfolding step with_last with_figures
 step_on s moment c h =
-    let m : ℕ = executed_moment s moment in
-    let k : ℕ = next_stamp s in
-    let before : Before s k m = record { rules = h.rules; timed = timed_more s.last_stamp k s.last_moment m s (omega arith) (omega arith) h.timed; stamp = omega arith; sizes = h.sizes; monitors = h.monitors } in
-    let a = after_moves s k m c before in
-    (keeps_ended s _ _ k m h refl (omega arith) a (follows_step s m k s.last_stamp c h.rules (omega arith)).balances (rules_step s moment c h.rules) (step_leaves_no_offer s moment c h.rules), refl, a.limits)
+    let turn : Turn = next_turn s moment in
+    let before : Before s turn.stamp turn.moment = record { rules = h.rules; timed = timed_more s.last_stamp turn.stamp s.last_moment turn.moment s (omega arith) (omega arith) h.timed; stamp = omega arith; sizes = h.sizes; monitors = h.monitors } in
+    let a = after_moves s turn.stamp turn.moment c before in
+    (keeps_ended s _ _ turn.stamp turn.moment h refl (omega arith) a (follows_step s turn s.last_stamp c h.rules (omega arith)).balances (rules_step s moment c h.rules) (step_leaves_no_offer s moment c h.rules), refl, a.limits)
 
 pub step_keeps_rules : StepKeepsRules
 step_keeps_rules s moment c e l =

@@ -23,94 +23,95 @@ use Rattle.acd_laws.proofs.Rules.KeptEnds.{kept_clear, moved_on, open_cases, clo
 use Rattle.acd_laws.proofs.Rules.KeptPlan.{kept_log_on, kept_wait, kept_go_from, kept_group, kept_rank, kept_station, kept_new_agent, started, stopped}
 use Rattle.acd_lemmas.proofs.States.{connected_is}
 use Rattle.acd_model.specs.Tick.{tick}
+use Rattle.acd_terms.specs.declared.command.Turn.{Turn}
 
-kept_deed : (s : Rows) (m k : ℕ) (ms : List Move) → Deed s m k ms → Rules s → Rules (moved s ms)
+kept_deed : (s : Rows) (turn : Turn) (ms : List Move) → Deed s turn ms → Rules s → Rules (moved s ms)
 unfolding arrive
-kept_deed s m k _ nothing r = r
-kept_deed s m k _ (adds_group device name ring wrap free _) r = kept_group s (new_group device name ring wrap) r free
-kept_deed s m k _ (adds_station device free _) r = kept_station s (record { device = device }) r free
-kept_deed s m k _ (adds_agent agent name new _) r = kept_new_agent s m k agent name r new
-kept_deed s m k _ (watches device _ _) r = started s (record { monitor = next_monitor s; device = device; after_event = s.last_event }) r
-kept_deed s m k _ (unwatches monitor) r = stopped s monitor r
-kept_deed s m k _ (arrives caller called outside inside _) r =
-    begun s (new_call s m caller called) (arriving (destination_of s called) m k (next_call s) called) r refl outside inside (arrived s m k (next_call s) called inside)
-kept_deed s m k _ (makes device called _ station inside differ free _) r = made s m device called r station inside differ free
-kept_deed s m k _ (goes_out p state) r =
+kept_deed s turn _ nothing r = r
+kept_deed s turn _ (adds_group device name ring wrap free _) r = kept_group s (new_group device name ring wrap) r free
+kept_deed s turn _ (adds_station device free _) r = kept_station s (record { device = device }) r free
+kept_deed s turn _ (adds_agent agent name new _) r = kept_new_agent s turn agent name r new
+kept_deed s turn _ (watches device _ _) r = started s (record { monitor = next_monitor s; device = device; after_event = s.last_event }) r
+kept_deed s turn _ (unwatches monitor) r = stopped s monitor r
+kept_deed s turn _ (arrives caller called outside inside _) r =
+    begun s (new_call s turn.moment caller called) (arriving (destination_of s called) turn (next_call s) called) r refl outside inside (arrived s turn (next_call s) called inside)
+kept_deed s turn _ (makes device called _ station inside differ free _) r = made s turn.moment device called r station inside differ free
+kept_deed s turn _ (goes_out p state) r =
     let to : ℕ = p.about.called in
     let go = outgoing s p.x p.about r p.found state p.live in
-    gone_out s p.x (arriving (destination_of s to) m k p.x.call to) p.about to r p.found state p.live go.apart (arrived s m k p.x.call to go.planned) go.new
-kept_deed s m k _ (answers p state) r = kept_answer s m k p.x r p.found state
-kept_deed s m k _ (holds p station state) r = kept_hold s p.x r p.found station state
-kept_deed s m k _ (retrieves p state free) r = kept_retrieve s p.x r p.found state free
-kept_deed s m k _ (clears p) r = kept_clear s m k p.x (other_of s p.x) refl r p.found
-kept_deed s m k _ (deflects p to state free) r =
+    gone_out s p.x (arriving (destination_of s to) turn p.x.call to) p.about to r p.found state p.live go.apart (arrived s turn p.x.call to go.planned) go.new
+kept_deed s turn _ (answers p state) r = kept_answer s turn p.x r p.found state
+kept_deed s turn _ (holds p station state) r = kept_hold s p.x r p.found station state
+kept_deed s turn _ (retrieves p state free) r = kept_retrieve s p.x r p.found state free
+kept_deed s turn _ (clears p) r = kept_clear s turn p.x (other_of s p.x) refl r p.found
+kept_deed s turn _ (deflects p to state free) r =
     let was = open_cases p.x.state state in
     let o = r.one_open p.x.call in let f : one (is_open p.x.state) ≡ 1 = ap one was.1 in
-    moved_on s m k p.x (arriving (destination_of s to) m k p.x.call to) to (ending_of p.x) r p.found (arrived s m k p.x.call to free.planned) free.apart was.0 (omega (arith, o, f))
+    moved_on s turn p.x (arriving (destination_of s to) turn p.x.call to) to (ending_of p.x) r p.found (arrived s turn p.x.call to free.planned) free.apart was.0 (omega (arith, o, f))
     (ends_by s p.x (connection_rule s r p.x.call p.x.device p.x p.found))
-kept_deed s m k _ (transfers p to state other free) r =
-    moved_on s m k p.x (arriving (destination_of s to) m k p.x.call to) to (ending_of p.x) r p.found (arrived s m k p.x.call to free.planned) free.apart (ap is_initiated (connected_is p.x.state state))
+kept_deed s turn _ (transfers p to state other free) r =
+    moved_on s turn p.x (arriving (destination_of s to) turn p.x.call to) to (ending_of p.x) r p.found (arrived s turn p.x.call to free.planned) free.apart (ap is_initiated (connected_is p.x.state state))
     (closed_call s p.x r (connection_among s p.x.call p.x.device p.x p.found) state other) (ends_by s p.x (connection_rule s r p.x.call p.x.device p.x p.found))
-kept_deed s m k _ (logs_on a device groups own null station free planned) r = kept_log_on s a device groups m k r own null station planned free
-kept_deed s m k _ (waits a wanted own seated occupied) r = kept_wait s a wanted r own seated occupied
-kept_deed s m k _ (goes a wanted own _ free) r = kept_go_from s m k a (state_wanted wanted) r own free (wanted_not_busy wanted)
+kept_deed s turn _ (logs_on a device groups own null station free planned) r = kept_log_on s a device groups turn r own null station planned free
+kept_deed s turn _ (waits a wanted own seated occupied) r = kept_wait s a wanted r own seated occupied
+kept_deed s turn _ (goes a wanted own _ free) r = kept_go_from s turn a (state_wanted wanted) r own free (wanted_not_busy wanted)
 
 kept_ranks : (s : Rows) (c : Command) (ms : List Move) → Ranks s c ms → Rules s → Rules (moved s ms)
 kept_ranks s _ _ (refuses device priority none) r = r
 kept_ranks s _ _ (ranks device priority g own) r = kept_rank s (record g { priority = min priority greatest_priority }) r (ap (is_group s) (group_key s device g own) ∙ ap is_some own)
 
-pub rules_serve : (s : Rows) (m k : ℕ) (c : Command) → Rules s → Rules (moved s (moves_of (serve s m k c)))
-rules_serve s m k c r = elim (deed_of_serve s m k c) [
+pub rules_serve : (s : Rows) (turn : Turn) (c : Command) → Rules s → Rules (moved s (moves_of (serve s turn c)))
+rules_serve s turn c r = elim (deed_of_serve s turn c) [
   | inl w ↦ elim w.1 [
-    | inl d ↦ kept_deed s m k _ d r
-    | inr e ↦ subst (λ ms. Rules (moved s ms)) (sym e) (tick_keeps (λ t es. Unit {0}) m k (λ t es x g r h e f q. tt) (λ t es a r h e f. tt) s [] r tt).0
+    | inl d ↦ kept_deed s turn _ d r
+    | inr e ↦ subst (λ ms. Rules (moved s ms)) (sym e) (tick_keeps (λ t es. Unit {0}) turn (λ t es x g r h e f q. tt) (λ t es a r h e f. tt) s [] r tt).0
   ]
   | inr d ↦ kept_ranks s c _ d r
 ]
 
-pub rules_moves : (s : Rows) (m k : ℕ) (c : Command) → Rules s → Rules (moved s (step_moves s m (serve s m k c)))
-rules_moves s m k c r =
-    let ms : List Move = moves_of (serve s m k c) in
-    subst Rules (sym (moved_append s ms (distribution (moved s ms) m))) (rules_distribution (moved s ms) m (rules_serve s m k c r))
+pub rules_moves : (s : Rows) (turn : Turn) (c : Command) → Rules s → Rules (moved s (step_moves s turn.moment (serve s turn c)))
+rules_moves s turn c r =
+    let ms : List Move = moves_of (serve s turn c) in
+    subst Rules (sym (moved_append s ms (distribution (moved s ms) turn.moment))) (rules_distribution (moved s ms) turn.moment (rules_serve s turn c r))
 
 -- a deed leads from P to Q, where the command is another than setGroupPriority
-abbrev pub DeedLeads : (Rows → List Event → Type 0) → (Rows → List Event → Type 0) → ℕ → ℕ → Command → Type 0
-DeedLeads P Q m k c = is_ranking c ≡ false → (s : Rows) (es : List Event) (ms : List Move) → Deed s m k ms → Rules s → P s es → Kept Q m s es ms
+abbrev pub DeedLeads : (Rows → List Event → Type 0) → (Rows → List Event → Type 0) → Turn → Command → Type 0
+DeedLeads P Q turn c = is_ranking c ≡ false → (s : Rows) (es : List Event) (ms : List Move) → Deed s turn ms → Rules s → P s es → Kept Q turn.moment s es ms
 
 -- and so does what setGroupPriority does
 abbrev pub RankLeads : (Rows → List Event → Type 0) → (Rows → List Event → Type 0) → ℕ → Command → Type 0
 RankLeads P Q m c = (s : Rows) (es : List Event) (ms : List Move) → Ranks s c ms → Rules s → P s es → Kept Q m s es ms
 
-abbrev pub RoundKeeps : (Rows → List Event → Type 0) → ℕ → ℕ → Type 0
-RoundKeeps P m k = (s : Rows) (es : List Event) (ms : List Move) → Round s m k ms → Rules s → P s es → Kept P m s es ms
+abbrev pub RoundKeeps : (Rows → List Event → Type 0) → Turn → Type 0
+RoundKeeps P turn = (s : Rows) (es : List Event) (ms : List Move) → Round s turn ms → Rules s → P s es → Kept P turn.moment s es ms
 
-pub by_rounds : (P : Rows → List Event → Type 0) (m k : ℕ) → RoundKeeps P m k → (s : Rows) (es : List Event) → Rules s → P s es → Kept P m s es (distribution s m)
-by_rounds P m k f s es r h =
-    distribution_keeps P m (λ t fs o rt p e. let w = offering t rt o e in let d = w.1.1 in
-    subst (Kept P m t fs) (sym (offer_moves_are t m o w.0 w.1.0 d.0 d.1)) (f t fs _ (offers o w.0 w.1.0 d.0 d.1) rt p)) s es r h
+pub by_rounds : (P : Rows → List Event → Type 0) (turn : Turn) → RoundKeeps P turn → (s : Rows) (es : List Event) → Rules s → P s es → Kept P turn.moment s es (distribution s turn.moment)
+by_rounds P turn f s es r h =
+    distribution_keeps P turn.moment (λ t fs o rt p e. let w = offering t rt o e in let d = w.1.1 in
+    subst (Kept P turn.moment t fs) (sym (offer_moves_are t turn.moment o w.0 w.1.0 d.0 d.1)) (f t fs _ (offers o w.0 w.1.0 d.0 d.1) rt p)) s es r h
 
-pub by_tick : (P : Rows → List Event → Type 0) (m k : ℕ) → RoundKeeps P m k → (s : Rows) (es : List Event) → Rules s → P s es → Kept P m s es (tick s m k)
-by_tick P m k f s es r h =
-    (tick_keeps P m k (λ t fs x g rt p own alerting group. f t fs _ (returns x g own alerting group) rt p) (λ t fs a rt p own works. f t fs _ (rests a own works) rt p) s es r h).1
+pub by_tick : (P : Rows → List Event → Type 0) (turn : Turn) → RoundKeeps P turn → (s : Rows) (es : List Event) → Rules s → P s es → Kept P turn.moment s es (tick s turn)
+by_tick P turn f s es r h =
+    (tick_keeps P turn (λ t fs x g rt p own alerting group. f t fs _ (returns x g own alerting group) rt p) (λ t fs a rt p own works. f t fs _ (rests a own works) rt p) s es r h).1
 
 -- the service leads from P to Q, and rounds keep Q
-pub by_parts : (P Q : Rows → List Event → Type 0) (m k : ℕ) (c : Command) → DeedLeads P Q m k c → RankLeads P Q m c → (is_ranking c ≡ false → (s : Rows) (es : List Event) → P s es → Q s es) → RoundKeeps Q m k
-    → (s : Rows) (es : List Event) → Rules s → P s es → Kept Q m s es (step_moves s m (serve s m k c))
-by_parts P Q m k c f rank g rounds s es r h =
-    let ms : List Move = moves_of (serve s m k c) in
+pub by_parts : (P Q : Rows → List Event → Type 0) (turn : Turn) (c : Command) → DeedLeads P Q turn c → RankLeads P Q turn.moment c → (is_ranking c ≡ false → (s : Rows) (es : List Event) → P s es → Q s es) → RoundKeeps Q turn
+    → (s : Rows) (es : List Event) → Rules s → P s es → Kept Q turn.moment s es (step_moves s turn.moment (serve s turn c))
+by_parts P Q turn c f rank g rounds s es r h =
+    let ms : List Move = moves_of (serve s turn c) in
     let t : Rows = moved s ms in
-    kept-append Q m s es ms (distribution t m) (by_rounds Q m k rounds t (es ++ events_of m ms) (rules_serve s m k c r) served)
+    kept-append Q turn.moment s es ms (distribution t turn.moment) (by_rounds Q turn rounds t (es ++ events_of turn.moment ms) (rules_serve s turn c r) served)
   where
-    served : Kept Q m s es (moves_of (serve s m k c))
-    served = elim (deed_of_serve s m k c) [
+    served : Kept Q turn.moment s es (moves_of (serve s turn c))
+    served = elim (deed_of_serve s turn c) [
       | inl w ↦ elim w.1 [
         | inl d ↦ f w.0 s es _ d r h
-        | inr e ↦ subst (Kept Q m s es) (sym e) (by_tick Q m k rounds s es r (g w.0 s es h))
+        | inr e ↦ subst (Kept Q turn.moment s es) (sym e) (by_tick Q turn rounds s es r (g w.0 s es h))
       ]
       | inr d ↦ rank s es _ d r h
     ]
 
 -- both keep P
-pub by_deeds : (P : Rows → List Event → Type 0) (m k : ℕ) (c : Command) → DeedLeads P P m k c → RankLeads P P m c → RoundKeeps P m k
-    → (s : Rows) (es : List Event) → Rules s → P s es → Kept P m s es (step_moves s m (serve s m k c))
-by_deeds P m k c f rank rounds = by_parts P P m k c f rank (λ _ s es h. h) rounds
+pub by_deeds : (P : Rows → List Event → Type 0) (turn : Turn) (c : Command) → DeedLeads P P turn c → RankLeads P P turn.moment c → RoundKeeps P turn
+    → (s : Rows) (es : List Event) → Rules s → P s es → Kept P turn.moment s es (step_moves s turn.moment (serve s turn c))
+by_deeds P turn c f rank rounds = by_parts P P turn c f rank (λ _ s es h. h) rounds

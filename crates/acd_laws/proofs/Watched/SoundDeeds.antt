@@ -39,6 +39,7 @@ use Rattle.acd_laws.proofs.Watched.Order.{holding, held, gone, holding_less, hol
 use Rattle.acd_laws.proofs.Watched.SoundMoves.{Sound, sound-append, sound_later, sound_nothing, sound_unheard, silently, sound_agent, put, remove, ungrouped, connections_put, removed_within, ascending_less, held_shut, held_is, waits_or_rings_is, waiting_alerting, waiting_open, sound_put_new, sound_put_old, sound_remove, sound_arrival, arrive_leaves, open_gone, planned_station, planned_group}
 use Rattle.acd_laws.proofs.Deeds.{new_call, Party, Free, Round, offers, returns, rests, Deed, nothing, adds_group, adds_station, adds_agent, watches, unwatches, arrives, makes, goes_out, answers, holds, retrieves, clears, deflects, transfers, logs_on, waits, goes, Ranks, refuses, ranks}
 use Rattle.acd_lemmas.proofs.Bools.{and_yes, or_no}
+use Rattle.acd_terms.specs.declared.command.Turn.{Turn}
 
 later : {m b k : ℕ} {s : Rows} {ms : List Move} → b < k → Sound m b b s ms → Sound m b k s ms
 later {m} {b} {k} {s} {ms} l h = sound_later m b k s ms (omega (arith, l)) h
@@ -48,8 +49,8 @@ none_stands s d r free call = none_from (connection_of s call d) (λ z e. cc (no
 
 -- behind moves that put no agent, the agents of a connection's station are as they were
 
-sound_released : (s : Rows) (m k b : ℕ) (ms : List Move) (x : ConnectionRecord) (how : Ending) → Rules s → Every (λ (y : Move). LeavesAgents y.change) ms → Sound m b b (moved s ms) (release s m k x how ∷ [])
-sound_released s m k b ms x how r h = sound_agent (releases (Recorded (moved s ms)) s m k x how (λ a e. left_agents s ms a.agent h ∙ agent_there s r.orders.agents x.device a e))
+sound_released : (s : Rows) (turn : Turn) (b : ℕ) (ms : List Move) (x : ConnectionRecord) (how : Ending) → Rules s → Every (λ (y : Move). LeavesAgents y.change) ms → Sound turn.moment b b (moved s ms) (release s turn x how ∷ [])
+sound_released s turn b ms x how r h = sound_agent (releases (Recorded (moved s ms)) s turn x how (λ a e. left_agents s ms a.agent h ∙ agent_there s r.orders.agents x.device a e))
 
 -- new calls
 
@@ -62,20 +63,20 @@ new_caller s n caller c r l z a e q =
       | inr w ↦ cc (connection_there s r z w, ap (λ v. connection_of s v z.device) q, none_above s r n z.device l)
     ]
 
-sound_arrives : (s : Rows) (m k b caller called : ℕ) → Rules s → b < k → is_planned s caller ≡ false → is_planned s called ≡ true
-    → Sound m b k s (begin (new_call s m caller called) ∷ connect_caller (next_call s) caller ∷ arrive s m k (next_call s) called cause.NewCall ∷ [])
-sound_arrives s m k b caller called r l free planned =
+sound_arrives : (s : Rows) (turn : Turn) (b caller called : ℕ) → Rules s → b < turn.stamp → is_planned s caller ≡ false → is_planned s called ≡ true
+    → Sound turn.moment b turn.stamp s (begin (new_call s turn.moment caller called) ∷ connect_caller (next_call s) caller ∷ arrive s turn (next_call s) called cause.NewCall ∷ [])
+sound_arrives s turn b caller called r l free planned =
     let n : ℕ = next_call s in
-    let c : CallRecord = new_call s m caller called in
+    let c : CallRecord = new_call s turn.moment caller called in
     let x : ConnectionRecord = plain n caller S.Connected in
     let t : Rows = with_call s c in
     let u : Rows = with_connection t x in
     let none : (d : ℕ) → connection_of t n d ≡ None = λ d. left_connection s (PutCall c) n d tt ∙ none_above s r n d (omega arith) in
     let apart : caller ≡ called → ⊥ = λ e. cc (free, planned, ap (is_planned s) e) in
-    sound-append m b b k s (begin c ∷ []) (connect_caller n caller ∷ arrive s m k n called cause.NewCall ∷ []) (silently (PutCall c) (truthful_unseen s (PutCall c) tt tt tt) tt)
-    (sound-append m b b k t (connect_caller n caller ∷ []) (arrive s m k n called cause.NewCall ∷ [])
-    (sound_put_new m b t x None (truthful_outside t x (left_plan s (PutCall c) caller tt ∙ free)) (none caller) (ungrouped n caller S.Connected refl) (λ g. refl) (λ g. refl))
-    (sound_arrival m b k s u n called cause.NewCall _ (arrival_of s m k n called cause.NewCall) l
+    sound-append turn.moment b b turn.stamp s (begin c ∷ []) (connect_caller n caller ∷ arrive s turn n called cause.NewCall ∷ []) (silently (PutCall c) (truthful_unseen s (PutCall c) tt tt tt) tt)
+    (sound-append turn.moment b b turn.stamp t (connect_caller n caller ∷ []) (arrive s turn n called cause.NewCall ∷ [])
+    (sound_put_new turn.moment b t x None (truthful_outside t x (left_plan s (PutCall c) caller tt ∙ free)) (none caller) (ungrouped n caller S.Connected refl) (λ g. refl) (λ g. refl))
+    (sound_arrival turn b s u n called cause.NewCall _ (arrival_of s turn n called cause.NewCall) l
     (left_plan t (PutConnection x) called tt ∙ left_plan s (PutCall c) called tt ∙ planned) refl
     (put_other t x n called (λ _ e. apart e) ∙ none called)
     (new_caller s n caller c r (omega arith))))
@@ -115,17 +116,17 @@ sound_turned s m b x st e r there to_shut planned was_shut none c d a k entry =
     let y : ConnectionRecord = record x { state = st } in
     sound_put_old m b s x y (Some e) (truthful_put s y e c d a k planned) r.orders.connections there to_shut entry (λ g. none g ∙ sym (held_shut g x was_shut))
 
-sound_out : (s : Rows) (m k b : ℕ) (p : Party s) → Rules s → b < k → is_initiated p.x.state ≡ true → Sound m b k s (originate p.x p.about.called ∷ arrive s m k p.x.call p.about.called cause.NewCall ∷ [])
-sound_out s m k b p r l initiated =
+sound_out : (s : Rows) (turn : Turn) (b : ℕ) (p : Party s) → Rules s → b < turn.stamp → is_initiated p.x.state ≡ true → Sound turn.moment b turn.stamp s (originate p.x p.about.called ∷ arrive s turn p.x.call p.about.called cause.NewCall ∷ [])
+sound_out s turn b p r l initiated =
     let x : ConnectionRecord = p.x in
     let c : CallRecord = p.about in
     let go = outgoing s x c r p.found initiated p.live in
     let y : ConnectionRecord = record x { state = S.Connected } in
     let u : Rows = with_connection s y in
     let at : StandsAt s x S.Initiated = subst (StandsAt s x) (initiated_is x.state initiated) (connection_rule s r x.call x.device x p.found).2 in
-    sound-append m b b k s (originate x c.called ∷ []) (arrive s m k x.call c.called cause.NewCall ∷ [])
-    (sound_turned s m b x S.Connected (report.Originated x.call x.device c.called) r p.found refl (planned_station s x.device at.0) (initiated_shut x.state initiated) (λ g. refl) refl refl refl refl (λ g. refl))
-    (sound_arrival m b k s u x.call c.called cause.NewCall _ (arrival_of s m k x.call c.called cause.NewCall) l (left_plan s (PutConnection y) c.called tt ∙ go.planned) refl
+    sound-append turn.moment b b turn.stamp s (originate x c.called ∷ []) (arrive s turn x.call c.called cause.NewCall ∷ [])
+    (sound_turned s turn.moment b x S.Connected (report.Originated x.call x.device c.called) r p.found refl (planned_station s x.device at.0) (initiated_shut x.state initiated) (λ g. refl) refl refl refl refl (λ g. refl))
+    (sound_arrival turn b s u x.call c.called cause.NewCall _ (arrival_of s turn x.call c.called cause.NewCall) l (left_plan s (PutConnection y) c.called tt ∙ go.planned) refl
     (put_other s y x.call c.called (λ _ e. go.apart e) ∙ go.new)
     (none_open s x r (connection_among s x.call x.device x p.found) initiated))
 
@@ -135,18 +136,18 @@ answered_in : (g m : ℕ) (call device : ℕ) (queued o : Option ℕ) → one (i
 answered_in g m call device queued None = refl
 answered_in g m call device queued (Some h) = refl
 
-sound_answers : (s : Rows) (m k b : ℕ) (p : Party s) → Rules s → is_alerting p.x.state ≡ true → Sound m b b s (answer m p.x ∷ occupy s m k p.x ∷ [])
-sound_answers s m k b p r alerting =
+sound_answers : (s : Rows) (turn : Turn) (b : ℕ) (p : Party s) → Rules s → is_alerting p.x.state ≡ true → Sound turn.moment b b s (answer turn.moment p.x ∷ occupy s turn p.x ∷ [])
+sound_answers s turn b p r alerting =
     let x : ConnectionRecord = p.x in
     let rule = connection_rule s r x.call x.device x p.found in
-    let e : Report = report.Established x.call x.device (waited_by m x.queued x.group) in
+    let e : Report = report.Established x.call x.device (waited_by turn.moment x.queued x.group) in
     let u : Rows = with_connection s (talking x) in
     let station : is_station s x.device ≡ true = subst (StandsAt s x) (alerting_is x.state alerting) rule.2 in
-    sound-append m b b b s (answer m x ∷ []) (occupy s m k x ∷ [])
-    (sound_put_old m b s x (talking x) (Some e) (truthful_put s (talking x) e refl refl refl refl (planned_station s x.device station)) r.orders.connections p.found refl (λ g. refl)
-    (λ g. let a = answered_in g m x.call x.device x.queued x.group in
+    sound-append turn.moment b b b s (answer turn.moment x ∷ []) (occupy s turn x ∷ [])
+    (sound_put_old turn.moment b s x (talking x) (Some e) (truthful_put s (talking x) e refl refl refl refl (planned_station s x.device station)) r.orders.connections p.found refl (λ g. refl)
+    (λ g. let a = answered_in g turn.moment x.call x.device x.queued x.group in
     let h : held g x ≡ one (has x.group g) = held_is g x rule.0 ∙ ap (λ o. one (has o g)) (waiting_alerting x alerting) in omega (arith, a, h)))
-    (sound_agent (occupies (Recorded u) s m k x (λ a e. left_agent s (PutConnection (talking x)) a.agent tt ∙ agent_there s r.orders.agents x.device a e)))
+    (sound_agent (occupies (Recorded u) s turn x (λ a e. left_agent s (PutConnection (talking x)) a.agent tt ∙ agent_there s r.orders.agents x.device a e)))
 
 -- hold and retrieve
 
@@ -230,34 +231,34 @@ sound_clear_two s m b x y r there also same_call apart =
     holding_same : (t v : Rows) (g : ℕ) → t.connections ≡ v.connections → holding t g ≡ holding v g
     holding_same t v g e = rw e refl
 
-sound_clearing : (s : Rows) (m k b : ℕ) (x : ConnectionRecord) (o : Option ConnectionRecord) → Rules s → connection_of s x.call x.device ≡ Some x → other_of s x ≡ o → Sound m b b s (clearing s m k x o)
-sound_clearing s m k b x None r there other =
+sound_clearing : (s : Rows) (turn : Turn) (b : ℕ) (x : ConnectionRecord) (o : Option ConnectionRecord) → Rules s → connection_of s x.call x.device ≡ Some x → other_of s x ≡ o → Sound turn.moment b b s (clearing s turn x o)
+sound_clearing s turn b x None r there other =
     let three : List Move = clear x ∷ no_move ∷ end_call x.call (waiting_group x) ∷ [] in
     let t : Rows = moved s three in
-    sound-append m b b b s three (release s m k x (ending_of x) ∷ no_move ∷ []) (sound_clear_one s m b x r there)
-    (sound-append m b b b t (release s m k x (ending_of x) ∷ []) (no_move ∷ []) (sound_released s m k b three x (ending_of x) r (tt, (tt, (tt, tt)))) (silently Nothing (truthful_unseen _ Nothing tt tt tt) tt))
-sound_clearing s m k b x (Some y) r there other =
+    sound-append turn.moment b b b s three (release s turn x (ending_of x) ∷ no_move ∷ []) (sound_clear_one s turn.moment b x r there)
+    (sound-append turn.moment b b b t (release s turn x (ending_of x) ∷ []) (no_move ∷ []) (sound_released s turn b three x (ending_of x) r (tt, (tt, (tt, tt)))) (silently Nothing (truthful_unseen _ Nothing tt tt tt) tt))
+sound_clearing s turn b x (Some y) r there other =
     let w = other_device s x y other in
     let three : List Move = clear x ∷ clear y ∷ end_call x.call (first_group (waiting_group x) (waiting_group y)) ∷ [] in
     let t : Rows = moved s three in
-    let v : Rows = changed t (release s m k x (ending_of x)).change in
-    sound-append m b b b s three (release s m k x (ending_of x) ∷ release s m k y (ending_of y) ∷ []) (sound_clear_two s m b x y r there (connection_there s r y (other_among s x y other)) w.0 w.1)
-    (sound-append m b b b t (release s m k x (ending_of x) ∷ []) (release s m k y (ending_of y) ∷ []) (sound_released s m k b three x (ending_of x) r (tt, (tt, (tt, tt))))
-    (sound_agent (releases (Recorded v) s m k y (ending_of y) (λ c f.
-    release_other_kept s t x (ending_of x) m k c.agent (λ a e. other_agents s r.orders.agents x.device y.device a c e f w.1) ∙ left_agents s three c.agent (tt, (tt, (tt, tt))) ∙ agent_there s r.orders.agents y.device c f))))
+    let v : Rows = changed t (release s turn x (ending_of x)).change in
+    sound-append turn.moment b b b s three (release s turn x (ending_of x) ∷ release s turn y (ending_of y) ∷ []) (sound_clear_two s turn.moment b x y r there (connection_there s r y (other_among s x y other)) w.0 w.1)
+    (sound-append turn.moment b b b t (release s turn x (ending_of x) ∷ []) (release s turn y (ending_of y) ∷ []) (sound_released s turn b three x (ending_of x) r (tt, (tt, (tt, tt))))
+    (sound_agent (releases (Recorded v) s turn y (ending_of y) (λ c f.
+    release_other_kept s t x (ending_of x) turn c.agent (λ a e. other_agents s r.orders.agents x.device y.device a c e f w.1) ∙ left_agents s three c.agent (tt, (tt, (tt, tt))) ∙ agent_there s r.orders.agents y.device c f))))
 
 -- a deflection and a transfer: the connection goes, its call comes to a destination, and an agent is released
 
-sound_given : (s : Rows) (m k b to : ℕ) (p : Party s) (e : Report) (why : Cause) → Rules s → b < k → Sound m b b s (remove p.x (Some e) ∷ []) → Free s p.x to → is_no_answer why ≡ false
-    → count (open_of p.x.call) s.connections ≤ one (is_open p.x.state) → Sound m b k s (remove p.x (Some e) ∷ arrive s m k p.x.call to why ∷ release s m k p.x (ending_of p.x) ∷ [])
-sound_given s m k b to p e why r l sound free usual most =
+sound_given : (s : Rows) (turn : Turn) (b to : ℕ) (p : Party s) (e : Report) (why : Cause) → Rules s → b < turn.stamp → Sound turn.moment b b s (remove p.x (Some e) ∷ []) → Free s p.x to → is_no_answer why ≡ false
+    → count (open_of p.x.call) s.connections ≤ one (is_open p.x.state) → Sound turn.moment b turn.stamp s (remove p.x (Some e) ∷ arrive s turn p.x.call to why ∷ release s turn p.x (ending_of p.x) ∷ [])
+sound_given s turn b to p e why r l sound free usual most =
     let x : ConnectionRecord = p.x in
     let u : Rows = without_connection s x.call x.device in
-    sound-append m b b k s (remove x (Some e) ∷ []) (arrive s m k x.call to why ∷ release s m k x (ending_of x) ∷ []) sound
-    (sound-append m b k k u (arrive s m k x.call to why ∷ []) (release s m k x (ending_of x) ∷ [])
-    (sound_arrival m b k s u x.call to why _ (arrival_of s m k x.call to why) l (left_plan s (RemoveConnection x.call x.device) to tt ∙ free.planned) usual
+    sound-append turn.moment b b turn.stamp s (remove x (Some e) ∷ []) (arrive s turn x.call to why ∷ release s turn x (ending_of x) ∷ []) sound
+    (sound-append turn.moment b turn.stamp turn.stamp u (arrive s turn x.call to why ∷ []) (release s turn x (ending_of x) ∷ [])
+    (sound_arrival turn b s u x.call to why _ (arrival_of s turn x.call to why) l (left_plan s (RemoveConnection x.call x.device) to tt ∙ free.planned) usual
     (still_none s x.call x.device x.call to r.orders.connections free.apart) (open_gone s x.call x p.found refl most))
-    (sound_released s m k k (remove x (Some e) ∷ arrive s m k x.call to why ∷ []) x (ending_of x) r (tt, (arrive_leaves s m k x.call to why, tt))))
+    (sound_released s turn turn.stamp (remove x (Some e) ∷ arrive s turn x.call to why ∷ []) x (ending_of x) r (tt, (arrive_leaves s turn x.call to why, tt))))
 
 sound_deflects : (s : Rows) (m b to : ℕ) (p : Party s) → Rules s → (is_alerting p.x.state || is_queued p.x.state) ≡ true → Sound m b b s (divert p.x to cause.Deflected ∷ [])
 sound_deflects s m b to p r state =
@@ -274,40 +275,40 @@ sound_transfers s m b to p r connected =
 
 -- each deed
 
-pub sound_deed : (s : Rows) (m k b : ℕ) (ms : List Move) → Deed s m k ms → Rules s → b < k → Sound m b k s ms
-sound_deed s m k b _ nothing r l = later l (sound_nothing m b s)
-sound_deed s m k b _ (adds_group device name ring wrap free _) r l = later l (silently (PutGroup (new_group device name ring wrap)) (truthful_group s (new_group device name ring wrap) (none_stands s device r free)) tt)
-sound_deed s m k b _ (adds_station device free _) r l = later l (silently (PutStation (record { device = device })) (truthful_station s (record { device = device }) (none_stands s device r free)) tt)
-sound_deed s m k b _ (adds_agent agent name new _) r l = later l (silently (PutAgent (new_agent m k agent name)) (truthful_silent_agent s (new_agent m k agent name) (ap seat_of (sym new))) tt)
-sound_deed s m k b _ (watches device _ _) r l =
+pub sound_deed : (s : Rows) (turn : Turn) (b : ℕ) (ms : List Move) → Deed s turn ms → Rules s → b < turn.stamp → Sound turn.moment b turn.stamp s ms
+sound_deed s turn b _ nothing r l = later l (sound_nothing turn.moment b s)
+sound_deed s turn b _ (adds_group device name ring wrap free _) r l = later l (silently (PutGroup (new_group device name ring wrap)) (truthful_group s (new_group device name ring wrap) (none_stands s device r free)) tt)
+sound_deed s turn b _ (adds_station device free _) r l = later l (silently (PutStation (record { device = device })) (truthful_station s (record { device = device }) (none_stands s device r free)) tt)
+sound_deed s turn b _ (adds_agent agent name new _) r l = later l (silently (PutAgent (new_agent turn agent name)) (truthful_silent_agent s (new_agent turn agent name) (ap seat_of (sym new))) tt)
+sound_deed s turn b _ (watches device _ _) r l =
     let w : MonitorRecord = record { monitor = next_monitor s; device = device; after_event = s.last_event } in later l (silently (PutMonitor w) (truthful_unseen s (PutMonitor w) tt tt tt) tt)
-sound_deed s m k b _ (unwatches monitor) r l = later l (silently (RemoveMonitor monitor) (truthful_unseen s (RemoveMonitor monitor) tt tt tt) tt)
-sound_deed s m k b _ (arrives caller called outside inside _) r l = sound_arrives s m k b caller called r l outside inside
-sound_deed s m k b _ (makes device called planned _ _ _ _ _) r l = later l (sound_makes s m b device called r planned)
-sound_deed s m k b _ (goes_out p state) r l = sound_out s m k b p r l state
-sound_deed s m k b _ (answers p state) r l = later l (sound_answers s m k b p r state)
-sound_deed s m k b _ (holds p station state) r l = later l
-    (sound_turned s m b p.x S.Hold (report.Held p.x.call p.x.device) r p.found refl (planned_station s p.x.device station) (connected_shut p.x.state state) (λ g. refl) refl refl refl refl (λ g. refl))
-sound_deed s m k b _ (retrieves p state _) r l =
+sound_deed s turn b _ (unwatches monitor) r l = later l (silently (RemoveMonitor monitor) (truthful_unseen s (RemoveMonitor monitor) tt tt tt) tt)
+sound_deed s turn b _ (arrives caller called outside inside _) r l = sound_arrives s turn b caller called r l outside inside
+sound_deed s turn b _ (makes device called planned _ _ _ _ _) r l = later l (sound_makes s turn.moment b device called r planned)
+sound_deed s turn b _ (goes_out p state) r l = sound_out s turn b p r l state
+sound_deed s turn b _ (answers p state) r l = later l (sound_answers s turn b p r state)
+sound_deed s turn b _ (holds p station state) r l = later l
+    (sound_turned s turn.moment b p.x S.Hold (report.Held p.x.call p.x.device) r p.found refl (planned_station s p.x.device station) (connected_shut p.x.state state) (λ g. refl) refl refl refl refl (λ g. refl))
+sound_deed s turn b _ (retrieves p state _) r l =
     let is : p.x.state ≡ S.Hold = hold_is p.x.state state in
     let station : is_station s p.x.device ≡ true = subst (StandsAt s p.x) is (connection_rule s r p.x.call p.x.device p.x p.found).2 in later l
-    (sound_turned s m b p.x S.Connected (report.Retrieved p.x.call p.x.device) r p.found refl (planned_station s p.x.device station) (rw is refl) (λ g. refl) refl refl refl refl (λ g. refl))
-sound_deed s m k b _ (clears p) r l = later l (sound_clearing s m k b p.x (other_of s p.x) r p.found refl)
-sound_deed s m k b _ (deflects p to state free) r l =
+    (sound_turned s turn.moment b p.x S.Connected (report.Retrieved p.x.call p.x.device) r p.found refl (planned_station s p.x.device station) (rw is refl) (λ g. refl) refl refl refl refl (λ g. refl))
+sound_deed s turn b _ (clears p) r l = later l (sound_clearing s turn b p.x (other_of s p.x) r p.found refl)
+sound_deed s turn b _ (deflects p to state free) r l =
     let o = r.one_open p.x.call in let f : one (is_open p.x.state) ≡ 1 = ap one (open_cases p.x.state state).1 in
-    sound_given s m k b to p (report.Diverted p.x.call p.x.device to cause.Deflected p.x.group) cause.Deflected r l (sound_deflects s m b to p r state) free refl (omega (arith, f, o))
-sound_deed s m k b _ (transfers p to state other free) r l =
-    sound_given s m k b to p (report.Transferred p.x.call p.x.device to) cause.Transferred r l (sound_transfers s m b to p r state) free refl
+    sound_given s turn b to p (report.Diverted p.x.call p.x.device to cause.Deflected p.x.group) cause.Deflected r l (sound_deflects s turn.moment b to p r state) free refl (omega (arith, f, o))
+sound_deed s turn b _ (transfers p to state other free) r l =
+    sound_given s turn b to p (report.Transferred p.x.call p.x.device to) cause.Transferred r l (sound_transfers s turn.moment b to p r state) free refl
     (closed_call s p.x r (connection_among s p.x.call p.x.device p.x p.found) state other)
-sound_deed s m k b _ (logs_on a device groups _ _ _ _ _) r l =
-    let c : AgentRecord = record a { state = A.NotReady; pending = None; station = Some device; groups = groups; stamp = k; since = m } in
-    later l (sound_unheard m b s (log_on_at m k a device groups) (truthful_agent s c (report.AgentLoggedOn a.agent device (only_group groups)) refl refl refl) (record { leaves = tt; entry = λ g. refl; gone = λ g. refl }))
-sound_deed s m k b _ (waits a wanted own _ _) r l = later l (silently (PutAgent (record a { pending = Some wanted })) (truthful_silent_agent s (record a { pending = Some wanted }) (ap seat_of (sym own))) tt)
-sound_deed s m k b _ (goes a wanted own _ _) r l = later l (sound_agent (goes_from (Recorded s) m k a a.station (state_wanted wanted) own))
+sound_deed s turn b _ (logs_on a device groups _ _ _ _ _) r l =
+    let c : AgentRecord = record a { state = A.NotReady; pending = None; station = Some device; groups = groups; stamp = turn.stamp; since = turn.moment } in
+    later l (sound_unheard turn.moment b s (log_on_at turn a device groups) (truthful_agent s c (report.AgentLoggedOn a.agent device (only_group groups)) refl refl refl) (record { leaves = tt; entry = λ g. refl; gone = λ g. refl }))
+sound_deed s turn b _ (waits a wanted own _ _) r l = later l (silently (PutAgent (record a { pending = Some wanted })) (truthful_silent_agent s (record a { pending = Some wanted }) (ap seat_of (sym own))) tt)
+sound_deed s turn b _ (goes a wanted own _ _) r l = later l (sound_agent (goes_from (Recorded s) turn a a.station (state_wanted wanted) own))
 
-pub sound_ranks : (s : Rows) (m k b : ℕ) (c : Command) (ms : List Move) → Ranks s c ms → b < k → Sound m b k s ms
-sound_ranks s m k b _ _ (refuses _ _ _) l = later l (sound_nothing m b s)
-sound_ranks s m k b _ _ (ranks device priority g own) l =
+pub sound_ranks : (s : Rows) (turn : Turn) (b : ℕ) (c : Command) (ms : List Move) → Ranks s c ms → b < turn.stamp → Sound turn.moment b turn.stamp s ms
+sound_ranks s turn b _ _ (refuses _ _ _) l = later l (sound_nothing turn.moment b s)
+sound_ranks s turn b _ _ (ranks device priority g own) l =
     let h : GroupRecord = record g { priority = min priority greatest_priority } in
     later l (silently (PutGroup h) (truthful_rank s h (ap (is_group s) (group_key s device g own) ∙ ap is_some own)) tt)
 
@@ -350,9 +351,9 @@ sound_offer_at s m b d x r there queued planned none =
 
 -- an offer goes back to its group
 
-sound_return : (s : Rows) (m k b g : ℕ) (x : ConnectionRecord) → Rules s → connection_of s x.call x.device ≡ Some x → is_alerting x.state ≡ true → x.group ≡ Some g
-    → Sound m b b s (return_to s m k x (Some g))
-sound_return s m k b g x r there alerting group =
+sound_return : (s : Rows) (turn : Turn) (b g : ℕ) (x : ConnectionRecord) → Rules s → connection_of s x.call x.device ≡ Some x → is_alerting x.state ≡ true → x.group ≡ Some g
+    → Sound turn.moment b b s (return_to s turn x (Some g))
+sound_return s turn b g x r there alerting group =
     let u : Rows = without_connection s x.call x.device in
     let y : ConnectionRecord = queueing x.call g x.place x.queued in
     let t : Rows = with_connection u y in
@@ -361,7 +362,7 @@ sound_return s m k b g x r there alerting group =
     let rule = connection_rule s r x.call x.device x there in
     let planned : is_planned s g ≡ true = planned_group s g (subst (GroupColumn s) group rule.1) in
     let no_entry : (f : ℕ) → one (is_entry f back) ≡ 0 = λ f. ap one (and_right (g == f) false refl) in
-    sound-append m b b b s (divert x g cause.NoAnswer ∷ go_back x g ∷ []) (release s m k x NoAnswer ∷ [])
+    sound-append turn.moment b b b s (divert x g cause.NoAnswer ∷ go_back x g ∷ []) (release s turn x NoAnswer ∷ [])
     (record {
       truthful = (
         truthful_remove s x.call x.device left r.orders.connections refl refl refl refl,
@@ -374,18 +375,18 @@ sound_return s m k b g x r there alerting group =
           let h = held_queueing f x.call g x.place x.queued in
           let i = no_entry f in
           omega (arith, a, c, e, h, i);
-      order = stays m b s (divert x g cause.NoAnswer ∷ go_back x g ∷ []) (λ f. let i = no_entry f in omega (arith, i)) (λ f c p h.
+      order = stays turn.moment b s (divert x g cause.NoAnswer ∷ go_back x g ∷ []) (λ f. let i = no_entry f in omega (arith, i)) (λ f c p h.
           placed_put s t u.connections y f c p (removed_within s x.call x.device)
           (λ w. (x, connection_among s x.call x.device x there, waits_or_rings_is f x rule.0 ∙ ap (λ o. has o f) (waiting_alerting x alerting ∙ group) ∙ sym (or_no (g == f)) ∙ w, refl, refl)) (connections_put u y) h);
     })
-    (sound_released s m k b (divert x g cause.NoAnswer ∷ go_back x g ∷ []) x NoAnswer r (tt, (tt, tt)))
+    (sound_released s turn b (divert x g cause.NoAnswer ∷ go_back x g ∷ []) x NoAnswer r (tt, (tt, tt)))
 
 -- each round
 
-pub sound_round : (s : Rows) (m k b : ℕ) (ms : List Move) → Round s m k ms → Rules s → Sound m b b s ms
-sound_round s m k b _ (offers o x a d h) r =
+pub sound_round : (s : Rows) (turn : Turn) (b : ℕ) (ms : List Move) → Round s turn ms → Rules s → Sound turn.moment b b s ms
+sound_round s turn b _ (offers o x a d h) r =
     let own = connection_there s r x h.there in
     let at = offer_station s a d r h.known h.ready h.station in
-    sound_offer_at s m b d x r own h.queued (planned_station s d at) (offer_new s x d r own h.queued at h.idle)
-sound_round s m k b _ (returns x g own alerting group) r = sound_return s m k b g x r own alerting group
-sound_round s m k b _ (rests a own _) r = sound_agent (goes_from (Recorded s) m k a a.station A.Ready own)
+    sound_offer_at s turn.moment b d x r own h.queued (planned_station s d at) (offer_new s x d r own h.queued at h.idle)
+sound_round s turn b _ (returns x g own alerting group) r = sound_return s turn b g x r own alerting group
+sound_round s turn b _ (rests a own _) r = sound_agent (goes_from (Recorded s) turn a a.station A.Ready own)

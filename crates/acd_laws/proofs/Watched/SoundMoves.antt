@@ -21,6 +21,7 @@ use Rattle.acd_lemmas.proofs.Facts.{HasColumns}
 use Rattle.acd_lemmas.proofs.Lists.{one, among-remove, counted, ascending-put, ascending-remove}
 use Rattle.acd_lemmas.proofs.State.{connections_total, count_less}
 use Rattle.acd_lemmas.proofs.Bools.{and_yes, or_no}
+use Rattle.acd_terms.specs.declared.command.Turn.{Turn}
 
 pub record Sound (m b c : ℕ) (s : Rows) (ms : List Move) : Type 0 where
   pub truthful : AllTruthful s ms
@@ -76,16 +77,16 @@ state_told : (st : AgentState) (n d : ℕ) → StateReport st n d (state_report 
 state_told A.Null n d = record { agent = refl; call = refl; seat = λ old. refl; entry = λ g. refl; gone = λ g. refl }
 state_told st n d = record { agent = refl; call = refl; seat = λ old. refl; entry = λ g. refl; gone = λ g. refl }
 
-pub sound_agent : {m b k : ℕ} {t : Rows} {x : Move} → AgentMove (Recorded t) m k x → Sound m b b t (x ∷ [])
-sound_agent {m} {b} {k} {t} nothing = silently Nothing (truthful_unseen t Nothing tt tt tt) tt
-sound_agent {m} {b} {k} {t} (waits a pending e) = silently (PutAgent (record a { pending = pending })) (truthful_silent_agent t (record a { pending = pending }) (ap seat_of (sym e))) tt
-sound_agent {m} {b} {k} {t} (tells a c d e h) =
+pub sound_agent : {turn : Turn} {b : ℕ} {t : Rows} {x : Move} → AgentMove (Recorded t) turn x → Sound turn.moment b b t (x ∷ [])
+sound_agent {turn} {b} {t} nothing = silently Nothing (truthful_unseen t Nothing tt tt tt) tt
+sound_agent {turn} {b} {t} (waits a pending e) = silently (PutAgent (record a { pending = pending })) (truthful_silent_agent t (record a { pending = pending }) (ap seat_of (sym e))) tt
+sound_agent {turn} {b} {t} (tells a c d e h) =
     let r : Report = state_report c.state c.agent d in
     let w = state_told c.state c.agent d in
     let was : agent_of t c.agent ≡ Some a = ap (agent_of t) h.agent ∙ e in
     let told : seat_of (Some c) ≡ seat_by (columns_of r).kind (columns_of r).device (seat_of (agent_of t c.agent)) =
     ap (λ (o : Option ℕ). let v : Seat = record { state = c.state; station = o } in v) h.station ∙ w.seat (seat_of (Some a)) ∙ ap (λ o. seat_by (columns_of r).kind (columns_of r).device (seat_of o)) (sym was) in
-    sound_unheard m b t (reported (PutAgent c) r) (truthful_agent t c r w.agent w.call told) (record { leaves = tt; entry = w.entry; gone = w.gone })
+    sound_unheard turn.moment b t (reported (PutAgent c) r) (truthful_agent t c r w.agent w.call told) (record { leaves = tt; entry = w.entry; gone = w.gone })
 
 -- the change of a connection, with a report or none
 abbrev pub put : ConnectionRecord → Option Report → Move
@@ -241,24 +242,24 @@ planned_group s d h = or_left (is_group s d) (is_station s d) h
 -- a call comes to a device
 
 -- where none of the call is open, it comes to the device with the stamp as its place
-pub sound_arrival : (m b k : ℕ) (s t : Rows) (call to : ℕ) (why : Cause) (x : Move) → Arrival s m k call to why x → b < k → is_planned t to ≡ true → is_no_answer why ≡ false → connection_of t call to ≡ None
-    → ((z : ConnectionRecord) → Among z t.connections → is_open z.state ≡ true → z.call ≡ call → ⊥) → Sound m b k t (x ∷ [])
-sound_arrival m b k s t call to why x (queues _) l p usual none new =
-    let y : ConnectionRecord = queueing call to (Some k) (Some m) in
+pub sound_arrival : (turn : Turn) (b : ℕ) (s t : Rows) (call to : ℕ) (why : Cause) (x : Move) → Arrival s turn call to why x → b < turn.stamp → is_planned t to ≡ true → is_no_answer why ≡ false → connection_of t call to ≡ None
+    → ((z : ConnectionRecord) → Among z t.connections → is_open z.state ≡ true → z.call ≡ call → ⊥) → Sound turn.moment b turn.stamp t (x ∷ [])
+sound_arrival turn b s t call to why x (queues _) l p usual none new =
+    let y : ConnectionRecord = queueing call to (Some turn.stamp) (Some turn.moment) in
     let entry : (g : ℕ) → is_entry g (report.Queued call to why) ≡ (to == g) = λ g. ap (λ v. (to == g) && not v) usual ∙ and_yes (to == g) in
     record {
       truthful = (truthful_put t y (report.Queued call to why) refl refl refl refl p, tt);
       balances = λ g. let h = holding_new t y g none in let c : one (is_entry g (report.Queued call to why)) ≡ one (to == g) = ap one (entry g) in
           let a : held g y ≡ one (to == g) = rw (and_yes (to == g), and_right (to == g) false refl) (omega arith) in omega (arith, h, a, c);
-      order = comes m b k t y (report.Queued call to why) call l (record { new = new; call_is = refl; reported = refl; queue = λ g h. (refl, entry g ∙ sym (or_no (to == g)) ∙ h) });
+      order = comes turn.moment b turn.stamp t y (report.Queued call to why) call l (record { new = new; call_is = refl; reported = refl; queue = λ g h. (refl, entry g ∙ sym (or_no (to == g)) ∙ h) });
     }
-sound_arrival m b k s t call to why x alerts l p usual none new =
+sound_arrival turn b s t call to why x alerts l p usual none new =
     let y : ConnectionRecord = plain call to S.Alerting in let r : Report = report.Delivered call to why None in
-    sound_later m b k t (put y (Some r) ∷ []) (omega (arith, l)) (sound_put_new m b t y (Some r) (truthful_put t y r refl refl refl refl p) none (ungrouped call to S.Alerting refl) (λ g. refl) (λ g. refl))
-sound_arrival m b k s t call to why x fails l p usual none new =
+    sound_later turn.moment b turn.stamp t (put y (Some r) ∷ []) (omega (arith, l)) (sound_put_new turn.moment b t y (Some r) (truthful_put t y r refl refl refl refl p) none (ungrouped call to S.Alerting refl) (λ g. refl) (λ g. refl))
+sound_arrival turn b s t call to why x fails l p usual none new =
     let y : ConnectionRecord = plain call to S.Fail in let r : Report = report.Failed call to in
-    sound_later m b k t (put y (Some r) ∷ []) (omega (arith, l)) (sound_put_new m b t y (Some r) (truthful_put t y r refl refl refl refl p) none (ungrouped call to S.Fail refl) (λ g. refl) (λ g. refl))
+    sound_later turn.moment b turn.stamp t (put y (Some r) ∷ []) (omega (arith, l)) (sound_put_new turn.moment b t y (Some r) (truthful_put t y r refl refl refl refl p) none (ungrouped call to S.Fail refl) (λ g. refl) (λ g. refl))
 
-pub arrive_leaves : (s : Rows) (m k call to : ℕ) (why : Cause) → LeavesAgents (arrive s m k call to why).change
+pub arrive_leaves : (s : Rows) (turn : Turn) (call to : ℕ) (why : Cause) → LeavesAgents (arrive s turn call to why).change
 unfolding arrive
-arrive_leaves s m k call to why = tt
+arrive_leaves s turn call to why = tt

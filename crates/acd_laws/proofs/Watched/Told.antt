@@ -1,7 +1,7 @@
 -- What the events tell of a state, as moves keep it: the report of a move says just what it changes, at every device.
 use Rattle.std.specs.Prelude.{if◌then◌else◌, ◌==◌, option_map}
 use Rattle.acd_lemmas.proofs.Words.{Rows, GroupRecord, StationRecord, AgentRecord, ConnectionRecord, ConnectionState, Change, Columns, Event, Move, Report, IsAscending, group_of, station_of, agent_of, connection_of, is_group, is_station, is_planned, has, with_group, with_station, with_connection, without_connection, silent, reported, changed, moved, with_event, events_of, connection_order}
-use Rattle.acd_model.specs.Told.{after, connection_told, Seat, no_seat, seat_told, last_entry, names, state_by, seat_by}
+use Rattle.acd_model.specs.Told.{known_after, connection_told, Seat, no_seat, seat_told, last_entry, names, state_by, seat_by}
 use Rattle.acd_model.specs.Watched.{state_at, seat_of, HasPlace, InOrder}
 use Rattle.std.proofs.Common.{◌≡◌, ℕ, ◌≤◌, ◌<◌, ◌+◌, Bool, true, false, ◌&&◌, ◌||◌, cond, List, [], ◌∷◌, ◌++◌, Option, Some, None, refl, sym, ◌∙◌, ap}
 use Rattle.std.proofs.lemmas.Bool.{and_right, eqb-true}
@@ -31,8 +31,8 @@ pub record UpTo (stamp event : ℕ) (s : Rows) (events : List Event) : Type 0 wh
 
 -- what the events tell is what the state holds
 pub record Tells (s : Rows) (events : List Event) : Type 0 where
-  pub connections : (call device : ℕ) → shown s call device ≡ after (connection_told call device) None events
-  pub agents : (agent : ℕ) → seat s agent ≡ after (seat_told agent) no_seat events
+  pub connections : (call device : ℕ) → shown s call device ≡ known_after (connection_told call device) None events
+  pub agents : (agent : ℕ) → seat s agent ≡ known_after (seat_told agent) no_seat events
   pub entries : HasEntries s events
   pub queues : InOrder s events
   pub up_to : UpTo s.last_stamp s.last_event s events
@@ -55,28 +55,28 @@ pub truthful-append : (s : Rows) (ms ns : List Move) → AllTruthful s ms → Al
 truthful-append s [] ns h g = g
 truthful-append s (m ∷ ms) ns h g = (h.0, truthful-append (changed s m.change) ms ns h.1 g)
 
-pub after-append : {T : Type 0} (f : T → Columns → T) (x : T) (es fs : List Event) → after f x (es ++ fs) ≡ after f (after f x es) fs
+pub after-append : {T : Type 0} (f : T → Columns → T) (x : T) (es fs : List Event) → known_after f x (es ++ fs) ≡ known_after f (known_after f x es) fs
 after-append f x [] fs = refl
 after-append f x (e ∷ es) fs = after-append f (f x (columns_of e.report)) es fs
 
-pub after-numbered : {T : Type 0} (f : T → Columns → T) (x : T) (n : ℕ) (es : List Event) → after f x (numbered n es) ≡ after f x es
+pub after-numbered : {T : Type 0} (f : T → Columns → T) (x : T) (n : ℕ) (es : List Event) → known_after f x (numbered n es) ≡ known_after f x es
 after-numbered f x n [] = refl
 after-numbered f x n (e ∷ es) = after-numbered f (f x (columns_of e.report)) (n + 1) es
 
-after_event : {T : Type 0} (f : T → Columns → T) (x : T) (m : ℕ) (o : Option Report) (es : List Event) → after f x (with_event m o es) ≡ after f (heard f x o) es
+after_event : {T : Type 0} (f : T → Columns → T) (x : T) (m : ℕ) (o : Option Report) (es : List Event) → known_after f x (with_event m o es) ≡ known_after f (heard f x o) es
 after_event f x m None es = refl
 after_event f x m (Some r) es = refl
 
-pub shown_after : (s : Rows) (m : ℕ) (ms : List Move) → AllTruthful s ms → (c d : ℕ) → shown (moved s ms) c d ≡ after (connection_told c d) (shown s c d) (events_of m ms)
+pub shown_after : (s : Rows) (m : ℕ) (ms : List Move) → AllTruthful s ms → (c d : ℕ) → shown (moved s ms) c d ≡ known_after (connection_told c d) (shown s c d) (events_of m ms)
 shown_after s m [] h c d = refl
 shown_after s m (x ∷ ms) h c d =
-    shown_after (changed s x.change) m ms h.1 c d ∙ ap (λ v. after (connection_told c d) v (events_of m ms)) (h.0.connections c d)
+    shown_after (changed s x.change) m ms h.1 c d ∙ ap (λ v. known_after (connection_told c d) v (events_of m ms)) (h.0.connections c d)
     ∙ sym (after_event (connection_told c d) (shown s c d) m x.report (events_of m ms))
 
-pub seat_after : (s : Rows) (m : ℕ) (ms : List Move) → AllTruthful s ms → (n : ℕ) → seat (moved s ms) n ≡ after (seat_told n) (seat s n) (events_of m ms)
+pub seat_after : (s : Rows) (m : ℕ) (ms : List Move) → AllTruthful s ms → (n : ℕ) → seat (moved s ms) n ≡ known_after (seat_told n) (seat s n) (events_of m ms)
 seat_after s m [] h n = refl
 seat_after s m (x ∷ ms) h n =
-    seat_after (changed s x.change) m ms h.1 n ∙ ap (λ v. after (seat_told n) v (events_of m ms)) (h.0.agents n)
+    seat_after (changed s x.change) m ms h.1 n ∙ ap (λ v. known_after (seat_told n) v (events_of m ms)) (h.0.agents n)
     ∙ sym (after_event (seat_told n) (seat s n) m x.report (events_of m ms))
 
 -- moves of connections

@@ -2,9 +2,9 @@
 use Rattle.std.proofs.Common.{◌≡◌, ℕ, ◌+◌, ◌<◌, ◌≤◌, List, [], ◌++◌, refl, sym, ◌∙◌, ap, subst, length, arith, append-nil, ◌⊎◌, inl, inr, true, false, ◌&&◌, ◌||◌, cond, ◌∷◌, Option, Some, None, Bool, not, eq-eqb}
 use Rattle.acd_lemmas.proofs.Words.{Rows, Limits, GroupRecord, CallRecord, ConnectionRecord, Figures, ConnectionState, Command, Event, Move, Among, is_alerting, is_queued, agent_of, call_of, connection_of, is_group, is_station, is_planned, has, is_idle, is_occupied, waiting_in, is_eligible, eligible_in, empty_rows, with_last, moved, events_of}
 use Rattle.acd_model.specs.Figures.{figures_of, sum_of_figures, counting, with_figures}
-use Rattle.acd_model.specs.Told.{after, connection_told, seat_told, enters, last_entry}
+use Rattle.acd_model.specs.Told.{known_after, connection_told, seat_told, enters, last_entry}
 use Rattle.acd_model.specs.Services.Serve.{serve}
-use Rattle.acd_model.specs.Step.{numbered, step_moves, executed_moment, next_stamp, step}
+use Rattle.acd_model.specs.Step.{numbered, step_moves, step, next_turn}
 use Rattle.acd_lemmas.proofs.Facts.{Rules, AlertingColumns, HasColumns, ConnectionRule, IsCaller, StandsAt}
 use Rattle.acd_laws.proofs.Watched.Told.{shown, seat, after-append, shown_after, seat_after, HasEntries, Tells, after-numbered}
 use Rattle.acd_laws.proofs.Figures.CountedEvents.{figures_joined, figures_numbered}
@@ -27,11 +27,12 @@ use Rattle.acd_lemmas.proofs.State.{found_key, connection_rule}
 use Rattle.acd_model.proofs.MoveLemmas.{moved_append}
 use Rattle.acd_laws.proofs.Offers.Distributing.{nothing_left}
 use Rattle.acd_laws.proofs.Rules.Ended.{ended, planned_ended, rules_step, kept_by_run, rules_first, KeptByRules}
+use Rattle.acd_terms.specs.declared.command.Turn.{Turn}
 
 -- t is the state after s and these events; places are up to b in s, and up to c in t
 pub record Follows (s : Rows) (b c : ℕ) (t : Rows) (es : List Event) : Type 0 where
-  pub connections : (call device : ℕ) → shown t call device ≡ after (connection_told call device) (shown s call device) es
-  pub agents : (agent : ℕ) → seat t agent ≡ after (seat_told agent) (seat s agent) es
+  pub connections : (call device : ℕ) → shown t call device ≡ known_after (connection_told call device) (shown s call device) es
+  pub agents : (agent : ℕ) → seat t agent ≡ known_after (seat_told agent) (seat s agent) es
   pub balances : (g : ℕ) → holding t g + ((figures_of g es).answered + (figures_of g es).abandoned + (figures_of g es).moved) ≡ holding s g + (figures_of g es).entered
   pub order : (events : List Event) (n : ℕ) → Ordered b n s events → Ordered c (n + length es) t (events ++ numbered n es)
 
@@ -50,9 +51,9 @@ follows_nothing s b = record {
 -- sound moves lead on
 pub follows_moves : (s : Rows) (b c d m : ℕ) (t : Rows) (es : List Event) (ms : List Move) → Follows s b c t es → Sound m c d t ms → Follows s b d (moved t ms) (es ++ events_of m ms)
 follows_moves s b c d m t es ms f g = record {
-  connections = λ call device. shown_after t m ms g.truthful call device ∙ ap (λ v. after (connection_told call device) v (events_of m ms)) (f.connections call device)
+  connections = λ call device. shown_after t m ms g.truthful call device ∙ ap (λ v. known_after (connection_told call device) v (events_of m ms)) (f.connections call device)
       ∙ sym (after-append (connection_told call device) (shown s call device) es (events_of m ms));
-  agents = λ agent. seat_after t m ms g.truthful agent ∙ ap (λ v. after (seat_told agent) v (events_of m ms)) (f.agents agent)
+  agents = λ agent. seat_after t m ms g.truthful agent ∙ ap (λ v. known_after (seat_told agent) v (events_of m ms)) (f.agents agent)
       ∙ sym (after-append (seat_told agent) (seat s agent) es (events_of m ms));
   balances = λ x.
       let a = f.balances x in
@@ -75,11 +76,11 @@ follows_later s b c d t es l f = record {
 }
 
 -- a step: the service leads from one stamp to the next, and rounds keep it
-pub follows_step : (s : Rows) (m k b : ℕ) (c : Command) → Rules s → b < k → Follows s b k (moved s (step_moves s m (serve s m k c))) (events_of m (step_moves s m (serve s m k c)))
-follows_step s m k b c r l =
-    by_parts (Follows s b b) (Follows s b k) m k c (λ _ t es ms d rt f. follows_moves s b b k m t es ms f (sound_deed t m k b ms d rt l))
-    (λ t es ms d rt f. follows_moves s b b k m t es ms f (sound_ranks t m k b c ms d l)) (λ _ t es f. follows_later s b b k t es (omega (arith, l)) f)
-    (λ t es ms d rt f. follows_moves s b k k m t es ms f (sound_round t m k k ms d rt)) s [] r (follows_nothing s b)
+pub follows_step : (s : Rows) (turn : Turn) (b : ℕ) (c : Command) → Rules s → b < turn.stamp → Follows s b turn.stamp (moved s (step_moves s turn.moment (serve s turn c))) (events_of turn.moment (step_moves s turn.moment (serve s turn c)))
+follows_step s turn b c r l =
+    by_parts (Follows s b b) (Follows s b turn.stamp) turn c (λ _ t es ms d rt f. follows_moves s b b turn.stamp turn.moment t es ms f (sound_deed t turn b ms d rt l))
+    (λ t es ms d rt f. follows_moves s b b turn.stamp turn.moment t es ms f (sound_ranks t turn b c ms d l)) (λ _ t es f. follows_later s b b turn.stamp t es (omega (arith, l)) f)
+    (λ t es ms d rt f. follows_moves s b turn.stamp turn.stamp turn.moment t es ms f (sound_round t turn turn.stamp ms d rt)) s [] r (follows_nothing s b)
 
 -- an entry among events, whose number is the last one
 abbrev EntryIn : ℕ → ℕ → List Event → ℕ → Type 0
@@ -137,9 +138,9 @@ tells_ended s t events es k m told f =
     let w : Ordered k n t (events ++ numbered s.last_event es) = f.order events s.last_event (record { in_order = told.queues; entered = told.entries; up_to = told.up_to }) in
     let back : (g c p : ℕ) → HasPlace (ended t es k m n) g c p → HasPlace t g c p = λ g c p h. record { connection = h.connection; there = h.there; of_group = h.of_group; of_call = h.of_call; at_place = h.at_place } in
     record {
-      connections = λ call device. ap (λ b. cond b (state_at t call device) None) (planned_ended t es k m n device) ∙ f.connections call device ∙ ap (λ v. after (connection_told call device) v es) (told.connections call device)
+      connections = λ call device. ap (λ b. cond b (state_at t call device) None) (planned_ended t es k m n device) ∙ f.connections call device ∙ ap (λ v. known_after (connection_told call device) v es) (told.connections call device)
           ∙ sym (after-append (connection_told call device) None events (numbered s.last_event es) ∙ after-numbered (connection_told call device) _ s.last_event es);
-      agents = λ agent. f.agents agent ∙ ap (λ v. after (seat_told agent) v es) (told.agents agent)
+      agents = λ agent. f.agents agent ∙ ap (λ v. known_after (seat_told agent) v es) (told.agents agent)
           ∙ sym (after-append (seat_told agent) _ events (numbered s.last_event es) ∙ after-numbered (seat_told agent) _ s.last_event es);
       entries = λ g c p h. w.entered g c p (back g c p h);
       queues = λ g c d p q x y. w.in_order g c d p q (back g c p x) (back g d q y);
@@ -149,10 +150,9 @@ tells_ended s t events es k m told f =
 step_tells : KeptByRules Tells
 unfolding step
 step_tells s events moment command r told =
-    let m : ℕ = executed_moment s moment in
-    let k : ℕ = next_stamp s in
-    let ms : List Move = step_moves s m (serve s m k command) in
-    tells_ended s (moved s ms) events (events_of m ms) k m told (follows_step s m k s.last_stamp command r (omega arith))
+    let turn : Turn = next_turn s moment in
+    let ms : List Move = step_moves s turn.moment (serve s turn command) in
+    tells_ended s (moved s ms) events (events_of turn.moment ms) turn.stamp turn.moment told (follows_step s turn s.last_stamp command r (omega arith))
 
 -- what the reports tell of a state that keeps the rules
 
@@ -202,7 +202,7 @@ no_more_by s events told = record {
 
 told_by : (s : Rows) (events : List Event) → Rules s → IsWatched s events → TellsNoMore s events → Tells s events
 told_by s events r w n = record {
-  connections = λ c d. (elim (is_external_caller s c d) as (λ b. is_external_caller s c d ≡ b → shown s c d ≡ after (connection_told c d) None events) [
+  connections = λ c d. (elim (is_external_caller s c d) as (λ b. is_external_caller s c d ≡ b → shown s c d ≡ known_after (connection_told c d) None events) [
     | true ↦ λ e. shown_outside s c d e ∙ sym (n.outside c d e)
     | false ↦ λ e. sym (shown_inside s c d r e) ∙ w.connections c d e
   ]) refl;
@@ -223,14 +223,13 @@ step_keeps_watched s events moment command r w n =
 pub step_balances : KeptByRules IsBalanced
 unfolding step with_last with_figures
 step_balances s events moment command r h g =
-    let m : ℕ = executed_moment s moment in
-    let k : ℕ = next_stamp s in
-    let ms : List Move = step_moves s m (serve s m k command) in
-    let es : List Event = events_of m ms in
-    let f = follows_step s m k s.last_stamp command r (omega arith) in
+    let turn : Turn = next_turn s moment in
+    let ms : List Move = step_moves s turn.moment (serve s turn command) in
+    let es : List Event = events_of turn.moment ms in
+    let f = follows_step s turn s.last_stamp command r (omega arith) in
     let a = h g in
     let b = f.balances g in
-    let c : holding (ended (moved s ms) es k m (s.last_event + length es)) g ≡ holding (moved s ms) g = refl in
+    let c : holding (ended (moved s ms) es turn.stamp turn.moment (s.last_event + length es)) g ≡ holding (moved s ms) g = refl in
     let j = figures_joined g events (numbered s.last_event es) ∙ ap (λ v. sum_of_figures (figures_of g events) v) (figures_numbered g s.last_event es) in
     let j1 : (figures_of g (events ++ numbered s.last_event es)).entered ≡ (figures_of g events).entered + (figures_of g es).entered = ap (λ (w : Figures). w.entered) j in
     let j2 : (figures_of g (events ++ numbered s.last_event es)).answered ≡ (figures_of g events).answered + (figures_of g es).answered = ap (λ (w : Figures). w.answered) j in
@@ -247,12 +246,11 @@ no_offer_ended t es k m n h g a = let w = mapped_among (counting es) t.groups g 
 pub step_leaves_no_offer : (s : Rows) (moment : ℕ) (command : Command) → Rules s → LeavesNoOffer (step s moment command).rows
 unfolding step
 step_leaves_no_offer s moment command r =
-    let m : ℕ = executed_moment s moment in
-    let k : ℕ = next_stamp s in
-    let ms : List Move = moves_of (serve s m k command) in
-    let all : List Move = step_moves s m (serve s m k command) in
-    no_offer_ended (moved s all) (events_of m all) k m (s.last_event + length (events_of m all))
-    (subst LeavesNoOffer (sym (moved_append s ms (distribution (moved s ms) m))) (λ g a. nothing_left (moved s ms) m g (rules_serve s m k command r) a))
+    let turn : Turn = next_turn s moment in
+    let ms : List Move = moves_of (serve s turn command) in
+    let all : List Move = step_moves s turn.moment (serve s turn command) in
+    no_offer_ended (moved s all) (events_of turn.moment all) turn.stamp turn.moment (s.last_event + length (events_of turn.moment all))
+    (subst LeavesNoOffer (sym (moved_append s ms (distribution (moved s ms) turn.moment))) (λ g a. nothing_left (moved s ms) turn.moment g (rules_serve s turn command r) a))
 
 -- runs
 

@@ -4,4 +4,4 @@ use Rattle.acd_laws.proofs.Rules.RulesKept.{rules_serve}
 use Rattle.acd_laws.proofs.rules_are_kept_within.Goals as goal
 
 pub returns : goal.returns
-returns c = λ s moment command kept. within_written _ (rules_serve s _ _ command (rules_are_kept s kept))
+returns c = λ s moment command kept. within_written _ (rules_serve s _ command (rules_are_kept s kept))

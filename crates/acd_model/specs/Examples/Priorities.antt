@@ -1,5 +1,6 @@
 -- Worked examples: agents of several groups, and groups with priority.
-use Rattle.std.specs.Prelude.{◌≡◌, ℕ, List, [], ◌∷◌, ◌++◌, codes, Some, None}
+use Rattle.std.specs.Prelude.{◌≡◌, List, [], ◌∷◌, ◌++◌, codes, Some, None}
+use Rattle.acd_terms.specs.Numbers.{Moment, Stamp}
 use Rattle.acd_terms.specs.declared.record.AgentRecord.{AgentRecord}
 use Rattle.acd_terms.specs.declared.event.Cause.TheVariants as cause
 use Rattle.acd_terms.specs.declared.event.Report.TheVariants.{Queued, Delivered, Diverted, Established, ConnectionCleared, CallCleared, AgentLoggedOn, AgentReady, AgentBusy, AgentWorkingAfterCall}
@@ -24,7 +25,7 @@ ana_serves_both =
     at 10 (ArriveCall caller billing) ∷ at 11 (ArriveCall second_caller claims)
     ∷ at 15 (SetAgentState ana (LoggedOn first_station (billing ∷ claims ∷ []))) ∷ asks_for 18 ana pending.Ready ∷ []
 
-abbrev pub ana_of_both : AgentState → ℕ → ℕ → AgentRecord
+abbrev pub ana_of_both : AgentState → Stamp → Moment → AgentRecord
 ana_of_both state stamp since =
     record { agent = ana; name = codes "Ana"; state = state; pending = None; station = Some first_station; groups = billing ∷ claims ∷ []; stamp = stamp; since = since }
 

@@ -1,6 +1,7 @@
 -- Worked examples: each refusal of each service, in the order in which they are tested: where two could be answered, the first one is.
-use Rattle.std.specs.Prelude.{◌≡◌, ℕ, List, [], ◌∷◌, ◌++◌, map, codes}
+use Rattle.std.specs.Prelude.{◌≡◌, List, [], ◌∷◌, ◌++◌, map, codes}
 use Rattle.acd_terms.specs.Rows.{empty_rows}
+use Rattle.acd_terms.specs.Numbers.{Device, Agent}
 use Rattle.acd_terms.specs.declared.rows.Limits.{Limits}
 use Rattle.acd_terms.specs.declared.rows.Rows.{Rows}
 use Rattle.acd_terms.specs.declared.command.Command.{Command}
@@ -14,22 +15,22 @@ use Rattle.acd_model.specs.Run.{TimedCommand, run}
 use Rattle.acd_model.specs.Examples.Words.{billing, claims, first_station, second_station, third_station, ana, ben, caller, second_caller, late_caller, at, plan, run_after, offered, answered}
 
 -- commands, one after the other, with the refusal of each
-abbrev pub Refuses : Rows → List (Command × Refusal) → Type 0
-Refuses s cases =
+abbrev pub RefusesEach : Rows → List (Command × Refusal) → Type 0
+RefusesEach s cases =
     (run s (map (λ (c : Command × Refusal). at 50 c.0) cases)).outcomes ≡ map (λ (c : Command × Refusal). Refused c.1) cases
 
-abbrev pub after : List TimedCommand → Rows
-after commands = (run_after [] commands).rows
+abbrev pub rows_after : List TimedCommand → Rows
+rows_after commands = (run_after [] commands).rows
 
 -- a number that isn't planned, and an agent that isn't
-abbrev pub nowhere : ℕ
+abbrev pub nowhere : Device
 nowhere = 1999
 
-abbrev pub nobody : ℕ
+abbrev pub nobody : Agent
 nobody = 19
 
 -- a number between those of a group and a station that isn't planned
-abbrev pub unplanned : ℕ
+abbrev pub unplanned : Device
 unplanned = 1150
 
 -- just as many places as the scene takes
@@ -38,7 +39,7 @@ few = record { requests = 100; calls = 1; groups = 1; stations = 2; agents = 2; 
 
 abbrev pub RefusalsOfPlanAndCalls : Type 0
 RefusalsOfPlanAndCalls =
-    Refuses (run (empty_rows few) (answered ++ at 30 (MonitorStart first_station) ∷ [])).rows (
+    RefusesEach (run (empty_rows few) (answered ++ at 30 (MonitorStart first_station) ∷ [])).rows (
     (AddGroup billing (codes "Again") 0 0, DeviceExists) ∷ (AddGroup first_station (codes "Again") 0 0, DeviceExists)
     ∷ (AddGroup caller (codes "Caller") 0 0, DeviceExists) ∷ (AddGroup claims (codes "Claims") 0 0, PlanFull)
     ∷ (SetGroupPriority nowhere 1, UnknownDevice) ∷ (SetGroupPriority caller 1, UnknownDevice) ∷ (SetGroupPriority first_station 1, NotGroup)
@@ -54,7 +55,7 @@ RefusalsOfPlanAndCalls =
 -- connected at the station, and its other party is the external caller; the second station has a call of its own
 abbrev pub RefusalsOfAnAnsweredCall : Type 0
 RefusalsOfAnAnsweredCall =
-    Refuses (after (answered ++ at 30 (MakeCall second_station billing) ∷ [])) (
+    RefusesEach (rows_after (answered ++ at 30 (MakeCall second_station billing) ∷ [])) (
     (PhoneOffHook 9 nowhere, UnknownCall) ∷ (PhoneOffHook 1 second_station, UnknownConnection) ∷ (PhoneOffHook 1 first_station, WrongConnectionState)
     ∷ (AnswerCall 9 nowhere, UnknownCall) ∷ (AnswerCall 1 second_station, UnknownConnection) ∷ (AnswerCall 1 first_station, WrongConnectionState)
     ∷ (HoldCall 9 nowhere, UnknownCall) ∷ (HoldCall 1 billing, UnknownConnection) ∷ (HoldCall 1 caller, NotStation)
@@ -69,14 +70,14 @@ RefusalsOfAnAnsweredCall =
 -- on hold at the station, which isn't idle
 abbrev pub RefusalsOfAHeldCall : Type 0
 RefusalsOfAHeldCall =
-    Refuses (after (answered ++ at 30 (HoldCall 1 first_station) ∷ at 31 (MakeCall second_station billing) ∷ [])) (
+    RefusesEach (rows_after (answered ++ at 30 (HoldCall 1 first_station) ∷ at 31 (MakeCall second_station billing) ∷ [])) (
     (HoldCall 1 first_station, WrongConnectionState) ∷ (SingleStepTransfer 1 first_station nowhere, WrongConnectionState)
     ∷ (DeflectCall 1 first_station nowhere, WrongConnectionState) ∷ [])
 
 -- alerting at the station; the second station calls it
 abbrev pub RefusalsOfAnOfferedCall : Type 0
 RefusalsOfAnOfferedCall =
-    Refuses (after (offered ++ at 30 (MakeCall second_station first_station) ∷ [])) (
+    RefusesEach (rows_after (offered ++ at 30 (MakeCall second_station first_station) ∷ [])) (
     (HoldCall 1 first_station, WrongConnectionState) ∷ (RetrieveCall 1 first_station, WrongConnectionState)
     ∷ (SingleStepTransfer 1 first_station nowhere, WrongConnectionState)
     ∷ (DeflectCall 1 first_station caller, UnknownDevice) ∷ (DeflectCall 1 first_station first_station, SameDevice)
@@ -86,18 +87,18 @@ RefusalsOfAnOfferedCall =
 -- the other party rings, waits or has failed: a transfer wants it connected or on hold, and a failed connection is only cleared
 abbrev pub RefusalsOfAnUnansweredCall : Type 0
 RefusalsOfAnUnansweredCall =
-    Refuses (after (plan ++ at 10 (MakeCall first_station second_station) ∷ at 11 (PhoneOffHook 1 first_station) ∷ [])) (
+    RefusesEach (rows_after (plan ++ at 10 (MakeCall first_station second_station) ∷ at 11 (PhoneOffHook 1 first_station) ∷ [])) (
     (PhoneOffHook 1 first_station, WrongConnectionState) ∷ (SingleStepTransfer 1 first_station nowhere, WrongConnectionState) ∷ [])
-    × Refuses (after (plan ++ at 10 (MakeCall first_station billing) ∷ at 11 (PhoneOffHook 1 first_station) ∷ [])) (
+    × RefusesEach (rows_after (plan ++ at 10 (MakeCall first_station billing) ∷ at 11 (PhoneOffHook 1 first_station) ∷ [])) (
     (SingleStepTransfer 1 first_station nowhere, WrongConnectionState) ∷ (AnswerCall 1 billing, WrongConnectionState)
     ∷ (DeflectCall 1 billing billing, SameDevice) ∷ [])
-    × Refuses (after (answered ++ at 30 (ArriveCall late_caller first_station) ∷ [])) (
+    × RefusesEach (rows_after (answered ++ at 30 (ArriveCall late_caller first_station) ∷ [])) (
     (AnswerCall 2 first_station, WrongConnectionState) ∷ (HoldCall 2 first_station, WrongConnectionState)
     ∷ (DeflectCall 2 first_station nowhere, WrongConnectionState) ∷ (SingleStepTransfer 2 first_station nowhere, WrongConnectionState) ∷ [])
 
 abbrev pub RefusalsOfAgents : Type 0
 RefusalsOfAgents =
-    Refuses (after answered) (
+    RefusesEach (rows_after answered) (
     (SetAgentState nobody (State pending.Ready), UnknownAgent) ∷ (SetAgentState nobody (LoggedOn nowhere (nowhere ∷ [])), UnknownAgent)
     ∷ (SetAgentState ben (State pending.Ready), WrongAgentState) ∷ (SetAgentState ben (State pending.NotReady), WrongAgentState)
     ∷ (SetAgentState ben (State pending.WorkingAfterCall), WrongAgentState) ∷ (SetAgentState ben (State pending.LoggedOff), WrongAgentState)

@@ -3,6 +3,7 @@ use Rattle.std.specs.Prelude.{◌≡◌, ℕ, List, [], ◌∷◌, ◌++◌, cod
 use Rattle.acd_terms.specs.Forms.{read_id}
 use Rattle.acd_terms.specs.Limits.{greatest_limits}
 use Rattle.acd_terms.specs.Rows.{empty_rows}
+use Rattle.acd_terms.specs.Numbers.{Device, Agent, CallId, Moment, Seconds, Stamp, EventNumber}
 use Rattle.acd_terms.specs.declared.rows.Rows.{Rows}
 use Rattle.acd_terms.specs.declared.record.Figures.{Figures}
 use Rattle.acd_terms.specs.declared.record.GroupRecord.{GroupRecord}
@@ -22,37 +23,37 @@ use Rattle.acd_model.specs.Scans.{group_of}
 use Rattle.acd_model.specs.Run.{TimedCommand, AfterRun, run}
 
 -- the groups 100 and 110, the stations 201 to 203, the agents 7 and 8, and the callers 0301234, 0309999, 0305555 and 0401
-abbrev pub billing : ℕ
+abbrev pub billing : Device
 billing = 1100
 
-abbrev pub claims : ℕ
+abbrev pub claims : Device
 claims = 1110
 
-abbrev pub first_station : ℕ
+abbrev pub first_station : Device
 first_station = 1201
 
-abbrev pub second_station : ℕ
+abbrev pub second_station : Device
 second_station = 1202
 
-abbrev pub third_station : ℕ
+abbrev pub third_station : Device
 third_station = 1203
 
-abbrev pub ana : ℕ
+abbrev pub ana : Agent
 ana = 17
 
-abbrev pub ben : ℕ
+abbrev pub ben : Agent
 ben = 18
 
-abbrev pub caller : ℕ
+abbrev pub caller : Device
 caller = 10301234
 
-abbrev pub second_caller : ℕ
+abbrev pub second_caller : Device
 second_caller = 10309999
 
-abbrev pub third_caller : ℕ
+abbrev pub third_caller : Device
 third_caller = 10305555
 
-abbrev pub late_caller : ℕ
+abbrev pub late_caller : Device
 late_caller = 10401
 
 -- the numbers are those of the digits
@@ -63,14 +64,14 @@ NumbersOfDigits =
     × (read_id 9 (codes "7") ≡ Ok ana) × (read_id 9 (codes "8") ≡ Ok ben) × (read_id 15 (codes "0301234") ≡ Ok caller)
     × (read_id 15 (codes "0309999") ≡ Ok second_caller) × (read_id 15 (codes "0305555") ≡ Ok third_caller) × (read_id 15 (codes "0401") ≡ Ok late_caller)
 
-abbrev pub at : ℕ → Command → TimedCommand
+abbrev pub at : Moment → Command → TimedCommand
 at moment command = record { moment = moment; command = command }
 
 -- an agent logs on at a station in a group, and asks for another state
-abbrev pub logs_on : ℕ → ℕ → ℕ → ℕ → TimedCommand
+abbrev pub logs_on : Moment → Agent → Device → Device → TimedCommand
 logs_on moment agent station group = at moment (SetAgentState agent (LoggedOn station (group ∷ [])))
 
-abbrev pub asks_for : ℕ → ℕ → Pending → TimedCommand
+abbrev pub asks_for : Moment → Agent → Pending → TimedCommand
 asks_for moment agent wanted = at moment (SetAgentState agent (State wanted))
 
 -- Billing rings for 20 seconds and wraps up for 30; Ana and Ben are its agents to be
@@ -84,36 +85,36 @@ plan =
 abbrev pub run_after : List TimedCommand → List TimedCommand → AfterRun
 run_after before commands = run (run (empty_rows greatest_limits) before).rows commands
 
-abbrev pub event : ℕ → ℕ → Report → Event
+abbrev pub event : EventNumber → Moment → Report → Event
 event number moment report = record { number = number; moment = moment; report = report }
 
-abbrev pub figures_in : Rows → ℕ → Option Figures
+abbrev pub figures_in : Rows → Device → Option Figures
 figures_in s group = option_map (λ (g : GroupRecord). g.figures) (group_of s group)
 
-abbrev pub counts : ℕ → ℕ → ℕ → ℕ → ℕ → Option Figures
+abbrev pub counts : ℕ → ℕ → ℕ → ℕ → Seconds → Option Figures
 counts entered answered abandoned moved waited = Some (record { entered = entered; answered = answered; abandoned = abandoned; moved = moved; waited = waited })
 
 -- Ana at the first station and Ben at the second, in a group: the state, what is pending, and the stamp and moment of the state
-abbrev pub ana_in : ℕ → AgentState → Option Pending → ℕ → ℕ → Option AgentRecord
+abbrev pub ana_in : Device → AgentState → Option Pending → Stamp → Moment → Option AgentRecord
 ana_in group state pending stamp since =
     Some (record { agent = ana; name = codes "Ana"; state = state; pending = pending; station = Some first_station; groups = group ∷ []; stamp = stamp; since = since })
 
-abbrev pub ben_in : ℕ → AgentState → Option Pending → ℕ → ℕ → Option AgentRecord
+abbrev pub ben_in : Device → AgentState → Option Pending → Stamp → Moment → Option AgentRecord
 ben_in group state pending stamp since =
     Some (record { agent = ben; name = codes "Ben"; state = state; pending = pending; station = Some second_station; groups = group ∷ []; stamp = stamp; since = since })
 
 -- Ana is logged on nowhere
-abbrev pub ana_logged_off : ℕ → ℕ → Option AgentRecord
+abbrev pub ana_logged_off : Stamp → Moment → Option AgentRecord
 ana_logged_off stamp since =
     Some (record { agent = ana; name = codes "Ana"; state = Null; pending = None; station = None; groups = []; stamp = stamp; since = since })
 
 -- a call that rings at a station, offered from a group at a moment, with the place and the moment at which it entered the queue there
-abbrev pub ringing_from : ℕ → ℕ → ℕ → ℕ → ℕ → ℕ → ConnectionRecord
+abbrev pub ringing_from : Device → CallId → Device → Stamp → Moment → Moment → ConnectionRecord
 ringing_from group call station place queued offered =
     record { call = call; device = station; state = Alerting; group = Some group; place = Some place; queued = Some queued; offered = Some offered }
 
 -- a call of a group that was answered at a station
-abbrev pub talking_from : ℕ → ℕ → ℕ → ConnectionRecord
+abbrev pub talking_from : Device → CallId → Device → ConnectionRecord
 talking_from group call station = record { call = call; device = station; state = Connected; group = Some group; place = None; queued = None; offered = None }
 
 -- the first call arrives at the group

@@ -1,8 +1,9 @@
 -- The rules call, connection, parties and live.
-use Rattle.std.specs.Prelude.{ℕ, Bool, true, not, ◌&&◌, ◌||◌, ◌==◌, Option, Some, None, is_some, is_none, nat_le, if◌then◌else◌}
+use Rattle.std.specs.Prelude.{Bool, true, not, ◌&&◌, ◌||◌, ◌==◌, Option, Some, None, is_some, is_none, nat_le, if◌then◌else◌}
 use Rattle.std.specs.List.{list_all}
 use Rattle.acd_terms.specs.Lists.{count}
 use Rattle.acd_terms.specs.States.{is_initiated, is_alerting, is_queued, is_fail, is_hold, is_live}
+use Rattle.acd_terms.specs.Numbers.{Device, CallId}
 use Rattle.acd_terms.specs.declared.rows.Rows.{Rows}
 use Rattle.acd_terms.specs.declared.record.CallRecord.{CallRecord}
 use Rattle.acd_terms.specs.declared.record.StationRecord.{StationRecord}
@@ -33,7 +34,7 @@ has_columns Hold x = is_bare x
 has_columns Initiated x = is_none x.group && is_bare x
 has_columns Fail x = is_none x.group && is_bare x
 
-abbrev pub is_group_or_none : Rows → Option ℕ → Bool
+abbrev pub is_group_or_none : Rows → Option Device → Bool
 is_group_or_none s None = true
 is_group_or_none s (Some g) = is_group s g
 
@@ -53,16 +54,16 @@ keeps_connection s = list_all (λ (x : ConnectionRecord).
 abbrev pub is_open : ConnectionState → Bool
 is_open state = is_alerting state || is_queued state || is_fail state
 
-abbrev pub parties_of : ℕ → ConnectionRecord → Bool
+abbrev pub parties_of : CallId → ConnectionRecord → Bool
 parties_of call x = x.call == call
 
-abbrev pub initiated_of : ℕ → ConnectionRecord → Bool
+abbrev pub initiated_of : CallId → ConnectionRecord → Bool
 initiated_of call x = is_initiated x.state && x.call == call
 
-abbrev pub initiated_at : ℕ → ℕ → ConnectionRecord → Bool
+abbrev pub initiated_at : CallId → Device → ConnectionRecord → Bool
 initiated_at call device x = is_initiated x.state && x.call == call && x.device == device
 
-abbrev pub open_of : ℕ → ConnectionRecord → Bool
+abbrev pub open_of : CallId → ConnectionRecord → Bool
 open_of call x = is_open x.state && x.call == call
 
 -- one connection, initiated at the caller
@@ -78,13 +79,13 @@ has_two_parties s c =
 unfoldable pub keeps_parties : Rows → Bool
 keeps_parties s = list_all (λ (c : CallRecord). is_being_made s c || has_two_parties s c) s.calls
 
-abbrev pub live_at : ℕ → ConnectionRecord → Bool
+abbrev pub live_at : Device → ConnectionRecord → Bool
 live_at device x = is_live x.state && x.device == device
 
-abbrev pub alerting_at : ℕ → ConnectionRecord → Bool
+abbrev pub alerting_at : Device → ConnectionRecord → Bool
 alerting_at device x = is_alerting x.state && x.device == device
 
-abbrev pub hold_at : ℕ → ConnectionRecord → Bool
+abbrev pub hold_at : Device → ConnectionRecord → Bool
 hold_at device x = is_hold x.state && x.device == device
 
 -- at most one live connection at a station, and none on hold beside an alerting one

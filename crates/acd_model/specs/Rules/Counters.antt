@@ -1,7 +1,8 @@
 -- The rule counters.
-use Rattle.std.specs.Prelude.{ℕ, ◌*◌, Bool, true, ◌&&◌, Option, Some, None, nat_le}
+use Rattle.std.specs.Prelude.{◌*◌, Bool, true, ◌&&◌, Option, Some, None, nat_le}
 use Rattle.std.specs.List.{list_all}
 use Rattle.acd_terms.specs.Lists.{count}
+use Rattle.acd_terms.specs.Numbers.{Moment, Stamp}
 use Rattle.acd_terms.specs.declared.rows.Rows.{Rows}
 use Rattle.acd_terms.specs.declared.record.AgentRecord.{AgentRecord}
 use Rattle.acd_terms.specs.declared.record.CallRecord.{CallRecord}
@@ -9,19 +10,19 @@ use Rattle.acd_terms.specs.declared.record.GroupRecord.{GroupRecord}
 use Rattle.acd_terms.specs.declared.record.ConnectionRecord.{ConnectionRecord}
 use Rattle.acd_model.specs.Scans.{has}
 
-abbrev pub is_stamp : Rows → ℕ → Bool
+abbrev pub is_stamp : Rows → Stamp → Bool
 is_stamp s k = nat_le 1 k && nat_le k s.last_stamp
 
-abbrev pub is_moment_or_none : Rows → Option ℕ → Bool
+abbrev pub is_moment_or_none : Rows → Option Moment → Bool
 is_moment_or_none s None = true
-is_moment_or_none s (Some m) = nat_le m s.last_moment
+is_moment_or_none s (Some moment) = nat_le moment s.last_moment
 
 -- the place is a stamp, and no other connection has it
-abbrev pub is_own_place : Rows → Option ℕ → Bool
+abbrev pub is_own_place : Rows → Option Stamp → Bool
 is_own_place s None = true
 is_own_place s (Some p) = is_stamp s p && nat_le (count (λ (x : ConnectionRecord). has x.place p) s.connections) 1
 
-abbrev pub is_offered_after : Option ℕ → Option ℕ → Bool
+abbrev pub is_offered_after : Option Moment → Option Moment → Bool
 is_offered_after (Some queued) (Some offered) = nat_le queued offered
 is_offered_after _ _ = true
 

@@ -1,8 +1,9 @@
 -- The rules occupied, offer and balance.
-use Rattle.std.specs.Prelude.{ℕ, ◌+◌, Bool, true, false, not, ◌&&◌, ◌||◌, ◌==◌, List, [], ◌∷◌, Option, Some, None, is_none, nat_le}
+use Rattle.std.specs.Prelude.{◌+◌, Bool, true, false, not, ◌&&◌, ◌||◌, ◌==◌, List, [], ◌∷◌, Option, Some, None, is_none, nat_le}
 use Rattle.std.specs.List.{list_all, list_any}
 use Rattle.acd_terms.specs.Lists.{count}
 use Rattle.acd_terms.specs.States.{is_distributed, is_alerting, is_answered, is_ready, is_busy, is_queued}
+use Rattle.acd_terms.specs.Numbers.{Device}
 use Rattle.acd_terms.specs.declared.rows.Rows.{Rows}
 use Rattle.acd_terms.specs.declared.record.AgentRecord.{AgentRecord}
 use Rattle.acd_terms.specs.declared.record.GroupRecord.{GroupRecord}
@@ -41,11 +42,11 @@ unfoldable pub keeps_offer : Rows → Bool
 keeps_offer s = list_all (λ (g : GroupRecord). is_empty (waiting_in s g.device) || is_empty (eligible_in s g.device)) s.groups
 
 -- it waits in the group
-abbrev pub waits_in : ℕ → ConnectionRecord → Bool
+abbrev pub waits_in : Device → ConnectionRecord → Bool
 waits_in group x = x.device == group && is_queued x.state
 
 -- it rings by distribution from the group
-abbrev pub rings_from : ℕ → ConnectionRecord → Bool
+abbrev pub rings_from : Device → ConnectionRecord → Bool
 rings_from group x = has x.group group && is_alerting x.state
 
 -- entered is what waits, rings, was answered, was abandoned and was moved

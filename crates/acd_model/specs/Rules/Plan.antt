@@ -1,5 +1,5 @@
 -- The rules limits, order, device, agent and monitor.
-use Rattle.std.specs.Prelude.{ℕ, Bool, true, false, not, ◌&&◌, List, Option, Some, None, is_none, length, nat_le, if◌then◌else◌}
+use Rattle.std.specs.Prelude.{Bool, true, false, not, ◌&&◌, List, Option, Some, None, is_none, length, nat_le, if◌then◌else◌}
 use Rattle.std.specs.List.{list_all}
 use Rattle.std.specs.Ordering.{nat_cmp, ordering_then}
 use Rattle.std.specs.declared.cmp.Ordering.{Ordering}
@@ -7,6 +7,7 @@ use Rattle.acd_terms.specs.Lists.{count, ascends}
 use Rattle.acd_terms.specs.States.{is_null}
 use Rattle.acd_terms.specs.Limits.{limits_fit, greatest_priority}
 use Rattle.acd_terms.specs.Groups.{is_choice}
+use Rattle.acd_terms.specs.Numbers.{Device}
 use Rattle.acd_terms.specs.declared.rows.Rows.{Rows}
 use Rattle.acd_terms.specs.declared.record.GroupRecord.{GroupRecord}
 use Rattle.acd_terms.specs.declared.record.StationRecord.{StationRecord}
@@ -56,16 +57,16 @@ keeps_order s =
 unfoldable pub keeps_device : Rows → Bool
 keeps_device s = list_all (λ (g : GroupRecord). not (is_station s g.device)) s.groups
 
-abbrev pub is_station_there : Rows → Option ℕ → Bool
+abbrev pub is_station_there : Rows → Option Device → Bool
 is_station_there s None = false
 is_station_there s (Some d) = is_station s d
 
 -- one to eight, in ascending number, and each is a planned group
-abbrev pub are_planned_groups : Rows → List ℕ → Bool
+abbrev pub are_planned_groups : Rows → List Device → Bool
 are_planned_groups s gs = is_choice gs && list_all (is_group s) gs
 
 -- no other agent is logged on there
-abbrev pub is_alone_at : Rows → Option ℕ → Bool
+abbrev pub is_alone_at : Rows → Option Device → Bool
 is_alone_at s None = true
 is_alone_at s (Some d) = nat_le (count (λ (b : AgentRecord). has b.station d) s.agents) 1
 

@@ -1,5 +1,6 @@
 -- addStation: a station is planned.
-use Rattle.std.specs.Prelude.{ℕ, [], ◌∷◌, length, nat_le}
+use Rattle.std.specs.Prelude.{[], ◌∷◌, length, nat_le}
+use Rattle.acd_terms.specs.Numbers.{Device}
 use Rattle.acd_terms.specs.declared.rows.Rows.{Rows}
 use Rattle.acd_terms.specs.declared.answer.Answer.TheVariants.{Nothing}
 use Rattle.acd_terms.specs.declared.answer.Refusal.TheVariants.{DeviceExists, PlanFull}
@@ -8,7 +9,7 @@ use Rattle.acd_model.specs.Moves.{silent}
 use Rattle.acd_model.specs.Served.{Served, refuse_if, ◌>>◌, gives}
 use Rattle.acd_model.specs.declared.moves.Change.TheVariants.{PutStation}
 
-unfoldable pub add_station : Rows → ℕ → Served
+unfoldable pub add_station : Rows → Device → Served
 add_station s device = do
   refuse_if (is_used s device) DeviceExists
   refuse_if (nat_le s.limits.stations (length s.stations)) PlanFull

@@ -1,7 +1,9 @@
 -- answerCall: an alerting connection is answered.
-use Rattle.std.specs.Prelude.{ℕ, not, [], ◌∷◌, Option, Some, None, if◌then◌else◌}
+use Rattle.std.specs.Prelude.{not, [], ◌∷◌, Option, Some, None, if◌then◌else◌}
 use Rattle.std.specs.Option.{ok_or}
 use Rattle.acd_terms.specs.States.{is_distributed, is_alerting}
+use Rattle.acd_terms.specs.Numbers.{Device, CallId}
+use Rattle.acd_terms.specs.declared.command.Turn.{Turn}
 use Rattle.acd_terms.specs.declared.rows.Rows.{Rows}
 use Rattle.acd_terms.specs.declared.record.AgentRecord.{AgentRecord}
 use Rattle.acd_terms.specs.declared.record.ConnectionRecord.{ConnectionRecord}
@@ -14,17 +16,17 @@ use Rattle.acd_model.specs.AgentMoves.{become_busy}
 use Rattle.acd_model.specs.Served.{Served, refuse_if, ◌>>=◌, ◌>>◌, gives}
 use Rattle.acd_model.specs.declared.moves.Move.{Move}
 
-abbrev pub busy_agent : ℕ → ℕ → Option AgentRecord → ℕ → Move
-busy_agent m k None station = no_move
-busy_agent m k (Some a) station = become_busy m k a station
+abbrev pub busy_agent : Turn → Option AgentRecord → Device → Move
+busy_agent turn None station = no_move
+busy_agent turn (Some a) station = become_busy turn a station
 
 -- where the connection was distributed, the agent at its station becomes busy
-unfoldable pub occupy : Rows → ℕ → ℕ → ConnectionRecord → Move
-occupy s m k x = if is_distributed x then busy_agent m k (agent_at s x.device) x.device else no_move
+unfoldable pub occupy : Rows → Turn → ConnectionRecord → Move
+occupy s turn x = if is_distributed x then busy_agent turn (agent_at s x.device) x.device else no_move
 
-unfoldable pub answer_call : Rows → ℕ → ℕ → ℕ → ℕ → Served
-answer_call s m k call device = do
+unfoldable pub answer_call : Rows → Turn → CallId → Device → Served
+answer_call s turn call device = do
   ok_or (call_of s call) UnknownCall
   x ← ok_or (connection_of s call device) UnknownConnection
   refuse_if (not (is_alerting x.state)) WrongConnectionState
-  gives Nothing (answer m x ∷ occupy s m k x ∷ [])
+  gives Nothing (answer turn.moment x ∷ occupy s turn x ∷ [])

@@ -1,5 +1,6 @@
 -- monitorStart: a monitor on a planned device begins.
-use Rattle.std.specs.Prelude.{ℕ, ◌+◌, not, [], ◌∷◌, length, nat_le}
+use Rattle.std.specs.Prelude.{◌+◌, not, [], ◌∷◌, length, nat_le}
+use Rattle.acd_terms.specs.Numbers.{Device, MonitorId}
 use Rattle.acd_terms.specs.declared.rows.Rows.{Rows}
 use Rattle.acd_terms.specs.declared.answer.Answer.TheVariants.{Monitor}
 use Rattle.acd_terms.specs.declared.answer.Refusal.TheVariants.{UnknownDevice, PlanFull}
@@ -9,10 +10,10 @@ use Rattle.acd_model.specs.Served.{Served, refuse_if, ◌>>◌, gives}
 use Rattle.acd_model.specs.declared.moves.Change.TheVariants.{PutMonitor}
 
 -- the cross reference identifier of a new monitor
-abbrev pub next_monitor : Rows → ℕ
+abbrev pub next_monitor : Rows → MonitorId
 next_monitor s = s.last_monitor + 1
 
-unfoldable pub monitor_start : Rows → ℕ → Served
+unfoldable pub monitor_start : Rows → Device → Served
 monitor_start s device = do
   refuse_if (not (is_planned s device)) UnknownDevice
   refuse_if (nat_le s.limits.monitors (length s.monitors)) PlanFull

@@ -1,6 +1,7 @@
 -- monitorStop: a monitor ends.
-use Rattle.std.specs.Prelude.{ℕ, [], ◌∷◌}
+use Rattle.std.specs.Prelude.{[], ◌∷◌}
 use Rattle.std.specs.Option.{ok_or}
+use Rattle.acd_terms.specs.Numbers.{MonitorId}
 use Rattle.acd_terms.specs.declared.rows.Rows.{Rows}
 use Rattle.acd_terms.specs.declared.answer.Answer.TheVariants.{Nothing}
 use Rattle.acd_terms.specs.declared.answer.Refusal.TheVariants.{UnknownMonitor}
@@ -9,7 +10,7 @@ use Rattle.acd_model.specs.Moves.{silent}
 use Rattle.acd_model.specs.Served.{Served, ◌>>◌, gives}
 use Rattle.acd_model.specs.declared.moves.Change.TheVariants.{RemoveMonitor}
 
-unfoldable pub monitor_stop : Rows → ℕ → Served
+unfoldable pub monitor_stop : Rows → MonitorId → Served
 monitor_stop s monitor = do
   ok_or (monitor_of s monitor) UnknownMonitor
   gives Nothing (silent (RemoveMonitor monitor) ∷ [])

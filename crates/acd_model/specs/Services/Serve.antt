@@ -1,5 +1,6 @@
 -- One service: the case of the command. tick is no service of the tables: it makes its moves in turn.
-use Rattle.std.specs.Prelude.{ℕ}
+use Rattle.std.specs.Prelude.{}
+use Rattle.acd_terms.specs.declared.command.Turn.{Turn}
 use Rattle.acd_terms.specs.declared.rows.Rows.{Rows}
 use Rattle.acd_terms.specs.declared.answer.Answer.TheVariants.{Nothing}
 use Rattle.acd_terms.specs.declared.command.Command.{Command}
@@ -23,21 +24,21 @@ use Rattle.acd_model.specs.Services.SetGroupPriority.{set_group_priority}
 use Rattle.acd_model.specs.Tick.{tick}
 use Rattle.acd_model.specs.Served.{Served, gives}
 
-abbrev pub serve : Rows → ℕ → ℕ → Command → Served
-serve s m k (AddGroup device name ring wrap) = add_group s device name ring wrap
-serve s m k (AddStation device) = add_station s device
-serve s m k (AddAgent agent name) = add_agent s m k agent name
-serve s m k (ArriveCall caller called) = arrive_call s m k caller called
-serve s m k (MakeCall device called) = make_call s m device called
-serve s m k (PhoneOffHook call device) = phone_off_hook s m k call device
-serve s m k (AnswerCall call device) = answer_call s m k call device
-serve s m k (HoldCall call device) = hold_call s call device
-serve s m k (RetrieveCall call device) = retrieve_call s call device
-serve s m k (ClearConnection call device) = clear_connection s m k call device
-serve s m k (DeflectCall call device to) = deflect_call s m k call device to
-serve s m k (SingleStepTransfer call device to) = single_step_transfer s m k call device to
-serve s m k (SetAgentState agent requested) = set_agent_state s m k agent requested
-serve s m k (MonitorStart device) = monitor_start s device
-serve s m k (MonitorStop monitor) = monitor_stop s monitor
-serve s m k Tick = gives Nothing (tick s m k)
-serve s m k (SetGroupPriority device priority) = set_group_priority s device priority
+abbrev pub serve : Rows → Turn → Command → Served
+serve s turn (AddGroup device name ring wrap) = add_group s device name ring wrap
+serve s turn (AddStation device) = add_station s device
+serve s turn (AddAgent agent name) = add_agent s turn agent name
+serve s turn (ArriveCall caller called) = arrive_call s turn caller called
+serve s turn (MakeCall device called) = make_call s turn.moment device called
+serve s turn (PhoneOffHook call device) = phone_off_hook s turn call device
+serve s turn (AnswerCall call device) = answer_call s turn call device
+serve s turn (HoldCall call device) = hold_call s call device
+serve s turn (RetrieveCall call device) = retrieve_call s call device
+serve s turn (ClearConnection call device) = clear_connection s turn call device
+serve s turn (DeflectCall call device to) = deflect_call s turn call device to
+serve s turn (SingleStepTransfer call device to) = single_step_transfer s turn call device to
+serve s turn (SetAgentState agent requested) = set_agent_state s turn agent requested
+serve s turn (MonitorStart device) = monitor_start s device
+serve s turn (MonitorStop monitor) = monitor_stop s monitor
+serve s turn Tick = gives Nothing (tick s turn)
+serve s turn (SetGroupPriority device priority) = set_group_priority s device priority

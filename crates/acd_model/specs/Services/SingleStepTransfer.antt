@@ -1,7 +1,9 @@
 -- singleStepTransfer: a connected station gives its answered call away.
-use Rattle.std.specs.Prelude.{ℕ, Bool, false, not, ◌&&◌, [], ◌∷◌, Option, Some, None}
+use Rattle.std.specs.Prelude.{Bool, false, not, ◌&&◌, [], ◌∷◌, Option, Some, None}
 use Rattle.std.specs.Option.{ok_or}
 use Rattle.acd_terms.specs.States.{is_connected, is_answered}
+use Rattle.acd_terms.specs.Numbers.{Device, CallId}
+use Rattle.acd_terms.specs.declared.command.Turn.{Turn}
 use Rattle.acd_terms.specs.declared.rows.Rows.{Rows}
 use Rattle.acd_terms.specs.declared.record.ConnectionRecord.{ConnectionRecord}
 use Rattle.acd_terms.specs.declared.event.Cause.TheVariants.{Transferred}
@@ -18,8 +20,8 @@ abbrev pub is_answered_by : Option ConnectionRecord → Bool
 is_answered_by None = false
 is_answered_by (Some y) = is_answered y.state
 
-unfoldable pub single_step_transfer : Rows → ℕ → ℕ → ℕ → ℕ → ℕ → Served
-single_step_transfer s m k call device to = do
+unfoldable pub single_step_transfer : Rows → Turn → CallId → Device → Device → Served
+single_step_transfer s turn call device to = do
   ok_or (call_of s call) UnknownCall
   x ← ok_or (connection_of s call device) UnknownConnection
   refuse_if (not (is_station s device)) NotStation
@@ -27,4 +29,4 @@ single_step_transfer s m k call device to = do
   refuse_if (not (is_planned s to)) UnknownDevice
   refuse_if (is_in_call s call to) SameDevice
   refuse_if (is_busy_station s to) DestinationBusy
-  gives Nothing (transfer x to ∷ arrive s m k call to Transferred ∷ release s m k x (ending_of x) ∷ [])
+  gives Nothing (transfer x to ∷ arrive s turn call to Transferred ∷ release s turn x (ending_of x) ∷ [])

@@ -8,9 +8,9 @@ use Rattle.acd_switch.proofs.figures.counting.Goals as goal
 
 pub sum_of-figures-requires : goal.sum_of-figures-requires
 sum_of-figures-requires c =
-    subst (λ (f : Figures). AreFitting (sum_of_figures c.args.group.figures f)) (figures_of_one c.args.group.device c.args.event.now ∙ sym c.figures_in.ensures) c.requires
+    subst (λ (f : Figures). AreFitting (sum_of_figures c.args.group.figures f)) (figures_of_one c.args.group.device c.args.event.now ∙ sym c.figures_by.ensures) c.requires
 
 pub returns : goal.returns
 returns c =
     ap (λ (f : Figures). let g : GroupRecord = record c.args.group { figures = f } in g)
-    (c.sum_of-figures.ensures ∙ ap (sum_of_figures c.args.group.figures) (c.figures_in.ensures ∙ sym (figures_of_one c.args.group.device c.args.event.now)))
+    (c.sum_of-figures.ensures ∙ ap (sum_of_figures c.args.group.figures) (c.figures_by.ensures ∙ sym (figures_of_one c.args.group.device c.args.event.now)))

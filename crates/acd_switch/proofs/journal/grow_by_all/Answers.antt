@@ -8,7 +8,7 @@ use Rattle.acd_model.specs.Figures.{with_figures}
 use Rattle.acd_model.specs.Changes.{changed_by, growth_by, growth}
 use Rattle.acd_model.specs.Rules.Plan.{group_order}
 use Rattle.acd_laws.proofs.Made.ChangesMade.{one_grown, figures_more, figures_none, ascending_grown}
-use Rattle.acd_switch.specs.Counting.{FiguresFit}
+use Rattle.acd_switch.specs.Counting.{CountingFits}
 use Rattle.acd_switch.proofs.Growing.{one_fits, others_fit}
 use Rattle.acd_switch.proofs.journal.grow_by_all.Goals as goal
 
@@ -18,7 +18,7 @@ grow_by-requires c =
     let x = c.event-item.result in
     let rest = drop (i + 1) c.args.events.now in
     let parts : drop i c.args.events.now ≡ x ∷ rest = grind (arith, common_steps) in
-    one_fits c.loop-event.tables x rest (subst (λ (es : List Event). FiguresFit c.loop-event.tables es) parts c.loop-event.invariant.room)
+    one_fits c.loop-event.tables x rest (subst (λ (es : List Event). CountingFits c.loop-event.tables es) parts c.loop-event.invariant.room)
 
 pub loop-event-preserved : goal.loop-event-preserved
 loop-event-preserved c =
@@ -36,7 +36,7 @@ loop-event-preserved c =
       noted = ap (λ l. l ++ growth t rest) c.in_ok-grow_by.ensures.changes ∙ append_assoc before (growth_by s x) (growth t rest)
           ∙ ap (λ (r : Rows). before ++ (growth_by s x ++ growth r rest)) grown ∙ ap (λ (es : List Event). before ++ growth s es) (sym parts) ∙ c.loop-event.invariant.noted;
       order = subst (λ (r : Rows). IsAscending group_order r.groups) (sym grown) (ascending_grown s x order);
-      room = others_fit s t x rest order grown (subst (λ (es : List Event). FiguresFit s es) parts c.loop-event.invariant.room);
+      room = others_fit s t x rest order grown (subst (λ (es : List Event). CountingFits s es) parts c.loop-event.invariant.room);
     }
 
 pub returns-clause-rows : goal.returns-clause-rows

@@ -1,7 +1,7 @@
 use Rattle.std.proofs.Common.{◌≡◌, ◌+◌, sym, ap, subst, arith, ◌∙◌, max, ◌<◌, ◌^◌}
-use Rattle.acd_model.specs.Step.{executed_moment, next_stamp}
+use Rattle.acd_model.specs.Step.{executed_moment, next_stamp, turn_at}
 use Rattle.acd_model.specs.Services.Serve.{serve}
-use Rattle.acd_switch.specs.Room.{Fits}
+use Rattle.acd_switch.specs.Room.{CountersFit}
 use Rattle.acd_switch.proofs.Closing.{rows_is, events_is, outcome_is, changes_are, groups_ascend}
 use Rattle.acd_switch.proofs.RoomOfRules.{has_room, fits_after}
 use Rattle.acd_laws.proofs.Rules.RulesAll.{step_keeps_rules}
@@ -15,7 +15,7 @@ run_command-requires c = has_room c.args.tables.now c.requires.rules c.requires.
 
 pub close-requires-clause-order : goal.close-requires-clause-order
 close-requires-clause-order c =
-    groups_ascend c.args.tables.now c.run_command.new.tables c.distribute.new.tables c.max-moment.result (serve c.args.tables.now c.max-moment.result (c.last_stamp-stamp.result + 1) c.args.command.now)
+    groups_ascend c.args.tables.now c.run_command.new.tables c.distribute.new.tables c.max-moment.result (serve c.args.tables.now (turn_at c.max-moment.result (c.last_stamp-stamp.result + 1)) c.args.command.now)
     c.requires.rules c.in_ok-outcome.ensures.rows c.in_ok-distribute.ensures.rows
 
 pub close-requires-clause-room : goal.close-requires-clause-room
@@ -24,7 +24,7 @@ close-requires-clause-room c =
     let stamp : c.last_stamp-stamp.result + 1 ≡ next_stamp c.args.tables.now = omega (arith, c.last_stamp-stamp.ensures) in
     let small : executed_moment c.args.tables.now c.args.moment < 2 ^ 32 = omega (arith, c.last_moment.ensures) in
     let kept = step_keeps_rules c.args.tables.now c.args.moment c.args.command.now c.requires.rules c.requires.room in
-    subst Fits
+    subst CountersFit
     (sym (rows_is c.args.tables.now c.run_command.new.tables c.distribute.new.tables c.args.moment c.max-moment.result _ c.last_event-last.result c.args.command.now _ _ _
     executed stamp c.last_event-last.ensures c.in_ok-journal.ensures.events c.in_ok-outcome.ensures.rows c.in_ok-outcome.ensures.events c.in_ok-distribute.ensures.rows c.in_ok-distribute.ensures.events))
     (fits_after c.args.tables.now c.args.moment c.args.command.now c.requires.rules c.requires.room kept small)

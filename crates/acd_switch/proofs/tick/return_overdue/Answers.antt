@@ -15,8 +15,8 @@ loop-connection-preserved c =
     let x = c.connection-item.result in
     let parts : drop i items ≡ x ∷ drop (i + 1) items = grind (arith, common_steps) in
     record {
-      rows = rows_next (λ t y. return_moves t c.args.at.moment c.args.at.stamp y) _ _ _ x _ _ parts c.loop-connection.invariant.rows c.in_ok-take_back.ensures.rows;
-      told = told_next (events_of c.args.at.moment) (events_of_append c.args.at.moment) (λ t y. return_moves t c.args.at.moment c.args.at.stamp y) _ _ x _ _ _ _ _ parts c.loop-connection.invariant.told c.in_ok-take_back.ensures.rows c.in_ok-take_back.ensures.events;
-      noted = told_next changes_of changes_of_append (λ t y. return_moves t c.args.at.moment c.args.at.stamp y) _ _ x _ _ _ _ _ parts c.loop-connection.invariant.noted c.in_ok-take_back.ensures.rows c.in_ok-take_back.ensures.changes;
+      rows = rows_next (λ t y. return_moves t c.args.at y) _ _ _ x _ _ parts c.loop-connection.invariant.rows c.in_ok-take_back.ensures.rows;
+      told = told_next (events_of c.args.at.moment) (events_of_append c.args.at.moment) (λ t y. return_moves t c.args.at y) _ _ x _ _ _ _ _ parts c.loop-connection.invariant.told c.in_ok-take_back.ensures.rows c.in_ok-take_back.ensures.events;
+      noted = told_next changes_of changes_of_append (λ t y. return_moves t c.args.at y) _ _ x _ _ _ _ _ parts c.loop-connection.invariant.noted c.in_ok-take_back.ensures.rows c.in_ok-take_back.ensures.changes;
       all = c.loop-connection.invariant.all;
     }

@@ -1,7 +1,7 @@
 use Rattle.std.proofs.Common.{sym, subst}
 use Rattle.acd_model.specs.Writes.{with_agent}
 use Rattle.acd_tables.specs.Indexed.{Seats, Working}
-use Rattle.acd_tables.specs.Turns.{TakenOut, Offers}
+use Rattle.acd_tables.specs.Swaps.{TakenOut, Offers}
 use Rattle.acd_tables.proofs.OfferLemmas.{offers-of}
 use Rattle.acd_tables.proofs.IndexLemmas.{IsIndexed-untouched, IsIndexed-agent, IsIndexed-no_agent, group_same, groups_seated}
 use Rattle.acd_tables.proofs.changes.put_agent.Goals as goal
@@ -23,8 +23,8 @@ returns-in-Ok-clause-indexed c =
     let working = c.put_seated.new.working in
     let now = with_agent s c.args.item.now in
     let made = c.in-Ok.ensures.ok in
-    rw made (IsIndexed-agent s c.args.item.now c.args.indexes.now y c.settle.new.self seats working c.agent_turn-turn.result c.requires c.in_ok-undo.ensures.ok
-    (subst (λ t. TakenOut t (record y { seats = seats; working = working }) c.settle.new.self c.agent_turn-turn.result.leaving) made c.settle.ensures) c.agent_turn-turn.ensures
+    rw made (IsIndexed-agent s c.args.item.now c.args.indexes.now y c.settle.new.self seats working c.agent_swap-swap.result c.requires c.in_ok-undo.ensures.ok
+    (subst (λ t. TakenOut t (record y { seats = seats; working = working }) c.settle.new.self c.agent_swap-swap.result.leaving) made c.settle.ensures) c.agent_swap-swap.ensures
     (subst (λ t. Seats t seats) made c.put_seated.ensures.seated) (subst (λ t. Working t working) made c.put_seated.ensures.noted))
 
 pub returns-in-Err-clause-indexed : goal.returns-in-Err-clause-indexed
@@ -34,7 +34,7 @@ returns-in-Err-clause-indexed c =
     let seats = c.put_seated.new.seats in
     let working = c.put_seated.new.working in
     let same = c.in-Err.ensures.err in
-    rw same (IsIndexed-no_agent s c.args.indexes.now y c.take_out.new.self seats working c.agent_turn-turn.result.entering c.in_ok-undo.undo c.requires c.in_ok-undo.ensures.ok c.in_ok-undo.ensures.undo
+    rw same (IsIndexed-no_agent s c.args.indexes.now y c.take_out.new.self seats working c.agent_swap-swap.result.entering c.in_ok-undo.undo c.requires c.in_ok-undo.ensures.ok c.in_ok-undo.ensures.undo
     (subst (λ t. TakenOut t (record y { seats = seats; working = working }) c.take_out.new.self c.in_ok-undo.undo) same c.take_out.ensures)
     (subst (λ t. Seats t seats) same c.put_seated.ensures.seated) (subst (λ t. Working t working) same c.put_seated.ensures.noted))
 

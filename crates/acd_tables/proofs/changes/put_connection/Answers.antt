@@ -1,7 +1,7 @@
 use Rattle.std.proofs.Common.{sym, subst}
 use Rattle.acd_model.specs.Writes.{with_connection}
 use Rattle.acd_tables.specs.Indexed.{Lines, Ringing}
-use Rattle.acd_tables.specs.Turns.{TakenOut, Offers}
+use Rattle.acd_tables.specs.Swaps.{TakenOut, Offers}
 use Rattle.acd_tables.proofs.OfferLemmas.{offers-of}
 use Rattle.acd_tables.proofs.IndexLemmas.{IsIndexed-untouched, IsIndexed-put, IsIndexed-no_put, group_same, groups_put}
 use Rattle.acd_tables.proofs.changes.put_connection.Goals as goal
@@ -22,8 +22,8 @@ returns-in-Ok-clause-indexed c =
     let lines = c.put_listed.new.lines in
     let ringing = c.put_listed.new.ringing in
     let made = c.in-Ok.ensures.ok in
-    rw made (IsIndexed-put s c.args.item.now c.args.indexes.now y c.settle.new.self lines ringing c.connection_turn-turn.result c.queued_after-queued.result c.requires c.in_ok-undo.ensures.ok
-    (subst (λ t. TakenOut t (record y { lines = lines; ringing = ringing }) c.settle.new.self c.connection_turn-turn.result.leaving) made c.settle.ensures) c.connection_turn-turn.ensures
+    rw made (IsIndexed-put s c.args.item.now c.args.indexes.now y c.settle.new.self lines ringing c.connection_swap-swap.result c.queued_after-queued.result c.requires c.in_ok-undo.ensures.ok
+    (subst (λ t. TakenOut t (record y { lines = lines; ringing = ringing }) c.settle.new.self c.connection_swap-swap.result.leaving) made c.settle.ensures) c.connection_swap-swap.ensures
     (subst (λ t. Lines t lines) made c.put_listed.ensures.listed) (subst (λ t. Ringing t ringing) made c.put_listed.ensures.noted) c.queued_after-queued.ensures)
 
 pub returns-in-Err-clause-indexed : goal.returns-in-Err-clause-indexed
@@ -33,7 +33,7 @@ returns-in-Err-clause-indexed c =
     let lines = c.put_listed.new.lines in
     let ringing = c.put_listed.new.ringing in
     let same = c.in-Err.ensures.err in
-    rw same (IsIndexed-no_put s c.args.indexes.now y c.take_out.new.self lines ringing c.connection_turn-turn.result.entering c.in_ok-undo.undo c.requires c.in_ok-undo.ensures.ok c.in_ok-undo.ensures.undo
+    rw same (IsIndexed-no_put s c.args.indexes.now y c.take_out.new.self lines ringing c.connection_swap-swap.result.entering c.in_ok-undo.undo c.requires c.in_ok-undo.ensures.ok c.in_ok-undo.ensures.undo
     (subst (λ t. TakenOut t (record y { lines = lines; ringing = ringing }) c.take_out.new.self c.in_ok-undo.undo) same c.take_out.ensures)
     (subst (λ t. Lines t lines) same c.put_listed.ensures.listed) (subst (λ t. Ringing t ringing) same c.put_listed.ensures.noted))
 

@@ -2,8 +2,8 @@ use Rattle.std.proofs.Common.{◌≡◌, ℕ, ◌≤◌, Bool, true, false, cond
 use Rattle.acd_terms.specs.States.{is_queued}
 use Rattle.acd_terms.specs.declared.record.ConnectionRecord.{ConnectionRecord}
 use Rattle.acd_model.specs.Scans.{connection_of}
-use Rattle.acd_tables.specs.Turns.{one_queued}
-use Rattle.acd_tables.proofs.IndexLemmas.{queued-turned, queued_most, queued_least}
+use Rattle.acd_tables.specs.Swaps.{one_queued}
+use Rattle.acd_tables.proofs.IndexLemmas.{queued-swapped, queued_most, queued_least}
 use Rattle.acd_tables.proofs.changes.queued_after.Goals as goal
 
 pub overflow_sub-result : goal.overflow_sub-result
@@ -36,7 +36,7 @@ overflow_add-result c =
 pub returns : goal.returns
 returns c =
     let s = c.args.records.now in
-    let turned = queued-turned s c.args.call c.args.device c.args.new.now c.requires.indexed.connections c.requires.at in
+    let turned = queued-swapped s c.args.call c.args.device c.args.new.now c.requires.indexed.connections c.requires.at in
     let least = queued_least s c.args.call c.args.device c.requires.indexed.connections in
     let old : c.one_queued-before.result ≡ one_queued (connection_of s c.args.call c.args.device) = c.one_queued-before.ensures ∙ ap one_queued c.requires.found in
     let new = c.one_queued-after.ensures in

@@ -1,7 +1,7 @@
 use Rattle.std.proofs.Common.{ap, subst, ◌∙◌}
 use Rattle.acd_model.specs.Writes.{without_connection}
 use Rattle.acd_tables.specs.Indexed.{rings}
-use Rattle.acd_tables.specs.Turns.{TakenOut}
+use Rattle.acd_tables.specs.Swaps.{TakenOut}
 use Rattle.acd_tables.proofs.OfferLemmas.{offers-of}
 use Rattle.acd_tables.proofs.IndexLemmas.{IsIndexed-untouched, IsIndexed-removed, group_same, groups_less}
 use Rattle.acd_tables.proofs.changes.remove_connection.Goals as goal
@@ -19,7 +19,7 @@ pub returns-clause-indexed : goal.returns-clause-indexed
 returns-clause-indexed c =
     let y = c.enter.new.self in
     rw c.remove_connection.ensures
-    (IsIndexed-removed c.args.records.now c.args.call c.args.device c.args.indexes.now y c.settle.new.self c.unlist.new.lines c.forget.new.noted c.connection_turn-turn.result c.queued_after-queued.result c.rings.result
+    (IsIndexed-removed c.args.records.now c.args.call c.args.device c.args.indexes.now y c.settle.new.self c.unlist.new.lines c.forget.new.noted c.connection_swap-swap.result c.queued_after-queued.result c.rings.result
     c.requires c.in_ok-enter.ensures.ok
-    (subst (λ t. TakenOut t (record y { lines = c.unlist.new.lines; ringing = c.forget.new.noted }) c.settle.new.self c.connection_turn-turn.result.leaving) c.remove_connection.ensures c.settle.ensures)
-    c.connection_turn-turn.ensures (c.rings.ensures ∙ ap rings c.connection-old.ensures) c.forget.ensures c.unlist.ensures c.queued_after-queued.ensures)
+    (subst (λ t. TakenOut t (record y { lines = c.unlist.new.lines; ringing = c.forget.new.noted }) c.settle.new.self c.connection_swap-swap.result.leaving) c.remove_connection.ensures c.settle.ensures)
+    c.connection_swap-swap.ensures (c.rings.ensures ∙ ap rings c.connection-old.ensures) c.forget.ensures c.unlist.ensures c.queued_after-queued.ensures)

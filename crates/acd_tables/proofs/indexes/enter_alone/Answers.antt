@@ -1,5 +1,5 @@
 use Rattle.std.proofs.Common.{List, ℕ, Some, None, cond, ap, sym, subst, ◌∙◌}
-use Rattle.acd_tables.specs.Turns.{Enters, Undoes}
+use Rattle.acd_tables.specs.Swaps.{Enters, Undoes}
 use Rattle.acd_tables.proofs.Entries.{enters_one, undoes_one}
 use Rattle.acd_tables.proofs.indexes.enter_alone.Goals as goal
 

@@ -1,5 +1,5 @@
 use Rattle.std.proofs.Common.{List, ℕ, Some, ap, sym, subst, ◌∙◌}
-use Rattle.acd_tables.specs.Turns.{Leaves}
+use Rattle.acd_tables.specs.Swaps.{Leaves}
 use Rattle.acd_tables.proofs.Entries.{leaves_one}
 use Rattle.acd_tables.proofs.indexes.leave_alone.Goals as goal
 

@@ -1,6 +1,6 @@
 use Rattle.std.proofs.Common.{Some, List, ℕ, sym, subst}
-use Rattle.acd_tables.specs.Turns.{LeavesBut}
-use Rattle.acd_tables.proofs.TurnLemmas.{left_but}
+use Rattle.acd_tables.specs.Swaps.{LeavesBut}
+use Rattle.acd_tables.proofs.SwapLemmas.{left_but}
 use Rattle.acd_tables.proofs.indexes.leaving_but.Goals as goal
 
 pub returns-in-Some : goal.returns-in-Some

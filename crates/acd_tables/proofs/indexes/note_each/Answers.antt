@@ -1,6 +1,6 @@
 use Rattle.std.proofs.Common.{ℕ, ◌≡◌, take, length, ap, subst, ◌∙◌, arith}
 use Rattle.std.proofs.Math.Seq.{take-length}
-use Rattle.acd_tables.specs.Turns.{NotesGroups}
+use Rattle.acd_tables.specs.Swaps.{NotesGroups}
 use Rattle.acd_tables.proofs.indexes.note_each.Goals as goal
 
 pub returns-clause-ok : goal.returns-clause-ok

@@ -1,7 +1,7 @@
 use Rattle.std.proofs.Common.{◌≡◌, true, take}
 use Rattle.std.specs.BTreeSet.{contains}
 use Rattle.acd_tables.specs.Indexed.{OfferKey, offer_cmp}
-use Rattle.acd_tables.specs.Turns.{NotesGroups}
+use Rattle.acd_tables.specs.Swaps.{NotesGroups}
 use Rattle.acd_tables.proofs.indexes.note_each.Given as goal
 
 abbrev pub invariant-loop-group : goal.invariant-loop-group

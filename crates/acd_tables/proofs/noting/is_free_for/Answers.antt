@@ -3,14 +3,14 @@ use Rattle.std.proofs.lemmas.Bool.{eqb-true}
 use Rattle.acd_model.specs.Scans.{has}
 use Rattle.acd_lemmas.proofs.Lists.{some_is}
 use Rattle.acd_lemmas.proofs.State.{has_is}
-use Rattle.acd_tables.specs.Indexed.{SeatMap, seat_of}
+use Rattle.acd_tables.specs.Indexed.{SeatMap, agent_seated}
 use Rattle.acd_tables.proofs.noting.is_free_for.Goals as goal
 
 -- who stands at the station that the agent has
-seat_there : (seats : SeatMap) (own : Option ℕ) (station d n : ℕ) (there : Option ℕ) → own ≡ Some station → there ≡ seat_of seats station → has own d ≡ true → has (seat_of seats d) n ≡ true → there ≡ Some n
+seat_there : (seats : SeatMap) (own : Option ℕ) (station d n : ℕ) (there : Option ℕ) → own ≡ Some station → there ≡ agent_seated seats station → has own d ≡ true → has (agent_seated seats d) n ≡ true → there ≡ Some n
 seat_there seats own station d n there is at e f =
     let same : station ≡ d = some_is station d (sym is ∙ has_is own d e) in
-    at ∙ ap (seat_of seats) same ∙ has_is (seat_of seats d) n f
+    at ∙ ap (agent_seated seats) same ∙ has_is (agent_seated seats d) n f
 
 pub returns-in-None-get : goal.returns-in-None-get
 returns-in-None-get c = λ yes d n e f.

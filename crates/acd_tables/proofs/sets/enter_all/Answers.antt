@@ -1,6 +1,6 @@
 use Rattle.std.proofs.Common.{Some, ℕ, take, ◌++◌, [], ◌∷◌, ap, sym, subst, ◌∙◌, List}
 use Rattle.std.proofs.lemmas.List.{take_more}
-use Rattle.acd_tables.specs.Turns.{Enters, Undoes, Leaves}
+use Rattle.acd_tables.specs.Swaps.{Enters, Undoes, Leaves}
 use Rattle.acd_tables.proofs.Entries.{enters_more, undoes_more, all_undone, no_longer}
 use Rattle.acd_tables.proofs.sets.enter_all.Goals as goal
 

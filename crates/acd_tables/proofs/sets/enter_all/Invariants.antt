@@ -1,5 +1,5 @@
 use Rattle.std.proofs.Common.{Some, take, length, ◌≤◌}
-use Rattle.acd_tables.specs.Turns.{Enters, Undoes}
+use Rattle.acd_tables.specs.Swaps.{Enters, Undoes}
 use Rattle.acd_tables.proofs.sets.enter_all.Given as goal
 
 abbrev pub invariant-loop-group : goal.invariant-loop-group

@@ -1,6 +1,6 @@
 use Rattle.std.proofs.Common.{Some, ℕ, take, ◌++◌, [], ◌∷◌, ap, sym, subst, ◌∙◌, List}
 use Rattle.std.proofs.lemmas.List.{take_more}
-use Rattle.acd_tables.specs.Turns.{Leaves}
+use Rattle.acd_tables.specs.Swaps.{Leaves}
 use Rattle.acd_tables.proofs.Entries.{leaves_more}
 use Rattle.acd_tables.proofs.sets.leave_all.Goals as goal
 

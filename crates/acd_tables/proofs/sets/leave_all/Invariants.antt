@@ -1,5 +1,5 @@
 use Rattle.std.proofs.Common.{Some, take}
-use Rattle.acd_tables.specs.Turns.{Leaves}
+use Rattle.acd_tables.specs.Swaps.{Leaves}
 use Rattle.acd_tables.proofs.sets.leave_all.Given as goal
 
 abbrev pub invariant-loop-group : goal.invariant-loop-group

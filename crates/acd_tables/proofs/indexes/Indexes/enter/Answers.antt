@@ -1,5 +1,5 @@
 use Rattle.std.proofs.Common.{rules, refl, ◌∙◌}
-use Rattle.acd_tables.specs.Turns.{Untouched}
+use Rattle.acd_tables.specs.Swaps.{Untouched}
 use Rattle.acd_tables.proofs.OfferLemmas.{offers-entered, offers-more, offers-same, undone}
 use Rattle.acd_tables.proofs.indexes.Indexes.enter.Goals as goal
 

@@ -1,5 +1,5 @@
 use Rattle.std.proofs.Common.{refl, sym, subst}
-use Rattle.acd_tables.specs.Turns.{TakenOut}
+use Rattle.acd_tables.specs.Swaps.{TakenOut}
 use Rattle.acd_tables.proofs.OfferLemmas.{offers-left}
 use Rattle.acd_tables.proofs.indexes.Indexes.take_out.Goals as goal
 

@@ -6,6 +6,7 @@ use Rattle.std.specs.BTreeMap.{BTreeMap}
 use Rattle.std.specs.BTreeSet.{BTreeSet, contains}
 use Rattle.acd_terms.specs.Groups.{is_one_of}
 use Rattle.acd_terms.specs.States.{is_queued, is_ready}
+use Rattle.acd_terms.specs.Numbers.{Device, Agent, CallId, Stamp, Priority}
 use Rattle.acd_terms.specs.declared.rows.Rows.{Rows}
 use Rattle.acd_terms.specs.declared.record.GroupRecord.{GroupRecord}
 use Rattle.acd_terms.specs.declared.record.AgentRecord.{AgentRecord}
@@ -14,52 +15,52 @@ use Rattle.acd_model.specs.Scans.{group_of, agent_of, connection_of, has}
 use Rattle.acd_model.specs.Choice.{waiting_pair, ready_pair}
 use Rattle.acd_model.specs.Writes.{with_connection, without_connection}
 use Rattle.acd_tables.specs.Sets.{holds, has_set, Stays}
-use Rattle.acd_tables.specs.Indexed.{pair_cmp, waits_at, is_able_since, OfferKey, offer_cmp, offer_key, ListsOffers, SeatMap, seat_of}
+use Rattle.acd_tables.specs.Indexed.{pair_cmp, waits_at, is_able_since, OfferKey, offer_cmp, offer_key, ListsOffers, SeatMap, agent_seated}
 use Rattle.acd_tables.specs.declared.indexes.Indexes.{Indexes}
 use Rattle.acd_tables.specs.declared.indexes.Entries.{Entries}
-use Rattle.acd_tables.specs.declared.indexes.Turn.{Turn}
+use Rattle.acd_tables.specs.declared.indexes.Swap.{Swap}
 
 -- the entry is of the group
-abbrev pub is_of_group : {E : Type 0} → Option (List ℕ × E) → ℕ → Bool
+abbrev pub is_of_group : {E : Type 0} → Option (List Device × E) → Device → Bool
 is_of_group None g = false
 is_of_group (Some k) g = is_one_of k.0 g
 
 module _ {E : Type 0} (cmp : E → E → Ordering) where
   -- the entry is this member, in the set of one of its groups
-  abbrev pub is_entry : Option (List ℕ × E) → ℕ → E → Bool
+  abbrev pub is_entry : Option (List Device × E) → Device → E → Bool
   is_entry None g e = false
   is_entry (Some k) g e = is_one_of k.0 g && is_eq (cmp k.1 e)
 
   -- the sets with the entry
-  pub record Enters (old new : BTreeMap ℕ (BTreeSet E)) (entry : Option (List ℕ × E)) : Type 0 where
-    pub sets : (g : ℕ) → has_set nat_cmp cmp new g ≡ has_set nat_cmp cmp old g
-    pub members : (g : ℕ) (e : E) → holds nat_cmp cmp new g e ≡ (is_entry entry g e || holds nat_cmp cmp old g e)
+  pub record Enters (old new : BTreeMap Device (BTreeSet E)) (entry : Option (List Device × E)) : Type 0 where
+    pub sets : (g : Device) → has_set nat_cmp cmp new g ≡ has_set nat_cmp cmp old g
+    pub members : (g : Device) (e : E) → holds nat_cmp cmp new g e ≡ (is_entry entry g e || holds nat_cmp cmp old g e)
 
   -- the sets without the entry
-  pub record Leaves (old new : BTreeMap ℕ (BTreeSet E)) (entry : Option (List ℕ × E)) : Type 0 where
-    pub sets : (g : ℕ) → has_set nat_cmp cmp new g ≡ has_set nat_cmp cmp old g
-    pub members : (g : ℕ) (e : E) → holds nat_cmp cmp new g e ≡ (not (is_entry entry g e) && holds nat_cmp cmp old g e)
+  pub record Leaves (old new : BTreeMap Device (BTreeSet E)) (entry : Option (List Device × E)) : Type 0 where
+    pub sets : (g : Device) → has_set nat_cmp cmp new g ≡ has_set nat_cmp cmp old g
+    pub members : (g : Device) (e : E) → holds nat_cmp cmp new g e ≡ (not (is_entry entry g e) && holds nat_cmp cmp old g e)
 
   -- the entry taken out gives the sets of before
-  abbrev pub Undoes : BTreeMap ℕ (BTreeSet E) → BTreeMap ℕ (BTreeSet E) → Option (List ℕ × E) → Type 0
-  Undoes old new entry = (g : ℕ) (e : E) → holds nat_cmp cmp old g e ≡ (not (is_entry entry g e) && holds nat_cmp cmp new g e)
+  abbrev pub Undoes : BTreeMap Device (BTreeSet E) → BTreeMap Device (BTreeSet E) → Option (List Device × E) → Type 0
+  Undoes old new entry = (g : Device) (e : E) → holds nat_cmp cmp old g e ≡ (not (is_entry entry g e) && holds nat_cmp cmp new g e)
 
   -- the groups of the member, but for those of the other entry where it is the same member's
-  abbrev pub left_of : List ℕ → E → Option (List ℕ × E) → List ℕ
+  abbrev pub left_of : List Device → E → Option (List Device × E) → List Device
   left_of gs k None = gs
-  left_of gs k (Some other) = if is_eq (cmp k other.1) then filter (λ (g : ℕ). not (is_one_of other.0 g)) gs else gs
+  left_of gs k (Some other) = if is_eq (cmp k other.1) then filter (λ (g : Device). not (is_one_of other.0 g)) gs else gs
 
   -- the first entry, but where it is the second too
-  abbrev pub LeavesBut : Option (List ℕ × E) → Option (List ℕ × E) → Option (List ℕ × E) → Type 0
-  LeavesBut before after leaving = (g : ℕ) (e : E) → is_entry leaving g e ≡ (is_entry before g e && not (is_entry after g e))
+  abbrev pub LeavesBut : Option (List Device × E) → Option (List Device × E) → Option (List Device × E) → Type 0
+  LeavesBut before after leaving = (g : Device) (e : E) → is_entry leaving g e ≡ (is_entry before g e && not (is_entry after g e))
 
 -- the place of a queued connection
-abbrev pub queue_entry : Option ConnectionRecord → Option (List ℕ × (ℕ × ℕ))
+abbrev pub queue_entry : Option ConnectionRecord → Option (List Device × (Stamp × CallId))
 queue_entry None = None
 queue_entry (Some c) = if is_queued c.state then Some (c.device ∷ [], waiting_pair c) else None
 
 -- the place of a ready agent in each of its groups
-abbrev pub ready_entry : Option AgentRecord → Option (List ℕ × (ℕ × ℕ))
+abbrev pub ready_entry : Option AgentRecord → Option (List Device × (Stamp × Agent))
 ready_entry None = None
 ready_entry (Some a) = if is_ready a.state then Some (a.groups, ready_pair a) else None
 
@@ -75,8 +76,8 @@ abbrev pub Offers : Rows → Indexes → Type 0
 Offers s x = ListsOffers s x.queues x.ready x.offering
 
 -- the groups are noted, each at its priority
-abbrev pub NotesGroups : Rows → BTreeSet OfferKey → List ℕ → Type 0
-NotesGroups s offering gs = (g : ℕ) (r : GroupRecord) → is_one_of gs g ≡ true → group_of s g ≡ Some r → contains offer_cmp offering (offer_key r) ≡ true
+abbrev pub NotesGroups : Rows → BTreeSet OfferKey → List Device → Type 0
+NotesGroups s offering gs = (g : Device) (r : GroupRecord) → is_one_of gs g ≡ true → group_of s g ≡ Some r → contains offer_cmp offering (offer_key r) ≡ true
 
 -- the indexes with the entries
 pub record Entered (s : Rows) (old new : Indexes) (entries : Entries) : Type 0 where
@@ -109,19 +110,19 @@ abbrev pub differ : Bool → Bool → Bool
 differ a b = if a then not b else b
 
 -- what may stand at a key
-abbrev pub IsAt : ℕ → ℕ → Option ConnectionRecord → Type 0
+abbrev pub IsAt : CallId → Device → Option ConnectionRecord → Type 0
 IsAt call device None = Unit {0}
 IsAt call device (Some c) = (c.call ≡ call) × (c.device ≡ device)
 
 -- the rows with the connection, or without one
-abbrev pub with_or_without : Rows → ℕ → ℕ → Option ConnectionRecord → Rows
+abbrev pub with_or_without : Rows → CallId → Device → Option ConnectionRecord → Rows
 with_or_without s call device None = without_connection s call device
 with_or_without s call device (Some c) = with_connection s c
 
 -- what enters and what leaves makes the sets of t from those of s
-pub record TurnsTo (s t : Rows) (turn : Turn) : Type 0 where
-  pub waiting : (g : ℕ) (p : ℕ × ℕ) → waits_at p.0 (connection_of t p.1 g) ≡ (not (is_entry pair_cmp turn.leaving.queue g p) && (is_entry pair_cmp turn.entering.queue g p || waits_at p.0 (connection_of s p.1 g)))
-  pub able : (g : ℕ) (p : ℕ × ℕ) → is_able_since t g p.0 (agent_of t p.1) ≡ (not (is_entry pair_cmp turn.leaving.ready g p) && (is_entry pair_cmp turn.entering.ready g p || is_able_since s g p.0 (agent_of s p.1)))
+pub record SwapsTo (s t : Rows) (swap : Swap) : Type 0 where
+  pub waiting : (g : Device) (p : ℕ × ℕ) → waits_at p.0 (connection_of t p.1 g) ≡ (not (is_entry pair_cmp swap.leaving.queue g p) && (is_entry pair_cmp swap.entering.queue g p || waits_at p.0 (connection_of s p.1 g)))
+  pub able : (g : Device) (p : ℕ × ℕ) → is_able_since t g p.0 (agent_of t p.1) ≡ (not (is_entry pair_cmp swap.leaving.ready g p) && (is_entry pair_cmp swap.entering.ready g p || is_able_since s g p.0 (agent_of s p.1)))
 
 -- one where the connection that may be there is queued
 abbrev pub one_queued : Option ConnectionRecord → ℕ
@@ -130,19 +131,19 @@ one_queued (Some c) = if is_queued c.state then 1 else 0
 
 -- whoever stands at the agent's station is that agent
 abbrev pub IsFreeFor : SeatMap → AgentRecord → Type 0
-IsFreeFor seats item = (d n : ℕ) → has item.station d ≡ true → has (seat_of seats d) n ≡ true → item.agent ≡ n
+IsFreeFor seats item = (d : Device) (n : Agent) → has item.station d ≡ true → has (agent_seated seats d) n ≡ true → item.agent ≡ n
 
 -- the agent stands at the station, if it is at one
-abbrev pub Sits : SeatMap → SeatMap → Option ℕ → ℕ → Type 0
-Sits old new station agent = (d : ℕ) → seat_of new d ≡ (if has station d then Some agent else seat_of old d)
+abbrev pub Sits : SeatMap → SeatMap → Option Device → Agent → Type 0
+Sits old new station agent = (d : Device) → agent_seated new d ≡ (if has station d then Some agent else agent_seated old d)
 
 -- the first station, and not the second
-abbrev pub quits : Option ℕ → Option ℕ → ℕ → Bool
+abbrev pub quits : Option Device → Option Device → Device → Bool
 quits one other d = has one d && not (has other d)
 
 -- nobody stands at the first station, but where it is the second
-abbrev pub Rises : SeatMap → SeatMap → Option ℕ → Option ℕ → Type 0
-Rises old new one other = (d : ℕ) → seat_of new d ≡ (if quits one other d then None else seat_of old d)
+abbrev pub GetsUp : SeatMap → SeatMap → Option Device → Option Device → Type 0
+GetsUp old new one other = (d : Device) → agent_seated new d ≡ (if quits one other d then None else agent_seated old d)
 
 -- nothing is in the indexes
 pub record IsBlank (x : Indexes) : Type 0 where
@@ -155,11 +156,11 @@ pub record IsBlank (x : Indexes) : Type 0 where
   pub queued : x.queued ≡ 0
 
 -- the group that may be there has the priority
-abbrev pub has_rank : Option GroupRecord → ℕ → Bool
+abbrev pub has_rank : Option GroupRecord → Priority → Bool
 has_rank None priority = false
 has_rank (Some g) priority = g.priority == priority
 
 -- the key is that of the group before, and it has another priority now
-abbrev pub loses_rank : Option GroupRecord → ℕ → OfferKey → Bool
+abbrev pub loses_rank : Option GroupRecord → Priority → OfferKey → Bool
 loses_rank None priority k = false
 loses_rank (Some g) priority k = not (g.priority == priority) && is_eq (offer_cmp (offer_key g) k)

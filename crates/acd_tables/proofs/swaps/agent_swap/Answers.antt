@@ -1,12 +1,12 @@
 use Rattle.std.proofs.Common.{refl, ap, ◌∙◌}
 use Rattle.std.specs.Prelude.{None}
-use Rattle.acd_tables.specs.Turns.{ready_entry}
-use Rattle.acd_tables.proofs.TurnLemmas.{agent-turn}
-use Rattle.acd_tables.proofs.turns.agent_turn.Goals as goal
+use Rattle.acd_tables.specs.Swaps.{ready_entry}
+use Rattle.acd_tables.proofs.SwapLemmas.{agent-swap}
+use Rattle.acd_tables.proofs.swaps.agent_swap.Goals as goal
 
 pub returns : goal.returns
 returns c =
-    agent-turn c.args.records.now c.args.item.now
+    agent-swap c.args.records.now c.args.item.now
     (record {
       entering = record { queue = None; ready = c.only-after.result };
       leaving = record { queue = None; ready = c.leaving_but-leaving.result };

@@ -22,8 +22,8 @@ use Rattle.acd_lemmas.proofs.State.{connections_total, at_put, at_remove, agent_
 use Rattle.acd_tables.specs.Indexed.{pair_cmp, waits_at, is_busying, is_busy_at, is_free, is_able_since, Seats, SeatMap}
 use Rattle.acd_tables.specs.Uses.{is_there_and, is_in_use}
 use Rattle.acd_tables.specs.declared.uses.Use.TheVariants.{Busying}
-use Rattle.acd_tables.specs.Turns.{TurnsTo, differ, is_entry, IsAt, queue_entry, ready_entry, with_or_without, LeavesBut, left_of}
-use Rattle.acd_tables.specs.declared.indexes.Turn.{Turn}
+use Rattle.acd_tables.specs.Swaps.{SwapsTo, differ, is_entry, IsAt, queue_entry, ready_entry, with_or_without, LeavesBut, left_of}
+use Rattle.acd_tables.specs.declared.indexes.Swap.{Swap}
 use Rattle.acd_tables.proofs.Looking.{there-any, any-there, used_some, seated}
 use Rattle.acd_lemmas.proofs.Numbers.{eq_then}
 use Rattle.acd_lemmas.proofs.Bools.{or_no}
@@ -121,7 +121,7 @@ alike true false e = absurd (cc (e))
 alike false true e = absurd (cc (e))
 alike false false e = refl
 
--- a connection that keeps the station as busy as it was changes nobody's turn
+-- a connection that keeps the station as busy as it was changes nobody's readiness
 module _ (s t : Rows) (call device : ℕ) (new : Option ConnectionRecord) (ascending : IsAscending connection_order s.connections) (at : IsAt call device new) (r : Replaces s t call device new)
     (same : differ (is_there_and is_busying (connection_of s call device)) (is_there_and is_busying new) ≡ false) where
   busy-still : is_busy_at t device ≡ is_busy_at s device
@@ -171,10 +171,10 @@ unswapped true false x = refl
 unswapped false true x = refl
 unswapped false false x = refl
 
-pub waiting-turned : (s t : Rows) (call device : ℕ) (new : Option ConnectionRecord) → IsAt call device new → Replaces s t call device new
+pub waiting-swapped : (s t : Rows) (call device : ℕ) (new : Option ConnectionRecord) → IsAt call device new → Replaces s t call device new
     → (leaving : Option (List ℕ × (ℕ × ℕ))) → LeavesBut pair_cmp (queue_entry (connection_of s call device)) (queue_entry new) leaving
     → (g : ℕ) (p : ℕ × ℕ) → waits_at p.0 (connection_of t p.1 g) ≡ (not (is_entry pair_cmp leaving g p) && (is_entry pair_cmp (queue_entry new) g p || waits_at p.0 (connection_of s p.1 g)))
-waiting-turned s t call device new at r leaving out g p =
+waiting-swapped s t call device new at r leaving out g p =
     ap (waits_at p.0) (r.found p.1 g)
     ∙ by (call == p.1 && device == g) refl
     ∙ ap (λ b. not b && (is_entry pair_cmp (queue_entry new) g p || waits_at p.0 (connection_of s p.1 g))) (sym (out g p))
@@ -236,11 +236,11 @@ becomes_free true true false d = refl
 becomes_free true false c d = refl
 becomes_free false b c d = refl
 
-pub able-turned : (s t : Rows) (call device : ℕ) (new : Option ConnectionRecord) (seats : SeatMap) → IsAscending connection_order s.connections → IsAscending agent_order s.agents → Seats s seats → IsAt call device new → Replaces s t call device new
+pub able-swapped : (s t : Rows) (call device : ℕ) (new : Option ConnectionRecord) (seats : SeatMap) → IsAscending connection_order s.connections → IsAscending agent_order s.agents → Seats s seats → IsAt call device new → Replaces s t call device new
     → (busy : Bool) → busy ≡ is_busy_at t device
     → (g : ℕ) (p : ℕ × ℕ) → is_able_since t g p.0 (agent_of t p.1)
     ≡ (not (is_entry pair_cmp (cond busy (ready_entry (agent_at s device)) None) g p) && (is_entry pair_cmp (cond busy None (ready_entry (agent_at s device))) g p || is_able_since s g p.0 (agent_of s p.1)))
-able-turned s t call device new seats ascending agents listed at r busy is g p =
+able-swapped s t call device new seats ascending agents listed at r busy is g p =
     ap (is_able_since t g p.0) (r.agents p.1) ∙ by (agent_of s p.1) refl
   where
     -- who isn't at the station stays
@@ -357,8 +357,8 @@ module _ (s : Rows) (item : AgentRecord) (after leaving : Option (List ℕ × (�
   put_there : (x e b : Bool) → e ≡ false → b ≡ false → x ≡ (not (b && not e) && (e || x))
   put_there x e b h k = rw (h, k) refl
 
-  pub agent-turned : (g : ℕ) (p : ℕ × ℕ) → is_able_since (with_agent s item) g p.0 (agent_of (with_agent s item) p.1) ≡ (not (is_entry pair_cmp leaving g p) && (is_entry pair_cmp after g p || is_able_since s g p.0 (agent_of s p.1)))
-  agent-turned g p =
+  pub agent-swapped : (g : ℕ) (p : ℕ × ℕ) → is_able_since (with_agent s item) g p.0 (agent_of (with_agent s item) p.1) ≡ (not (is_entry pair_cmp leaving g p) && (is_entry pair_cmp after g p || is_able_since s g p.0 (agent_of s p.1)))
+  agent-swapped g p =
       same_able g p.0 (agent_of (with_agent s item) p.1)
       ∙ ap (is_able_since s g p.0) (agent_put s item p.1)
       ∙ by (item.agent == p.1) refl
@@ -386,29 +386,29 @@ none_leaves None true = refl
 none_leaves None false = refl
 none_leaves (Some k) b = refl
 
--- the turn of a connection, by its parts
-pub connection-turn : (s : Rows) (seats : SeatMap) (call device : ℕ) (old new : Option ConnectionRecord) (turn : Turn) (before seat : Option (List ℕ × (ℕ × ℕ))) (busy : Bool)
+-- the swap of a connection, by its parts
+pub connection-swap : (s : Rows) (seats : SeatMap) (call device : ℕ) (old new : Option ConnectionRecord) (swap : Swap) (before seat : Option (List ℕ × (ℕ × ℕ))) (busy : Bool)
     → IsAscending connection_order s.connections → IsAscending agent_order s.agents → Seats s seats → IsAt call device new → old ≡ connection_of s call device
-    → before ≡ queue_entry old → turn.entering.queue ≡ queue_entry new → LeavesBut pair_cmp before turn.entering.queue turn.leaving.queue
+    → before ≡ queue_entry old → swap.entering.queue ≡ queue_entry new → LeavesBut pair_cmp before swap.entering.queue swap.leaving.queue
     → seat ≡ cond (differ (is_there_and is_busying old) (is_there_and is_busying new)) (ready_entry (agent_at s device)) None
     → busy ≡ (is_some seat && (is_there_and is_busying new || is_in_use s device (Some call) Busying))
-    → turn.entering.ready ≡ cond busy None seat → turn.leaving.ready ≡ cond busy seat None → TurnsTo s (with_or_without s call device new) turn
-connection-turn s seats call device old new turn before seat busy ascending agents listed at found b after out f u e l =
+    → swap.entering.ready ≡ cond busy None seat → swap.leaving.ready ≡ cond busy seat None → SwapsTo s (with_or_without s call device new) swap
+connection-swap s seats call device old new swap before seat busy ascending agents listed at found b after out f u e l =
     let t : Rows = with_or_without s call device new in
     let r = Replaces-either s call device new ascending at in
-    let leaves : LeavesBut pair_cmp (queue_entry (connection_of s call device)) (queue_entry new) turn.leaving.queue =
+    let leaves : LeavesBut pair_cmp (queue_entry (connection_of s call device)) (queue_entry new) swap.leaving.queue =
     λ g p. out g p
-    ∙ ap (λ o. is_entry pair_cmp o g p && not (is_entry pair_cmp turn.entering.queue g p)) (b ∙ ap queue_entry found)
+    ∙ ap (λ o. is_entry pair_cmp o g p && not (is_entry pair_cmp swap.entering.queue g p)) (b ∙ ap queue_entry found)
     ∙ ap (λ o. is_entry pair_cmp (queue_entry (connection_of s call device)) g p && not (is_entry pair_cmp o g p)) after in
     let now : Bool = is_there_and is_busying new || is_in_use s device (Some call) Busying in
-    let enters : turn.entering.ready ≡ cond now None seat = e ∙ ap (λ b. cond b None seat) u ∙ none_enters seat now in
-    let exits : turn.leaving.ready ≡ cond now seat None = l ∙ ap (λ b. cond b seat None) u ∙ none_leaves seat now in
+    let enters : swap.entering.ready ≡ cond now None seat = e ∙ ap (λ b. cond b None seat) u ∙ none_enters seat now in
+    let exits : swap.leaving.ready ≡ cond now seat None = l ∙ ap (λ b. cond b seat None) u ∙ none_leaves seat now in
     record {
-      waiting = λ g p. waiting-turned s t call device new at r turn.leaving.queue leaves g p
-          ∙ ap (λ o. not (is_entry pair_cmp turn.leaving.queue g p) && (is_entry pair_cmp o g p || waits_at p.0 (connection_of s p.1 g))) (sym after);
+      waiting = λ g p. waiting-swapped s t call device new at r swap.leaving.queue leaves g p
+          ∙ ap (λ o. not (is_entry pair_cmp swap.leaving.queue g p) && (is_entry pair_cmp o g p || waits_at p.0 (connection_of s p.1 g))) (sym after);
       able = λ g p. by (differ (is_there_and is_busying old) (is_there_and is_busying new)) refl f g p
           ∙ ap (λ o. not (is_entry pair_cmp o g p) && (is_entry pair_cmp (cond now None seat) g p || is_able_since s g p.0 (agent_of s p.1))) (sym exits)
-          ∙ ap (λ o. not (is_entry pair_cmp turn.leaving.ready g p) && (is_entry pair_cmp o g p || is_able_since s g p.0 (agent_of s p.1))) (sym enters);
+          ∙ ap (λ o. not (is_entry pair_cmp swap.leaving.ready g p) && (is_entry pair_cmp o g p || is_able_since s g p.0 (agent_of s p.1))) (sym enters);
     }
   where
     t : Rows
@@ -426,23 +426,23 @@ connection-turn s seats call device old new turn before seat busy ascending agen
         ≡ (not (is_entry pair_cmp (cond now seat None) g p) && (is_entry pair_cmp (cond now None seat) g p || is_able_since s g p.0 (agent_of s p.1)))
     by true d k g p =
         let r = Replaces-either s call device new ascending at in
-        able-turned s t call device new seats ascending agents listed at r now (busy-here s t call device new ascending at r) g p
+        able-swapped s t call device new seats ascending agents listed at r now (busy-here s t call device new ascending at r) g p
         ∙ ap (λ o. not (is_entry pair_cmp (cond now o None) g p) && (is_entry pair_cmp (cond now None o) g p || is_able_since s g p.0 (agent_of s p.1))) (sym k)
     by false d k g p =
         able-still s t call device new ascending at (Replaces-either s call device new ascending at) (ap (λ o. differ (is_there_and is_busying o) (is_there_and is_busying new)) (sym found) ∙ d) g p
         ∙ nobody now g p (is_able_since s g p.0 (agent_of s p.1))
         ∙ ap (λ o. not (is_entry pair_cmp (cond now o None) g p) && (is_entry pair_cmp (cond now None o) g p || is_able_since s g p.0 (agent_of s p.1))) (sym k)
 
--- the turn of an agent, by its parts
-pub agent-turn : (s : Rows) (item : AgentRecord) (turn : Turn) (before entry : Option (List ℕ × (ℕ × ℕ))) (free : Bool) → turn.entering.queue ≡ None → turn.leaving.queue ≡ None
-    → before ≡ ready_entry (agent_of s item.agent) → entry ≡ ready_entry (Some item) → free ≡ (is_some entry && is_free s item.station) → turn.entering.ready ≡ cond free entry None → LeavesBut pair_cmp before turn.entering.ready turn.leaving.ready
-    → TurnsTo s (with_agent s item) turn
+-- the swap of an agent, by its parts
+pub agent-swap : (s : Rows) (item : AgentRecord) (swap : Swap) (before entry : Option (List ℕ × (ℕ × ℕ))) (free : Bool) → swap.entering.queue ≡ None → swap.leaving.queue ≡ None
+    → before ≡ ready_entry (agent_of s item.agent) → entry ≡ ready_entry (Some item) → free ≡ (is_some entry && is_free s item.station) → swap.entering.ready ≡ cond free entry None → LeavesBut pair_cmp before swap.entering.ready swap.leaving.ready
+    → SwapsTo s (with_agent s item) swap
 unfolding with_agent connection_of
-agent-turn s item turn before entry free a b o e f h out = record {
+agent-swap s item swap before entry free a b o e f h out = record {
   waiting = λ g p. ap (λ v. not v && waits_at p.0 (connection_of s p.1 g)) (sym (ap (λ u. is_entry pair_cmp u g p) b))
-      ∙ ap (λ v. not (is_entry pair_cmp turn.leaving.queue g p) && (v || waits_at p.0 (connection_of s p.1 g))) (sym (ap (λ u. is_entry pair_cmp u g p) a));
-  able = agent-turned s item turn.entering.ready turn.leaving.ready (h ∙ ap (λ v. cond v entry None) f ∙ none_leaves entry (is_free s item.station) ∙ ap (λ u. cond (is_free s item.station) u None) e)
-      (λ g p. out g p ∙ ap (λ u. is_entry pair_cmp u g p && not (is_entry pair_cmp turn.entering.ready g p)) o);
+      ∙ ap (λ v. not (is_entry pair_cmp swap.leaving.queue g p) && (v || waits_at p.0 (connection_of s p.1 g))) (sym (ap (λ u. is_entry pair_cmp u g p) a));
+  able = agent-swapped s item swap.entering.ready swap.leaving.ready (h ∙ ap (λ v. cond v entry None) f ∙ none_leaves entry (is_free s item.station) ∙ ap (λ u. cond (is_free s item.station) u None) e)
+      (λ g p. out g p ∙ ap (λ u. is_entry pair_cmp u g p && not (is_entry pair_cmp swap.entering.ready g p)) o);
 }
 
 -- what is left of the groups of an entry

@@ -6,10 +6,10 @@ ghost use Rattle.acd_model.specs.Writes.{with_agent};
 ghost use Rattle.acd_tables.specs.Indexed.{IsIndexed, is_free, is_busying};
 ghost use Rattle.acd_tables.specs.Uses.{is_there_and, is_in_use};
 ghost use Rattle.acd_tables.specs.declared.uses.Use.TheVariants.{Busying};
-ghost use Rattle.acd_tables.specs.Turns.{TurnsTo, differ, IsAt, queue_entry, ready_entry, with_or_without};
+ghost use Rattle.acd_tables.specs.Swaps.{SwapsTo, differ, IsAt, queue_entry, ready_entry, with_or_without};
 
 use crate::alone::Alone;
-use crate::indexes::{Entries, Indexes, Turn, leaving_alone, leaving_but, only};
+use crate::indexes::{Entries, Indexes, Swap, leaving_alone, leaving_but, only};
 use crate::records::Records;
 use crate::uses::{Use, agent_at, is_in_use, uses};
 use acd_terms::{AgentId, AgentRecord, ConnectionRecord, DeviceId, Few};
@@ -103,7 +103,7 @@ fn is_other(a: bool, b: bool) -> bool
 
 // The place of the ready agent at the device, where the connection makes the station busy or free. One
 // that is as before, or that waits in a group, does neither.
-fn turning_seat(
+fn swapped_seat(
     records: &Records,
     indexes: &Indexes,
     device: DeviceId,
@@ -121,25 +121,25 @@ fn turning_seat(
 }
 
 /// What changes where the connection of the call at the device is put, or removed.
-pub(crate) fn connection_turn(
+pub(crate) fn connection_swap(
     records: &Records,
     indexes: &Indexes,
     call: u64,
     device: DeviceId,
     old: &Option<ConnectionRecord>,
     new: &Option<ConnectionRecord>,
-) -> Turn
+) -> Swap
     requires indexed { IsIndexed records.now indexes.now }
     requires found { old.now ≡ connection_of records.now call device }
     requires at { IsAt call device new.now }
-    ensures { TurnsTo records.now (with_or_without records.now call device new.now) result }
+    ensures { SwapsTo records.now (with_or_without records.now call device new.now) result }
 {
     let before = queue_entry(old);
     let after = queue_entry(new);
-    let seat = turning_seat(records, indexes, device, old, new);
+    let seat = swapped_seat(records, indexes, device, old, new);
     let busy = is_kept(records, indexes, call, device, new, &seat);
     let leaving = leaving_alone(&before, &after);
-    Turn {
+    Swap {
         entering: Entries {
             queue: after,
             ready: only_not(&seat, busy),
@@ -177,22 +177,22 @@ fn may_be_offered(
 }
 
 /// What changes where the agent is put.
-pub(crate) fn agent_turn(
+pub(crate) fn agent_swap(
     records: &Records,
     indexes: &Indexes,
     old: &Option<AgentRecord>,
     item: &AgentRecord,
-) -> Turn
+) -> Swap
     requires indexed { IsIndexed records.now indexes.now }
     requires found { old.now ≡ agent_of records.now item.now.agent }
-    ensures { TurnsTo records.now (with_agent records.now item.now) result }
+    ensures { SwapsTo records.now (with_agent records.now item.now) result }
 {
     let entry = able_entry(item);
     let free = may_be_offered(records, indexes, &entry, item.station);
     let after = only(&entry, free);
     let before = ready_entry(old);
     let leaving = leaving_but(&before, &after);
-    Turn {
+    Swap {
         entering: Entries {
             queue: None,
             ready: after,
