@@ -2,11 +2,12 @@
 
 ghost use Rattle.std.specs.Prelude.{◌≡◌, ◌++◌, ◌∷◌, [], IfOk, OnOk};
 ghost use Rattle.acd_terms.specs.Lists.{IsAscending};
-ghost use Rattle.acd_model.specs.Moves.{changed, moved, with_event, events_of};
-ghost use Rattle.acd_model.specs.Changes.{with_change, changes_of, changed_by, growth_by, growth};
+ghost use Rattle.acd_model.specs.Moves.{changed, with_event};
+ghost use Rattle.acd_model.specs.Changes.{with_change, changed_by, growth_by, growth};
 ghost use Rattle.acd_model.specs.Figures.{with_figures};
 ghost use Rattle.acd_model.specs.Rules.Plan.{group_order};
 ghost use Rattle.acd_switch.specs.Counting.{FiguresFit};
+ghost use Rattle.acd_switch.specs.CarryingOut.{CarriesOut};
 
 use crate::figures::{counted_group, counting};
 use acd_model::{Change, Move};
@@ -44,9 +45,8 @@ impl Journal {
         moment: u32,
         moves: &[Move],
     ) -> Result<(), AllocError>
-        ensures rows { OnOk result (tables.new ≡ moved tables.old moves.now) }
-        ensures events { OnOk result (self.new.events.items ≡ self.old.events.items ++ events_of moment moves.now) }
-        ensures changes { OnOk result (self.new.changes.items ≡ self.old.changes.items ++ changes_of moves.now) }
+        ensures { OnOk result
+            (CarriesOut moment moves.now tables.old self.old tables.new self.new) }
     {
         for one in moves {
             self.make(tables, moment, one)?;
@@ -78,7 +78,8 @@ impl Journal {
         requires room { FiguresFit tables.old self.old.events.items }
         ensures rows { OnOk result (tables.new ≡ with_figures tables.old self.old.events.items) }
         ensures events { self.new.events.items ≡ self.old.events.items }
-        ensures changes { OnOk result (self.new.changes.items ≡ self.old.changes.items ++ growth tables.old self.old.events.items) }
+        ensures changes { OnOk result (self.new.changes.items
+            ≡ self.old.changes.items ++ growth tables.old self.old.events.items) }
     {
         grow_by_all(tables, &self.events, &mut self.changes)
     }

@@ -1,10 +1,9 @@
 //! tick: offers that rang too long go back, and after-call work that lasted long enough ends.
 
-ghost use Rattle.std.specs.Prelude.{◌≡◌, ◌++◌, OnOk, IfOk};
-ghost use Rattle.acd_model.specs.Moves.{moved, events_of};
-ghost use Rattle.acd_model.specs.Changes.{changes_of};
+ghost use Rattle.std.specs.Prelude.{◌≡◌, OnOk, IfOk};
 ghost use Rattle.acd_model.specs.Scans.{group_of};
 ghost use Rattle.acd_model.specs.Tick.{is_over, ring_of, wrap_of, is_overdue, overdue_in, return_moves, is_rested, rested_in, rest_moves, returns, rests, tick};
+ghost use Rattle.acd_switch.specs.CarryingOut.{CarriesOut};
 
 use crate::journal::Journal;
 use acd_model::Ending;
@@ -108,9 +107,9 @@ fn take_back(
     connection: &ConnectionRecord,
     journal: &mut Journal,
 ) -> Result<(), AllocError>
-    ensures rows { OnOk result (tables.new ≡ moved tables.old (return_moves tables.old at.moment at.stamp connection.now)) }
-    ensures events { OnOk result (journal.new.events.items ≡ journal.old.events.items ++ events_of at.moment (return_moves tables.old at.moment at.stamp connection.now)) }
-    ensures changes { OnOk result (journal.new.changes.items ≡ journal.old.changes.items ++ changes_of (return_moves tables.old at.moment at.stamp connection.now)) }
+    ensures { OnOk result (CarriesOut
+        at.moment (return_moves tables.old at.moment at.stamp connection.now)
+        tables.old journal.old tables.new journal.new) }
 {
     let Some(group) = connection.group else {
         return Ok(());
@@ -130,9 +129,9 @@ fn end_work(
     agent: &AgentRecord,
     journal: &mut Journal,
 ) -> Result<(), AllocError>
-    ensures rows { OnOk result (tables.new ≡ moved tables.old (rest_moves at.moment at.stamp agent.now)) }
-    ensures events { OnOk result (journal.new.events.items ≡ journal.old.events.items ++ events_of at.moment (rest_moves at.moment at.stamp agent.now)) }
-    ensures changes { OnOk result (journal.new.changes.items ≡ journal.old.changes.items ++ changes_of (rest_moves at.moment at.stamp agent.now)) }
+    ensures { OnOk result (CarriesOut
+        at.moment (rest_moves at.moment at.stamp agent.now)
+        tables.old journal.old tables.new journal.new) }
 {
     let moves = [go_from(at, agent, AgentState::Ready)];
     journal.make_all(tables, at.moment, &moves)
@@ -145,9 +144,9 @@ fn return_overdue(
     at: Turn,
     journal: &mut Journal,
 ) -> Result<(), AllocError>
-    ensures rows { OnOk result (tables.new ≡ moved tables.old (returns tables.old at.moment at.stamp)) }
-    ensures events { OnOk result (journal.new.events.items ≡ journal.old.events.items ++ events_of at.moment (returns tables.old at.moment at.stamp)) }
-    ensures changes { OnOk result (journal.new.changes.items ≡ journal.old.changes.items ++ changes_of (returns tables.old at.moment at.stamp)) }
+    ensures { OnOk result (CarriesOut
+        at.moment (returns tables.old at.moment at.stamp)
+        tables.old journal.old tables.new journal.new) }
 {
     let overdue = overdue_in(alloc, tables, at.moment)?;
     for connection in overdue.as_slice() {
@@ -163,9 +162,9 @@ fn end_rested(
     at: Turn,
     journal: &mut Journal,
 ) -> Result<(), AllocError>
-    ensures rows { OnOk result (tables.new ≡ moved tables.old (rests tables.old at.moment at.stamp)) }
-    ensures events { OnOk result (journal.new.events.items ≡ journal.old.events.items ++ events_of at.moment (rests tables.old at.moment at.stamp)) }
-    ensures changes { OnOk result (journal.new.changes.items ≡ journal.old.changes.items ++ changes_of (rests tables.old at.moment at.stamp)) }
+    ensures { OnOk result (CarriesOut
+        at.moment (rests tables.old at.moment at.stamp)
+        tables.old journal.old tables.new journal.new) }
 {
     let rested = rested_in(alloc, tables, at.moment)?;
     for agent in rested.as_slice() {
@@ -183,9 +182,9 @@ pub fn tick(
     at: Turn,
     journal: &mut Journal,
 ) -> Result<(), AllocError>
-    ensures rows { OnOk result (tables.new ≡ moved tables.old (tick tables.old at.moment at.stamp)) }
-    ensures events { OnOk result (journal.new.events.items ≡ journal.old.events.items ++ events_of at.moment (tick tables.old at.moment at.stamp)) }
-    ensures changes { OnOk result (journal.new.changes.items ≡ journal.old.changes.items ++ changes_of (tick tables.old at.moment at.stamp)) }
+    ensures { OnOk result (CarriesOut
+        at.moment (tick tables.old at.moment at.stamp)
+        tables.old journal.old tables.new journal.new) }
 {
     return_overdue(alloc, tables, at, journal)?;
     end_rested(alloc, tables, at, journal)

@@ -1,5 +1,6 @@
 -- arriveCall: a call comes in from outside the plan.
 use Rattle.std.specs.Prelude.{ℕ, not, [], ◌∷◌}
+use Rattle.acd_terms.specs.Results.{◌>>◌}
 use Rattle.acd_terms.specs.declared.rows.Rows.{Rows}
 use Rattle.acd_terms.specs.declared.event.Cause.TheVariants.{NewCall}
 use Rattle.acd_terms.specs.declared.answer.Answer.TheVariants.{Call}
@@ -7,7 +8,7 @@ use Rattle.acd_terms.specs.declared.answer.Refusal.TheVariants.{CallerPlanned, U
 use Rattle.acd_model.specs.Scans.{is_planned}
 use Rattle.acd_model.specs.CallMoves.{begin, connect_caller, arrive}
 use Rattle.acd_model.specs.Services.NewCall.{has_no_call_left, next_call}
-use Rattle.acd_model.specs.Served.{Served, refuse_if, ◌>>◌, gives}
+use Rattle.acd_model.specs.Served.{Served, refuse_if, gives}
 
 unfoldable pub arrive_call : Rows → ℕ → ℕ → ℕ → ℕ → Served
 arrive_call s m k caller called = do

@@ -1,6 +1,7 @@
 -- deflectCall: an alerting or queued connection ends, and its call goes to another device.
 use Rattle.std.specs.Prelude.{ℕ, not, ◌||◌, [], ◌∷◌}
 use Rattle.std.specs.Option.{ok_or}
+use Rattle.acd_terms.specs.Results.{◌>>=◌, ◌>>◌}
 use Rattle.acd_terms.specs.States.{is_alerting, is_queued}
 use Rattle.acd_terms.specs.declared.rows.Rows.{Rows}
 use Rattle.acd_terms.specs.declared.event.Cause.TheVariants.{Deflected}
@@ -10,7 +11,7 @@ use Rattle.acd_model.specs.Scans.{call_of, connection_of, is_planned}
 use Rattle.acd_model.specs.CallMoves.{divert, arrive}
 use Rattle.acd_model.specs.Release.{release, ending_of}
 use Rattle.acd_model.specs.Services.Destinations.{is_in_call, is_busy_station}
-use Rattle.acd_model.specs.Served.{Served, refuse_if, ◌>>=◌, ◌>>◌, gives}
+use Rattle.acd_model.specs.Served.{Served, refuse_if, gives}
 
 unfoldable pub deflect_call : Rows → ℕ → ℕ → ℕ → ℕ → ℕ → Served
 deflect_call s m k call device to = do

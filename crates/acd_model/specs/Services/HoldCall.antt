@@ -1,13 +1,14 @@
 -- holdCall: a connected station holds.
 use Rattle.std.specs.Prelude.{ℕ, not, [], ◌∷◌}
 use Rattle.std.specs.Option.{ok_or}
+use Rattle.acd_terms.specs.Results.{◌>>=◌, ◌>>◌}
 use Rattle.acd_terms.specs.States.{is_connected}
 use Rattle.acd_terms.specs.declared.rows.Rows.{Rows}
 use Rattle.acd_terms.specs.declared.answer.Answer.TheVariants.{Nothing}
 use Rattle.acd_terms.specs.declared.answer.Refusal.TheVariants.{UnknownCall, UnknownConnection, NotStation, WrongConnectionState}
 use Rattle.acd_model.specs.Scans.{call_of, connection_of, is_station}
 use Rattle.acd_model.specs.CallMoves.{hold}
-use Rattle.acd_model.specs.Served.{Served, refuse_if, ◌>>=◌, ◌>>◌, gives}
+use Rattle.acd_model.specs.Served.{Served, refuse_if, gives}
 
 unfoldable pub hold_call : Rows → ℕ → ℕ → Served
 hold_call s call device = do

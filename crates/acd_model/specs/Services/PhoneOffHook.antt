@@ -1,6 +1,7 @@
 -- phoneOffHook: the station that began a call goes off hook, and the call goes to the device that its makeCall called.
 use Rattle.std.specs.Prelude.{ℕ, not, [], ◌∷◌}
 use Rattle.std.specs.Option.{ok_or}
+use Rattle.acd_terms.specs.Results.{◌>>=◌, ◌>>◌}
 use Rattle.acd_terms.specs.States.{is_initiated}
 use Rattle.acd_terms.specs.declared.rows.Rows.{Rows}
 use Rattle.acd_terms.specs.declared.event.Cause.TheVariants.{NewCall}
@@ -8,7 +9,7 @@ use Rattle.acd_terms.specs.declared.answer.Answer.TheVariants.{Nothing}
 use Rattle.acd_terms.specs.declared.answer.Refusal.TheVariants.{UnknownCall, UnknownConnection, WrongConnectionState}
 use Rattle.acd_model.specs.Scans.{call_of, connection_of}
 use Rattle.acd_model.specs.CallMoves.{originate, arrive}
-use Rattle.acd_model.specs.Served.{Served, refuse_if, ◌>>=◌, ◌>>◌, gives}
+use Rattle.acd_model.specs.Served.{Served, refuse_if, gives}
 
 unfoldable pub phone_off_hook : Rows → ℕ → ℕ → ℕ → ℕ → Served
 phone_off_hook s m k call device = do
