@@ -40,7 +40,6 @@ fn make_offer(
 }
 
 /// Makes offers until there is none. After an error tables and journal are only to be dropped.
-#[tactic(auto, unfolding(acd_model::specs::Distribution::distribution))]
 pub fn distribute(tables: &mut Tables, moment: u32, journal: &mut Journal) -> Result<(), AllocError>
     ensures { OnOk result (CarriesOut
         moment (distribution tables.old moment)

@@ -2,7 +2,7 @@
 
 ghost use Rattle.std.specs.Prelude.{◌≡◌, ◌++◌, ◌∷◌, [], IfOk, OnOk};
 ghost use Rattle.acd_terms.specs.Lists.{IsAscending};
-ghost use Rattle.acd_model.specs.Moves.{changed, with_event};
+ghost use Rattle.acd_model.specs.Moves.{changed};
 ghost use Rattle.acd_model.specs.Changes.{with_change, changed_by, growth_by, growth};
 ghost use Rattle.acd_model.specs.Figures.{with_figures};
 ghost use Rattle.acd_model.specs.Rules.Plan.{group_order};
@@ -56,9 +56,8 @@ impl Journal {
 
     // Makes one move.
     fn make(&mut self, tables: &mut Tables, moment: u32, one: &Move) -> Result<(), AllocError>
-        ensures rows { OnOk result (tables.new ≡ changed tables.old one.now.change) }
-        ensures events { OnOk result (self.new.events.items ≡ self.old.events.items ++ with_event moment one.now.report []) }
-        ensures changes { OnOk result (self.new.changes.items ≡ self.old.changes.items ++ with_change one.now.change []) }
+        ensures { OnOk result
+            (CarriesOut moment (one.now ∷ []) tables.old self.old tables.new self.new) }
     {
         make_change(tables, &one.change, &mut self.changes)?;
         if let Some(report) = one.report {

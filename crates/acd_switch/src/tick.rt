@@ -137,7 +137,6 @@ fn end_work(
     journal.make_all(tables, at.moment, &moves)
 }
 
-#[tactic(auto, using(acd_model::proofs::MoveLemmas::moved_append, acd_model::proofs::MoveLemmas::events_of_append, acd_model::proofs::ChangeLemmas::changes_of_append, std::proofs::lemmas::Grind::common_steps), unfolding(acd_model::specs::Tick::returns))]
 fn return_overdue(
     alloc: Global,
     tables: &mut Tables,
@@ -155,7 +154,6 @@ fn return_overdue(
     Ok(())
 }
 
-#[tactic(auto, unfolding(acd_model::specs::Tick::rests))]
 fn end_rested(
     alloc: Global,
     tables: &mut Tables,
@@ -175,7 +173,6 @@ fn end_rested(
 
 /// Takes overdue offers back, one call after the other, then ends after-call work. After an error
 /// tables and journal are only to be dropped.
-#[tactic(auto, using(acd_model::proofs::MoveLemmas::moved_append, acd_model::proofs::MoveLemmas::events_of_append, acd_model::proofs::ChangeLemmas::changes_of_append, std::proofs::lemmas::Grind::common_steps), unfolding(acd_model::specs::Tick::tick))]
 pub fn tick(
     alloc: Global,
     tables: &mut Tables,
