@@ -24,7 +24,8 @@ pub trait Book {
 
     /// The limits under which the book was made.
     fn limits(&mut self) -> Result<Limits, BookFault>
-        ensures { Reads (state self.old) (state self.new) result (λ c found. found ≡ c.rows.limits) };
+        ensures { Reads (state self.old) (state self.new) result
+            (λ c found. found ≡ c.rows.limits) };
 
     /// The limits, the tables and the counters.
     fn rows(&mut self) -> Result<Rows, BookFault>
@@ -32,15 +33,18 @@ pub trait Book {
 
     /// What is kept under a key.
     fn kept(&mut self, requester: &Requester, invoke: Invoke) -> Result<Option<Kept>, BookFault>
-        ensures { Reads (state self.old) (state self.new) result (λ c found. found ≡ kept_of c.kept requester.now invoke) };
+        ensures { Reads (state self.old) (state self.new) result
+            (λ c found. found ≡ kept_of c.kept requester.now invoke) };
 
     /// The kept record of the least greater stamp.
     fn kept_after(&mut self, stamp: u64) -> Result<Option<Kept>, BookFault>
-        ensures { Reads (state self.old) (state self.new) result (λ c found. IsKeptAfter c.kept stamp found) };
+        ensures { Reads (state self.old) (state self.new) result
+            (λ c found. IsKeptAfter c.kept stamp found) };
 
     /// The first `limit` events above a number.
     fn events_after(&mut self, number: u64, limit: usize) -> Result<Vec<Event>, BookFault>
-        ensures { Reads (state self.old) (state self.new) result (λ c found. found.items ≡ events_behind c.events number limit) };
+        ensures { Reads (state self.old) (state self.new) result
+            (λ c found. found.items ≡ events_behind c.events number limit) };
 
     /// The first `limit` events of a running monitor above a number.
     fn events_of_monitor(
@@ -49,12 +53,15 @@ pub trait Book {
         number: u64,
         limit: usize,
     ) -> Result<Vec<Event>, BookFault>
-        ensures { Reads (state self.old) (state self.new) result (λ c found. found.items ≡ events_of_monitor c monitor number limit) };
+        ensures { Reads (state self.old) (state self.new) result
+            (λ c found. found.items ≡ events_of_monitor c monitor number limit) };
 
     /// Replaces the tables, and adds the events and the kept record, all or none. What it makes is said
     /// of a record that follows those that are kept.
     fn commit(&mut self, rows: &Rows, events: &[Event], kept: &Kept) -> Result<(), BookFault>
-        ensures { Commits (state self.old) (state self.new) result (Follows rows.now events.now kept.now) (committed rows.now events.now kept.now) };
+        ensures { Commits (state self.old) (state self.new) result
+            (Follows rows.now events.now kept.now)
+            (committed rows.now events.now kept.now) };
 
     /// The same with the tables that changes make of those that it holds, one after the other, with the
     /// counters that the kept record and the events give.
@@ -64,7 +71,9 @@ pub trait Book {
         events: &[Event],
         kept: &Kept,
     ) -> Result<(), BookFault>
-        ensures { Commits (state self.old) (state self.new) result (FollowsBy changes.now events.now kept.now) (committed_by changes.now events.now kept.now) };
+        ensures { Commits (state self.old) (state self.new) result
+            (FollowsBy changes.now events.now kept.now)
+            (committed_by changes.now events.now kept.now) };
 
     // While it is open, its content is the one stop.
     ghost settled: { (book : Self) (c : Content) → (state book).is_clean → (state book).is_sound → (state book).is_open → (state book).stops c → c ≡ (state book).content };

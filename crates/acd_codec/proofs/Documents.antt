@@ -11,7 +11,7 @@ use Rattle.json.specs.Value.{value_view, items_view, members_view}
 use Rattle.json.specs.Json as json
 use Rattle.json.specs.Find as found
 use Rattle.serde_json.specs.Data.{Num, Data, item, Members, no_members, number, array, object, put}
-use Rattle.serde_json.specs.Find.{get, get_member, as_str, as_number, as_u64}
+use Rattle.serde_json.specs.Find.{get, get_member, as_number, as_u64}
 use Rattle.serde_json.specs.Read.{of_json, of_items, of_members, number_of, number_from, is_integer}
 use Rattle.serde_json.proofs.Views.{get_member-put, get_member-put_other}
 
@@ -60,10 +60,6 @@ get_of k (json.string s) d e = subst (λ o. option_and_then (get k) o ≡ None) 
 get_of k (json.array js) d e = no_member (of_items js) array k d (λ a. refl) e
 get_of k (json.object ms) d e = within k (of_members ms no_members) d _ (λ after h. member_kept k ms no_members after h ∙ as_later (found.get_member k ms)) e
 
-no_text : {A : Type 0} (o : Option A) (make : A → Data) → ((a : A) → as_str (make a) ≡ None) → option_and_then as_str (option_map make o) ≡ None
-no_text None make h = refl
-no_text (Some a) make h = h a
-
 no_number : {A : Type 0} (o : Option A) (make : A → Data) → ((a : A) → as_number (make a) ≡ None) → option_and_then as_number (option_map make o) ≡ None
 no_number None make h = refl
 no_number (Some a) make h = h a
@@ -84,15 +80,6 @@ number_is (json.number s) = whole_of (number_of s)
 number_is (json.string s) = refl
 number_is (json.array js) = ap (option_and_then as_u64) (no_number (of_items js) array (λ a. refl))
 number_is (json.object ms) = ap (option_and_then as_u64) (no_number (of_members ms no_members) object (λ a. refl))
-
--- a text is one in both
-pub str_of : (j : json.Json) → option_and_then as_str (of_json j) ≡ found.as_str j
-str_of json.null = refl
-str_of (json.boolean b) = refl
-str_of (json.number s) = no_text (number_of s) number (λ a. refl)
-str_of (json.string s) = refl
-str_of (json.array js) = no_text (of_items js) array (λ a. refl)
-str_of (json.object ms) = no_text (of_members ms no_members) object (λ a. refl)
 
 -- numbers in range
 

@@ -7,6 +7,7 @@ use Rattle.std.proofs.lemmas.List.Folds.{find-append}
 use Rattle.serde_json.specs.Data.{Data}
 use Rattle.serde_json.specs.Find.{get, as_str, as_object}
 use Rattle.serde_json.specs.Read.{read}
+use Rattle.acd_terms.specs.Results.{◌>>=◌}
 use Rattle.acd_terms.specs.declared.command.Requested.TheVariants as requested
 use Rattle.acd_codec.specs.declared.member.Member.{Member}
 use Rattle.acd_codec.specs.declared.member.Member.TheVariants as member
@@ -17,7 +18,7 @@ use Rattle.acd_codec.specs.declared.service.Service.TheVariants as service
 use Rattle.acd_codec.specs.Members.{member_name}
 use Rattle.acd_codec.specs.Services.{service_name, service_of}
 use Rattle.acd_codec.specs.MemberReading.{text_in, is_there, device_of, device_in, agent_in, requester_in, invoke_in, service_in, requested_state_in}
-use Rattle.acd_codec.specs.Reading.{◌>>=◌, two_devices_in, one_group_in, chosen_in, requested_in, set_agent_state_in, command_in, request_in, request_from, reads_as}
+use Rattle.acd_codec.specs.Reading.{two_devices_in, one_group_in, chosen_in, requested_in, set_agent_state_in, command_in, request_in, request_from, reads_as}
 use Rattle.acd_codec.specs.OldReading.{old_services, old_service_of, old_service_in, old_requested_in, old_set_agent_state_in, old_command_in, old_request_in, old_request_from, old_reads_as, OldReadsTheSame}
 
 -- what the first reading gives the second gives too

@@ -16,9 +16,6 @@ reads_value bytes d text e = rw (is_utf8-from_IsUtf8 bytes text, e) refl
 pub reads_object : (bytes : List ℕ) (d : Data) → IsUtf8 bytes → read bytes ≡ Some d → is_some (as_object d) ≡ true → reads_as bytes ≡ request_in d
 reads_object bytes d text e object = reads_value bytes d text e ∙ rw object refl
 
-pub reads_other : (bytes : List ℕ) (d : Data) → IsUtf8 bytes → read bytes ≡ Some d → is_some (as_object d) ≡ false → reads_as bytes ≡ Err member.Json
-reads_other bytes d text e other = reads_value bytes d text e ∙ rw other refl
-
 if_text : (bytes : List ℕ) (b : Bool) → is_utf8 bytes ≡ b → (IsUtf8 bytes → read bytes ≡ None) → reads_as bytes ≡ Err member.Json
 unfolding reads_as
 if_text bytes true text refused = rw (text, refused (IsUtf8-from_is_utf8 bytes text)) refl

@@ -6,6 +6,7 @@ use Rattle.std.specs.Str.{is_utf8, bytes_eq}
 use Rattle.serde_json.specs.Data.{Data}
 use Rattle.serde_json.specs.Read.{read}
 use Rattle.serde_json.specs.Find.{as_object}
+use Rattle.acd_terms.specs.Results.{◌>>=◌}
 use Rattle.acd_terms.specs.declared.command.Request.{Request}
 use Rattle.acd_terms.specs.declared.command.Requested.{Requested}
 use Rattle.acd_terms.specs.declared.command.Requested.TheVariants as requested
@@ -19,7 +20,7 @@ use Rattle.acd_codec.specs.declared.service.Service.{Service}
 use Rattle.acd_codec.specs.declared.service.Service.TheVariants as service
 use Rattle.acd_codec.specs.Services.{service_name}
 use Rattle.acd_codec.specs.MemberReading.{read_in, agent_in, requester_in, invoke_in, requested_state_in}
-use Rattle.acd_codec.specs.Reading.{◌>>=◌, add_group_in, add_agent_in, two_devices_in, at_device, at_devices, at_connection, to_device, monitor_stop_in, reads_as}
+use Rattle.acd_codec.specs.Reading.{add_group_in, add_agent_in, two_devices_in, at_device, at_devices, at_connection, to_device, monitor_stop_in, reads_as}
 
 -- the sixteen services
 abbrev pub old_services : List Service

@@ -1,10 +1,11 @@
--- The request that bytes stand for, or the first faulty member.
+-- The request that bytes stand for, or the first faulty member, which ends the reading.
 use Rattle.std.specs.Prelude.{◌≡◌, ℕ, List, [], ◌∷◌, Option, Some, None, Result, Ok, Err, if◌then◌else◌}
 use Rattle.std.specs.Option.{is_some}
 use Rattle.std.specs.Str.{is_utf8}
 use Rattle.serde_json.specs.Data.{Data}
 use Rattle.serde_json.specs.Read.{read}
 use Rattle.serde_json.specs.Find.{as_object}
+use Rattle.acd_terms.specs.Results.{◌>>=◌}
 use Rattle.acd_terms.specs.declared.command.Request.{Request}
 use Rattle.acd_terms.specs.declared.command.Requested.{Requested}
 use Rattle.acd_terms.specs.declared.command.Requested.TheVariants as requested
@@ -19,12 +20,6 @@ use Rattle.acd_codec.specs.declared.service.RequestedState.TheVariants as reques
 use Rattle.acd_codec.specs.declared.service.Service.{Service}
 use Rattle.acd_codec.specs.declared.service.Service.TheVariants as service
 use Rattle.acd_codec.specs.MemberReading.{is_there, device_in, agent_in, name_in, requester_in, invoke_in, seconds_in, priority_in, serial_in, service_in, requested_state_in, groups_in}
-
--- the first faulty member ends the reading
-infixl 10 ◌>>=◌
-abbrev pub ◌>>=◌ : {A B : Type 0} → Result A Member → (A → Result B Member) → Result B Member
-(Ok x) >>= f = f x
-(Err m) >>= f = Err m
 
 -- the members of addGroup, the first faulty one first
 unfoldable pub add_group_in : Data → Result Command Member

@@ -18,7 +18,8 @@ use Rattle.acd_terms.specs.declared.state.AgentState.TheVariants.{NotReady}
 use Rattle.acd_terms.specs.States.{is_null}
 use Rattle.acd_model.specs.Scans.{agent_of, agent_at, is_group, is_station, is_planned}
 use Rattle.acd_model.specs.Moves.{moved}
-use Rattle.acd_model.specs.Served.{Served, refuse_if, if_ok, ◌>>=◌, ◌>>◌, gives, outcome_of, moves_of}
+use Rattle.acd_terms.specs.Results.{◌>>=◌, ◌>>◌}
+use Rattle.acd_model.specs.Served.{Served, refuse_if, gives, outcome_of, moves_of}
 use Rattle.acd_model.specs.Services.{log_on, set_agent_state}
 use Rattle.acd_model.specs.Services.Serve.{serve}
 use Rattle.acd_model.specs.Step.{Stepped, step, step_by, executed_moment, next_stamp, next_turn}
@@ -40,13 +41,13 @@ abbrev passed : Result (Unit {0}) Refusal
 passed = Ok tt
 
 one_test : (p q : Bool) (rest : Served) → (refuse_if p UnknownDevice >> (refuse_if q NotGroup >> rest)) ≡ ((refuse_if p UnknownDevice >> (refuse_if q NotGroup >> passed)) >> rest)
-unfolding refuse_if if_ok
+unfolding refuse_if
 one_test true q rest = refl
 one_test false true rest = refl
 one_test false false rest = refl
 
 same_log_on : (s : Rows) (turn : Turn) (agent device group : ℕ) → old_log_on s turn agent device group ≡ log_on s turn agent device (group ∷ [])
-unfolding old_log_on log_on refuse_if if_ok
+unfolding old_log_on log_on refuse_if
 same_log_on s turn agent device group = λ i.
     ok_or (agent_of s agent) UnknownAgent >>= (λ (a : AgentRecord).
     refuse_if (not (is_null a.state)) WrongAgentState >> (refuse_if (not (is_planned s device)) UnknownDevice >> (refuse_if (not (is_station s device)) NotStation

@@ -13,7 +13,8 @@ use Rattle.acd_model.specs.Figures.{counting, with_figures}
 use Rattle.acd_model.specs.CallMoves.{arrive}
 use Rattle.acd_model.specs.AgentMoves.{in_state, go_from}
 use Rattle.acd_model.specs.Release.{released, release_of, release_agent, release, ending_of}
-use Rattle.acd_model.specs.Served.{refuse_if, if_ok, ◌>>=◌, ◌>>◌, moves_of}
+use Rattle.acd_terms.specs.Results.{◌>>=◌, ◌>>◌}
+use Rattle.acd_model.specs.Served.{refuse_if, moves_of}
 use Rattle.acd_model.specs.Services.{add_group, add_station, add_agent, arrive_call, make_call, phone_off_hook, busy_agent, occupy, answer_call, hold_call, retrieve_call, clear_other, release_other, clear_connection, deflect_call, single_step_transfer, all_groups, log_on, change_state, set_agent_state, monitor_start, monitor_stop}
 use Rattle.acd_model.specs.Services.Serve.{serve}
 use Rattle.acd_model.specs.Distribution.{offer_at, offer_moves, with_offer, offers, distribution, station_of_agent}
@@ -193,7 +194,6 @@ with : {T : Type 0} {found : Option T} (r : Refusal) (rest : T → Served) → (
 with {T} {found} r rest h = by_found IsOldServed found r rest (λ _. tt) h
 
 passes : (v : Result (Unit {0}) Refusal) (rest : Served) → IsOldServed rest → IsOldServed (v >> rest)
-unfolding if_ok
 passes (Ok u) rest h = h
 passes (Err r) rest h = tt
 

@@ -2,7 +2,6 @@
 use Rattle.std.proofs.Common.{◌≡◌, ◌+◌, ◌<◌, ℕ, length, drop, get_or, append_assoc, arith, List, [], ◌∷◌, ◌++◌, map, Bool, true, refl, sym, ap, ap₂, subst, ◌∙◌}
 use Rattle.std.specs.Ordering.{nat_cmp}
 use Rattle.std.specs.declared.cmp.Ordering.{Ordering}
-use Rattle.std.proofs.lemmas.List.{map-append}
 use Rattle.std.proofs.lemmas.Grind.{common_steps}
 use Rattle.acd_terms.specs.Lists.{AllAfter, IsAscending, put_by, remove_by}
 use Rattle.acd_terms.specs.declared.rows.Rows.{Rows}
@@ -307,17 +306,3 @@ module _ {T : Type 0} where
       → (IsAscending cmp held → IsAscending cmp (kept ++ drop i held)) → IsAscending cmp held → IsAscending cmp (next ++ drop (i + 1) held)
   next_left cmp kept next held i d low same h up =
       subst (λ l. IsAscending cmp (l ++ drop (i + 1) held)) (sym same) (ascending_less cmp (get_or held i d) (drop (i + 1) held) kept (subst (λ l. IsAscending cmp (kept ++ l)) (next_dropped i held d low) (h up)))
-
--- one of the same number stands in its place
-pub numbers_on : (kept held : List AgentRecord) (i : ℕ) (x y d : AgentRecord) → i < length held → x ≡ get_or held i d → y.agent ≡ x.agent
-    → map (λ (a : AgentRecord). a.agent) (kept ++ drop i held) ≡ map (λ (a : AgentRecord). a.agent) held
-    → map (λ (a : AgentRecord). a.agent) ((kept ++ y ∷ []) ++ drop (i + 1) held) ≡ map (λ (a : AgentRecord). a.agent) held
-numbers_on kept held i x y d low is same h =
-    let number : AgentRecord → ℕ = λ (a : AgentRecord). a.agent in
-    let rest = drop (i + 1) held in
-    ap (map number) (append_assoc kept (y ∷ []) rest) ∙ map-append number kept (y ∷ rest) ∙ ap (λ n. map number kept ++ n ∷ map number rest) same ∙ sym (map-append number kept (x ∷ rest))
-    ∙ ap (map number) (sym (append_assoc kept (x ∷ []) rest)) ∙ kept_on (λ l. map number l ≡ map number held) kept held i x d low is h
-
--- what is left is whole, and the next one is: so is what was left before
-pub whole_on : (changes : List Change) (i : ℕ) (d : Change) → i < length changes → (get_or changes i d ≡ Nothing → ⊥) → AreWhole (drop (i + 1) changes) → AreWhole (drop i changes)
-whole_on changes i d low one rest = subst AreWhole (sym (next_dropped i changes d low)) (one, rest)

@@ -149,7 +149,8 @@ pub fn row_changes<R: Filed>(
     held: &[R],
     new: &[R],
 ) -> Result<Vec<Change>, AllocError>
-    ensures { IfOk result (λ changes. LeadTo (λ x y. R.Key.cmp (R.key_of x) (R.key_of y)) R.eq R.gone_of R.put_of held.now new.now changes.items) }
+    ensures { IfOk result (λ changes. LeadTo (λ x y. R.Key.cmp (R.key_of x) (R.key_of y))
+        R.eq R.gone_of R.put_of held.now new.now changes.items) }
 {
     let mut changes = Vec::new(alloc);
     let mut left = held;

@@ -3,7 +3,8 @@ use Rattle.std.proofs.Common.{◌≡◌, Bool, true, false, Option, Some, None, 
 use Rattle.std.specs.Option.{ok_or}
 use Rattle.acd_lemmas.proofs.Words.{Rows, AgentRecord, CallRecord, ConnectionRecord, Pending, Command, Move, Offer, Refusal, Requested, Served, is_null, is_working_after_call, state_wanted, is_in, is_initiated, is_alerting, is_connected, is_hold, is_queued, agent_of, call_of, connection_of, is_group, is_station, is_planned, agent_at, other_of, is_live_at, is_occupied, silent, group_of, Every, GroupRecord}
 use Rattle.acd_model.specs.Scans.{is_used}
-use Rattle.acd_model.specs.Served.{refuse_if, if_ok, ◌>>=◌, ◌>>◌, moves_of, gives}
+use Rattle.acd_terms.specs.Results.{◌>>=◌, ◌>>◌}
+use Rattle.acd_model.specs.Served.{refuse_if, moves_of, gives}
 use Rattle.std.specs.Prelude.{◌==◌, is_some, nat_le, min, Result, Ok}
 use Rattle.acd_terms.specs.Limits.{greatest_priority}
 use Rattle.acd_terms.specs.Groups.{is_choice}
@@ -28,12 +29,11 @@ use Rattle.acd_laws.proofs.Offers.Distributing.{Offering}
 use Rattle.acd_terms.specs.declared.command.Turn.{Turn}
 
 pub by_refusal : (P : Served → Type 0) (b : Bool) (r : Refusal) (rest : Served) → ((r : Refusal) → P (Err r)) → (b ≡ false → P rest) → P (refuse_if b r >> rest)
-unfolding refuse_if if_ok
+unfolding refuse_if
 by_refusal P true r rest f h = f r
 by_refusal P false r rest f h = h refl
 
 pub by_found : {T : Type 0} (P : Served → Type 0) (o : Option T) (r : Refusal) (rest : T → Served) → ((r : Refusal) → P (Err r)) → ((x : T) → o ≡ Some x → P (rest x)) → P (ok_or o r >>= rest)
-unfolding if_ok
 by_found P None r rest f h = f r
 by_found P (Some x) r rest f h = h x refl
 
@@ -183,7 +183,7 @@ deed_single_step_transfer s turn call device to =
 
 -- each of the groups is one where none of them is refused
 all_are_groups : (s : Rows) (gs : List ℕ) → all_groups s gs ≡ Ok tt → Every (λ (g : ℕ). is_group s g ≡ true) gs
-unfolding refuse_if if_ok
+unfolding refuse_if
 all_are_groups s [] e = tt
 all_are_groups s (g ∷ gs) e = by (is_planned s g) (is_group s g) refl e (all_are_groups s gs)
   where
@@ -194,7 +194,6 @@ all_are_groups s (g ∷ gs) e = by (is_planned s g) (is_group s g) refl e (all_a
     by false q h e more = absurd (cc (e))
 
 passes : {s : Rows} {turn : Turn} (v : Result (Unit {0}) Refusal) (rest : Served) → (v ≡ Ok tt → DeedBy s turn rest) → DeedBy s turn (v >> rest)
-unfolding if_ok
 passes (Ok u) rest h = h refl
 passes (Err r) rest h = nothing
 
@@ -229,7 +228,7 @@ unfolding monitor_stop
 deed_monitor_stop s turn monitor = with _ _ (λ w _. unwatches monitor)
 
 ranks_of : (s : Rows) (device priority : ℕ) → Ranks s (SetGroupPriority device priority) (moves_of (set_group_priority s device priority))
-unfolding set_group_priority refuse_if if_ok
+unfolding set_group_priority refuse_if
 ranks_of s device priority = by (group_of s device) refl
   where
     put : GroupRecord → Served

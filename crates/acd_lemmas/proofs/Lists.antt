@@ -96,14 +96,6 @@ pub any-find : {X : Type 0} (p : X → Bool) (xs : List X) → list_any p xs ≡
 any-find p [] = refl
 any-find p (y ∷ ys) = elim (p y) as (λ b. (b || list_any p ys) ≡ is_some (cond b (Some y) (find p ys))) [ true ↦ refl | false ↦ any-find p ys ]
 
-pub any_none : {X : Type 0} (p : X → Bool) (xs : List X) → list_any p xs ≡ false → find p xs ≡ None
-any_none p [] e = refl
-any_none p (y ∷ ys) e =
-    (elim (p y) as (λ b. (b || list_any p ys) ≡ false → cond b (Some y) (find p ys) ≡ None) [
-      | true ↦ λ q. absurd (cc (q))
-      | false ↦ λ q. any_none p ys q
-    ]) e
-
 pub any_some : {X : Type 0} (p : X → Bool) (xs : List X) (x : X) → Among x xs → p x ≡ true → list_any p xs ≡ true
 any_some p [] x a e = absurd a
 any_some p (y ∷ ys) x (inl q) e = rw (← q, e) refl
@@ -348,11 +340,6 @@ fewer p q h [] = omega arith
 fewer p q h (y ∷ ys) =
     let ih = fewer p q h ys in
     (elim (p y) as (λ b. p y ≡ b → one b + count p ys ≤ one (q y) + count q ys) [ true ↦ λ e. let f : one (q y) ≡ 1 = rw (h y e) refl in omega (arith, ih, f) | false ↦ λ _. omega (arith, ih) ]) refl
-
--- two tests that agree count the same
-pub count_same : {X : Type 0} (p q : X → Bool) → ((x : X) → p x ≡ q x) → (xs : List X) → count p xs ≡ count q xs
-count_same p q h [] = refl
-count_same p q h (y ∷ ys) = let ih = count_same p q h ys in let e : one (p y) ≡ one (q y) = ap one (h y) in omega (arith, ih, e)
 
 -- two that pass are counted as two
 pub two_counted : {X : Type 0} (p : X → Bool) (xs : List X) (x y : X) → Among x xs → Among y xs → p x ≡ true → p y ≡ true → (x ≡ y → ⊥) → 2 ≤ count p xs

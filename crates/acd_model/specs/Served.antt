@@ -7,22 +7,9 @@ use Rattle.acd_terms.specs.declared.answer.Outcome.TheVariants as outcome
 use Rattle.acd_model.specs.declared.moves.Move.{Move}
 use Rattle.acd_model.specs.declared.moves.Done.{Done}
 
--- a refusal, or an answer and moves
+-- a refusal, or an answer and moves; in a service the first refusal ends it
 abbrev pub Served : Type 0
 Served = Result Done Refusal
-
--- the first refusal ends the service
-unfoldable pub if_ok : {A B : Type 0} → Result A Refusal → (A → Result B Refusal) → Result B Refusal
-if_ok (Ok x) f = f x
-if_ok (Err r) f = Err r
-
-infixl 10 ◌>>=◌
-abbrev pub ◌>>=◌ : {A B : Type 0} → Result A Refusal → (A → Result B Refusal) → Result B Refusal
-v >>= f = if_ok v f
-
-infixl 10 ◌>>◌
-abbrev pub ◌>>◌ : {A B : Type 0} → Result A Refusal → Result B Refusal → Result B Refusal
-v >> w = if_ok v (λ _. w)
 
 -- refuses where the test holds
 unfoldable pub refuse_if : Bool → Refusal → Result (Unit {0}) Refusal

@@ -1,11 +1,11 @@
 //! Look-ups and scans of rows, whose lists may stand in any order. They take no memory.
 
-ghost use Rattle.std.specs.Prelude.{◌≡◌, [], ◌∷◌, length, slice_get, ◌==◌, ◌&&◌};
+ghost use Rattle.std.specs.Prelude.{◌≡◌, length, ◌==◌, ◌&&◌};
 ghost use Rattle.std.specs.List.{list_any};
+ghost use Rattle.acd_terms.specs.Lists.{first_two};
 ghost use Rattle.acd_terms.specs.States.{is_occupying};
-ghost use Rattle.acd_model.specs.Scans.{group_of, station_of, agent_of, call_of, connection_of, monitor_of, is_group, is_station, is_planned, agent_at, connections_of, other_of, is_live_at, is_idle, is_occupied, is_eligible, is_calling, is_used, queued_in_all};
+ghost use Rattle.acd_model.specs.Scans.{group_of, station_of, call_of, monitor_of, is_group, is_station, is_planned, agent_at, connections_of, other_of, is_live_at, is_idle, is_occupied, is_eligible, is_calling, is_used, queued_in_all};
 ghost use Rattle.acd_model.specs.Choice.{first_waiting, first_eligible, lesser};
-ghost use Rattle.acd_model.specs.Rules.Occupied.{waits_in};
 
 use acd_terms::{
     AgentId, AgentRecord, CallRecord, ConnectionRecord, DeviceId, GroupRecord, MonitorRecord, Rows,
@@ -26,25 +26,11 @@ pub fn station_of(rows: &Rows, device: DeviceId) -> Option<StationRecord>
     find(rows.stations.as_slice(), device)
 }
 
-#[tactic(auto, unfolding(crate::specs::Scans::agent_of))]
-pub fn agent_of(rows: &Rows, agent: AgentId) -> Option<AgentRecord>
-    ensures { result ≡ agent_of rows.now agent }
-{
-    find(rows.agents.as_slice(), agent)
-}
-
 #[tactic(auto, unfolding(crate::specs::Scans::call_of))]
 pub fn call_of(rows: &Rows, call: u64) -> Option<CallRecord>
     ensures { result ≡ call_of rows.now call }
 {
     find(rows.calls.as_slice(), call)
-}
-
-#[tactic(auto, unfolding(crate::specs::Scans::connection_of))]
-pub fn connection_of(rows: &Rows, call: u64, device: DeviceId) -> Option<ConnectionRecord>
-    ensures { result ≡ connection_of rows.now call device }
-{
-    find(rows.connections.as_slice(), (call, device))
 }
 
 #[tactic(auto, unfolding(crate::specs::Scans::monitor_of))]
@@ -104,7 +90,7 @@ pub fn agent_at(rows: &Rows, station: DeviceId) -> Option<AgentRecord>
 /// The first two connections of the call. A call has no more.
 #[tactic(auto, unfolding(crate::specs::Scans::connections_of))]
 pub fn connections_of(rows: &Rows, call: u64) -> [Option<ConnectionRecord>; 2]
-    ensures { result ≡ slice_get (connections_of rows.now call) 0 ∷ slice_get (connections_of rows.now call) 1 ∷ [] }
+    ensures { result ≡ first_two (connections_of rows.now call) }
 {
     let mut first = None;
     for c in &rows.connections {
@@ -179,22 +165,6 @@ pub fn is_eligible(rows: &Rows, group: DeviceId, agent: &AgentRecord) -> bool
         && agent.state.is_ready()
         && !is_occupied(rows, agent)
         && is_idle(rows, station)
-}
-
-/// A call waits in the group.
-pub fn has_waiting(rows: &Rows, group: DeviceId) -> bool
-    ensures { result ≡ list_any (waits_in group) rows.now.connections }
-{
-    rows.connections
-        .iter()
-        .any(|c| c.device == group && c.state.is_queued())
-}
-
-/// An agent of the group is eligible.
-pub fn has_eligible(rows: &Rows, group: DeviceId) -> bool
-    ensures { result ≡ list_any (is_eligible rows.now group) rows.now.agents }
-{
-    rows.agents.iter().any(|a| is_eligible(rows, group, a))
 }
 
 /// The place and call of the one that waits first in the group.

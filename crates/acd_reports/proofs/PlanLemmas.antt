@@ -2,7 +2,7 @@
 use Rattle.std.proofs.Common.{◌≡◌, ℕ, ◌+◌, List, [], ◌∷◌, ◌++◌, Result, Ok, Err, refl, sym, ◌∙◌, ap, append_assoc}
 use Rattle.std.proofs.lemmas.List.{append-nil}
 use Rattle.acd_terms.specs.declared.command.Request.{Request}
-use Rattle.acd_reports.specs.Reading.{◌>>=◌}
+use Rattle.acd_terms.specs.Results.{◌>>=◌}
 use Rattle.acd_reports.specs.PlanRows.{command_in}
 use Rattle.acd_reports.specs.Plan.{IsFault, request_of, requests_from}
 use Rattle.acd_reports.specs.PlanReading.{after}

@@ -1,11 +1,9 @@
 -- How a reader goes through the records of a text.
-use Rattle.std.proofs.Common.{◌≡◌, ℕ, zero, suc, ◌+◌, ◌<◌, ◌≤◌, Bool, true, false, List, [], ◌∷◌, length, take, drop, length-drop, add-one, Option, Some, None, refl, rules, subst, ◌==◌, ◌||◌, ◌∙◌, ap, arith, if◌then◌else◌}
+use Rattle.std.proofs.Common.{◌≡◌, ℕ, zero, suc, ◌+◌, ◌<◌, ◌≤◌, Bool, true, false, List, [], ◌∷◌, length, add-one, Option, Some, None, refl, rules, subst, ◌==◌, ◌||◌, ◌∙◌, ap, arith, if◌then◌else◌}
 use Rattle.csv.specs.Machine.{Read, next_record, start_field, start_record, step, is_end, ends_at_end}
 use Rattle.csv.specs.Reading.{NextIs, ReadRecord, ReadsNext, ReadsOn, default_config, is_bom, pending_of, records_from, records_next, source_of, strip_bom}
 use Rattle.std.specs.Prelude.{unwrap_or}
 use Rattle.std.specs.Option.{IsSome}
-use Rattle.std.specs.Str.{bytes_eq}
-use Rattle.acd_reports.specs.Plan.{without_mark}
 use Rattle.acd_reports.specs.PlanReading.{IsPlain, PlanReader, Reads, known, rows_left, unread}
 use Rattle.csv.specs.declared.parser.State.{State}
 use Rattle.csv.specs.declared.parser.State.TheVariants as st
@@ -156,14 +154,6 @@ strip_short [] = omega arith
 strip_short (x ∷ []) = omega arith
 strip_short (x ∷ y ∷ []) = omega arith
 strip_short (x ∷ y ∷ z ∷ rest) = strip_by (is_bom x y z) x y z rest
-
-pub mark_short : (bytes : List ℕ) → length (without_mark bytes) ≤ length bytes
-unfolding without_mark
-mark_short bytes = by_mark (bytes_eq (take 3 bytes) (0xEF ∷ 0xBB ∷ 0xBF ∷ []))
-  where
-    by_mark : (b : Bool) → length (if b then drop 3 bytes else bytes) ≤ length bytes
-    by_mark true = omega (arith, length-drop 3 bytes)
-    by_mark false = omega arith
 
 -- whether a read took a record
 pub read_none : (old new : PlanReader) (fields : List (List ℕ)) (found : Bool) → found ≡ false → Reads found old fields new → rows_left old ≡ []

@@ -1,6 +1,5 @@
 pub mod Layout
 pub mod QueueReport
-pub mod Reading
 pub mod PlanRows
 pub mod Plan
 pub mod PlanReading

@@ -7,7 +7,7 @@ use Rattle.acd_terms.specs.declared.command.Command.{Command}
 use Rattle.acd_reports.specs.declared.fault.PlanMember.{PlanMember}
 use Rattle.acd_reports.specs.declared.fault.PlanFault.{PlanFault}
 use Rattle.acd_reports.specs.declared.fault.PlanFault.TheVariants.{TooLong, Header, Row, NoMemory}
-use Rattle.acd_reports.specs.Reading.{◌>>=◌}
+use Rattle.acd_terms.specs.Results.{◌>>=◌}
 use Rattle.acd_reports.specs.PlanRows.{PlanRow, row_of, command_in}
 
 -- the five fields name the columns

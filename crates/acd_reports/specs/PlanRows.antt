@@ -12,7 +12,7 @@ use Rattle.acd_terms.specs.declared.command.Command.TheVariants.{AddGroup, AddSt
 use Rattle.acd_reports.specs.declared.fault.PlanMember.{PlanMember}
 use Rattle.acd_reports.specs.declared.fault.PlanMember.TheVariants as member
 use Rattle.acd_reports.specs.declared.rows.Fields.{Fields}
-use Rattle.acd_reports.specs.Reading.{◌>>=◌}
+use Rattle.acd_terms.specs.Results.{◌>>=◌}
 
 -- the name of a member as it is written
 abbrev pub member_name : PlanMember → List ℕ

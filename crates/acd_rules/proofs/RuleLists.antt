@@ -19,13 +19,6 @@ pub none_left : {T : Type 0} (p : T → Bool) (xs : List T) → is_empty (filter
 none_left p [] = refl
 none_left p (x ∷ xs) = elim (p x) as (λ b. is_empty (cond b (x ∷ filter p xs) (filter p xs)) ≡ not (b || list_any p xs)) [ true ↦ refl | false ↦ none_left p xs ]
 
-within_one : {T : Type 0} (a b : Bool) → (a ≡ true → b ≡ true) → (x : T) (p : T → Bool) (ys zs : List T) → p x ≡ a → filter p ys ≡ zs
-    → filter p (cond b (x ∷ ys) ys) ≡ cond a (x ∷ zs) zs
-within_one true true so x p ys zs is rest = rw is (ap (λ us. x ∷ us) rest)
-within_one true false so x p ys zs is rest = absurd (cc (so refl))
-within_one false true so x p ys zs is rest = rw is rest
-within_one false false so x p ys zs is rest = rest
-
 -- so of a part that has all that q keeps
 pub kept_of_part : {T : Type 0} (p q : T → Bool) → ((x : T) → p x ≡ true → q x ≡ true) → (part xs : List T)
     → filter q part ≡ filter q xs → filter p part ≡ filter p xs

@@ -10,9 +10,13 @@ use Rattle.acd_terms.specs.declared.record.ConnectionRecord.{ConnectionRecord}
 abbrev pub those_with : {T : Type 0} → (T → ℕ) → ℕ → List T → List T
 those_with number n xs = filter (λ x. number x == n) xs
 
+-- some of all, with all whose number it is among them, in their order
+abbrev pub HasAllWith : {T : Type 0} → (T → ℕ) → ℕ → List T → List T → Type 0
+HasAllWith number n some all = those_with number n some ≡ those_with number n all
+
 -- at each number the two lists have the same records, in the same order
 abbrev pub AreGrouped : {T : Type 0} → (T → ℕ) → List T → List T → Type 0
-AreGrouped number sorted xs = (n : ℕ) → those_with number n sorted ≡ those_with number n xs
+AreGrouped number sorted xs = (n : ℕ) → HasAllWith number n sorted xs
 
 -- the number that may be there, else 0
 abbrev pub number_or_none : Option ℕ → ℕ

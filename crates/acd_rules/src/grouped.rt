@@ -3,7 +3,7 @@
 ghost use Rattle.std.specs.Prelude.{◌≡◌, ℕ, List, Some, IfOk};
 ghost use Rattle.std.specs.Option.{option_map};
 ghost use Rattle.std.specs.List.Sorted.{IsNonDecreasingBy};
-ghost use Rattle.acd_rules.specs.Groups.{those_with, AreGrouped};
+ghost use Rattle.acd_rules.specs.Groups.{those_with, HasAllWith, AreGrouped};
 
 use std::alloc::{AllocError, Global};
 
@@ -37,7 +37,7 @@ impl<'a, C: Column> Grouped<'a, C> {
 
     /// Those whose number it is, in their order, or all.
     pub fn with(&self, number: u64) -> &[C::Record]
-        ensures { those_with C.number_of number result.now ≡ those_with C.number_of number self.now.whole.now }
+        ensures { HasAllWith C.number_of number result.now self.now.whole.now }
     {
         match &self.sorted {
             None => self.whole,

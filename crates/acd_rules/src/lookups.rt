@@ -3,7 +3,7 @@
 ghost use Rattle.std.specs.Prelude.{◌≡◌, find};
 ghost use Rattle.acd_terms.specs.declared.record.AgentRecord.{AgentRecord};
 ghost use Rattle.acd_model.specs.Scans.{group_of, station_of, call_of, is_group, is_station, is_planned, agent_at, has};
-ghost use Rattle.acd_rules.specs.Groups.{those_with, group_number, station_number, call_number, seat_number, party_call, party_device, party_place, party_group};
+ghost use Rattle.acd_rules.specs.Groups.{HasAllWith, group_number, station_number, call_number, seat_number, party_call, party_device, party_place, party_group};
 
 use crate::grouped::{Column, Grouped};
 use acd_terms::{
@@ -216,35 +216,35 @@ impl<'a> Lookups<'a> {
 
     /// The agents logged on at the station, and maybe others.
     pub fn agents_at(&self, station: DeviceId) -> &[AgentRecord]
-        ensures { those_with seat_number station result.now ≡ those_with seat_number station self.now.rows.now.agents }
+        ensures { HasAllWith seat_number station result.now self.now.rows.now.agents }
     {
         self.agents.with(station.number())
     }
 
     /// The connections of the call, and maybe others.
     pub fn of_call(&self, call: u64) -> &[ConnectionRecord]
-        ensures { those_with party_call call result.now ≡ those_with party_call call self.now.rows.now.connections }
+        ensures { HasAllWith party_call call result.now self.now.rows.now.connections }
     {
         self.by_call.with(call)
     }
 
     /// The connections at the device, and maybe others.
     pub fn at_device(&self, device: DeviceId) -> &[ConnectionRecord]
-        ensures { those_with party_device device result.now ≡ those_with party_device device self.now.rows.now.connections }
+        ensures { HasAllWith party_device device result.now self.now.rows.now.connections }
     {
         self.by_device.with(device.number())
     }
 
     /// The connections with the place, and maybe others.
     pub fn with_place(&self, place: u64) -> &[ConnectionRecord]
-        ensures { those_with party_place place result.now ≡ those_with party_place place self.now.rows.now.connections }
+        ensures { HasAllWith party_place place result.now self.now.rows.now.connections }
     {
         self.by_place.with(place)
     }
 
     /// The connections with the group, and maybe others.
     pub fn of_group(&self, group: DeviceId) -> &[ConnectionRecord]
-        ensures { those_with party_group group result.now ≡ those_with party_group group self.now.rows.now.connections }
+        ensures { HasAllWith party_group group result.now self.now.rows.now.connections }
     {
         self.by_group.with(group.number())
     }

@@ -1,1 +1,2 @@
 pub mod NoTick
+pub mod Making

@@ -9,7 +9,7 @@ use acd_terms::Refusal::{AgentExists, PlanFull};
 use acd_terms::{AgentId, AgentRecord, AgentState, Answer, Groups, Name, Turn};
 
 /// An agent is planned, who is logged on nowhere.
-#[tactic(auto, unfolding(acd_model::specs::Services::AddAgent::add_agent, acd_model::specs::Served::if_ok))]
+#[tactic(auto, unfolding(acd_model::specs::Services::AddAgent::add_agent))]
 pub fn add_agent(tables: &Tables, at: Turn, agent: AgentId, name: Name) -> Served
     ensures { result ≡ add_agent tables.now at agent name }
 {

@@ -9,7 +9,7 @@ use acd_terms::Refusal::{DeviceExists, PlanFull};
 use acd_terms::{Answer, DeviceId, Figures, GroupRecord, Name, Priority, Seconds};
 
 /// A group is planned, of the lowest priority.
-#[tactic(auto, unfolding(acd_model::specs::Services::AddGroup::add_group, acd_model::specs::Served::if_ok))]
+#[tactic(auto, unfolding(acd_model::specs::Services::AddGroup::add_group))]
 pub fn add_group(
     tables: &Tables,
     device: DeviceId,

@@ -9,7 +9,7 @@ use acd_terms::Refusal::{DeviceExists, PlanFull};
 use acd_terms::{Answer, DeviceId, StationRecord};
 
 /// A station is planned.
-#[tactic(auto, unfolding(acd_model::specs::Services::AddStation::add_station, acd_model::specs::Served::if_ok))]
+#[tactic(auto, unfolding(acd_model::specs::Services::AddStation::add_station))]
 pub fn add_station(tables: &Tables, device: DeviceId) -> Served
     ensures { result ≡ add_station tables.now device }
 {

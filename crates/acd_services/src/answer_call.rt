@@ -25,7 +25,7 @@ fn occupy(tables: &Tables, at: Turn, connection: &ConnectionRecord) -> Move
 }
 
 /// An alerting connection is answered (Answer Call of ECMA-269).
-#[tactic(auto, unfolding(acd_model::specs::Services::AnswerCall::answer_call, acd_model::specs::Served::if_ok))]
+#[tactic(auto, unfolding(acd_model::specs::Services::AnswerCall::answer_call))]
 pub fn answer_call(tables: &Tables, at: Turn, call: u64, device: DeviceId) -> Served
     ensures { result ≡ answer_call tables.now at call device }
 {

@@ -10,7 +10,7 @@ use acd_terms::Refusal::{CallerPlanned, TooManyCalls, UnknownDevice};
 use acd_terms::{Answer, CallRecord, Cause, DeviceId, Turn};
 
 /// A call comes in from outside the plan.
-#[tactic(auto, unfolding(acd_model::specs::Services::ArriveCall::arrive_call, acd_model::specs::Served::if_ok))]
+#[tactic(auto, unfolding(acd_model::specs::Services::ArriveCall::arrive_call))]
 pub fn arrive_call(tables: &Tables, at: Turn, caller: DeviceId, called: DeviceId) -> Served
     requires { tables.now.last_call < 2 ^ 64 - 1 }
     ensures { result ≡ arrive_call tables.now at caller called }

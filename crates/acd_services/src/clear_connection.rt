@@ -52,7 +52,7 @@ fn release_other(tables: &Tables, at: Turn, other: &Option<ConnectionRecord>) ->
 }
 
 /// The call ends (Clear Connection of ECMA-269, which here clears the other party too).
-#[tactic(auto, unfolding(acd_model::specs::Services::ClearConnection::clear_connection, acd_model::specs::Served::if_ok))]
+#[tactic(auto, unfolding(acd_model::specs::Services::ClearConnection::clear_connection))]
 pub fn clear_connection(tables: &Tables, at: Turn, call: u64, device: DeviceId) -> Served
     ensures { result ≡ clear_connection tables.now at call device }
 {

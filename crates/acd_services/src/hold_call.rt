@@ -10,7 +10,7 @@ use acd_terms::Refusal::{NotStation, UnknownCall, UnknownConnection, WrongConnec
 use acd_terms::{Answer, DeviceId};
 
 /// A connected station holds (Hold Call of ECMA-269).
-#[tactic(auto, unfolding(acd_model::specs::Services::HoldCall::hold_call, acd_model::specs::Served::if_ok))]
+#[tactic(auto, unfolding(acd_model::specs::Services::HoldCall::hold_call))]
 pub fn hold_call(tables: &Tables, call: u64, device: DeviceId) -> Served
     ensures { result ≡ hold_call tables.now call device }
 {

@@ -1,7 +1,8 @@
 //! Moves made on the tables. Nothing else writes them.
 
 ghost use Rattle.std.specs.Prelude.{◌≡◌, ◌++◌, [], OnOk};
-ghost use Rattle.acd_model.specs.Moves.{changed, moved, with_event, events_of};
+ghost use Rattle.acd_model.specs.Moves.{changed, with_event};
+ghost use Rattle.acd_services.specs.Making.{AreMade};
 
 use acd_model::{Change, Move};
 use acd_tables::Tables;
@@ -26,15 +27,16 @@ pub fn change(tables: &mut Tables, change: &Change) -> Result<(), AllocError>
     }
 }
 
-/// Makes one move. After an error tables and events are only to be dropped.
-pub fn make(
+// Makes one move.
+fn make(
     tables: &mut Tables,
     moment: u32,
     one: &Move,
     events: &mut Vec<Event>,
 ) -> Result<(), AllocError>
     ensures rows { OnOk result (tables.new ≡ changed tables.old one.now.change) }
-    ensures events { OnOk result (events.new.items ≡ events.old.items ++ with_event moment one.now.report []) }
+    ensures events { OnOk result
+        (events.new.items ≡ events.old.items ++ with_event moment one.now.report []) }
 {
     change(tables, &one.change)?;
     if let Some(report) = one.report {
@@ -54,8 +56,8 @@ pub fn make_all(
     moves: &[Move],
     events: &mut Vec<Event>,
 ) -> Result<(), AllocError>
-    ensures rows { OnOk result (tables.new ≡ moved tables.old moves.now) }
-    ensures events { OnOk result (events.new.items ≡ events.old.items ++ events_of moment moves.now) }
+    ensures { OnOk result (AreMade
+        moment moves.now tables.old tables.new events.old.items events.new.items) }
 {
     for one in moves {
         make(tables, moment, one, events)?;

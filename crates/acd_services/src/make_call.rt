@@ -10,7 +10,7 @@ use acd_terms::Refusal::{NotStation, SameDevice, StationBusy, TooManyCalls, Unkn
 use acd_terms::{Answer, CallRecord, DeviceId};
 
 /// A station begins a call (Make Call of ECMA-269).
-#[tactic(auto, unfolding(acd_model::specs::Services::MakeCall::make_call, acd_model::specs::Served::if_ok))]
+#[tactic(auto, unfolding(acd_model::specs::Services::MakeCall::make_call))]
 pub fn make_call(tables: &Tables, moment: u32, device: DeviceId, called: DeviceId) -> Served
     requires { tables.now.last_call < 2 ^ 64 - 1 }
     ensures { result ≡ make_call tables.now moment device called }

@@ -9,7 +9,7 @@ use acd_terms::Refusal::{PlanFull, UnknownDevice};
 use acd_terms::{Answer, DeviceId, MonitorRecord};
 
 /// A monitor on a planned device begins (Monitor Start of ECMA-269).
-#[tactic(auto, unfolding(acd_model::specs::Services::MonitorStart::monitor_start, acd_model::specs::Served::if_ok))]
+#[tactic(auto, unfolding(acd_model::specs::Services::MonitorStart::monitor_start))]
 pub fn monitor_start(tables: &Tables, device: DeviceId) -> Served
     requires { tables.now.last_monitor < 2 ^ 64 - 1 }
     ensures { result ≡ monitor_start tables.now device }

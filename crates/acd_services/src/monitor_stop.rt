@@ -9,7 +9,7 @@ use acd_terms::Answer;
 use acd_terms::Refusal::UnknownMonitor;
 
 /// A monitor ends (Monitor Stop of ECMA-269).
-#[tactic(auto, unfolding(acd_model::specs::Services::MonitorStop::monitor_stop, acd_model::specs::Served::if_ok))]
+#[tactic(auto, unfolding(acd_model::specs::Services::MonitorStop::monitor_stop))]
 pub fn monitor_stop(tables: &Tables, monitor: u64) -> Served
     ensures { result ≡ monitor_stop tables.now monitor }
 {

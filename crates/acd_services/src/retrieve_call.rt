@@ -10,7 +10,7 @@ use acd_terms::Refusal::{StationBusy, UnknownCall, UnknownConnection, WrongConne
 use acd_terms::{Answer, DeviceId};
 
 /// A held connection is retrieved (Retrieve Call of ECMA-269).
-#[tactic(auto, unfolding(acd_model::specs::Services::RetrieveCall::retrieve_call, acd_model::specs::Served::if_ok))]
+#[tactic(auto, unfolding(acd_model::specs::Services::RetrieveCall::retrieve_call))]
 pub fn retrieve_call(tables: &Tables, call: u64, device: DeviceId) -> Served
     ensures { result ≡ retrieve_call tables.now call device }
 {

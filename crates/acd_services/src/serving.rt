@@ -1,9 +1,9 @@
 //! One service on the tables.
 
-ghost use Rattle.std.specs.Prelude.{◌≡◌, ◌++◌, ◌<◌, ◌^◌, ◌-◌, IfOk, OnOk};
-ghost use Rattle.acd_model.specs.Moves.{moved, events_of};
+ghost use Rattle.std.specs.Prelude.{◌≡◌, ◌<◌, ◌^◌, ◌-◌, IfOk, OnOk};
 ghost use Rattle.acd_model.specs.Served.{outcome_of, moves_of};
 ghost use Rattle.acd_model.specs.Services.Serve.{serve};
+ghost use Rattle.acd_services.specs.Making.{AreMade};
 ghost use Rattle.acd_services.specs.NoTick.{IsNoTick};
 
 use crate::add_agent::add_agent;
@@ -83,9 +83,11 @@ pub fn serve(
     requires calls { tables.old.last_call < 2 ^ 64 - 1 }
     requires monitors { tables.old.last_monitor < 2 ^ 64 - 1 }
     requires no_tick { IsNoTick command.now }
-    ensures outcome { IfOk result (λ o. o ≡ outcome_of (serve tables.old at command.now)) }
-    ensures rows { OnOk result (tables.new ≡ moved tables.old (moves_of (serve tables.old at command.now))) }
-    ensures events { OnOk result (events.new.items ≡ events.old.items ++ events_of at.moment (moves_of (serve tables.old at command.now))) }
+    ensures outcome { IfOk result
+        (λ o. o ≡ outcome_of (serve tables.old at command.now)) }
+    ensures made { OnOk result (AreMade
+        at.moment (moves_of (serve tables.old at command.now))
+        tables.old tables.new events.old.items events.new.items) }
 {
     match decide(tables, at, command) {
         Err(refusal) => Ok(Outcome::Refused(refusal)),

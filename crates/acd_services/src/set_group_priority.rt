@@ -9,7 +9,7 @@ use acd_terms::Refusal::{NotGroup, UnknownDevice};
 use acd_terms::{Answer, DeviceId, GroupRecord, Priority};
 
 /// A group gets another priority. The waiting calls and the figures stay as they are.
-#[tactic(auto, unfolding(acd_model::specs::Services::SetGroupPriority::set_group_priority, acd_model::specs::Served::if_ok))]
+#[tactic(auto, unfolding(acd_model::specs::Services::SetGroupPriority::set_group_priority))]
 pub fn set_group_priority(tables: &Tables, device: DeviceId, priority: Priority) -> Served
     ensures { result ≡ set_group_priority tables.now device priority }
 {

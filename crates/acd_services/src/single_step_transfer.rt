@@ -24,7 +24,7 @@ fn is_answered_by(other: &Option<ConnectionRecord>) -> bool
 }
 
 /// A connected station gives its answered call away (Single Step Transfer Call of ECMA-269).
-#[tactic(auto, unfolding(acd_model::specs::Services::SingleStepTransfer::single_step_transfer, acd_model::specs::Served::if_ok))]
+#[tactic(auto, unfolding(acd_model::specs::Services::SingleStepTransfer::single_step_transfer))]
 pub fn single_step_transfer(
     tables: &Tables,
     at: Turn,

@@ -1,4 +1,4 @@
-pub mod Rounds
+pub mod CarriedOn
 pub mod Closing
 pub mod RoomOfRules
 pub mod Refusing

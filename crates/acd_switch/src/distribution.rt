@@ -1,9 +1,8 @@
 //! Offers of waiting calls to ready agents.
 
-ghost use Rattle.std.specs.Prelude.{◌≡◌, ◌++◌, OnOk};
-ghost use Rattle.acd_model.specs.Moves.{moved, events_of};
-ghost use Rattle.acd_model.specs.Changes.{changes_of};
+ghost use Rattle.std.specs.Prelude.{OnOk};
 ghost use Rattle.acd_model.specs.Distribution.{offer_moves, distribution};
+ghost use Rattle.acd_switch.specs.CarryingOut.{CarriesOut};
 
 use crate::journal::Journal;
 use acd_model::Offer;
@@ -20,9 +19,9 @@ fn make_offer(
     offered: Offer,
     journal: &mut Journal,
 ) -> Result<(), AllocError>
-    ensures rows { OnOk result (tables.new ≡ moved tables.old (offer_moves tables.old moment offered)) }
-    ensures events { OnOk result (journal.new.events.items ≡ journal.old.events.items ++ events_of moment (offer_moves tables.old moment offered)) }
-    ensures changes { OnOk result (journal.new.changes.items ≡ journal.old.changes.items ++ changes_of (offer_moves tables.old moment offered)) }
+    ensures { OnOk result (CarriesOut
+        moment (offer_moves tables.old moment offered)
+        tables.old journal.old tables.new journal.new) }
 {
     let Some(connection) = tables.connection(offered.call, offered.group) else {
         return Ok(());
@@ -41,11 +40,10 @@ fn make_offer(
 }
 
 /// Makes offers until there is none. After an error tables and journal are only to be dropped.
-#[tactic(auto, unfolding(acd_model::specs::Distribution::distribution))]
 pub fn distribute(tables: &mut Tables, moment: u32, journal: &mut Journal) -> Result<(), AllocError>
-    ensures rows { OnOk result (tables.new ≡ moved tables.old (distribution tables.old moment)) }
-    ensures events { OnOk result (journal.new.events.items ≡ journal.old.events.items ++ events_of moment (distribution tables.old moment)) }
-    ensures changes { OnOk result (journal.new.changes.items ≡ journal.old.changes.items ++ changes_of (distribution tables.old moment)) }
+    ensures { OnOk result (CarriesOut
+        moment (distribution tables.old moment)
+        tables.old journal.old tables.new journal.new) }
 {
     let most = tables.queued_count();
     for round in 0..most {

@@ -2,11 +2,12 @@
 
 ghost use Rattle.std.specs.Prelude.{◌≡◌, ◌++◌, ◌∷◌, [], IfOk, OnOk};
 ghost use Rattle.acd_terms.specs.Lists.{IsAscending};
-ghost use Rattle.acd_model.specs.Moves.{changed, moved, with_event, events_of};
-ghost use Rattle.acd_model.specs.Changes.{with_change, changes_of, changed_by, growth_by, growth};
+ghost use Rattle.acd_model.specs.Moves.{changed};
+ghost use Rattle.acd_model.specs.Changes.{with_change, changed_by, growth_by, growth};
 ghost use Rattle.acd_model.specs.Figures.{with_figures};
 ghost use Rattle.acd_model.specs.Rules.Plan.{group_order};
 ghost use Rattle.acd_switch.specs.Counting.{CountingFits};
+ghost use Rattle.acd_switch.specs.CarryingOut.{CarriesOut};
 
 use crate::figures::{counted_group, counting};
 use acd_model::{Change, Move};
@@ -44,9 +45,8 @@ impl Journal {
         moment: u32,
         moves: &[Move],
     ) -> Result<(), AllocError>
-        ensures rows { OnOk result (tables.new ≡ moved tables.old moves.now) }
-        ensures events { OnOk result (self.new.events.items ≡ self.old.events.items ++ events_of moment moves.now) }
-        ensures changes { OnOk result (self.new.changes.items ≡ self.old.changes.items ++ changes_of moves.now) }
+        ensures { OnOk result
+            (CarriesOut moment moves.now tables.old self.old tables.new self.new) }
     {
         for one in moves {
             self.make(tables, moment, one)?;
@@ -56,9 +56,8 @@ impl Journal {
 
     // Makes one move.
     fn make(&mut self, tables: &mut Tables, moment: u32, one: &Move) -> Result<(), AllocError>
-        ensures rows { OnOk result (tables.new ≡ changed tables.old one.now.change) }
-        ensures events { OnOk result (self.new.events.items ≡ self.old.events.items ++ with_event moment one.now.report []) }
-        ensures changes { OnOk result (self.new.changes.items ≡ self.old.changes.items ++ with_change one.now.change []) }
+        ensures { OnOk result
+            (CarriesOut moment (one.now ∷ []) tables.old self.old tables.new self.new) }
     {
         make_change(tables, &one.change, &mut self.changes)?;
         if let Some(report) = one.report {
@@ -78,7 +77,8 @@ impl Journal {
         requires room { CountingFits tables.old self.old.events.items }
         ensures rows { OnOk result (tables.new ≡ with_figures tables.old self.old.events.items) }
         ensures events { self.new.events.items ≡ self.old.events.items }
-        ensures changes { OnOk result (self.new.changes.items ≡ self.old.changes.items ++ growth tables.old self.old.events.items) }
+        ensures changes { OnOk result (self.new.changes.items
+            ≡ self.old.changes.items ++ growth tables.old self.old.events.items) }
     {
         grow_by_all(tables, &self.events, &mut self.changes)
     }

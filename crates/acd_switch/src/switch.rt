@@ -4,17 +4,18 @@ ghost use Rattle.std.specs.Prelude.{◌≡◌, ◌<◌, ◌+◌, ◌-◌, ◌^�
 ghost use Rattle.acd_terms.specs.Rows.{empty_rows};
 ghost use Rattle.acd_terms.specs.Limits.{limits_fit};
 ghost use Rattle.acd_terms.specs.Lists.{IsAscending};
-ghost use Rattle.acd_model.specs.Moves.{moved, events_of};
 ghost use Rattle.acd_model.specs.Served.{outcome_of, moves_of};
 ghost use Rattle.acd_model.specs.Services.Serve.{serve};
-ghost use Rattle.acd_model.specs.Step.{step, numbered, executed_moment, next_stamp};
-ghost use Rattle.acd_model.specs.Changes.{changes_of, growth, step_changes, rows_made};
+ghost use Rattle.acd_model.specs.Step.{step, numbered};
+ghost use Rattle.acd_model.specs.Changes.{growth, step_changes};
 ghost use Rattle.acd_model.specs.Rules.First.{BreaksNoRule};
 ghost use Rattle.acd_model.specs.Rules.Plan.{group_order};
 ghost use Rattle.acd_services.specs.NoTick.{IsNoTick};
 ghost use Rattle.acd_switch.specs.RowFaults.{IsFaultOf};
 ghost use Rattle.acd_switch.specs.Room.{HasRoom, CountersFit, closed};
 ghost use Rattle.acd_switch.specs.Kept.{figures_at, IsRefused};
+ghost use Rattle.acd_switch.specs.CarryingOut.{CarriesOut};
+ghost use Rattle.acd_switch.specs.Executing.{IsMadeBy};
 ghost use Rattle.acd_laws.specs.RefusalLaws.{ChangesNothing};
 
 use crate::distribution::distribute;
@@ -95,7 +96,8 @@ impl Switch {
         ensures events { IfOk result (λ r. r.1.items ≡ (step self.old moment command.now).events) }
         ensures rows { OnOk result (self.new ≡ (step self.old moment command.now).rows) }
         ensures kept { OnOk result (BreaksNoRule self.new) }
-        ensures refused { IfOk result (λ r. IsRefused r.0 → ChangesNothing self.old moment command.now) }
+        ensures refused { IfOk result
+            (λ r. IsRefused r.0 → ChangesNothing self.old moment command.now) }
     {
         let executed = self.step_with_changes(moment, command)?;
         Ok((executed.outcome, executed.events))
@@ -109,13 +111,17 @@ impl Switch {
     ) -> Result<Executed, AllocError>
         requires rules { BreaksNoRule self.old }
         requires room { self.old.last_stamp < self.old.limits.requests }
-        ensures outcome { IfOk result (λ r. r.outcome ≡ (step self.old moment command.now).outcome) }
-        ensures events { IfOk result (λ r. r.events.items ≡ (step self.old moment command.now).events) }
-        ensures changes { IfOk result (λ r. r.changes.items ≡ step_changes self.old moment command.now) }
+        ensures outcome { IfOk result
+            (λ r. r.outcome ≡ (step self.old moment command.now).outcome) }
+        ensures events { IfOk result
+            (λ r. r.events.items ≡ (step self.old moment command.now).events) }
+        ensures changes { IfOk result
+            (λ r. r.changes.items ≡ step_changes self.old moment command.now) }
         ensures rows { OnOk result (self.new ≡ (step self.old moment command.now).rows) }
-        ensures made { IfOk result (λ r. rows_made self.old r.changes.items (next_stamp self.old) (executed_moment self.old moment) (length r.events.items) ≡ self.new) }
+        ensures made { IfOk result (λ r. IsMadeBy r self.old moment self.new) }
         ensures kept { OnOk result (BreaksNoRule self.new) }
-        ensures refused { IfOk result (λ r. IsRefused r.outcome → ChangesNothing self.old moment command.now) }
+        ensures refused { IfOk result
+            (λ r. IsRefused r.outcome → ChangesNothing self.old moment command.now) }
     {
         execute(self.alloc, &mut self.tables, moment, command)
     }
@@ -220,10 +226,11 @@ fn run_command(
     journal: &mut Journal,
 ) -> Result<Outcome, AllocError>
     requires { HasRoom tables.old }
-    ensures outcome { IfOk result (λ o. o ≡ outcome_of (serve tables.old at command.now)) }
-    ensures rows { OnOk result (tables.new ≡ moved tables.old (moves_of (serve tables.old at command.now))) }
-    ensures events { OnOk result (journal.new.events.items ≡ journal.old.events.items ++ events_of at.moment (moves_of (serve tables.old at command.now))) }
-    ensures changes { OnOk result (journal.new.changes.items ≡ journal.old.changes.items ++ changes_of (moves_of (serve tables.old at command.now))) }
+    ensures outcome { IfOk result
+        (λ o. o ≡ outcome_of (serve tables.old at command.now)) }
+    ensures carried { OnOk result (CarriesOut
+        at.moment (moves_of (serve tables.old at command.now))
+        tables.old journal.old tables.new journal.new) }
 {
     match command {
         Command::Tick => {
@@ -242,10 +249,11 @@ fn run_service(
 ) -> Result<Outcome, AllocError>
     requires room { HasRoom tables.old }
     requires no_tick { IsNoTick command.now }
-    ensures outcome { IfOk result (λ o. o ≡ outcome_of (serve tables.old at command.now)) }
-    ensures rows { OnOk result (tables.new ≡ moved tables.old (moves_of (serve tables.old at command.now))) }
-    ensures events { OnOk result (journal.new.events.items ≡ journal.old.events.items ++ events_of at.moment (moves_of (serve tables.old at command.now))) }
-    ensures changes { OnOk result (journal.new.changes.items ≡ journal.old.changes.items ++ changes_of (moves_of (serve tables.old at command.now))) }
+    ensures outcome { IfOk result
+        (λ o. o ≡ outcome_of (serve tables.old at command.now)) }
+    ensures carried { OnOk result (CarriesOut
+        at.moment (moves_of (serve tables.old at command.now))
+        tables.old journal.old tables.new journal.new) }
 {
     let served = decide(tables, at, command);
     match &served {

@@ -1,10 +1,9 @@
 //! tick: offers that rang too long go back, and after-call work that lasted long enough ends.
 
-ghost use Rattle.std.specs.Prelude.{◌≡◌, ◌++◌, OnOk, IfOk};
-ghost use Rattle.acd_model.specs.Moves.{moved, events_of};
-ghost use Rattle.acd_model.specs.Changes.{changes_of};
+ghost use Rattle.std.specs.Prelude.{◌≡◌, OnOk, IfOk};
 ghost use Rattle.acd_model.specs.Scans.{group_of};
 ghost use Rattle.acd_model.specs.Tick.{is_over, ring_of, wrap_of, is_overdue, overdue_in, return_moves, is_rested, rested_in, rest_moves, returns, rests, tick};
+ghost use Rattle.acd_switch.specs.CarryingOut.{CarriesOut};
 
 use crate::journal::Journal;
 use acd_model::Ending;
@@ -108,9 +107,9 @@ fn take_back(
     connection: &ConnectionRecord,
     journal: &mut Journal,
 ) -> Result<(), AllocError>
-    ensures rows { OnOk result (tables.new ≡ moved tables.old (return_moves tables.old at connection.now)) }
-    ensures events { OnOk result (journal.new.events.items ≡ journal.old.events.items ++ events_of at.moment (return_moves tables.old at connection.now)) }
-    ensures changes { OnOk result (journal.new.changes.items ≡ journal.old.changes.items ++ changes_of (return_moves tables.old at connection.now)) }
+    ensures { OnOk result (CarriesOut
+        at.moment (return_moves tables.old at connection.now)
+        tables.old journal.old tables.new journal.new) }
 {
     let Some(group) = connection.group else {
         return Ok(());
@@ -130,24 +129,23 @@ fn end_work(
     agent: &AgentRecord,
     journal: &mut Journal,
 ) -> Result<(), AllocError>
-    ensures rows { OnOk result (tables.new ≡ moved tables.old (rest_moves at agent.now)) }
-    ensures events { OnOk result (journal.new.events.items ≡ journal.old.events.items ++ events_of at.moment (rest_moves at agent.now)) }
-    ensures changes { OnOk result (journal.new.changes.items ≡ journal.old.changes.items ++ changes_of (rest_moves at agent.now)) }
+    ensures { OnOk result (CarriesOut
+        at.moment (rest_moves at agent.now)
+        tables.old journal.old tables.new journal.new) }
 {
     let moves = [go_from(at, agent, AgentState::Ready)];
     journal.make_all(tables, at.moment, &moves)
 }
 
-#[tactic(auto, using(acd_model::proofs::MoveLemmas::moved_append, acd_model::proofs::MoveLemmas::events_of_append, acd_model::proofs::ChangeLemmas::changes_of_append, std::proofs::lemmas::Grind::common_steps), unfolding(acd_model::specs::Tick::returns))]
 fn return_overdue(
     alloc: Global,
     tables: &mut Tables,
     at: Turn,
     journal: &mut Journal,
 ) -> Result<(), AllocError>
-    ensures rows { OnOk result (tables.new ≡ moved tables.old (returns tables.old at)) }
-    ensures events { OnOk result (journal.new.events.items ≡ journal.old.events.items ++ events_of at.moment (returns tables.old at)) }
-    ensures changes { OnOk result (journal.new.changes.items ≡ journal.old.changes.items ++ changes_of (returns tables.old at)) }
+    ensures { OnOk result (CarriesOut
+        at.moment (returns tables.old at)
+        tables.old journal.old tables.new journal.new) }
 {
     let overdue = overdue_in(alloc, tables, at.moment)?;
     for connection in overdue.as_slice() {
@@ -156,16 +154,15 @@ fn return_overdue(
     Ok(())
 }
 
-#[tactic(auto, unfolding(acd_model::specs::Tick::rests))]
 fn end_rested(
     alloc: Global,
     tables: &mut Tables,
     at: Turn,
     journal: &mut Journal,
 ) -> Result<(), AllocError>
-    ensures rows { OnOk result (tables.new ≡ moved tables.old (rests tables.old at)) }
-    ensures events { OnOk result (journal.new.events.items ≡ journal.old.events.items ++ events_of at.moment (rests tables.old at)) }
-    ensures changes { OnOk result (journal.new.changes.items ≡ journal.old.changes.items ++ changes_of (rests tables.old at)) }
+    ensures { OnOk result (CarriesOut
+        at.moment (rests tables.old at)
+        tables.old journal.old tables.new journal.new) }
 {
     let rested = rested_in(alloc, tables, at.moment)?;
     for agent in rested.as_slice() {
@@ -176,16 +173,15 @@ fn end_rested(
 
 /// Takes overdue offers back, one call after the other, then ends after-call work. After an error
 /// tables and journal are only to be dropped.
-#[tactic(auto, using(acd_model::proofs::MoveLemmas::moved_append, acd_model::proofs::MoveLemmas::events_of_append, acd_model::proofs::ChangeLemmas::changes_of_append, std::proofs::lemmas::Grind::common_steps), unfolding(acd_model::specs::Tick::tick))]
 pub fn tick(
     alloc: Global,
     tables: &mut Tables,
     at: Turn,
     journal: &mut Journal,
 ) -> Result<(), AllocError>
-    ensures rows { OnOk result (tables.new ≡ moved tables.old (tick tables.old at)) }
-    ensures events { OnOk result (journal.new.events.items ≡ journal.old.events.items ++ events_of at.moment (tick tables.old at)) }
-    ensures changes { OnOk result (journal.new.changes.items ≡ journal.old.changes.items ++ changes_of (tick tables.old at)) }
+    ensures { OnOk result (CarriesOut
+        at.moment (tick tables.old at)
+        tables.old journal.old tables.new journal.new) }
 {
     return_overdue(alloc, tables, at, journal)?;
     end_rested(alloc, tables, at, journal)

@@ -1,9 +1,10 @@
 -- Sets by key.
-use Rattle.std.specs.Prelude.{◌≡◌, Bool, false, not, ◌&&◌, ◌||◌, Option, Some, None, is_some, if◌then◌else◌}
+use Rattle.std.specs.Prelude.{◌≡◌, ◌↔◌, Bool, true, false, List, not, ◌&&◌, ◌||◌, Option, Some, None, is_some, if◌then◌else◌}
 use Rattle.std.specs.declared.cmp.Ordering.{Ordering}
 use Rattle.std.specs.Ordering.{is_eq}
 use Rattle.std.specs.BTreeMap.{BTreeMap, get}
 use Rattle.std.specs.BTreeSet.{BTreeSet, contains}
+use Rattle.acd_terms.specs.Lists.{Among}
 
 module _ {K E : Type 0} (by : K → K → Ordering) (cmp : E → E → Ordering) where
   abbrev pub holds_in : Option (BTreeSet E) → E → Bool
@@ -38,6 +39,10 @@ module _ {K E : Type 0} (by : K → K → Ordering) (cmp : E → E → Ordering)
   pub record HasSet (old new : BTreeMap K (BTreeSet E)) (k : K) : Type 0 where
     pub sets : (q : K) → has_set new q ≡ (is_eq (by k q) || has_set old q)
     pub members : SameMembers old new
+
+-- the members of the set are those of the list
+abbrev pub IsSetOf : {E : Type 0} → (E → E → Ordering) → List E → BTreeSet E → Type 0
+IsSetOf {E} cmp members set = (e : E) → (contains cmp set e ≡ true) ↔ Among e members
 
 module _ {K : Type 0} (cmp : K → K → Ordering) where
   -- the set has exactly the keys that pass

@@ -1,8 +1,8 @@
 //! The connections by call and device, and those of one call.
 
-ghost use Rattle.std.specs.Prelude.{◌≡◌, ◌==◌, ◌&&◌, ◌<◌, ◌^◌, [], ◌∷◌, not, length, filter, find, slice_get, OnOk, OnErr, IfOk};
+ghost use Rattle.std.specs.Prelude.{◌≡◌, ◌==◌, ◌&&◌, ◌<◌, ◌^◌, [], not, length, filter, find, OnOk, OnErr, IfOk};
 ghost use Rattle.std.specs.List.{filter_map};
-ghost use Rattle.acd_terms.specs.Lists.{find_by, put_by, remove_by};
+ghost use Rattle.acd_terms.specs.Lists.{find_by, first_two, put_by, remove_by};
 ghost use Rattle.acd_model.specs.Rules.Plan.{connection_order};
 ghost use Rattle.acd_model.specs.Scans.{at_connection};
 ghost use Rattle.acd_tables.specs.Near.{start, end, of_key};
@@ -155,7 +155,7 @@ impl Connections {
         keys: Range<'_, (u64, DeviceId)>,
         call: u64,
     ) -> [Option<ConnectionRecord>; 2]
-        ensures { result ≡ slice_get (filter_map (of_key self.now call) keys.entry) 0 ∷ slice_get (filter_map (of_key self.now call) keys.entry) 1 ∷ [] }
+        ensures { result ≡ first_two (filter_map (of_key self.now call) keys.entry) }
     {
         let mut first = None;
         for key in keys {
@@ -171,7 +171,7 @@ impl Connections {
 
     /// The first two connections of the call. A call has no more.
     pub fn of_call(&self, call: u64) -> [Option<ConnectionRecord>; 2]
-        ensures { result ≡ slice_get (filter (λ c. c.call == call) self.now) 0 ∷ slice_get (filter (λ c. c.call == call) self.now) 1 ∷ [] }
+        ensures { result ≡ first_two (filter (λ c. c.call == call) self.now) }
     {
         // The device of any connection bounds the search.
         match self.keys.first() {
@@ -182,7 +182,8 @@ impl Connections {
 
     /// The other party of the connection's call.
     pub fn other_of(&self, connection: &ConnectionRecord) -> Option<ConnectionRecord>
-        ensures { result ≡ find (λ y. y.call == connection.now.call && not (y.device == connection.now.device)) self.now }
+        ensures { let x = connection.now in
+            result ≡ find (λ y. y.call == x.call && not (y.device == x.device)) self.now }
     {
         for key in self.near(connection.call, connection.device) {
             if let Some(other) = self.of_key(key, connection.call) {

@@ -2,8 +2,8 @@
 
 pub mod writes;
 
-ghost use Rattle.std.specs.Prelude.{◌≡◌, ◌<◌, ◌^◌, ◌↔◌, [], ◌∷◌, length, not, nat_le, slice_get, IfOk};
-ghost use Rattle.acd_terms.specs.Lists.{Among};
+ghost use Rattle.std.specs.Prelude.{◌≡◌, ◌<◌, ◌^◌, ◌↔◌, [], length, not, nat_le, IfOk};
+ghost use Rattle.acd_terms.specs.Lists.{Among, first_two};
 ghost use Rattle.acd_terms.specs.Rows.{empty_rows};
 ghost use Rattle.acd_terms.specs.declared.record.CallRecord.{CallRecord};
 ghost use Rattle.acd_model.specs.Scans.{group_of, station_of, agent_of, call_of, connection_of, connections_of, other_of, monitor_of};
@@ -197,7 +197,7 @@ impl Records {
     /// The first two connections of the call. A call has no more.
     #[tactic(auto, unfolding(acd_model::specs::Scans::connections_of))]
     pub fn connections_of(&self, call: u64) -> [Option<ConnectionRecord>; 2]
-        ensures { result ≡ slice_get (connections_of self.now call) 0 ∷ slice_get (connections_of self.now call) 1 ∷ [] }
+        ensures { result ≡ first_two (connections_of self.now call) }
     {
         self.connections.of_call(call)
     }

@@ -73,7 +73,8 @@ impl<R: Keyed> Table<R> {
 
     /// Puts the record at its key. One that finds no memory changes nothing.
     pub fn put(&mut self, item: R) -> Result<(), AllocError>
-        ensures ok { OnOk result (self.new ≡ put_by (λ x. R.Key.cmp (R.key_of item) (R.key_of x)) self.old item) }
+        ensures ok { OnOk result
+            (self.new ≡ put_by (λ x. R.Key.cmp (R.key_of item) (R.key_of x)) self.old item) }
         ensures err { OnErr result (self.new ≡ self.old) }
     {
         if let Some(old) = self.map.get_mut(&item.key()) {

@@ -1,5 +1,5 @@
 -- Digits behind a 1, and what passing each character of a text gives.
-use Rattle.std.proofs.Common.{◌≡◌, ℕ, zero, suc, ◌+◌, ◌-◌, ◌*◌, ◌^◌, ◌<◌, ◌≤◌, Bool, true, false, not, List, [], ◌∷◌, length, take, drop, get_or, Some, None, cond, ◌==◌, decimal, refl, sym, ap, ◌∙◌, arith, le-leb, length-drop}
+use Rattle.std.proofs.Common.{◌≡◌, ℕ, zero, suc, ◌+◌, ◌-◌, ◌*◌, ◌^◌, ◌<◌, ◌≤◌, Bool, true, false, not, List, [], ◌∷◌, length, take, drop, get_or, Some, None, cond, ◌==◌, decimal, refl, sym, ap, ◌∙◌, arith, le-leb}
 use Rattle.std.proofs.lemmas.Fmt.{decimal_is_IsNumeral, decimal-digits_value}
 use Rattle.std.proofs.lemmas.Str.Parse.{digit_from_value, digits_value_short, IsNumeralModel, numerals_by_value, tells_digits}
 use Rattle.std.proofs.lemmas.Str.{digit_value_digit}
@@ -110,6 +110,3 @@ drop_ascii (d ∷ ds) h = ascii_digits ds (all_digits ds h.1)
 -- the digits of a number are characters of ASCII
 pub digits_ascii : (n : ℕ) → n < 2 ^ 64 → list_all is_ascii (digits_of n) ≡ true
 digits_ascii n h = drop_ascii (decimal n) (decimal_is_IsNumeral n h).0.1
-
-pub digits_short : (longest n : ℕ) → IsNumberOf longest n → length (digits_of n) ≤ longest
-digits_short longest n h = omega (arith, length-drop 1 (decimal n), h.short)

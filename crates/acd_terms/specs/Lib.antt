@@ -7,6 +7,7 @@ pub mod Limits
 pub mod Rows
 pub mod Columns
 pub mod Lists
+pub mod Results
 pub mod Few
 pub mod Groups
 pub mod EventNames

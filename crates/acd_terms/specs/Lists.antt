@@ -1,5 +1,5 @@
 -- Lists of records in ascending key. `at x` compares the key that is meant with the key of x.
-use Rattle.std.specs.Prelude.{◌≡◌, ◌⊎◌, ℕ, ◌+◌, Bool, true, false, ◌&&◌, List, [], ◌∷◌, Option, Some, None, if◌then◌else◌}
+use Rattle.std.specs.Prelude.{◌≡◌, ◌⊎◌, ℕ, ◌+◌, Bool, true, false, ◌&&◌, List, [], ◌∷◌, Option, Some, None, slice_get, if◌then◌else◌}
 use Rattle.std.specs.declared.cmp.Ordering.{Ordering}
 use Rattle.std.specs.declared.cmp.Ordering.TheVariants.{Less}
 use Rattle.std.specs.Ordering.{is_eq, match_ordering}
@@ -28,6 +28,10 @@ abbrev pub ascends : {T : Type 0} → (T → T → Ordering) → List T → Bool
 ascends cmp [] = true
 ascends cmp (x ∷ []) = true
 ascends cmp (x ∷ y ∷ ys) = is_less (cmp x y) && ascends cmp (y ∷ ys)
+
+-- the first two, where they are
+abbrev pub first_two : {T : Type 0} → List T → List (Option T)
+first_two xs = slice_get xs 0 ∷ slice_get xs 1 ∷ []
 
 -- how many pass
 abbrev pub count : {T : Type 0} → (T → Bool) → List T → ℕ

@@ -8,8 +8,8 @@ use std::alloc::AllocError;
 use std::marker::Model;
 use std::slice;
 
-/// A list, seen as its members in order. It is made of a `Vec` and gives it back, and takes no memory
-/// but for its clone.
+/// A list, seen as its members in order. It is made of a `Vec`, and takes no memory but for its
+/// clone.
 #[derive(Debug, Drop)]
 pub struct Listed<T> {
     members: Vec<T>,
@@ -52,12 +52,6 @@ impl<T> Listed<T> {
         ensures { IsTrue result ↔ (self.now ≡ []) }
     {
         self.members.is_empty()
-    }
-
-    pub fn into_vec(self) -> Vec<T>
-        ensures { result.items ≡ self }
-    {
-        self.members
     }
 }
 

@@ -2,6 +2,7 @@
 use Rattle.std.specs.Prelude.{ℕ, List, [], ◌∷◌, length, nat_le, None, is_some}
 use Rattle.acd_terms.specs.Numbers.{Agent}
 use Rattle.acd_terms.specs.declared.command.Turn.{Turn}
+use Rattle.acd_terms.specs.Results.{◌>>◌}
 use Rattle.acd_terms.specs.declared.rows.Rows.{Rows}
 use Rattle.acd_terms.specs.declared.record.AgentRecord.{AgentRecord}
 use Rattle.acd_terms.specs.declared.state.AgentState.TheVariants.{Null}
@@ -9,7 +10,7 @@ use Rattle.acd_terms.specs.declared.answer.Answer.TheVariants.{Nothing}
 use Rattle.acd_terms.specs.declared.answer.Refusal.TheVariants.{AgentExists, PlanFull}
 use Rattle.acd_model.specs.Scans.{agent_of}
 use Rattle.acd_model.specs.Moves.{silent}
-use Rattle.acd_model.specs.Served.{Served, refuse_if, ◌>>◌, gives}
+use Rattle.acd_model.specs.Served.{Served, refuse_if, gives}
 use Rattle.acd_model.specs.declared.moves.Change.TheVariants.{PutAgent}
 
 -- an agent as it is planned: logged on nowhere

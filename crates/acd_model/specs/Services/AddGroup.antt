@@ -1,6 +1,7 @@
 -- addGroup: a group is planned.
 use Rattle.std.specs.Prelude.{ℕ, List, [], ◌∷◌, length, nat_le}
 use Rattle.acd_terms.specs.Numbers.{Device, Seconds}
+use Rattle.acd_terms.specs.Results.{◌>>◌}
 use Rattle.acd_terms.specs.declared.rows.Rows.{Rows}
 use Rattle.acd_terms.specs.declared.record.Figures.{Figures}
 use Rattle.acd_terms.specs.declared.record.GroupRecord.{GroupRecord}
@@ -8,7 +9,7 @@ use Rattle.acd_terms.specs.declared.answer.Answer.TheVariants.{Nothing}
 use Rattle.acd_terms.specs.declared.answer.Refusal.TheVariants.{DeviceExists, PlanFull}
 use Rattle.acd_model.specs.Scans.{is_used}
 use Rattle.acd_model.specs.Moves.{silent}
-use Rattle.acd_model.specs.Served.{Served, refuse_if, ◌>>◌, gives}
+use Rattle.acd_model.specs.Served.{Served, refuse_if, gives}
 use Rattle.acd_model.specs.declared.moves.Change.TheVariants.{PutGroup}
 
 abbrev pub no_figures : Figures

@@ -1,12 +1,13 @@
 -- addStation: a station is planned.
 use Rattle.std.specs.Prelude.{[], ◌∷◌, length, nat_le}
 use Rattle.acd_terms.specs.Numbers.{Device}
+use Rattle.acd_terms.specs.Results.{◌>>◌}
 use Rattle.acd_terms.specs.declared.rows.Rows.{Rows}
 use Rattle.acd_terms.specs.declared.answer.Answer.TheVariants.{Nothing}
 use Rattle.acd_terms.specs.declared.answer.Refusal.TheVariants.{DeviceExists, PlanFull}
 use Rattle.acd_model.specs.Scans.{is_used}
 use Rattle.acd_model.specs.Moves.{silent}
-use Rattle.acd_model.specs.Served.{Served, refuse_if, ◌>>◌, gives}
+use Rattle.acd_model.specs.Served.{Served, refuse_if, gives}
 use Rattle.acd_model.specs.declared.moves.Change.TheVariants.{PutStation}
 
 unfoldable pub add_station : Rows → Device → Served

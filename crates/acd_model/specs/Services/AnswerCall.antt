@@ -1,6 +1,7 @@
 -- answerCall: an alerting connection is answered.
 use Rattle.std.specs.Prelude.{not, [], ◌∷◌, Option, Some, None, if◌then◌else◌}
 use Rattle.std.specs.Option.{ok_or}
+use Rattle.acd_terms.specs.Results.{◌>>=◌, ◌>>◌}
 use Rattle.acd_terms.specs.States.{is_distributed, is_alerting}
 use Rattle.acd_terms.specs.Numbers.{Device, CallId}
 use Rattle.acd_terms.specs.declared.command.Turn.{Turn}
@@ -13,7 +14,7 @@ use Rattle.acd_model.specs.Scans.{call_of, connection_of, agent_at}
 use Rattle.acd_model.specs.Moves.{no_move}
 use Rattle.acd_model.specs.CallMoves.{answer}
 use Rattle.acd_model.specs.AgentMoves.{become_busy}
-use Rattle.acd_model.specs.Served.{Served, refuse_if, ◌>>=◌, ◌>>◌, gives}
+use Rattle.acd_model.specs.Served.{Served, refuse_if, gives}
 use Rattle.acd_model.specs.declared.moves.Move.{Move}
 
 abbrev pub busy_agent : Turn → Option AgentRecord → Device → Move

@@ -2,6 +2,7 @@
 use Rattle.std.specs.Prelude.{not, [], ◌∷◌}
 use Rattle.acd_terms.specs.Numbers.{Device}
 use Rattle.acd_terms.specs.declared.command.Turn.{Turn}
+use Rattle.acd_terms.specs.Results.{◌>>◌}
 use Rattle.acd_terms.specs.declared.rows.Rows.{Rows}
 use Rattle.acd_terms.specs.declared.event.Cause.TheVariants.{NewCall}
 use Rattle.acd_terms.specs.declared.answer.Answer.TheVariants.{Call}
@@ -9,7 +10,7 @@ use Rattle.acd_terms.specs.declared.answer.Refusal.TheVariants.{CallerPlanned, U
 use Rattle.acd_model.specs.Scans.{is_planned}
 use Rattle.acd_model.specs.CallMoves.{begin, connect_caller, arrive}
 use Rattle.acd_model.specs.Services.NewCall.{has_no_call_left, next_call}
-use Rattle.acd_model.specs.Served.{Served, refuse_if, ◌>>◌, gives}
+use Rattle.acd_model.specs.Served.{Served, refuse_if, gives}
 
 unfoldable pub arrive_call : Rows → Turn → Device → Device → Served
 arrive_call s turn caller called = do

@@ -1,6 +1,7 @@
 -- clearConnection: the call ends.
 use Rattle.std.specs.Prelude.{◌||◌, List, [], ◌∷◌, Option, Some, None, if◌then◌else◌}
 use Rattle.std.specs.Option.{ok_or}
+use Rattle.acd_terms.specs.Results.{◌>>=◌, ◌>>◌}
 use Rattle.acd_terms.specs.States.{is_queued, is_alerting}
 use Rattle.acd_terms.specs.Numbers.{Device, CallId}
 use Rattle.acd_terms.specs.declared.command.Turn.{Turn}
@@ -12,7 +13,7 @@ use Rattle.acd_model.specs.Scans.{call_of, connection_of, other_of}
 use Rattle.acd_model.specs.Moves.{no_move}
 use Rattle.acd_model.specs.CallMoves.{clear, end_call}
 use Rattle.acd_model.specs.Release.{release, ending_of}
-use Rattle.acd_model.specs.Served.{Served, ◌>>=◌, ◌>>◌, gives}
+use Rattle.acd_model.specs.Served.{Served, gives}
 use Rattle.acd_model.specs.declared.moves.Move.{Move}
 
 -- the group in which the connection waits, or from which it rings

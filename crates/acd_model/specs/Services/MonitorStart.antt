@@ -1,12 +1,13 @@
 -- monitorStart: a monitor on a planned device begins.
 use Rattle.std.specs.Prelude.{◌+◌, not, [], ◌∷◌, length, nat_le}
 use Rattle.acd_terms.specs.Numbers.{Device, MonitorId}
+use Rattle.acd_terms.specs.Results.{◌>>◌}
 use Rattle.acd_terms.specs.declared.rows.Rows.{Rows}
 use Rattle.acd_terms.specs.declared.answer.Answer.TheVariants.{Monitor}
 use Rattle.acd_terms.specs.declared.answer.Refusal.TheVariants.{UnknownDevice, PlanFull}
 use Rattle.acd_model.specs.Scans.{is_planned}
 use Rattle.acd_model.specs.Moves.{silent}
-use Rattle.acd_model.specs.Served.{Served, refuse_if, ◌>>◌, gives}
+use Rattle.acd_model.specs.Served.{Served, refuse_if, gives}
 use Rattle.acd_model.specs.declared.moves.Change.TheVariants.{PutMonitor}
 
 -- the cross reference identifier of a new monitor

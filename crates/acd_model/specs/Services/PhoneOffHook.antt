@@ -1,6 +1,7 @@
 -- phoneOffHook: the station that began a call goes off hook, and the call goes to the device that its makeCall called.
 use Rattle.std.specs.Prelude.{not, [], ◌∷◌}
 use Rattle.std.specs.Option.{ok_or}
+use Rattle.acd_terms.specs.Results.{◌>>=◌, ◌>>◌}
 use Rattle.acd_terms.specs.States.{is_initiated}
 use Rattle.acd_terms.specs.Numbers.{Device, CallId}
 use Rattle.acd_terms.specs.declared.command.Turn.{Turn}
@@ -10,7 +11,7 @@ use Rattle.acd_terms.specs.declared.answer.Answer.TheVariants.{Nothing}
 use Rattle.acd_terms.specs.declared.answer.Refusal.TheVariants.{UnknownCall, UnknownConnection, WrongConnectionState}
 use Rattle.acd_model.specs.Scans.{call_of, connection_of}
 use Rattle.acd_model.specs.CallMoves.{originate, arrive}
-use Rattle.acd_model.specs.Served.{Served, refuse_if, ◌>>=◌, ◌>>◌, gives}
+use Rattle.acd_model.specs.Served.{Served, refuse_if, gives}
 
 unfoldable pub phone_off_hook : Rows → Turn → CallId → Device → Served
 phone_off_hook s turn call device = do

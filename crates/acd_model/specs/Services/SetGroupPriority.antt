@@ -2,6 +2,7 @@
 -- any numbers; a request has none.
 use Rattle.std.specs.Prelude.{not, min, [], ◌∷◌}
 use Rattle.std.specs.Option.{ok_or}
+use Rattle.acd_terms.specs.Results.{◌>>=◌, ◌>>◌}
 use Rattle.acd_terms.specs.Limits.{greatest_priority}
 use Rattle.acd_terms.specs.Numbers.{Device, Priority}
 use Rattle.acd_terms.specs.declared.rows.Rows.{Rows}
@@ -9,7 +10,7 @@ use Rattle.acd_terms.specs.declared.answer.Answer.TheVariants.{Nothing}
 use Rattle.acd_terms.specs.declared.answer.Refusal.TheVariants.{UnknownDevice, NotGroup}
 use Rattle.acd_model.specs.Scans.{group_of, is_planned}
 use Rattle.acd_model.specs.Moves.{silent}
-use Rattle.acd_model.specs.Served.{Served, refuse_if, ◌>>=◌, ◌>>◌, gives}
+use Rattle.acd_model.specs.Served.{Served, refuse_if, gives}
 use Rattle.acd_model.specs.declared.moves.Change.TheVariants.{PutGroup}
 
 unfoldable pub set_group_priority : Rows → Device → Priority → Served

@@ -1,6 +1,7 @@
 -- singleStepTransfer: a connected station gives its answered call away.
 use Rattle.std.specs.Prelude.{Bool, false, not, ◌&&◌, [], ◌∷◌, Option, Some, None}
 use Rattle.std.specs.Option.{ok_or}
+use Rattle.acd_terms.specs.Results.{◌>>=◌, ◌>>◌}
 use Rattle.acd_terms.specs.States.{is_connected, is_answered}
 use Rattle.acd_terms.specs.Numbers.{Device, CallId}
 use Rattle.acd_terms.specs.declared.command.Turn.{Turn}
@@ -13,7 +14,7 @@ use Rattle.acd_model.specs.Scans.{call_of, connection_of, other_of, is_planned, 
 use Rattle.acd_model.specs.CallMoves.{transfer, arrive}
 use Rattle.acd_model.specs.Release.{release, ending_of}
 use Rattle.acd_model.specs.Services.Destinations.{is_in_call, is_busy_station}
-use Rattle.acd_model.specs.Served.{Served, refuse_if, ◌>>=◌, ◌>>◌, gives}
+use Rattle.acd_model.specs.Served.{Served, refuse_if, gives}
 
 -- there is another party, connected or on hold
 abbrev pub is_answered_by : Option ConnectionRecord → Bool

@@ -16,7 +16,7 @@ run_command-requires c = has_room c.args.tables.now c.requires.rules c.requires.
 pub close-requires-clause-order : goal.close-requires-clause-order
 close-requires-clause-order c =
     groups_ascend c.args.tables.now c.run_command.new.tables c.distribute.new.tables c.max-moment.result (serve c.args.tables.now (turn_at c.max-moment.result (c.last_stamp-stamp.result + 1)) c.args.command.now)
-    c.requires.rules c.in_ok-outcome.ensures.rows c.in_ok-distribute.ensures.rows
+    c.requires.rules c.in_ok-outcome.ensures.carried.rows c.in_ok-distribute.ensures.rows
 
 pub close-requires-clause-room : goal.close-requires-clause-room
 close-requires-clause-room c =
@@ -26,7 +26,7 @@ close-requires-clause-room c =
     let kept = step_keeps_rules c.args.tables.now c.args.moment c.args.command.now c.requires.rules c.requires.room in
     subst CountersFit
     (sym (rows_is c.args.tables.now c.run_command.new.tables c.distribute.new.tables c.args.moment c.max-moment.result _ c.last_event-last.result c.args.command.now _ _ _
-    executed stamp c.last_event-last.ensures c.in_ok-journal.ensures.events c.in_ok-outcome.ensures.rows c.in_ok-outcome.ensures.events c.in_ok-distribute.ensures.rows c.in_ok-distribute.ensures.events))
+    executed stamp c.last_event-last.ensures c.in_ok-journal.ensures.events c.in_ok-outcome.ensures.carried.rows c.in_ok-outcome.ensures.carried.events c.in_ok-distribute.ensures.rows c.in_ok-distribute.ensures.events))
     (fits_after c.args.tables.now c.args.moment c.args.command.now c.requires.rules c.requires.room kept small)
 
 pub returns-clause-rows : goal.returns-clause-rows
@@ -34,22 +34,22 @@ returns-clause-rows c =
     let executed : c.max-moment.result ≡ executed_moment c.args.tables.now c.args.moment = c.max-moment.ensures ∙ ap (max c.args.moment) c.last_moment.ensures in
     let stamp : c.last_stamp-stamp.result + 1 ≡ next_stamp c.args.tables.now = omega (arith, c.last_stamp-stamp.ensures) in
     c.in_ok-close.ensures.rows ∙ rows_is c.args.tables.now c.run_command.new.tables c.distribute.new.tables c.args.moment c.max-moment.result _ c.last_event-last.result c.args.command.now _ _ _
-    executed stamp c.last_event-last.ensures c.in_ok-journal.ensures.events c.in_ok-outcome.ensures.rows c.in_ok-outcome.ensures.events c.in_ok-distribute.ensures.rows c.in_ok-distribute.ensures.events
+    executed stamp c.last_event-last.ensures c.in_ok-journal.ensures.events c.in_ok-outcome.ensures.carried.rows c.in_ok-outcome.ensures.carried.events c.in_ok-distribute.ensures.rows c.in_ok-distribute.ensures.events
 
 pub returns-clause-events : goal.returns-clause-events
 returns-clause-events c =
     let executed : c.max-moment.result ≡ executed_moment c.args.tables.now c.args.moment = c.max-moment.ensures ∙ ap (max c.args.moment) c.last_moment.ensures in
     let stamp : c.last_stamp-stamp.result + 1 ≡ next_stamp c.args.tables.now = omega (arith, c.last_stamp-stamp.ensures) in
     c.in_ok-close.ensures.events ∙ events_is c.args.tables.now c.run_command.new.tables c.distribute.new.tables c.args.moment c.max-moment.result _ c.last_event-last.result c.args.command.now _ _ _
-    executed stamp c.last_event-last.ensures c.in_ok-journal.ensures.events c.in_ok-outcome.ensures.rows c.in_ok-outcome.ensures.events c.in_ok-distribute.ensures.rows c.in_ok-distribute.ensures.events
+    executed stamp c.last_event-last.ensures c.in_ok-journal.ensures.events c.in_ok-outcome.ensures.carried.rows c.in_ok-outcome.ensures.carried.events c.in_ok-distribute.ensures.rows c.in_ok-distribute.ensures.events
 
 pub returns-clause-changes : goal.returns-clause-changes
 returns-clause-changes c =
     let executed : c.max-moment.result ≡ executed_moment c.args.tables.now c.args.moment = c.max-moment.ensures ∙ ap (max c.args.moment) c.last_moment.ensures in
     let stamp : c.last_stamp-stamp.result + 1 ≡ next_stamp c.args.tables.now = omega (arith, c.last_stamp-stamp.ensures) in
     changes_are c.args.tables.now c.run_command.new.tables c.distribute.new.tables c.args.moment c.max-moment.result _ c.args.command.now _ _ _ _ _ _ _
-    executed stamp c.in_ok-journal.ensures.events c.in_ok-journal.ensures.changes c.in_ok-outcome.ensures.rows c.in_ok-distribute.ensures.rows c.in_ok-outcome.ensures.events c.in_ok-distribute.ensures.events
-    c.in_ok-outcome.ensures.changes c.in_ok-distribute.ensures.changes c.in_ok-close.ensures.changes
+    executed stamp c.in_ok-journal.ensures.events c.in_ok-journal.ensures.changes c.in_ok-outcome.ensures.carried.rows c.in_ok-distribute.ensures.rows c.in_ok-outcome.ensures.carried.events c.in_ok-distribute.ensures.events
+    c.in_ok-outcome.ensures.carried.changes c.in_ok-distribute.ensures.changes c.in_ok-close.ensures.changes
 
 pub returns-clause-outcome : goal.returns-clause-outcome
 returns-clause-outcome c =

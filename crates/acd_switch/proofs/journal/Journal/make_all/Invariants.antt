@@ -1,11 +1,6 @@
-use Rattle.std.proofs.Common.{◌≡◌, drop, ◌++◌}
-use Rattle.acd_model.specs.Moves.{moved, events_of}
-use Rattle.acd_model.specs.Changes.{changes_of}
+use Rattle.std.proofs.Common.{drop}
+use Rattle.acd_switch.proofs.CarriedOn.{IsLeft}
 use Rattle.acd_switch.proofs.journal.Journal.make_all.Given as goal
 
 abbrev pub invariant-loop-one : goal.invariant-loop-one
-invariant-loop-one l = record {
-  rows : moved l.tables (drop l.one-index l.moves) ≡ moved l.fn.tables l.moves;
-  told : l.self.events.items ++ events_of l.moment (drop l.one-index l.moves) ≡ l.fn.self.events.items ++ events_of l.moment l.moves;
-  noted : l.self.changes.items ++ changes_of (drop l.one-index l.moves) ≡ l.fn.self.changes.items ++ changes_of l.moves;
-}
+invariant-loop-one l = IsLeft l.moment (drop l.one-index l.moves) l.tables l.self l.moves l.fn.tables l.fn.self

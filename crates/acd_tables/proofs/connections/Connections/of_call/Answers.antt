@@ -1,5 +1,6 @@
-use Rattle.std.proofs.Common.{◌∙◌, ap, sym, ◌∷◌, [], slice_get}
+use Rattle.std.proofs.Common.{◌∙◌, ap, sym}
 use Rattle.std.specs.Prelude.{filter, ◌==◌}
+use Rattle.acd_terms.specs.Lists.{first_two}
 use Rattle.acd_terms.specs.declared.record.ConnectionRecord.{ConnectionRecord}
 use Rattle.acd_tables.proofs.KeyLemmas.{none-there, no_keys}
 use Rattle.acd_tables.proofs.connections.Connections.of_call.Goals as goal
@@ -7,4 +8,4 @@ use Rattle.acd_tables.proofs.connections.Connections.of_call.Goals as goal
 pub returns-in-None : goal.returns-in-None
 returns-in-None c =
     let none = none-there c.self.inside.records c.self.inside.keys c.self.invariant (no_keys c.self.inside.keys.keys c.in-None.ensures.variant.1) in
-    ap (λ cs. slice_get (filter (λ (x : ConnectionRecord). x.call == c.args.call) cs) 0 ∷ slice_get (filter (λ (x : ConnectionRecord). x.call == c.args.call) cs) 1 ∷ []) (sym none ∙ c.self.view_is)
+    ap (λ cs. first_two (filter (λ (x : ConnectionRecord). x.call == c.args.call) cs)) (sym none ∙ c.self.view_is)

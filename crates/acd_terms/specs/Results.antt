@@ -1,7 +1,11 @@
--- Reading that stops at the first fault.
+-- Work that goes on while all is well: the first error ends it.
 use Rattle.std.specs.Prelude.{Result, Ok, Err}
 
 infixl 10 ◌>>=◌
 abbrev pub ◌>>=◌ : {A B E : Type 0} → Result A E → (A → Result B E) → Result B E
 (Ok x) >>= f = f x
 (Err e) >>= f = Err e
+
+infixl 10 ◌>>◌
+abbrev pub ◌>>◌ : {A B E : Type 0} → Result A E → Result B E → Result B E
+v >> w = v >>= (λ _. w)
