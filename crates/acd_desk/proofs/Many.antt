@@ -14,6 +14,7 @@ use Rattle.acd_desk.specs.Standing.{Standing, InStep, Starts}
 use Rattle.acd_desk.specs.Ran.{IsCause, IsDeceived, WasUnloaded, EndsIn, IsFault, EndsUp, Took, Ran}
 use Rattle.acd_desk.specs.Attended.{Attended}
 use Rattle.acd_desk.specs.Told.{Told}
+use Rattle.acd_desk.specs.AnswerTexts.{Said, IsSaid, SaysOf}
 use Rattle.acd_desk.specs.declared.fault.DeskFault.{DeskFault}
 use Rattle.acd_desk.proofs.Longer.{ran_none, one_said, one_content, one_stop, served-push, maybe_stays, maybe_this}
 use Rattle.acd_desk.proofs.Sound.{ran_sound, stop_sound}
@@ -360,3 +361,10 @@ forgets m n a t rejected took = record {
   counts = took.counts;
   unloads = λ working gone. inr refl;
 }
+
+-- what is said of an answer, or noMemory in its place
+pub says_of : (s n : Standing) (a : Arrival) (t : Taken) (out : Said) → Settles s → Settles n → Took s a t n → Ran s (a ∷ []) (t ∷ []) n → IsSaid a.request t out → SaysOf s a out n
+says_of s n a t out settles settled took ran (inl is) = record { answer = t; says = is; took = took; ran = ran }
+says_of s n a t out settles settled took ran (inr lost) =
+    let forgot = forgets s n a t lost.0 took in
+    record { answer = NoMemory; says = lost.1; took = forgot; ran = ran_one s n a NoMemory settles settled forgot }

@@ -6,11 +6,12 @@ ghost use Rattle.acd_book.specs.Content.{events_behind, events_of_monitor};
 ghost use Rattle.acd_desk.specs.Stands.{IsSound};
 ghost use Rattle.acd_desk.specs.Standing.{standing};
 ghost use Rattle.acd_desk.specs.Told.{Told};
-ghost use Rattle.acd_desk.specs.Tells.{told, agent_read, call_read, device_read, queue_read, report_read, snapshot_read, table_read, page_read, events_read, history_read, monitor_read, page_size};
+ghost use Rattle.acd_desk.specs.Tells.{told, agent_read, call_read, device_read, queue_read, report_read, snapshot_read, table_read, page_read, events_read, history_read, monitor_read, page_size, told_of};
 
 use crate::desk::Desk;
 use crate::fault::DeskFault;
-use crate::table_reads::{Question, table_read};
+use crate::question::Question;
+use crate::table_reads::table_read;
 use crate::working::{LoadedSwitch, Working};
 use acd_book::Book;
 use acd_codec::page_text;
@@ -23,12 +24,12 @@ const PAGE: usize = 100;
 const HISTORY_PAGE: usize = 1000;
 
 impl<B: Book> Desk<B> {
-    // What the tables tell.
-    fn tell(&mut self, question: Question) -> Result<Option<String>, DeskFault>
-        ensures { Told (standing B.Book self.old) (standing B.Book self.new) result (λ c text. told text ≡ table_read c.rows question) }
+    // What the tables tell. The moment counts for a report alone.
+    fn tell(&mut self, moment: u32, question: Question) -> Result<Option<String>, DeskFault>
+        ensures { Told (standing B.Book self.old) (standing B.Book self.new) result (λ c text. told text ≡ table_read c.rows moment question) }
     {
         let loaded = self.switch_out()?;
-        let text = table_read(self.alloc, loaded.switch.tables(), question);
+        let text = table_read(self.alloc, loaded.switch.tables(), moment, question);
         self.working = Working::Loaded(loaded);
         match text {
             Ok(text) => Ok(text),
@@ -40,21 +41,21 @@ impl<B: Book> Desk<B> {
     pub fn agent(&mut self, agent: AgentId) -> Result<Option<String>, DeskFault>
         ensures { Told (standing B.Book self.old) (standing B.Book self.new) result (λ c text. told text ≡ agent_read c.rows agent) }
     {
-        self.tell(Question::Agent(agent))
+        self.tell(0, Question::Agent(agent))
     }
 
     /// A live call in JSON, with its connections. None where no live call has the number.
     pub fn call(&mut self, call: u64) -> Result<Option<String>, DeskFault>
         ensures { Told (standing B.Book self.old) (standing B.Book self.new) result (λ c text. told text ≡ call_read c.rows call) }
     {
-        self.tell(Question::Call(call))
+        self.tell(0, Question::Call(call))
     }
 
     /// A planned device in JSON: a group, or a station with its agent and connections. None where it isn't planned.
     pub fn device(&mut self, device: DeviceId) -> Result<Option<String>, DeskFault>
         ensures { Told (standing B.Book self.old) (standing B.Book self.new) result (λ c text. told text ≡ device_read c.rows device) }
     {
-        self.tell(Question::Device(device))
+        self.tell(0, Question::Device(device))
     }
 
     /// The queue of a group in JSON: the calls that wait by their places, and the eligible agents, longest ready
@@ -62,7 +63,7 @@ impl<B: Book> Desk<B> {
     pub fn queue(&mut self, group: DeviceId) -> Result<Option<String>, DeskFault>
         ensures { Told (standing B.Book self.old) (standing B.Book self.new) result (λ c text. told text ≡ queue_read c.rows group) }
     {
-        self.tell(Question::Queue(group))
+        self.tell(0, Question::Queue(group))
     }
 
     /// The queue report at a moment (in seconds), or at the last executed one where that is later. It moves no
@@ -70,7 +71,7 @@ impl<B: Book> Desk<B> {
     pub fn report(&mut self, moment: u32) -> Result<Option<String>, DeskFault>
         ensures { Told (standing B.Book self.old) (standing B.Book self.new) result (λ c text. told text ≡ report_read c.rows moment) }
     {
-        self.tell(Question::Report(moment))
+        self.tell(moment, Question::Report)
     }
 
     /// All agents, live calls, groups, monitors and stations in JSON, each list in ascending number, with the number of
@@ -78,7 +79,7 @@ impl<B: Book> Desk<B> {
     pub fn snapshot(&mut self) -> Result<Option<String>, DeskFault>
         ensures { Told (standing B.Book self.old) (standing B.Book self.new) result (λ c text. told text ≡ snapshot_read c.rows) }
     {
-        self.tell(Question::Snapshot)
+        self.tell(0, Question::Snapshot)
     }
 
     // The number of the last event.
@@ -182,5 +183,25 @@ impl<B: Book> Desk<B> {
         };
         let events = self.first_watched(monitor, after)?;
         Ok(Some(page_text(self.alloc, &events, last)?))
+    }
+
+    /// What is told to a question at a moment (in seconds), which counts for a report alone. None where there is no such thing.
+    pub fn read(&mut self, moment: u32, question: Question) -> Result<Option<String>, DeskFault>
+        ensures {
+            Told (standing B.Book self.old) (standing B.Book self.new) result
+                (λ c text. told text ≡ told_of c moment question)
+        }
+    {
+        match question {
+            Question::Agent(agent) => self.agent(agent),
+            Question::Call(call) => self.call(call),
+            Question::Device(device) => self.device(device),
+            Question::Queue(group) => self.queue(group),
+            Question::Events(after) => self.events(after),
+            Question::History(after) => self.history(after),
+            Question::MonitorEvents(monitor, after) => self.monitor_events(monitor, after),
+            Question::Report => self.report(moment),
+            Question::Snapshot => self.snapshot(),
+        }
     }
 }

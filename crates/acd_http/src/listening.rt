@@ -2,7 +2,7 @@
 
 ghost use Rattle.std.specs.Prelude.{◌≡◌, ◌≤◌, ℕ, List, ◌++◌, min, length, Option, Err, OnOk};
 ghost use Rattle.std.specs.Io.KnownBytes.{Appends};
-ghost use Rattle.acd_lines.specs.Sent.{Begins};
+ghost use Rattle.acd_io.specs.Sent.{Begins};
 ghost use Rattle.acd_desk.specs.Ran.{standing};
 ghost use Rattle.acd_http.specs.Listening.{Served, ServedAll, ServedUntilFailed, Noted, fault_text, outcome_line};
 
@@ -12,7 +12,7 @@ use crate::serving::{ExchangeFault, exchange};
 use crate::short_text::ShortText;
 use acd_book::Book;
 use acd_desk::Desk;
-use acd_lines::{Stopped, send};
+use acd_io::{Stopped, send};
 use itoa::Buffer;
 use std::alloc::Global;
 use std::io::{Read, Write};

@@ -1,9 +1,7 @@
 pub mod Splits
 pub mod Moments
-pub mod Sends
 pub mod Kept
 pub mod Cuts
-pub mod AnswerTexts
 pub mod Reaching
 pub mod Turns
 pub mod Telling

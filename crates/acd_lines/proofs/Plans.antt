@@ -13,9 +13,9 @@ use Rattle.acd_desk.proofs.Many.{Settles, ran_nothing, ran_more}
 use Rattle.acd_lines.specs.Input.{arrival}
 use Rattle.acd_lines.specs.Answers.{Answers, taken_line}
 use Rattle.acd_lines.specs.Output.{AnswerLines, IsOutput, IsBegun, IsShort, imported}
-use Rattle.acd_lines.specs.Sent.{Passes, Breaks}
+use Rattle.acd_io.specs.Sent.{Passes, Breaks}
 use Rattle.acd_lines.specs.Parts.{LineDone, LineStops, Imports, ImportStops}
-use Rattle.acd_lines.proofs.Sends.{passes_nothing, passes_then, passes_out, passes_whole, breaks_then, breaks_out}
+use Rattle.acd_io.proofs.Sends.{passes_nothing, passes_then, passes_out, passes_whole, breaks_then, breaks_out}
 
 -- one answer line more
 answered_more : (rs : List Request) (ts : List Taken) (outs : List (List ℕ)) (r : Request) (t : Taken) (out : List ℕ) → out ≡ taken_line r t → AnswerLines (imported rs) ts outs

@@ -1,14 +1,12 @@
 -- What the lines that a desk answered one after the other say of the desk.
-use Rattle.std.proofs.Common.{◌≡◌, ℕ, List, [], ◌∷◌, ◌++◌, take, Option, refl, sym, ap, subst, ◌∙◌, inl, inr, append_assoc, append-nil}
-use Rattle.acd_terms.specs.declared.command.Request.{Request}
+use Rattle.std.proofs.Common.{◌≡◌, ℕ, List, [], ◌∷◌, ◌++◌, take, Option, refl, sym, ap, subst, ◌∙◌, append_assoc, append-nil}
 use Rattle.acd_terms.specs.declared.command.Arrival.{Arrival}
 use Rattle.acd_desk.specs.declared.taken.Taken.{Taken}
-use Rattle.acd_desk.specs.declared.taken.Taken.TheVariants as taken
 use Rattle.acd_desk.specs.Arrived.{at}
-use Rattle.acd_desk.specs.Ran.{Standing, Took, Ran}
-use Rattle.acd_desk.proofs.Many.{Settles, ran_nothing, ran_more, forgets}
+use Rattle.acd_desk.specs.Ran.{Standing, Ran}
+use Rattle.acd_desk.proofs.Many.{Settles, ran_nothing, ran_more}
 use Rattle.acd_lines.specs.Input.{cut, Line, no_moment, too_long, faulty, arrival, line_of, text_of, lines_of, arrivals_in}
-use Rattle.acd_lines.specs.Answers.{Answers, IsWritten}
+use Rattle.acd_lines.specs.Answers.{Answers}
 use Rattle.acd_lines.specs.Output.{AnswerLines, whole_lines}
 use Rattle.acd_lines.specs.Parts.{Serves, AllDone, ReadDone, FirstDone, SomeDone, ShortDone}
 use Rattle.acd_lines.specs.Lines.{AnsweredAll, AnsweredRead, AnsweredFirst, AnsweredShort, AnsweredSome}
@@ -21,13 +19,6 @@ arrivals_behind (faulty member) lines = refl
 arrivals_behind (arrival moment request) lines = refl
 
 module _ {D : Type 0} (stands : D → Standing) where
-  -- what is written for an answer of the desk, or noMemory in its place
-  pub answers_arrival : (d e : D) (moment : ℕ) (r : Request) (t : Taken) (out : List ℕ) → Took (stands d) (at moment r) t (stands e) → IsWritten r t out → Answers stands d (arrival moment r) out e
-  answers_arrival d e moment r t out took written = elim written [
-    | inl whole ↦ (t, whole, took)
-    | inr lost ↦ (taken.NoMemory, lost.1, forgets (stands d) (stands e) (at moment r) t lost.0 took)
-  ]
-
   -- one line more
   abbrev pub OneLine : D → List Arrival → List Taken → D → Line → List ℕ → Type 0
   OneLine s l ts e line out = (more : List Taken) × Ran (stands s) (l ++ arrivals_in (line ∷ [])) (ts ++ more) (stands e)

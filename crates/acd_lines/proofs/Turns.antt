@@ -5,10 +5,11 @@ use Rattle.std.specs.Io.BufRead.{strip_last}
 use Rattle.std.specs.Io.KnownBytes.{Consumes, IsAtEnd}
 use Rattle.std.proofs.KnownBytes.{Consumes-nil, Consumes-trans, Consumes-whole}
 use Rattle.acd_lines.specs.Input.{has_none, text_of}
-use Rattle.acd_lines.specs.Output.{IsInput}
-use Rattle.acd_lines.specs.Sent.{Passes, Breaks}
+use Rattle.acd_io.specs.Read.{IsInput}
+use Rattle.acd_io.proofs.Inputs.{input_begun}
+use Rattle.acd_io.specs.Sent.{Passes, Breaks}
 use Rattle.acd_lines.specs.Parts.{ServesAll, ServesSome, Reached, Stands, LineDone, LineStops, Feeds, Stops, FeedStops, Finishes, FinishStops, AllDone, ReadDone, FirstDone, SomeDone, ShortDone}
-use Rattle.acd_lines.proofs.Sends.{breaks_front, passes_same_front, passes_nothing, passes_then, breaks_then, passes_out, breaks_out, begins_so, passes_whole}
+use Rattle.acd_io.proofs.Sends.{breaks_front, passes_same_front, passes_nothing, passes_then, breaks_then, passes_out, breaks_out, begins_so, passes_whole}
 use Rattle.acd_lines.proofs.Kept.{ByFront, kept_more, kept_line, kept_strip}
 use Rattle.acd_lines.proofs.Cuts.{text_line, text_open}
 use Rattle.acd_lines.proofs.Reaching.{reached_bytes, reached_line, read_reached, some_reached, some_all, all_ended, all_open}
@@ -42,20 +43,6 @@ no_part : (n : ℕ) (part : List ℕ) → 0 < n → length (take n part) ≡ 0 �
 no_part n [] h e = refl
 no_part zero (x ∷ part) h e = absurd (omega arith)
 no_part (suc n) (x ∷ part) h e = absurd (omega arith)
-
-pub no_bytes : (n : ℕ) (xs : List ℕ) → n ≡ 0 → take n xs ≡ []
-no_bytes n xs e = ap (λ (k : ℕ). take k xs) e
-
--- what was consumed up to the end is the input
-pub input_ended : (a b c : Option (List ℕ)) (seen buf : List ℕ) (n : ℕ) → Consumes a b seen → Consumes b c (take n buf) → n ≡ 0 → IsAtEnd c → IsInput a seen
-input_ended a b c seen buf n h k e last =
-    Consumes-whole a c seen (λ (xs : List ℕ). xs ≡ seen) (subst (λ (l : List ℕ). Consumes a c l) (ap (λ (l : List ℕ). seen ++ l) (no_bytes n buf e) ∙ append-nil seen) (Consumes-trans a b c seen (take n buf) h k)) last refl
-
--- what was consumed begins the input
-pub input_begun : (a b : Option (List ℕ)) (seen : List ℕ) → Consumes a b seen → (more : List ℕ) × IsInput a (seen ++ more)
-input_begun None b seen h = ([], tt)
-input_begun (Some xs) None seen h = absurd h
-input_begun (Some xs) (Some ys) seen h = (ys, h)
 
 -- the buffer after a read
 pub chunk_read : (items buf : List ℕ) (len : ℕ) → length buf ≡ length items → len ≡ length items → take len (buf ++ drop (length buf) items) ≡ buf

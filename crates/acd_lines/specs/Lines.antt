@@ -4,7 +4,8 @@ use Rattle.std.specs.Io.KnownBytes.{Appends, Consumes}
 use Rattle.acd_desk.specs.declared.taken.Taken.{Taken}
 use Rattle.acd_desk.specs.Ran.{Standing, Ran}
 use Rattle.acd_lines.specs.Input.{cut, lines_of, arrivals_in}
-use Rattle.acd_lines.specs.Output.{IsInput, IsOutput, IsBegun, IsShort, whole_lines}
+use Rattle.acd_io.specs.Read.{IsInput}
+use Rattle.acd_lines.specs.Output.{IsOutput, IsBegun, IsShort, whole_lines}
 
 -- the whole input: one answer line for each line, and the desk has run over the arrivals among them
 abbrev pub AnsweredAll : Standing → Option (List ℕ) → Option (List ℕ) → Option (List ℕ) → Standing → Type 0

@@ -1,5 +1,5 @@
 -- The output of an input: one answer line for each line, with the answers to the arrivals in order.
-use Rattle.std.specs.Prelude.{◌≡◌, ◌⊎◌, ℕ, ◌<◌, List, [], ◌∷◌, ◌++◌, filter, length, map, Option, IfSome}
+use Rattle.std.specs.Prelude.{◌≡◌, ◌⊎◌, ℕ, ◌<◌, List, [], ◌∷◌, ◌++◌, filter, length, map}
 use Rattle.std.specs.List.{concat}
 use Rattle.std.specs.Io.BufRead.{ends_with_byte}
 use Rattle.acd_terms.specs.declared.command.Request.{Request}
@@ -8,10 +8,6 @@ use Rattle.acd_codec.specs.declared.fault.FixedAnswer.TheVariants as fixed
 use Rattle.acd_desk.specs.declared.taken.Taken.{Taken}
 use Rattle.acd_lines.specs.Input.{Line, no_moment, too_long, faulty, arrival, cut}
 use Rattle.acd_lines.specs.Answers.{malformed_line, fixed_line, taken_line}
-
--- an input, which is what the reader had where that is known
-abbrev pub IsInput : Option (List ℕ) → List ℕ → Type 0
-IsInput known input = IfSome known (λ xs. xs ≡ input)
 
 -- the lines of some bytes that have ended
 abbrev pub whole_lines : List ℕ → List (List ℕ)

@@ -5,14 +5,15 @@ use Rattle.std.specs.Io.BufRead.{ends_with_byte}
 use Rattle.std.specs.Io.KnownBytes.{Appends, Consumes}
 use Rattle.acd_terms.specs.declared.command.Request.{Request}
 use Rattle.acd_desk.specs.declared.taken.Taken.{Taken}
+use Rattle.acd_desk.specs.declared.answer_text.AnswerText.{AnswerText}
+use Rattle.acd_desk.specs.AnswerTexts.{said}
 use Rattle.acd_desk.specs.Arrived.{at}
 use Rattle.acd_desk.specs.Ran.{Standing, Ran}
 use Rattle.acd_lines.specs.Input.{has_none, text_of, cut}
 use Rattle.acd_lines.specs.Answers.{line_text}
-use Rattle.acd_lines.specs.Output.{IsInput, whole_lines, AnswerLines, IsShort, imported}
-use Rattle.acd_lines.specs.Sent.{Passes, Begins, Breaks}
-use Rattle.acd_lines.specs.declared.answer_line.AnswerLine.{AnswerLine}
-use Rattle.acd_lines.specs.declared.answer_line.AnswerLine.TheVariants.{Made, Fixed}
+use Rattle.acd_io.specs.Read.{IsInput}
+use Rattle.acd_lines.specs.Output.{whole_lines, AnswerLines, IsShort, imported}
+use Rattle.acd_io.specs.Sent.{Passes, Begins, Breaks}
 
 module _ {S L : Type 0} (Answers : S → L → List ℕ → S → Type 0) where
   -- a line was answered
@@ -123,15 +124,6 @@ module _ {D : Type 0} (stands : D → Standing) where
   ImportStops d requests e old new = (written : List ℕ) × (n : ℕ) × (answers : List Taken) × IsShort (imported (take n requests)) answers written × Appends old new written
       × Ran (stands d) (map (at 0) (take n requests)) answers (stands e)
 
--- the text of an answer
-abbrev pub answered_text : AnswerLine → List ℕ
-answered_text (Made status body) = line_text status body
-answered_text (Fixed status body) = line_text status body.now
-
-abbrev pub status_of : AnswerLine → ℕ
-status_of (Made status body) = status
-status_of (Fixed status body) = status
-
-abbrev pub body_of : AnswerLine → List ℕ
-body_of (Made status body) = body
-body_of (Fixed status body) = body.now
+-- the line that an answer is
+abbrev pub answered_text : AnswerText → List ℕ
+answered_text a = line_text (said a)

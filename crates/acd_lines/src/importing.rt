@@ -12,11 +12,11 @@ ghost use Rattle.acd_lines.specs.Parts.{LineDone, LineStops, Imports, ImportStop
 
 use crate::answer::execute;
 use crate::outbox::Outbox;
-use crate::sending::Stopped;
 use crate::serve::push_answer;
 use crate::session::LinesFault;
 use acd_book::Book;
 use acd_desk::Desk;
+use acd_io::Stopped;
 use acd_terms::Request;
 use std::alloc::{AllocError, Global};
 use std::io::Write;
@@ -32,7 +32,7 @@ fn serve_request<B: Book, W: Write>(
     ensures ok { OnOk result (LineDone (Answers (standing B.Book)) desk.old (arrival 0 request.now) desk.new (W.contents writer.old) (W.contents writer.new) outbox.old.waiting.items outbox.new.waiting.items) }
     ensures err { OnErr result (LineStops (Answers (standing B.Book)) desk.old (arrival 0 request.now) desk.new (W.contents writer.old) (W.contents writer.new) outbox.old.waiting.items) }
 {
-    let answered = execute(alloc, desk, 0, request);
+    let answered = execute(desk, 0, request);
     push_answer(outbox, writer, &answered)
 }
 

@@ -9,11 +9,10 @@ ghost use Rattle.acd_lines.specs.Lines.{AnsweredAll, AnsweredRead, AnsweredFirst
 use crate::answering::{Answering, Requests};
 use crate::outbox::Outbox;
 use crate::partial::Partial;
-use crate::retry::retried;
-use crate::sending::Stopped;
 use crate::serve::{feed, finish};
 use acd_book::Book;
 use acd_desk::Desk;
+use acd_io::{Stopped, retried};
 use std::alloc::{AllocError, Global};
 use std::io::{Read, Write};
 use thiserror::Error;

@@ -15,7 +15,8 @@ use Rattle.acd_desk.specs.Opening.{Opened}
 use Rattle.acd_desk.specs.Ran.{Ran}
 use Rattle.acd_desk.proofs.ContentLaws.{empty_sound}
 use Rattle.acd_lines.specs.Input.{cut, lines_of, arrivals_in}
-use Rattle.acd_lines.specs.Output.{IsInput, IsOutput, IsBegun}
+use Rattle.acd_io.specs.Read.{IsInput}
+use Rattle.acd_lines.specs.Output.{IsOutput, IsBegun}
 use Rattle.acd_program.specs.Answered.{nothing, in_memory, IsNewDesk, AnsweredFromNothing, AnswersAll, AnswersSome}
 
 pub new_over : (old : BookState) (new : Standing) → new.book.is_clean → old.is_sound → old.content ≡ nothing → Opened old new → IsNewDesk new

@@ -14,7 +14,7 @@ use Rattle.acd_desk.specs.declared.desk.Desk.{Desk}
 use Rattle.acd_desk.specs.Opening.{Opened}
 use Rattle.acd_desk.specs.Standing.{standing}
 use Rattle.acd_lines.specs.Parts.{AllDone}
-use Rattle.acd_http.specs.ReadingLines.{reading_line_of, ReadingAnswers}
+use Rattle.acd_read_lines.specs.ReadingLines.{reading_line_of, ReadingAnswers}
 use Rattle.acd_program.specs.Over.{held, unmade}
 use Rattle.acd_program.specs.Taking.{IsOf, IsTaken}
 use Rattle.acd_program.specs.Serving.{in_database}

@@ -13,7 +13,8 @@ use Rattle.acd_desk.specs.Served.{served, sent}
 use Rattle.acd_desk.specs.Stands.{replies}
 use Rattle.acd_desk.specs.Standing.{Standing, Starts}
 use Rattle.acd_lines.specs.Input.{cut, lines_of, arrivals_in}
-use Rattle.acd_lines.specs.Output.{IsInput, IsOutput, IsBegun}
+use Rattle.acd_io.specs.Read.{IsInput}
+use Rattle.acd_lines.specs.Output.{IsOutput, IsBegun}
 
 -- nothing was executed, under the greatest limits
 abbrev pub nothing : Content

@@ -16,7 +16,8 @@ use Rattle.acd_desk.specs.declared.taken.Taken.TheVariants.{StoreFault}
 use Rattle.acd_desk.specs.Ran.{IsFault}
 use Rattle.acd_desk.specs.Session.{Session}
 use Rattle.acd_lines.specs.Input.{cut, lines_of, arrivals_in}
-use Rattle.acd_lines.specs.Output.{IsInput, IsOutput, IsBegun}
+use Rattle.acd_io.specs.Read.{IsInput}
+use Rattle.acd_lines.specs.Output.{IsOutput, IsBegun}
 use Rattle.acd_program.specs.Answered.{nothing}
 use Rattle.acd_program.specs.declared.session.SessionFault.{SessionFault}
 use Rattle.acd_program.specs.declared.session.SessionFault.TheVariants.{Open, Lines, StoreFailed}

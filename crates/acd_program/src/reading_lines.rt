@@ -4,7 +4,7 @@ ghost use Rattle.std.specs.Prelude.{◌≡◌, true, false, OnOk};
 ghost use Rattle.sqlite.specs.Held.{state};
 ghost use Rattle.acd_desk.specs.Standing.{standing};
 ghost use Rattle.acd_lines.specs.Parts.{AllDone};
-ghost use Rattle.acd_http.specs.ReadingLines.{reading_line_of, ReadingAnswers};
+ghost use Rattle.acd_read_lines.specs.ReadingLines.{reading_line_of, ReadingAnswers};
 ghost use Rattle.acd_program.specs.ReadsAnswered.{ReadsFromNothing, ReadsOver, ReadsDatabase};
 
 use crate::connection::book_over;
@@ -13,7 +13,7 @@ use crate::memory::new_desk;
 use crate::serving::unless_failed;
 use acd_book::Book;
 use acd_desk::Desk;
-use acd_http::lines_with_reads;
+use acd_read_lines::lines_with_reads;
 use acd_lines::LinesFault;
 use sqlite::{Alter, Connection};
 use std::alloc::{AllocError, Global};

@@ -1,6 +1,6 @@
 use Rattle.std.proofs.Common.{sym, true≢false}
 use Rattle.acd_desk.specs.Ran.{standing}
-use Rattle.acd_lines.proofs.Sends.{OnOk-weaker, OnErr-weaker, IfErr-when}
+use Rattle.acd_io.proofs.Sends.{OnOk-weaker, OnErr-weaker, IfErr-when}
 use Rattle.acd_lines.proofs.Telling.{all_told, read_told, some_told, short_told}
 use Rattle.acd_lines.proofs.session.lines.Goals as goal
 

@@ -1,5 +1,5 @@
 use Rattle.acd_desk.specs.Ran.{standing}
-use Rattle.acd_lines.proofs.Sends.{OnOk-weaker, OnErr-weaker}
+use Rattle.acd_io.proofs.Sends.{OnOk-weaker, OnErr-weaker}
 use Rattle.acd_program.specs.Answered.{in_memory}
 use Rattle.acd_program.proofs.Answering.{in_memory_quiet, answers_all, answers_some, answers_none}
 use Rattle.acd_program.proofs.memory.lines_over_memory.Goals as goal

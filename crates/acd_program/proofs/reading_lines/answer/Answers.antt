@@ -1,8 +1,8 @@
 use Rattle.std.proofs.Common.{◌≡◌, true, false, subst, OnOk}
 use Rattle.acd_desk.specs.Standing.{standing}
 use Rattle.acd_lines.specs.Parts.{AllDone}
-use Rattle.acd_lines.proofs.Sends.{OnOk-weaker}
-use Rattle.acd_http.specs.ReadingLines.{reading_line_of, ReadingAnswers}
+use Rattle.acd_io.proofs.Sends.{OnOk-weaker}
+use Rattle.acd_read_lines.specs.ReadingLines.{reading_line_of, ReadingAnswers}
 use Rattle.acd_program.proofs.reading_lines.answer.Goals as goal
 
 pub returns-in-Ok : goal.returns-in-Ok
