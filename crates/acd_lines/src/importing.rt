@@ -23,7 +23,6 @@ use std::io::Write;
 
 // Answers a request of the plan.
 fn serve_request<B: Book, W: Write>(
-    alloc: Global,
     desk: &mut Desk<B>,
     outbox: &mut Outbox,
     writer: &mut W,
@@ -38,7 +37,6 @@ fn serve_request<B: Book, W: Write>(
 
 // Answers all of them.
 fn serve_requests<B: Book, W: Write>(
-    alloc: Global,
     desk: &mut Desk<B>,
     outbox: &mut Outbox,
     writer: &mut W,
@@ -49,7 +47,7 @@ fn serve_requests<B: Book, W: Write>(
     ensures err { OnErr result (ImportStops (standing B.Book) desk.old requests.now desk.new (W.contents writer.old) (W.contents writer.new)) }
 {
     for request in requests {
-        serve_request(alloc, desk, outbox, writer, request)?;
+        serve_request(desk, outbox, writer, request)?;
     }
     outbox.flush(writer)
 }
@@ -78,6 +76,6 @@ pub fn import<B: Book, W: Write>(
         Ok(outbox) => outbox,
         Err(AllocError) => Outbox::unbuffered(alloc),
     };
-    serve_requests(alloc, desk, &mut outbox, writer, requests)?;
+    serve_requests(desk, &mut outbox, writer, requests)?;
     Ok(())
 }

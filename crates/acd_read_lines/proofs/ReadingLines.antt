@@ -1,5 +1,5 @@
 -- What is written for a line that reads, and that lines lead to the run of the requests among them.
-use Rattle.std.proofs.Common.{◌≡◌, ◌⊎◌, inl, inr, ℕ, List, [], ◌∷◌, ◌++◌, map, Option, Some, None, Result, Ok, Err, String, IfOk, OnErr, refl, sym, ap, subst, ◌∙◌, append_assoc, append-nil}
+use Rattle.std.proofs.Common.{◌≡◌, ◌⊎◌, inl, inr, ℕ, List, [], ◌∷◌, ◌++◌, map, Bool, Option, Some, None, Result, Ok, Err, String, IfOk, OnErr, refl, sym, ap, subst, ◌∙◌, append_assoc, append-nil}
 use Rattle.std.proofs.lemmas.List.{map-append}
 use Rattle.acd_terms.specs.declared.command.Arrival.{Arrival}
 use Rattle.acd_book.specs.Content.{Content}
@@ -23,17 +23,17 @@ use Rattle.acd_lines.specs.Input.{no_moment, too_long, faulty, arrival, text_of}
 use Rattle.acd_read_lines.specs.ReadingLines.{ReadingLine, plain, get, reading_line_of, told_line, Tells, IsTold, ReadingAnswers, asked_by, all_asked, ServesReads, arrivals_of, answers_of, LinesLeadToTheRun, ReadsTellOfTheRun}
 
 -- what the desk told, or noMemory in its place
-pub tells_look : {D Z : Type 0} (stands : D → Standing) (d e : D) (moment : ℕ) (question : Question) (plain : Bool) (found : Result (Option (String Z)) DeskFault) (out : List ℕ) → plain ≡ is_plain question
-    → (out ≡ told_line plain (seen found)) ⊎ (OnErr found ⊥ × (out ≡ fixed_line fixed.NoMemory))
+pub tells_look : {D Z : Type 0} (stands : D → Standing) (d e : D) (moment : ℕ) (question : Question) (as_text : Bool) (found : Result (Option (String Z)) DeskFault) (out : List ℕ) → as_text ≡ is_plain question
+    → (out ≡ told_line as_text (seen found)) ⊎ (OnErr found ⊥ × (out ≡ fixed_line fixed.NoMemory))
     → Told (stands d) (stands e) found (λ (c : Content) (text : Option (String Z)). told text ≡ told_of c moment question) → Tells stands d moment (Ok question) out e
-tells_look {D} {Z} stands d e moment question plain found out same (inl is) h =
+tells_look {D} {Z} stands d e moment question as_text found out same (inl is) h =
     inr (seen found, is ∙ ap (λ (b : Bool). told_line b (seen found)) same, told_seen (stands d) (stands e) found (λ (c : Content). told_of c moment question) h)
-tells_look {D} {Z} stands d e moment question plain (Ok text) out same (inr lost) h = inr (
+tells_look {D} {Z} stands d e moment question as_text (Ok text) out same (inr lost) h = inr (
   Err fault.NoMemory,
   lost.1,
   told_no_memory (stands d) (stands e) text (λ (c : Content) (x : Option (String Z)). told x ≡ told_of c moment question) (λ (c : Content) (x : Option (List ℕ)). x ≡ told_of c moment question) h,
 )
-tells_look {D} {Z} stands d e moment question plain (Err why) out same (inr lost) h = absurd lost.0
+tells_look {D} {Z} stands d e moment question as_text (Err why) out same (inr lost) h = absurd lost.0
 
 -- ---- lines lead to the run
 

@@ -44,16 +44,16 @@ refused_line why = line_text (refused_said why)
 
 -- a report is told as a JSON text
 abbrev pub json_told : Bool → List ℕ → List ℕ
-json_told is_plain text = if is_plain then quoted text else text
+json_told as_text text = if as_text then quoted text else text
 
 abbrev pub json_found : Bool → Result (Option (List ℕ)) DeskFault → Result (Option (List ℕ)) DeskFault
-json_found is_plain (Ok (Some text)) = Ok (Some (json_told is_plain text))
-json_found is_plain (Ok None) = Ok None
-json_found is_plain (Err why) = Err why
+json_found as_text (Ok (Some text)) = Ok (Some (json_told as_text text))
+json_found as_text (Ok None) = Ok None
+json_found as_text (Err why) = Err why
 
 -- the answer line to a read
 abbrev pub told_line : Bool → Result (Option (List ℕ)) DeskFault → List ℕ
-told_line is_plain found = line_text (found_said (json_found is_plain found))
+told_line as_text found = line_text (found_said (json_found as_text found))
 
 -- what is told of a content to a read, or that it can't be told
 abbrev pub IsTold : Content → ℕ → Question → List ℕ → Type 0
