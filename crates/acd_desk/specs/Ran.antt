@@ -3,8 +3,10 @@ use Rattle.std.specs.Prelude.{◌≡◌, ◌⊎◌, ◌≤◌, true, false, List
 use Rattle.std.specs.List.{Contains}
 use Rattle.acd_terms.specs.Lists.{Every}
 use Rattle.acd_terms.specs.declared.command.Arrival.{Arrival}
+use Rattle.acd_book.specs.declared.book.Book.{Ghosts}
 use Rattle.acd_book.specs.Content.{Content, HasRisen, Within}
 use Rattle.acd_book.specs.State.{BookState, IfHonest}
+use Rattle.acd_desk.specs.declared.desk.Desk.{Desk}
 use Rattle.acd_desk.specs.declared.taken.Taken.{Taken}
 use Rattle.acd_desk.specs.declared.taken.Taken.TheVariants.{NoMemory, StoreFault}
 use Rattle.acd_desk.specs.Replies.{answer_in, after}
@@ -111,3 +113,14 @@ pub record Ran (old : Standing) (arrivals : List Arrival) (answers : List Taken)
   pub quiet : ¬ (Contains answers StoreFault) → new.book.failures ≡ old.book.failures
   pub counts : old.book.failures ≤ new.book.failures
   pub unloads : new.failed ≡ false → new.switch ≡ None → WasUnloaded old answers
+
+-- ---- of a desk over a book, by the words of that book
+
+abbrev pub DeskTook : {B : Type 0} → Ghosts B → Desk B → Arrival → Taken → Desk B → Type 0
+DeskTook book old a t new = Took (standing book old) a t (standing book new)
+
+abbrev pub DeskRan : {B : Type 0} → Ghosts B → Desk B → List Arrival → List Taken → Desk B → Type 0
+DeskRan book old arrivals answers new = Ran (standing book old) arrivals answers (standing book new)
+
+abbrev pub HasFailed : {B : Type 0} → Ghosts B → Desk B → Type 0
+HasFailed book d = (standing book d).failed ≡ true

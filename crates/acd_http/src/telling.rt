@@ -2,8 +2,7 @@
 
 ghost use Rattle.std.specs.Prelude.{◌≡◌, Bool};
 ghost use Rattle.acd_desk.specs.Ran.{standing};
-ghost use Rattle.acd_desk.specs.Told.{Told};
-ghost use Rattle.acd_desk.specs.Tells.{told};
+ghost use Rattle.acd_desk.specs.Told.{DeskTells};
 ghost use Rattle.acd_http.specs.declared.asked.Asked.{Asked};
 ghost use Rattle.acd_http.specs.Exchanging.{reply_out, seen, told_of, told_reply, Replies};
 
@@ -21,7 +20,7 @@ pub(crate) fn tell<B: Book>(
     moment: u32,
     wanted: Lookup,
 ) -> Result<Option<String>, DeskFault>
-    ensures { Told (standing B.Book desk.old) (standing B.Book desk.new) result (λ c text. told text ≡ told_of c moment wanted) }
+    ensures { DeskTells B.Book desk.old desk.new result (λ c. told_of c moment wanted) }
 {
     match wanted {
         Lookup::Agent(agent) => desk.agent(agent),

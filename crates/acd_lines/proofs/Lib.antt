@@ -5,6 +5,7 @@ pub mod Kept
 pub mod Cuts
 pub mod AnswerTexts
 pub mod Reaching
+pub mod Weaker
 pub mod Turns
 pub mod Telling
 pub mod Plans
