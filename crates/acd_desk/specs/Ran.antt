@@ -88,13 +88,10 @@ pub record Ran (old : Standing) (arrivals : List Arrival) (answers : List Taken)
   pub in_step : IfHonest old.book new.book (InStep old → InStep new)
   -- each answer but the faults is that of the abstract desk, at its place in the list of what was kept and served
   pub replies : IfStarted old new (sent answers ≡ replies old.book.content (served arrivals answers))
-  -- an open book holds the run over the first arrivals of that list
-  pub content : IfStarted old new (new.book.is_open → new.book.content ≡ ran_after old.book.content (served arrivals answers))
-  pub whole : IfStarted old new (new.book.is_open → IsSound new.book.content)
-  pub laws : IfStarted old new (new.book.is_open → KeepsLaws new.book.content)
+  -- an open book holds the run over the first arrivals of that list, and a reopening finds nothing else
+  pub holds : IfStarted old new (new.book.is_open → Holds old.book.content (served arrivals answers) new.book)
   -- the book is open behind an arrival that was served, so also where all were
   pub up : IfHonest old.book new.book (EndsUp old answers → new.book.is_open)
-  pub holds : IfStarted old new (EndsUp old answers → Holds old.book.content (served arrivals answers) new.book)
   -- a book that was shut stays shut
   pub opened : IfHonest old.book new.book (new.book.is_open → old.book.is_open)
   -- whatever a stop leaves is that run, or that with one more arrival, which came behind the last that was served
@@ -102,10 +99,9 @@ pub record Ran (old : Standing) (arrivals : List Arrival) (answers : List Taken)
   pub sound_stops : IfStarted old new ((c : Content) → new.book.stops c → IsSound c)
   -- over a book that was shut, or by a desk that had failed, no stop is added
   pub still : IfHonest old.book new.book ((¬ old.book.is_open) ⊎ (old.failed ≡ true) → Within new.book.stops old.book.stops)
-  -- a store fault has a cause, and behind it there are faults alone
-  pub fault : Contains answers StoreFault → IsCause old new ⊎ (WasUnloaded old answers × IsDeceived old new)
-  pub cause : new.failed ≡ true → IsCause old new ⊎ (WasUnloaded old answers × IsDeceived old new)
+  -- a desk that answers storeFault has failed, and that has a cause; behind it there are faults alone
   pub shuts : Contains answers StoreFault → new.failed ≡ true
+  pub cause : new.failed ≡ true → IsCause old new ⊎ (WasUnloaded old answers × IsDeceived old new)
   pub tells : new.failed ≡ true → (old.failed ≡ true) ⊎ Contains answers StoreFault
   pub later : EndsIn IsFault answers
   pub shut : old.failed ≡ true → (new.failed ≡ true) × Every IsFault answers

@@ -11,7 +11,7 @@ use Rattle.acd_desk.specs.declared.taken.Taken.{Taken}
 use Rattle.acd_desk.specs.declared.taken.Taken.TheVariants.{StoreFault}
 use Rattle.acd_desk.specs.Served.{served, maybe_last, sent}
 use Rattle.acd_desk.specs.Standing.{Standing}
-use Rattle.acd_desk.specs.Stands.{IsSound, ran_after, replies, StopsAt}
+use Rattle.acd_desk.specs.Stands.{IsSound, replies, StopsAt}
 use Rattle.acd_desk.specs.Opening.{Opened}
 use Rattle.acd_desk.specs.Ran.{Ran, IsFault, Holds}
 use Rattle.acd_desk.specs.Session.{Session}
@@ -52,11 +52,8 @@ session_of P old mid new l ts of s =
       opened = λ clean is. of.opened (s.clean clean) is;
       accepts = λ clean is. subst (λ (c : Content). BreaksNoRule c.rows) (same clean is) (s.accepts clean (sound clean is));
       replies = λ clean is whole. subst (λ (c : Content). sent ts ≡ replies c (served l ts)) (same clean is) (s.replies clean (sound clean is) (well clean is whole));
-      content = λ clean is whole opened. subst (λ (c : Content). new.content ≡ ran_after c (served l ts)) (same clean is) (s.content clean (sound clean is) (well clean is whole) opened);
-      whole = λ clean is whole opened. s.whole clean (sound clean is) (well clean is whole) opened;
-      laws = λ clean is whole opened. s.laws clean (sound clean is) (well clean is whole) opened;
+      holds = λ clean is whole opened. subst (λ (c : Content). Holds c (served l ts) new) (same clean is) (s.holds clean (sound clean is) (well clean is whole) opened);
       up = λ clean is last. s.up clean (sound clean is) last;
-      holds = λ clean is whole last. subst (λ (c : Content). Holds c (served l ts) new) (same clean is) (s.holds clean (sound clean is) (well clean is whole) last);
       stops = λ clean is whole c at. subst (λ (x : Content). StopsAt x (served l ts) (maybe_last l ts) c) (same clean is) (s.stops clean (sound clean is) (well clean is whole) c at);
       sound_stops = λ clean is whole c at. s.sound_stops clean (sound clean is) (well clean is whole) c at;
       later = s.later;
