@@ -110,10 +110,8 @@ impl<B: Book> Desk<B> {
     /// Takes one arrival, as [`Desk::take`] does, and answers it in text. Where the text of a rejection
     /// finds no memory the answer is noMemory.
     pub fn take_text(&mut self, moment: u32, request: &Request) -> AnswerText
-        ensures {
-            SaysOf (standing B.Book self.old) (at moment request.now) (said result)
-                (standing B.Book self.new)
-        }
+        ensures { SaysOf (standing B.Book self.old) (at moment request.now) (said result)
+            (standing B.Book self.new) }
     {
         let taken = self.take(moment, request);
         text_of(self.alloc, request, taken)

@@ -94,13 +94,20 @@ pub fn exchange<B: Book, R: Read, W: Write>(
     reader: &mut R,
     writer: &mut W,
 ) -> Result<(), ExchangeFault>
-    ensures ok { OnOk result (Exchanged (standing B.Book) moment (R.remaining reader.old) desk.old desk.new (Appends (W.contents writer.old) (W.contents writer.new))) }
+    ensures ok { OnOk result (Exchanged (standing B.Book) moment (R.remaining reader.old)
+        desk.old desk.new (Appends (W.contents writer.old) (W.contents writer.new))) }
     // a beginning of the reply was written
-    ensures write { result ≡ Err ExchangeFault.Write → Exchanged (standing B.Book) moment (R.remaining reader.old) desk.old desk.new (Begins (W.contents writer.old) (W.contents writer.new)) }
+    ensures write { result ≡ Err ExchangeFault.Write
+        → Exchanged (standing B.Book) moment (R.remaining reader.old) desk.old desk.new
+        (Begins (W.contents writer.old) (W.contents writer.new)) }
     // and not all of it
-    ensures short { result ≡ Err ExchangeFault.Write → Exchanged (standing B.Book) moment (R.remaining reader.old) desk.old desk.new (Breaks (W.contents writer.old) (W.contents writer.new)) }
-    ensures truncated { result ≡ Err ExchangeFault.Truncated → IsAsked (R.remaining reader.old) Asked.Truncated }
-    ensures quiet { IfErr result (λ fault. fault ≢ ExchangeFault.Write → (desk.new ≡ desk.old) × (writer.new ≡ writer.old)) }
+    ensures short { result ≡ Err ExchangeFault.Write
+        → Exchanged (standing B.Book) moment (R.remaining reader.old) desk.old desk.new
+        (Breaks (W.contents writer.old) (W.contents writer.new)) }
+    ensures truncated { result ≡ Err ExchangeFault.Truncated
+        → IsAsked (R.remaining reader.old) Asked.Truncated }
+    ensures quiet { IfErr result (λ fault. fault ≢ ExchangeFault.Write
+        → (desk.new ≡ desk.old) × (writer.new ≡ writer.old)) }
     ensures memory { result ≡ Err ExchangeFault.NoMemory → reader.new ≡ reader.old }
 {
     let mut input = match Input::new(alloc) {

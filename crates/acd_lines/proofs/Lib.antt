@@ -3,6 +3,7 @@ pub mod Moments
 pub mod Kept
 pub mod Cuts
 pub mod Reaching
+pub mod Weaker
 pub mod Turns
 pub mod Telling
 pub mod Plans

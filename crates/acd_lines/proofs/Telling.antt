@@ -7,9 +7,10 @@ use Rattle.acd_desk.specs.Ran.{Standing, Ran}
 use Rattle.acd_desk.proofs.Many.{Settles, ran_nothing, ran_more}
 use Rattle.acd_lines.specs.Input.{cut, Line, no_moment, too_long, faulty, arrival, line_of, text_of, lines_of, arrivals_in}
 use Rattle.acd_lines.specs.Answers.{Answers}
-use Rattle.acd_lines.specs.Output.{AnswerLines, whole_lines}
-use Rattle.acd_lines.specs.Parts.{Serves, AllDone, ReadDone, FirstDone, SomeDone, ShortDone}
-use Rattle.acd_lines.specs.Lines.{AnsweredAll, AnsweredRead, AnsweredFirst, AnsweredShort, AnsweredSome}
+use Rattle.acd_lines.specs.Output.{AnswerLines}
+use Rattle.acd_lines.specs.Parts.{Serves, InTurn}
+use Rattle.acd_lines.specs.Lines.{LinesAnswered, ArrivalsAnswered}
+use Rattle.acd_lines.proofs.Weaker.{answered_so}
 
 -- the arrivals of a line, and those of the lines behind it
 arrivals_behind : (line : Line) (lines : List Line) → arrivals_in (line ∷ lines) ≡ arrivals_in (line ∷ []) ++ arrivals_in lines
@@ -56,32 +57,8 @@ module _ {D : Type 0} (stands : D → Standing) where
       → (answers : List Taken) × AnswerLines (lines_of pieces) answers outs × Ran (stands s) (arrivals_in (lines_of pieces)) answers (stands e)
   told settles s e pieces outs h = serves_on settles s s e [] [] pieces outs (ran_nothing (stands s) (settles s)) h
 
-  -- ---- the clauses of `lines`
-
-  pub all_told : ((d : D) → Settles (stands d)) → (known : Option (List ℕ)) (s t : D) (a c : Option (List ℕ)) → AllDone line_of (Answers stands) known s t a c → AnsweredAll (stands s) known a c (stands t)
-  all_told settles known s t a c h =
-      let all = told settles s t (cut h.0) h.3.outs h.3.serves in
-      (h.0, h.1, all.0, h.2, record { outs = h.3.outs; answered = all.1; whole = h.3.whole }, h.4, all.2)
-
-  pub read_told : ((d : D) → Settles (stands d)) → (p q : Option (List ℕ)) (s t : D) (a c : Option (List ℕ)) → ReadDone line_of (Answers stands) p q s t a c → AnsweredRead (stands s) p q a c (stands t)
-  read_told settles p q s t a c h =
-      let all = told settles s t (whole_lines h.0) h.3.outs h.3.serves in
-      (h.0, h.1, all.0, h.2, record { outs = h.3.outs; answered = all.1; whole = h.3.whole }, h.4, all.2)
-
-  pub first_told : ((d : D) → Settles (stands d)) → (known : Option (List ℕ)) (s t : D) (a c : Option (List ℕ)) → FirstDone line_of (Answers stands) known s t a c → AnsweredFirst (stands s) known a c (stands t)
-  first_told settles known s t a c h =
-      let some = h.3 in
-      let all = told settles s t (take some.n (cut h.0)) some.outs some.serves in
-      (h.0, h.1, some.n, all.0, h.2, record { outs = some.outs; answered = all.1; whole = some.whole }, h.4, all.2)
-
-  pub short_told : ((d : D) → Settles (stands d)) → (known : Option (List ℕ)) (s t : D) (a c : Option (List ℕ)) → ShortDone line_of (Answers stands) known s t a c → AnsweredShort (stands s) known a c (stands t)
-  short_told settles known s t a c h =
-      let some = h.3 in
-      let all = told settles s t (take some.n (cut h.0)) some.outs some.serves in
-      (h.0, h.4.front, some.n, all.0, h.2, record { outs = some.outs; unwritten = h.4.rest; short = h.4.short; answered = all.1; whole = sym some.whole ∙ h.4.whole }, h.4.written, all.2)
-
-  pub some_told : ((d : D) → Settles (stands d)) → (known : Option (List ℕ)) (s t : D) (a c : Option (List ℕ)) → SomeDone line_of (Answers stands) known s t a c → AnsweredSome (stands s) known a c (stands t)
-  some_told settles known s t a c h =
-      let some = h.3 in
-      let all = told settles s t (take some.n (cut h.0)) some.outs some.serves in
-      (h.0, h.4.front, some.n, all.0, h.2, record { outs = some.outs; unwritten = h.4.rest; answered = all.1; whole = sym some.whole ∙ h.4.whole }, h.4.written, all.2)
+  -- lines that were answered in turn
+  pub lines_told : ((d : D) → Settles (stands d)) → (s t : D) (P : List (List ℕ) → Type 0) (W : List ℕ → Type 0) → LinesAnswered P (InTurn line_of (Answers stands) s t) W
+      → LinesAnswered P (ArrivalsAnswered (λ (arrivals : List Arrival) (answers : List Taken). Ran (stands s) arrivals answers (stands t))) W
+  lines_told settles s t P W h =
+      answered_so P (InTurn line_of (Answers stands) s t) (ArrivalsAnswered (λ (arrivals : List Arrival) (answers : List Taken). Ran (stands s) arrivals answers (stands t))) W (λ pieces outs served. told settles s t pieces outs served) h

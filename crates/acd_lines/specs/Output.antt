@@ -1,6 +1,5 @@
 -- The output of an input: one answer line for each line, with the answers to the arrivals in order.
-use Rattle.std.specs.Prelude.{◌≡◌, ◌⊎◌, ℕ, ◌<◌, List, [], ◌∷◌, ◌++◌, filter, length, map}
-use Rattle.std.specs.List.{concat}
+use Rattle.std.specs.Prelude.{◌≡◌, ◌⊎◌, ℕ, List, [], ◌∷◌, filter, map}
 use Rattle.std.specs.Io.BufRead.{ends_with_byte}
 use Rattle.acd_terms.specs.declared.command.Request.{Request}
 use Rattle.acd_codec.specs.declared.member.Member.TheVariants as members
@@ -21,27 +20,6 @@ AnswerLines (too_long ∷ lines) answers (out ∷ outs) = (out ≡ fixed_line fi
 AnswerLines (faulty member ∷ lines) answers (out ∷ outs) = ((out ≡ malformed_line member) ⊎ (out ≡ fixed_line fixed.NoMemory)) × AnswerLines lines answers outs
 AnswerLines (arrival moment request ∷ lines) (t ∷ answers) (out ∷ outs) = (out ≡ taken_line request t) × AnswerLines lines answers outs
 AnswerLines _ _ _ = ⊥
-
--- all answer lines were written
-pub record IsOutput (lines : List Line) (answers : List Taken) (written : List ℕ) : Type 0 where
-  pub outs : List (List ℕ)
-  pub answered : AnswerLines lines answers outs
-  pub whole : written ≡ concat outs
-
--- a beginning of these answer lines was written
-pub record IsBegun (lines : List Line) (answers : List Taken) (written : List ℕ) : Type 0 where
-  pub outs : List (List ℕ)
-  pub unwritten : List ℕ
-  pub answered : AnswerLines lines answers outs
-  pub whole : concat outs ≡ written ++ unwritten
-
--- a beginning of these answer lines was written, and not all of them
-pub record IsShort (lines : List Line) (answers : List Taken) (written : List ℕ) : Type 0 where
-  pub outs : List (List ℕ)
-  pub unwritten : List ℕ
-  pub short : 0 < length unwritten
-  pub answered : AnswerLines lines answers outs
-  pub whole : concat outs ≡ written ++ unwritten
 
 -- the requests of a plan, which come in at moment 0
 abbrev pub imported : List Request → List Line

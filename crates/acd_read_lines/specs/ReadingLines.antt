@@ -4,13 +4,15 @@ use Rattle.std.specs.Str.{bytes_eq}
 use Rattle.acd_terms.specs.declared.command.Arrival.{Arrival}
 use Rattle.acd_codec.specs.declared.fault.FixedAnswer.TheVariants as fixed
 use Rattle.acd_codec.specs.ReadTexts.{quoted}
+use Rattle.acd_book.specs.declared.book.Book.{Ghosts}
 use Rattle.acd_book.specs.Content.{Content}
+use Rattle.acd_desk.specs.declared.desk.Desk.{Desk}
 use Rattle.acd_desk.specs.declared.fault.DeskFault.{DeskFault}
 use Rattle.acd_desk.specs.declared.taken.Taken.{Taken}
 use Rattle.acd_desk.specs.Arrived.{at}
 use Rattle.acd_desk.specs.Served.{served}
 use Rattle.acd_desk.specs.Stands.{ran_after}
-use Rattle.acd_desk.specs.Ran.{Standing, IfStarted}
+use Rattle.acd_desk.specs.Ran.{Standing, standing, IfStarted}
 use Rattle.acd_desk.specs.Attended.{Attended}
 use Rattle.acd_desk.specs.Told.{Told}
 use Rattle.acd_desk.specs.Tells.{told_of, is_plain}
@@ -18,7 +20,7 @@ use Rattle.acd_desk.specs.declared.question.Question.{Question}
 use Rattle.acd_desk.specs.AnswerTexts.{found_said}
 use Rattle.acd_lines.specs.Input.{Line, no_moment, too_long, faulty, arrival, request_read, asked, text_of}
 use Rattle.acd_lines.specs.Answers.{Answers, line_text, fixed_line}
-use Rattle.acd_lines.specs.Parts.{Serves}
+use Rattle.acd_lines.specs.Parts.{Serves, InTurn}
 use Rattle.acd_http.specs.declared.refused.Refused.{Refused}
 use Rattle.acd_http.specs.Refusing.{refused_said}
 use Rattle.acd_http.specs.Lookups.{target_looked}
@@ -104,4 +106,8 @@ module _ {D : Type 0} (stands : D → Standing) where
   -- a read behind lines is told of the run of the requests among them, where the book is open, or answers a fault
   abbrev pub ReadsTellOfTheRun : Type 0
   ReadsTellOfTheRun = (d e f : D) (pieces outs : List (List ℕ)) (h : ServesReads d pieces outs e) (moment : ℕ) (question : Question) (out : List ℕ) → ReadingAnswers e (get moment (Ok question)) out f
-      → IfStarted (stands d) (stands f) ((stands e).book.is_open → IsTold (ran_after (stands d).book.content (served (arrivals_of d pieces outs e h) (answers_of d pieces outs e h))) moment lookup out)
+      → IfStarted (stands d) (stands f) ((stands e).book.is_open → IsTold (ran_after (stands d).book.content (served (arrivals_of d pieces outs e h) (answers_of d pieces outs e h))) moment question out)
+
+-- lines and the reads among them were answered in turn, from one desk over a book to another
+abbrev pub ReadInTurn : {B : Type 0} → Ghosts B → Desk B → Desk B → List (List ℕ) → List (List ℕ) → Type 0
+ReadInTurn book d e = InTurn reading_line_of (ReadingAnswers (standing book)) d e

@@ -1,12 +1,15 @@
 //! Lines that ask what a GET asks, beside those that ask for a service.
 
 ghost use Rattle.std.specs.Prelude.{◌≡◌, ◌⊎◌, IfOk, IfErr, OnOk, OnErr, Option, Ok, Some, string_bytes, true, false};
+ghost use Rattle.std.specs.Io.KnownBytes.{Appends};
 ghost use Rattle.acd_desk.specs.Ran.{standing};
 ghost use Rattle.acd_desk.specs.AnswerTexts.{seen};
 ghost use Rattle.acd_lines.specs.Answers.{fixed_line};
-ghost use Rattle.acd_lines.specs.Parts.{answered_text, AllDone, ReadDone, FirstDone, ShortDone, SomeDone};
+ghost use Rattle.acd_lines.specs.Parts.{answered_text};
 ghost use Rattle.acd_http.specs.Lookups.{target_looked};
-ghost use Rattle.acd_read_lines.specs.ReadingLines.{is_read, reading_line_of, json_told, told_line, Tells, ReadingAnswers};
+ghost use Rattle.acd_read_lines.specs.ReadingLines.{is_read, json_told, told_line, Tells, ReadInTurn};
+ghost use Rattle.acd_lines.specs.Lines.{LinesAnswered, AllLines, FirstLines, EndedLines};
+ghost use Rattle.acd_io.specs.Sent.{Begins, Breaks};
 
 use acd_book::Book;
 use acd_codec::{FixedAnswer, quoted};
@@ -134,17 +137,31 @@ pub fn lines_with_reads<B: Book, R: Read, W: Write>(
     writer: &mut W,
 ) -> Result<(), LinesFault>
     // each line was answered in turn, by a desk that hasn't failed where that was to end them
-    ensures ok { OnOk result ((ends ≡ true → (standing B.Book desk.new).failed ≡ false) → AllDone reading_line_of (ReadingAnswers (standing B.Book)) (R.remaining reader.old) desk.old desk.new (W.contents writer.old) (W.contents writer.new)) }
+    ensures ok { OnOk result ((ends ≡ true → (standing B.Book desk.new).failed ≡ false)
+        → LinesAnswered (AllLines (R.remaining reader.old))
+        (ReadInTurn B.Book desk.old desk.new)
+        (Appends (W.contents writer.old) (W.contents writer.new))) }
     // those that were answered are the first, and all of their answers were written
-    ensures first { OnOk result (FirstDone reading_line_of (ReadingAnswers (standing B.Book)) (R.remaining reader.old) desk.old desk.new (W.contents writer.old) (W.contents writer.new)) }
+    ensures first { OnOk result (LinesAnswered (FirstLines (R.remaining reader.old))
+        (ReadInTurn B.Book desk.old desk.new)
+        (Appends (W.contents writer.old) (W.contents writer.new))) }
     // where reading failed, for the lines that had ended in what was read
-    ensures read { IfErr result (λ fault. fault ≡ LinesFault.Read → ReadDone reading_line_of (ReadingAnswers (standing B.Book)) (R.remaining reader.old) (R.remaining reader.new) desk.old desk.new (W.contents writer.old) (W.contents writer.new)) }
+    ensures read { IfErr result (λ fault. fault ≡ LinesFault.Read → LinesAnswered
+        (EndedLines (R.remaining reader.old) (R.remaining reader.new))
+        (ReadInTurn B.Book desk.old desk.new)
+        (Appends (W.contents writer.old) (W.contents writer.new))) }
     // where writing failed, not all that was answered was written
-    ensures write { IfErr result (λ fault. fault ≡ LinesFault.Write → ShortDone reading_line_of (ReadingAnswers (standing B.Book)) (R.remaining reader.old) desk.old desk.new (W.contents writer.old) (W.contents writer.new)) }
+    ensures write { IfErr result (λ fault. fault ≡ LinesFault.Write → LinesAnswered
+        (FirstLines (R.remaining reader.old))
+        (ReadInTurn B.Book desk.old desk.new)
+        (Breaks (W.contents writer.old) (W.contents writer.new))) }
     // after any fault, for a beginning of the input
-    ensures stopped { OnErr result (SomeDone reading_line_of (ReadingAnswers (standing B.Book)) (R.remaining reader.old) desk.old desk.new (W.contents writer.old) (W.contents writer.new)) }
+    ensures stopped { OnErr result (LinesAnswered (FirstLines (R.remaining reader.old))
+        (ReadInTurn B.Book desk.old desk.new)
+        (Begins (W.contents writer.old) (W.contents writer.new))) }
     // without memory nothing was read
-    ensures memory { IfErr result (λ fault. fault ≡ LinesFault.NoMemory → (reader.new ≡ reader.old) × (writer.new ≡ writer.old) × (desk.new ≡ desk.old)) }
+    ensures memory { IfErr result (λ fault. fault ≡ LinesFault.NoMemory
+        → (reader.new ≡ reader.old) × (writer.new ≡ writer.old) × (desk.new ≡ desk.old)) }
 {
     let Ok(routes) = Routes::new(alloc) else {
         return Err(LinesFault::NoMemory);
