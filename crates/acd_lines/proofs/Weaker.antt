@@ -1,5 +1,5 @@
 -- The same answers, of which less is said.
-use Rattle.std.proofs.Common.{◌≡◌, ℕ, List, length, Option, sym, ◌∙◌, arith}
+use Rattle.std.proofs.Common.{ℕ, List, length, Option, sym, ◌∙◌, arith}
 use Rattle.std.proofs.lemmas.List.{take_all}
 use Rattle.std.specs.List.{concat}
 use Rattle.acd_terms.specs.declared.command.Request.{Request}
