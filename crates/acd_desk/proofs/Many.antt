@@ -14,6 +14,7 @@ use Rattle.acd_desk.specs.Standing.{Standing, InStep, Starts}
 use Rattle.acd_desk.specs.Ran.{IsCause, IsDeceived, WasUnloaded, EndsIn, IsFault, EndsUp, Took, Ran}
 use Rattle.acd_desk.specs.Attended.{Attended}
 use Rattle.acd_desk.specs.Told.{Told}
+use Rattle.acd_desk.specs.AnswerTexts.{Said, IsSaid, SaysOf}
 use Rattle.acd_desk.specs.declared.fault.DeskFault.{DeskFault}
 use Rattle.acd_desk.proofs.Longer.{ran_none, one_said, one_content, one_stop, served-push, maybe_stays, maybe_this}
 use Rattle.acd_desk.proofs.Sound.{ran_sound, stop_sound}
@@ -34,21 +35,17 @@ ran_nothing s settles =
       sound = λ clean sound. sound;
       in_step = λ clean sound step. step;
       replies = λ clean start. refl;
-      content = λ clean start opened. ran_none s.book.content start.3;
-      whole = λ clean start opened. start.3;
-      laws = λ clean start opened. sound_keeps_laws s.book.content start.3;
-      up = λ clean sound opened. opened;
-      holds = λ clean start ended. record {
+      holds = λ clean start opened. record {
         content = ran_none s.book.content start.3;
         whole = start.3;
         laws = sound_keeps_laws s.book.content start.3;
-        alone = λ c at. settles c clean start.0 start.1 at;
+        alone = λ c at. settles c clean start.0 opened at;
       };
+      up = λ clean sound opened. opened;
       opened = λ clean sound opened. opened;
       stops = λ clean start c at. inl (stop clean start c at);
       sound_stops = λ clean start c at. subst IsSound (sym (settles c clean start.0 start.1 at)) start.3;
       still = λ clean sound shut c at. at;
-      fault = λ h. absurd (omega (arith, h.1));
       cause = λ h. inl (inl h);
       shuts = λ h. absurd (omega (arith, h.1));
       tells = λ h. inl h;
@@ -190,7 +187,7 @@ attended_ran old new l ts ran = record {
   sound = ran.sound;
   in_step = ran.in_step;
   replies = ran.replies;
-  content = ran.content;
+  content = λ clean starts opened. (ran.holds clean starts opened).content;
   stops = ran.stops;
   shuts = ran.shuts;
 }
@@ -247,36 +244,26 @@ ran_more s m n l ts a t settles ran took =
     let start : Content = s.book.content in
     let yes : List Arrival = served (l ++ a ∷ []) (ts ++ t ∷ []) in
     let more : Attended s (l ++ a ∷ []) (ts ++ t ∷ []) n = attended_more s m n l ts a t settles (attended_ran s m l ts ran) took in
-    let whole : n.book.is_clean → Starts s → n.book.is_open → IsSound n.book.content
-    = λ clean starts opened. subst IsSound (sym (more.content clean starts opened)) (ran_sound start yes starts.3) in
-    let up : n.book.is_clean → s.book.is_sound → EndsUp s (ts ++ t ∷ []) → n.book.is_open
-    = λ clean sound ended. (took.up (last_served s ts t ended) clean (ran.sound (took.clean clean) sound)).1 in
     record {
       even = more.even;
       clean = more.clean;
       sound = more.sound;
       in_step = more.in_step;
       replies = more.replies;
-      content = more.content;
-      whole = whole;
-      laws = λ clean starts opened. sound_keeps_laws n.book.content (whole clean starts opened);
-      up = up;
-      holds = λ clean starts ended.
-          let opened = up clean starts.0 ended in
+      holds = λ clean starts opened.
+          let content = more.content clean starts opened in
+          let whole : IsSound n.book.content = subst IsSound (sym content) (ran_sound start yes starts.3) in
           record {
-            content = more.content clean starts opened;
-            whole = whole clean starts opened;
-            laws = sound_keeps_laws n.book.content (whole clean starts opened);
+            content = content;
+            whole = whole;
+            laws = sound_keeps_laws n.book.content whole;
             alone = λ c stop. settles c clean (more.sound clean starts.0) opened stop;
           };
+      up = λ clean sound ended. (took.up (last_served s ts t ended) clean (ran.sound (took.clean clean) sound)).1;
       opened = λ clean sound opened. ran.opened (took.clean clean) sound (was_open m n a t took clean (ran.sound (took.clean clean) sound) opened);
       stops = more.stops;
       sound_stops = λ clean starts c stop. stop_sound start yes (maybe_last (l ++ a ∷ []) (ts ++ t ∷ [])) c starts.3 (more.stops clean starts c stop);
       still = idle s m n l ts a t ran took;
-      fault = λ h. elim (Contains-push_cases ts t StoreFault h) [
-        | inl old ↦ lasts s m n ts a t took (ran.fault old)
-        | inr now ↦ caused s m n l ts a t ran took (took.shuts now)
-      ];
       cause = λ h. caused s m n l ts a t ran took h;
       shuts = more.shuts;
       tells = λ h. elim (took.tells h) [
@@ -360,3 +347,10 @@ forgets m n a t rejected took = record {
   counts = took.counts;
   unloads = λ working gone. inr refl;
 }
+
+-- what is said of an answer, or noMemory in its place
+pub says_of : (s n : Standing) (a : Arrival) (t : Taken) (out : Said) → Settles s → Settles n → Took s a t n → Ran s (a ∷ []) (t ∷ []) n → IsSaid a.request t out → SaysOf s a out n
+says_of s n a t out settles settled took ran (inl is) = record { answer = t; says = is; took = took; ran = ran }
+says_of s n a t out settles settled took ran (inr lost) =
+    let forgot = forgets s n a t lost.0 took in
+    record { answer = NoMemory; says = lost.1; took = forgot; ran = ran_one s n a NoMemory settles settled forgot }

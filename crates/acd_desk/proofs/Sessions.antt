@@ -5,7 +5,7 @@ use Rattle.acd_book.specs.Content.{Content, HasRisen}
 use Rattle.acd_book.specs.State.{BookState}
 use Rattle.acd_desk.specs.declared.taken.Taken.{Taken}
 use Rattle.acd_desk.specs.Served.{served, maybe_last, sent}
-use Rattle.acd_desk.specs.Stands.{IsSound, ran_after, replies, StopsAt}
+use Rattle.acd_desk.specs.Stands.{IsSound, replies, StopsAt}
 use Rattle.acd_desk.specs.Standing.{Standing, Starts}
 use Rattle.acd_desk.specs.Opening.{Opened}
 use Rattle.acd_desk.specs.Ran.{Ran, EndsIn, EndsUp, Holds}
@@ -29,15 +29,12 @@ session_ran Behind old d e l ts o ran later =
       opened = λ clean sound. (o.opened (ran.clean clean) sound).0;
       accepts = λ clean sound. o.accepts (ran.clean clean) sound;
       replies = λ clean sound whole. subst (λ (c : Content). sent ts ≡ replies c (served l ts)) (same clean sound) (ran.replies clean (starts clean sound whole));
-      content = λ clean sound whole opened. subst (λ (c : Content). e.book.content ≡ ran_after c (served l ts)) (same clean sound) (ran.content clean (starts clean sound whole) opened);
-      whole = λ clean sound whole opened. ran.whole clean (starts clean sound whole) opened;
-      laws = λ clean sound whole opened. ran.laws clean (starts clean sound whole) opened;
+      holds = λ clean sound whole opened. subst (λ (c : Content). Holds c (served l ts) e.book) (same clean sound) (ran.holds clean (starts clean sound whole) opened);
       up = λ clean sound last. ran.up clean (o.sound (ran.clean clean) sound) (up clean sound last);
-      holds = λ clean sound whole last. subst (λ (c : Content). Holds c (served l ts) e.book) (same clean sound) (ran.holds clean (starts clean sound whole) (up clean sound last));
       stops = λ clean sound whole c at. subst (λ (x : Content). StopsAt x (served l ts) (maybe_last l ts) c) (same clean sound) (ran.stops clean (starts clean sound whole) c at);
       sound_stops = λ clean sound whole c at. ran.sound_stops clean (starts clean sound whole) c at;
       later = later;
-      cause = λ clean sound whole found. elim (ran.fault found) [
+      cause = λ clean sound whole found. elim (ran.cause (ran.shuts found)) [
         | inl cause ↦ elim cause [
           | inl failed ↦ absurd (true≢false (sym failed ∙ o.working))
           | inr risen ↦ subst (λ (k : ℕ). HasRisen k e.book.failures) o.quiet risen

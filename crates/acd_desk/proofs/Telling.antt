@@ -1,5 +1,5 @@
 -- What a read of a desk leaves, by what its parts left.
-use Rattle.std.proofs.Common.{◌≡◌, ◌≤◌, ℕ, Bool, true, false, Option, Some, None, Result, Ok, Err, IfOk, OnOk, refl, sym, ap, subst, ◌∙◌, arith, inl, inr, ◌⊎◌, true≢false}
+use Rattle.std.proofs.Common.{◌≡◌, ◌≤◌, ℕ, Bool, true, false, List, Option, Some, None, Result, String, Ok, Err, IfOk, OnOk, refl, sym, ap, subst, ◌∙◌, arith, inl, inr, ◌⊎◌, true≢false}
 use Rattle.acd_terms.specs.declared.rows.Rows.{Rows}
 use Rattle.acd_terms.specs.declared.command.Arrival.{Arrival}
 use Rattle.acd_model.specs.Rules.First.{BreaksNoRule}
@@ -16,6 +16,8 @@ use Rattle.acd_desk.specs.Standing.{Standing, switch_of, is_failed, Mirrors}
 use Rattle.acd_desk.specs.Ran.{IsCause, IsDeceived, Took}
 use Rattle.acd_desk.specs.Reread.{Reread}
 use Rattle.acd_desk.specs.Told.{Told, TellsNothing}
+use Rattle.acd_desk.specs.Tells.{told}
+use Rattle.acd_desk.specs.AnswerTexts.{seen}
 use Rattle.acd_desk.proofs.Many.{no_store}
 
 ok_err : {A : Type 0} {found : A} {e : DeskFault} → ◌≡◌ {A = Result A DeskFault} (Ok found) (Err e) → ⊥
@@ -94,6 +96,12 @@ module _ {A B : Type 0} (old new : Standing) where
     counts = told.counts;
     loads = told.loads;
   }
+
+-- a text that was told, seen as its characters
+pub told_seen : {Z : Type 0} (old new : Standing) (r : Result (Option (String Z)) DeskFault) (P : Content → Option (List ℕ)) → Told old new r (λ (c : Content) (text : Option (String Z)). told text ≡ P c)
+    → Told old new (seen r) (λ (c : Content) (text : Option (List ℕ)). text ≡ P c)
+told_seen {Z} old new (Ok text) P h = told_so old new text (told text) (λ (c : Content) (x : Option (String Z)). told x ≡ P c) (λ (c : Content) (x : Option (List ℕ)). x ≡ P c) (λ c same. same) h
+told_seen {Z} old new (Err why) P h = told_nothing old new why (λ (c : Content) (x : Option (String Z)). told x ≡ P c) (λ (c : Content) (x : Option (List ℕ)). x ≡ P c) h
 
 -- what follows from what a read answers is told too
 pub told_follows : {A : Type 0} (old new : Standing) (r : Result A DeskFault) (P Q : Content → A → Type 0) → ((c : Content) (x : A) → P c x → Q c x) → Told old new r P → Told old new r Q

@@ -14,6 +14,7 @@ pub mod Ran
 pub mod Attended
 pub mod Tells
 pub mod Told
+pub mod AnswerTexts
 pub mod Session
 pub mod Audit
 pub mod Replay

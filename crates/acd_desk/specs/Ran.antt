@@ -3,8 +3,10 @@ use Rattle.std.specs.Prelude.{◌≡◌, ◌⊎◌, ◌≤◌, true, false, List
 use Rattle.std.specs.List.{Contains}
 use Rattle.acd_terms.specs.Lists.{Every}
 use Rattle.acd_terms.specs.declared.command.Arrival.{Arrival}
+use Rattle.acd_book.specs.declared.book.Book.{Ghosts}
 use Rattle.acd_book.specs.Content.{Content, HasRisen, Within}
 use Rattle.acd_book.specs.State.{BookState, IfHonest}
+use Rattle.acd_desk.specs.declared.desk.Desk.{Desk}
 use Rattle.acd_desk.specs.declared.taken.Taken.{Taken}
 use Rattle.acd_desk.specs.declared.taken.Taken.TheVariants.{NoMemory, StoreFault}
 use Rattle.acd_desk.specs.Replies.{answer_in, after}
@@ -86,13 +88,10 @@ pub record Ran (old : Standing) (arrivals : List Arrival) (answers : List Taken)
   pub in_step : IfHonest old.book new.book (InStep old → InStep new)
   -- each answer but the faults is that of the abstract desk, at its place in the list of what was kept and served
   pub replies : IfStarted old new (sent answers ≡ replies old.book.content (served arrivals answers))
-  -- an open book holds the run over the first arrivals of that list
-  pub content : IfStarted old new (new.book.is_open → new.book.content ≡ ran_after old.book.content (served arrivals answers))
-  pub whole : IfStarted old new (new.book.is_open → IsSound new.book.content)
-  pub laws : IfStarted old new (new.book.is_open → KeepsLaws new.book.content)
+  -- an open book holds the run over the first arrivals of that list, and a reopening finds nothing else
+  pub holds : IfStarted old new (new.book.is_open → Holds old.book.content (served arrivals answers) new.book)
   -- the book is open behind an arrival that was served, so also where all were
   pub up : IfHonest old.book new.book (EndsUp old answers → new.book.is_open)
-  pub holds : IfStarted old new (EndsUp old answers → Holds old.book.content (served arrivals answers) new.book)
   -- a book that was shut stays shut
   pub opened : IfHonest old.book new.book (new.book.is_open → old.book.is_open)
   -- whatever a stop leaves is that run, or that with one more arrival, which came behind the last that was served
@@ -100,10 +99,9 @@ pub record Ran (old : Standing) (arrivals : List Arrival) (answers : List Taken)
   pub sound_stops : IfStarted old new ((c : Content) → new.book.stops c → IsSound c)
   -- over a book that was shut, or by a desk that had failed, no stop is added
   pub still : IfHonest old.book new.book ((¬ old.book.is_open) ⊎ (old.failed ≡ true) → Within new.book.stops old.book.stops)
-  -- a store fault has a cause, and behind it there are faults alone
-  pub fault : Contains answers StoreFault → IsCause old new ⊎ (WasUnloaded old answers × IsDeceived old new)
-  pub cause : new.failed ≡ true → IsCause old new ⊎ (WasUnloaded old answers × IsDeceived old new)
+  -- a desk that answers storeFault has failed, and that has a cause; behind it there are faults alone
   pub shuts : Contains answers StoreFault → new.failed ≡ true
+  pub cause : new.failed ≡ true → IsCause old new ⊎ (WasUnloaded old answers × IsDeceived old new)
   pub tells : new.failed ≡ true → (old.failed ≡ true) ⊎ Contains answers StoreFault
   pub later : EndsIn IsFault answers
   pub shut : old.failed ≡ true → (new.failed ≡ true) × Every IsFault answers
@@ -111,3 +109,14 @@ pub record Ran (old : Standing) (arrivals : List Arrival) (answers : List Taken)
   pub quiet : ¬ (Contains answers StoreFault) → new.book.failures ≡ old.book.failures
   pub counts : old.book.failures ≤ new.book.failures
   pub unloads : new.failed ≡ false → new.switch ≡ None → WasUnloaded old answers
+
+-- ---- of a desk over a book, by the words of that book
+
+abbrev pub DeskTook : {B : Type 0} → Ghosts B → Desk B → Arrival → Taken → Desk B → Type 0
+DeskTook book old a t new = Took (standing book old) a t (standing book new)
+
+abbrev pub DeskRan : {B : Type 0} → Ghosts B → Desk B → List Arrival → List Taken → Desk B → Type 0
+DeskRan book old arrivals answers new = Ran (standing book old) arrivals answers (standing book new)
+
+abbrev pub HasFailed : {B : Type 0} → Ghosts B → Desk B → Type 0
+HasFailed book d = (standing book d).failed ≡ true

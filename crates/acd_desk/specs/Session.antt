@@ -12,8 +12,7 @@ use Rattle.acd_desk.specs.declared.open_fault.OpenFault.TheVariants as fault
 use Rattle.acd_desk.specs.declared.session.SessionFault.{SessionFault}
 use Rattle.acd_desk.specs.declared.session.SessionFault.TheVariants as session
 use Rattle.acd_desk.specs.Served.{is_fault, served, maybe_last, sent}
-use Rattle.acd_desk.specs.Stands.{IsSound, ran_after, replies, StopsAt}
-use Rattle.acd_desk.specs.Laws.{KeepsLaws}
+use Rattle.acd_desk.specs.Stands.{IsSound, replies, StopsAt}
 use Rattle.acd_desk.specs.Ran.{EndsIn, Holds}
 
 -- what is said where the book was honest and its content sound
@@ -36,13 +35,10 @@ pub record Session (Behind : Taken → Type 0) (old : BookState) (arrivals : Lis
   pub accepts : IfHonest old new (BreaksNoRule old.content.rows)
   -- each answer but the faults is that of the abstract desk, at its place in the list of what was kept and served
   pub replies : IfWhole old new (sent answers ≡ replies old.content (served arrivals answers))
-  -- an open book holds the run over the first arrivals of that list
-  pub content : IfWhole old new (new.is_open → new.content ≡ ran_after old.content (served arrivals answers))
-  pub whole : IfWhole old new (new.is_open → IsSound new.content)
-  pub laws : IfWhole old new (new.is_open → KeepsLaws new.content)
-  -- the book is open behind an arrival that was served, so also where all were, and is then that run with no other stop
+  -- an open book holds the run over the first arrivals of that list, and a reopening finds nothing else
+  pub holds : IfWhole old new (new.is_open → Holds old.content (served arrivals answers) new)
+  -- the book is open behind an arrival that was served, so also where all were
   pub up : IfHonest old new (IsLastServed answers → new.is_open)
-  pub holds : IfWhole old new (IsLastServed answers → Holds old.content (served arrivals answers) new)
   -- whatever a stop leaves is that run, or that with one more arrival, which came behind the last that was served
   pub stops : IfWhole old new ((c : Content) → new.stops c → StopsAt old.content (served arrivals answers) (maybe_last arrivals answers) c)
   pub sound_stops : IfWhole old new ((c : Content) → new.stops c → IsSound c)

@@ -1,5 +1,5 @@
 -- What the reads of a desk tell of a content: a text, or none where there is no such thing.
-use Rattle.std.specs.Prelude.{ℕ, ◌<◌, List, [], ◌∷◌, map, filter, max, nat_lt, Option, Some, None, is_some, option_map, String, string_bytes, if◌then◌else◌}
+use Rattle.std.specs.Prelude.{ℕ, ◌<◌, List, [], ◌∷◌, map, filter, max, nat_lt, Bool, true, false, Option, Some, None, is_some, option_map, String, string_bytes, if◌then◌else◌}
 use Rattle.std.specs.declared.cmp.Ordering.{Ordering}
 use Rattle.acd_terms.specs.Lists.{put_by}
 use Rattle.acd_terms.specs.Numbers.{Device, Agent, CallId, MonitorId, Moment, EventNumber}
@@ -25,8 +25,8 @@ use Rattle.acd_codec.specs.declared.snapshots.Snapshot.{Snapshot}
 use Rattle.acd_reports.specs.QueueReport.{queue_report}
 use Rattle.acd_reports.specs.Export.{events_csv, records_text}
 use Rattle.acd_book.specs.Content.{Content, events_behind, events_of_monitor}
-use Rattle.acd_desk.specs.declared.table_reads.Question.{Question}
-use Rattle.acd_desk.specs.declared.table_reads.Question.TheVariants as ask
+use Rattle.acd_desk.specs.declared.question.Question.{Question}
+use Rattle.acd_desk.specs.declared.question.Question.TheVariants as ask
 
 -- the characters of a text that is told, if one is
 abbrev pub told : {Z : Type 0} → Option (String Z) → Option (List ℕ)
@@ -101,14 +101,17 @@ snapshot_of s = record {
 abbrev pub snapshot_read : Rows → Option (List ℕ)
 snapshot_read s = Some (snapshot_text (snapshot_of s))
 
--- what the tables tell to a question
-abbrev pub table_read : Rows → Question → Option (List ℕ)
-table_read s (ask.Agent agent) = agent_read s agent
-table_read s (ask.Call call) = call_read s call
-table_read s (ask.Device device) = device_read s device
-table_read s (ask.Queue group) = queue_read s group
-table_read s (ask.Report moment) = report_read s moment
-table_read s ask.Snapshot = snapshot_read s
+-- what the tables tell to a question; they hold no events
+abbrev pub table_read : Rows → ℕ → Question → Option (List ℕ)
+table_read s moment (ask.Agent agent) = agent_read s agent
+table_read s moment (ask.Call call) = call_read s call
+table_read s moment (ask.Device device) = device_read s device
+table_read s moment (ask.Queue group) = queue_read s group
+table_read s moment (ask.Events after) = None
+table_read s moment (ask.History after) = None
+table_read s moment (ask.MonitorEvents monitor after) = None
+table_read s moment ask.Report = report_read s moment
+table_read s moment ask.Snapshot = snapshot_read s
 
 -- a page of events has at most so many
 abbrev pub page_size : ℕ
@@ -132,6 +135,30 @@ history_read c after = page_read c after history_size
 abbrev pub monitor_read : Content → MonitorId → EventNumber → Option (List ℕ)
 monitor_read c monitor after =
     if is_some (monitor_of c.rows monitor) then Some (page_text (events_of_monitor c monitor after page_size) c.rows.last_event) else None
+
+-- what is told of a content to a question at a moment, if there is such a thing
+abbrev pub told_of : Content → ℕ → Question → Option (List ℕ)
+told_of c moment (ask.Agent agent) = agent_read c.rows agent
+told_of c moment (ask.Call call) = call_read c.rows call
+told_of c moment (ask.Device device) = device_read c.rows device
+told_of c moment (ask.Queue group) = queue_read c.rows group
+told_of c moment (ask.Events after) = events_read c after
+told_of c moment (ask.History after) = history_read c after
+told_of c moment (ask.MonitorEvents monitor after) = monitor_read c monitor after
+told_of c moment ask.Report = report_read c.rows moment
+told_of c moment ask.Snapshot = snapshot_read c.rows
+
+-- the report alone is plain text
+abbrev pub is_plain : Question → Bool
+is_plain (ask.Agent agent) = false
+is_plain (ask.Call call) = false
+is_plain (ask.Device device) = false
+is_plain (ask.Queue group) = false
+is_plain (ask.Events after) = false
+is_plain (ask.History after) = false
+is_plain (ask.MonitorEvents monitor after) = false
+is_plain ask.Report = true
+is_plain ask.Snapshot = false
 
 -- all events in CSV
 abbrev pub export_read : Content → Option (List ℕ)

@@ -1,11 +1,14 @@
 -- What a read of a desk leaves.
-use Rattle.std.specs.Prelude.{◌≡◌, ◌⊎◌, ◌≤◌, true, false, None, Result, Err, IfOk, OnOk, IsErrOf}
+use Rattle.std.specs.Prelude.{◌≡◌, ◌⊎◌, ℕ, ◌≤◌, true, false, List, Option, None, Result, Err, IfOk, OnOk, IsErrOf, String}
+use Rattle.acd_book.specs.declared.book.Book.{Ghosts}
 use Rattle.acd_book.specs.Content.{Content, Within}
 use Rattle.acd_book.specs.State.{IfHonest}
 use Rattle.acd_desk.specs.declared.fault.DeskFault.{DeskFault}
 use Rattle.acd_desk.specs.declared.fault.DeskFault.TheVariants.{StoreFault}
-use Rattle.acd_desk.specs.Standing.{Standing, InStep}
+use Rattle.acd_desk.specs.declared.desk.Desk.{Desk}
+use Rattle.acd_desk.specs.Standing.{Standing, InStep, standing}
 use Rattle.acd_desk.specs.Ran.{IsCause, IsDeceived}
+use Rattle.acd_desk.specs.Tells.{told}
 
 -- a read, where `IsAnswer c found` says that this is told of that content
 pub record Told {A : Type 0} (old new : Standing) (result : Result A DeskFault) (IsAnswer : Content → A → Type 0) : Type 0 where
@@ -33,3 +36,12 @@ pub record Told {A : Type 0} (old new : Standing) (result : Result A DeskFault) 
 -- a read that answers this fault
 abbrev pub TellsNothing : Standing → DeskFault → Standing → Type 0
 TellsNothing old fault new = Told {A = Unit {0}} old new (Err fault) (λ c found. ⊥)
+
+-- ---- of a desk over a book, by the words of that book
+
+abbrev pub DeskTold : {B A : Type 0} → Ghosts B → Desk B → Desk B → Result A DeskFault → (Content → A → Type 0) → Type 0
+DeskTold book old new result IsAnswer = Told (standing book old) (standing book new) result IsAnswer
+
+-- a text, or none where there is no such thing
+abbrev pub DeskTells : {B Z : Type 0} → Ghosts B → Desk B → Desk B → Result (Option (String Z)) DeskFault → (Content → Option (List ℕ)) → Type 0
+DeskTells {B} {Z} book old new result read = DeskTold book old new result (λ (c : Content) (text : Option (String Z)). told text ≡ read c)

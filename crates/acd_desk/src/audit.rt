@@ -1,7 +1,7 @@
 //! The audit of a desk: what its book holds, against the replay of its kept requests.
 
-ghost use Rattle.acd_desk.specs.Standing.{standing};
-ghost use Rattle.acd_desk.specs.Told.{Told};
+ghost use Rattle.acd_desk.specs.Standing.{book_of};
+ghost use Rattle.acd_desk.specs.Told.{DeskTold};
 ghost use Rattle.acd_desk.specs.Audit.{IsAudited, TellsSound};
 
 use crate::desk::Desk;
@@ -24,9 +24,11 @@ impl<B: Book> Desk<B> {
     /// Runs the kept requests again, each at the moment that its record holds, and compares what they give
     /// with what the book holds. It changes nothing, and its memory doesn't grow with the number of requests.
     pub fn audit(&mut self) -> Result<Audit, DeskFault>
-        ensures told { Told (standing B.Book self.old) (standing B.Book self.new) result (λ c found. Unit {0}) }
-        ensures audited { IsAudited (standing B.Book self.old).book (standing B.Book self.new).book result }
-        ensures sound { TellsSound (standing B.Book self.old).book (standing B.Book self.new).book result }
+        ensures told { DeskTold B.Book self.old self.new result (λ c found. Unit {0}) }
+        ensures audited { IsAudited (B.state (book_of self.old))
+            (B.state (book_of self.new)) result }
+        ensures sound { TellsSound (B.state (book_of self.old))
+            (B.state (book_of self.new)) result }
     {
         if let Working::Failed = self.working {
             return Err(DeskFault::StoreFault);

@@ -1,10 +1,10 @@
 //! A desk over a book.
 
-ghost use Rattle.std.specs.Prelude.{◌≡◌, true, [], ◌∷◌, OnOk, OnErr, IfOk, MatchResult};
+ghost use Rattle.std.specs.Prelude.{◌≡◌, [], ◌∷◌, OnOk, OnErr, IfOk, MatchResult};
 ghost use Rattle.acd_desk.specs.Arrived.{at};
 ghost use Rattle.acd_desk.specs.Standing.{standing, book_of, holding, with_new_key};
 ghost use Rattle.acd_terms.specs.Lists.{Every};
-ghost use Rattle.acd_desk.specs.Ran.{Took, Ran, EndsIn, IsStoreFault};
+ghost use Rattle.acd_desk.specs.Ran.{Took, DeskTook, DeskRan, HasFailed, EndsIn, IsStoreFault};
 ghost use Rattle.acd_desk.specs.Reread.{Reread};
 ghost use Rattle.acd_desk.specs.Told.{TellsNothing};
 ghost use Rattle.acd_desk.specs.Faults.{answer_to, fault_of, left_by};
@@ -88,7 +88,9 @@ impl<B: Book> Desk<B> {
     // The key isn't kept, and the switch is out of the desk.
     fn execute_on(&mut self, loaded: LoadedSwitch, moment: u32, request: &Request) -> Taken
         requires { self.old.working ≡ Working.Unloaded }
-        ensures { Took (with_new_key (holding (standing B.Book self.old) loaded.switch.value) request.now) (at moment request.now) result (standing B.Book self.new) }
+        ensures { Took
+            (with_new_key (holding (standing B.Book self.old) loaded.switch.value) request.now)
+            (at moment request.now) result (standing B.Book self.new) }
     {
         let LoadedSwitch { mut switch } = loaded;
         if switch.is_full() {
@@ -109,7 +111,8 @@ impl<B: Book> Desk<B> {
 
     // The key isn't kept.
     fn execute(&mut self, moment: u32, request: &Request) -> Taken
-        ensures { Took (with_new_key (standing B.Book self.old) request.now) (at moment request.now) result (standing B.Book self.new) }
+        ensures { Took (with_new_key (standing B.Book self.old) request.now)
+            (at moment request.now) result (standing B.Book self.new) }
     {
         match self.switch_out() {
             Ok(loaded) => self.execute_on(loaded, moment, request),
@@ -119,8 +122,8 @@ impl<B: Book> Desk<B> {
 
     // The answer to one arrival.
     fn answer(&mut self, moment: u32, request: &Request) -> Taken
-        ensures took { Took (standing B.Book self.old) (at moment request.now) result (standing B.Book self.new) }
-        ensures shut { (standing B.Book self.old).failed ≡ true → result ≡ Taken.StoreFault }
+        ensures took { DeskTook B.Book self.old (at moment request.now) result self.new }
+        ensures shut { HasFailed B.Book self.old → result ≡ Taken.StoreFault }
     {
         if let Working::Failed = self.working {
             return Taken::StoreFault;
@@ -137,9 +140,9 @@ impl<B: Book> Desk<B> {
     ///
     /// Tested in this order: the store failed before, the key is kept, the desk is full.
     pub fn take(&mut self, moment: u32, request: &Request) -> Taken
-        ensures took { Took (standing B.Book self.old) (at moment request.now) result (standing B.Book self.new) }
-        ensures ran { Ran (standing B.Book self.old) (at moment request.now ∷ []) (result ∷ []) (standing B.Book self.new) }
-        ensures shut { (standing B.Book self.old).failed ≡ true → result ≡ Taken.StoreFault }
+        ensures took { DeskTook B.Book self.old (at moment request.now) result self.new }
+        ensures ran { DeskRan B.Book self.old (at moment request.now ∷ []) (result ∷ []) self.new }
+        ensures shut { HasFailed B.Book self.old → result ≡ Taken.StoreFault }
     {
         self.answer(moment, request)
     }
@@ -147,9 +150,11 @@ impl<B: Book> Desk<B> {
     /// Takes each arrival in turn. Where there is no room for the answers, nothing was executed. Behind a
     /// storeFault nothing else is answered.
     pub fn run(&mut self, arrivals: &[Arrival]) -> Result<Vec<Taken>, AllocError>
-        ensures ran { IfOk result (λ answers. Ran (standing B.Book self.old) arrivals.now answers.items (standing B.Book self.new)) }
+        ensures ran { IfOk result (λ answers.
+            DeskRan B.Book self.old arrivals.now answers.items self.new) }
         ensures later { IfOk result (λ answers. EndsIn IsStoreFault answers.items) }
-        ensures shut { IfOk result (λ answers. (standing B.Book self.old).failed ≡ true → Every IsStoreFault answers.items) }
+        ensures shut { IfOk result (λ answers.
+            HasFailed B.Book self.old → Every IsStoreFault answers.items) }
         ensures none { OnErr result (self.new ≡ self.old) }
     {
         let mut answers = Vec::with_capacity(self.alloc, arrivals.len())?;

@@ -2,8 +2,8 @@
 //!
 //! [`Desk`] stands over any [`acd_book::Book`]. What it answers and leaves is what `specs/Firsts` and
 //! `specs/Replies` say: the abstract switch run once over each request's first arrival. [`Taken`] is an
-//! answer, and [`OpenFault`] says why a book makes no desk. What it tells of an agent, a call, a device, a queue,
-//! its events or all of it is what `specs/Tells` says, or a [`DeskFault`]. An [`Audit`] says whether all that its book holds is what
+//! answer, an [`AnswerText`] says it in text, and [`OpenFault`] says why a book makes no desk. What it tells to a
+//! [`Question`] is what `specs/Tells` says, or a [`DeskFault`]. An [`Audit`] says whether all that its book holds is what
 //! the kept requests give, run again, or where it first differs (`specs/Audit`).
 //!
 //! ```ignore
@@ -15,6 +15,7 @@
 //! ```
 #![tactic(auto)]
 
+mod answer_text;
 mod audit;
 mod desk;
 mod executing;
@@ -23,6 +24,7 @@ mod fault;
 mod group_states;
 pub mod laws;
 mod open_fault;
+mod question;
 mod reads;
 mod replay;
 mod requests;
@@ -32,10 +34,12 @@ mod table_reads;
 mod taken;
 mod working;
 
+pub use answer_text::AnswerText;
 pub use audit::Audit;
 pub use desk::Desk;
 pub use fault::DeskFault;
 pub use open_fault::OpenFault;
+pub use question::Question;
 pub use requests::is_same;
 pub use session::SessionFault;
 pub use taken::Taken;

@@ -5,12 +5,13 @@ ghost use Rattle.acd_model.specs.Scans.{monitor_of};
 ghost use Rattle.acd_book.specs.Content.{events_behind, events_of_monitor};
 ghost use Rattle.acd_desk.specs.Stands.{IsSound};
 ghost use Rattle.acd_desk.specs.Standing.{standing};
-ghost use Rattle.acd_desk.specs.Told.{Told};
-ghost use Rattle.acd_desk.specs.Tells.{told, agent_read, call_read, device_read, queue_read, report_read, snapshot_read, table_read, page_read, events_read, history_read, monitor_read, page_size};
+ghost use Rattle.acd_desk.specs.Told.{DeskTold, DeskTells};
+ghost use Rattle.acd_desk.specs.Tells.{told, agent_read, call_read, device_read, queue_read, report_read, snapshot_read, table_read, page_read, events_read, history_read, monitor_read, page_size, told_of};
 
 use crate::desk::Desk;
 use crate::fault::DeskFault;
-use crate::table_reads::{Question, table_read};
+use crate::question::Question;
+use crate::table_reads::table_read;
 use crate::working::{LoadedSwitch, Working};
 use acd_book::Book;
 use acd_codec::page_text;
@@ -23,12 +24,12 @@ const PAGE: usize = 100;
 const HISTORY_PAGE: usize = 1000;
 
 impl<B: Book> Desk<B> {
-    // What the tables tell.
-    fn tell(&mut self, question: Question) -> Result<Option<String>, DeskFault>
-        ensures { Told (standing B.Book self.old) (standing B.Book self.new) result (λ c text. told text ≡ table_read c.rows question) }
+    // What the tables tell. The moment counts for a report alone.
+    fn tell(&mut self, moment: u32, question: Question) -> Result<Option<String>, DeskFault>
+        ensures { DeskTells B.Book self.old self.new result (λ c. table_read c.rows moment question) }
     {
         let loaded = self.switch_out()?;
-        let text = table_read(self.alloc, loaded.switch.tables(), question);
+        let text = table_read(self.alloc, loaded.switch.tables(), moment, question);
         self.working = Working::Loaded(loaded);
         match text {
             Ok(text) => Ok(text),
@@ -38,52 +39,52 @@ impl<B: Book> Desk<B> {
 
     /// An agent in JSON: who it is, its state, and where it is logged on. None where no such agent is planned.
     pub fn agent(&mut self, agent: AgentId) -> Result<Option<String>, DeskFault>
-        ensures { Told (standing B.Book self.old) (standing B.Book self.new) result (λ c text. told text ≡ agent_read c.rows agent) }
+        ensures { DeskTells B.Book self.old self.new result (λ c. agent_read c.rows agent) }
     {
-        self.tell(Question::Agent(agent))
+        self.tell(0, Question::Agent(agent))
     }
 
     /// A live call in JSON, with its connections. None where no live call has the number.
     pub fn call(&mut self, call: u64) -> Result<Option<String>, DeskFault>
-        ensures { Told (standing B.Book self.old) (standing B.Book self.new) result (λ c text. told text ≡ call_read c.rows call) }
+        ensures { DeskTells B.Book self.old self.new result (λ c. call_read c.rows call) }
     {
-        self.tell(Question::Call(call))
+        self.tell(0, Question::Call(call))
     }
 
     /// A planned device in JSON: a group, or a station with its agent and connections. None where it isn't planned.
     pub fn device(&mut self, device: DeviceId) -> Result<Option<String>, DeskFault>
-        ensures { Told (standing B.Book self.old) (standing B.Book self.new) result (λ c text. told text ≡ device_read c.rows device) }
+        ensures { DeskTells B.Book self.old self.new result (λ c. device_read c.rows device) }
     {
-        self.tell(Question::Device(device))
+        self.tell(0, Question::Device(device))
     }
 
     /// The queue of a group in JSON: the calls that wait by their places, and the eligible agents, longest ready
     /// first. None where the group isn't planned.
     pub fn queue(&mut self, group: DeviceId) -> Result<Option<String>, DeskFault>
-        ensures { Told (standing B.Book self.old) (standing B.Book self.new) result (λ c text. told text ≡ queue_read c.rows group) }
+        ensures { DeskTells B.Book self.old self.new result (λ c. queue_read c.rows group) }
     {
-        self.tell(Question::Queue(group))
+        self.tell(0, Question::Queue(group))
     }
 
     /// The queue report at a moment (in seconds), or at the last executed one where that is later. It moves no
     /// moment. There always is one.
     pub fn report(&mut self, moment: u32) -> Result<Option<String>, DeskFault>
-        ensures { Told (standing B.Book self.old) (standing B.Book self.new) result (λ c text. told text ≡ report_read c.rows moment) }
+        ensures { DeskTells B.Book self.old self.new result (λ c. report_read c.rows moment) }
     {
-        self.tell(Question::Report(moment))
+        self.tell(moment, Question::Report)
     }
 
     /// All agents, live calls, groups, monitors and stations in JSON, each list in ascending number, with the number of
     /// the last event and the moment of the last executed request. There always is one.
     pub fn snapshot(&mut self) -> Result<Option<String>, DeskFault>
-        ensures { Told (standing B.Book self.old) (standing B.Book self.new) result (λ c text. told text ≡ snapshot_read c.rows) }
+        ensures { DeskTells B.Book self.old self.new result (λ c. snapshot_read c.rows) }
     {
-        self.tell(Question::Snapshot)
+        self.tell(0, Question::Snapshot)
     }
 
     // The number of the last event.
     fn last_event(&mut self) -> Result<u64, DeskFault>
-        ensures { Told (standing B.Book self.old) (standing B.Book self.new) result (λ c last. last ≡ c.rows.last_event) }
+        ensures { DeskTold B.Book self.old self.new result (λ c last. last ≡ c.rows.last_event) }
     {
         let loaded = self.switch_out()?;
         let last = loaded.switch.tables().last_event();
@@ -93,7 +94,7 @@ impl<B: Book> Desk<B> {
 
     // The stamp of the last executed request.
     fn last_stamp(&mut self) -> Result<u64, DeskFault>
-        ensures { Told (standing B.Book self.old) (standing B.Book self.new) result (λ c last. last ≡ c.rows.last_stamp) }
+        ensures { DeskTold B.Book self.old self.new result (λ c last. last ≡ c.rows.last_stamp) }
     {
         let loaded = self.switch_out()?;
         let last = loaded.switch.last_stamp();
@@ -103,14 +104,16 @@ impl<B: Book> Desk<B> {
 
     /// How many requests were executed. A sound book keeps as many records.
     pub fn executed(&mut self) -> Result<u64, DeskFault>
-        ensures { Told (standing B.Book self.old) (standing B.Book self.new) result (λ c count. IsSound c → count ≡ length c.kept) }
+        ensures { DeskTold B.Book self.old self.new result (λ c count.
+            IsSound c → count ≡ length c.kept) }
     {
         self.last_stamp()
     }
 
     // The number of the last event, where the monitor is running.
     fn last_event_for(&mut self, monitor: u64) -> Result<Option<u64>, DeskFault>
-        ensures { Told (standing B.Book self.old) (standing B.Book self.new) result (λ c last. last ≡ (if is_some (monitor_of c.rows monitor) then Some c.rows.last_event else None)) }
+        ensures { DeskTold B.Book self.old self.new result (λ c last.
+            last ≡ (if is_some (monitor_of c.rows monitor) then Some c.rows.last_event else None)) }
     {
         let loaded = self.switch_out()?;
         let tables = loaded.switch.tables();
@@ -125,7 +128,8 @@ impl<B: Book> Desk<B> {
 
     // The first events above a number.
     pub(crate) fn first_events(&mut self, after: u64, limit: usize) -> Result<Vec<Event>, DeskFault>
-        ensures { Told (standing B.Book self.old) (standing B.Book self.new) result (λ c found. found.items ≡ events_behind c.events after limit) }
+        ensures { DeskTold B.Book self.old self.new result (λ c found.
+            found.items ≡ events_behind c.events after limit) }
     {
         if let Working::Failed = self.working {
             return Err(DeskFault::StoreFault);
@@ -138,7 +142,8 @@ impl<B: Book> Desk<B> {
 
     // The first events of a running monitor above a number.
     fn first_watched(&mut self, monitor: u64, after: u64) -> Result<Vec<Event>, DeskFault>
-        ensures { Told (standing B.Book self.old) (standing B.Book self.new) result (λ c found. found.items ≡ events_of_monitor c monitor after page_size) }
+        ensures { DeskTold B.Book self.old self.new result (λ c found.
+            found.items ≡ events_of_monitor c monitor after page_size) }
     {
         if let Working::Failed = self.working {
             return Err(DeskFault::StoreFault);
@@ -151,7 +156,7 @@ impl<B: Book> Desk<B> {
 
     // The first events above a number, so many at most, beside the number of the last one.
     fn page(&mut self, after: u64, size: usize) -> Result<Option<String>, DeskFault>
-        ensures { Told (standing B.Book self.old) (standing B.Book self.new) result (λ c text. told text ≡ page_read c after size) }
+        ensures { DeskTells B.Book self.old self.new result (λ c. page_read c after size) }
     {
         let last = self.last_event()?;
         let events = self.first_events(after, size)?;
@@ -161,26 +166,43 @@ impl<B: Book> Desk<B> {
     /// A page of events in JSON: the first ones above a number, at most 100, beside the number of the last one.
     /// There always is one.
     pub fn events(&mut self, after: u64) -> Result<Option<String>, DeskFault>
-        ensures { Told (standing B.Book self.old) (standing B.Book self.new) result (λ c text. told text ≡ events_read c after) }
+        ensures { DeskTells B.Book self.old self.new result (λ c. events_read c after) }
     {
         self.page(after, PAGE)
     }
 
     /// The same with at most 1000 events, for those who follow from far behind.
     pub fn history(&mut self, after: u64) -> Result<Option<String>, DeskFault>
-        ensures { Told (standing B.Book self.old) (standing B.Book self.new) result (λ c text. told text ≡ history_read c after) }
+        ensures { DeskTells B.Book self.old self.new result (λ c. history_read c after) }
     {
         self.page(after, HISTORY_PAGE)
     }
 
     /// A page of the events at a monitor's device since it was started. None where no such monitor is running.
     pub fn monitor_events(&mut self, monitor: u64, after: u64) -> Result<Option<String>, DeskFault>
-        ensures { Told (standing B.Book self.old) (standing B.Book self.new) result (λ c text. told text ≡ monitor_read c monitor after) }
+        ensures { DeskTells B.Book self.old self.new result (λ c. monitor_read c monitor after) }
     {
         let Some(last) = self.last_event_for(monitor)? else {
             return Ok(None);
         };
         let events = self.first_watched(monitor, after)?;
         Ok(Some(page_text(self.alloc, &events, last)?))
+    }
+
+    /// What is told to a question at a moment (in seconds), which counts for a report alone. None where there is no such thing.
+    pub fn read(&mut self, moment: u32, question: Question) -> Result<Option<String>, DeskFault>
+        ensures { DeskTells B.Book self.old self.new result (λ c. told_of c moment question) }
+    {
+        match question {
+            Question::Agent(agent) => self.agent(agent),
+            Question::Call(call) => self.call(call),
+            Question::Device(device) => self.device(device),
+            Question::Queue(group) => self.queue(group),
+            Question::Events(after) => self.events(after),
+            Question::History(after) => self.history(after),
+            Question::MonitorEvents(monitor, after) => self.monitor_events(monitor, after),
+            Question::Report => self.report(moment),
+            Question::Snapshot => self.snapshot(),
+        }
     }
 }

@@ -32,8 +32,10 @@ impl<B: Book> Desk<B> {
         book: B,
         arrivals: &[Arrival],
     ) -> Result<(Vec<Taken>, B), (SessionFault, B)>
-        ensures ran { IfOk result (λ done. Session IsStoreFault (B.state book) arrivals.now done.0.items (B.state done.1)) }
-        ensures refused { IfErr result (λ fault. Refused (B.state book) (refusal fault.0) (B.state fault.1)) }
+        ensures ran { IfOk result (λ done.
+            Session IsStoreFault (B.state book) arrivals.now done.0.items (B.state done.1)) }
+        ensures refused { IfErr result (λ fault.
+            Refused (B.state book) (refusal fault.0) (B.state fault.1)) }
         ensures unmoved { IfErr result (λ fault. LeavesContent (B.state book) (B.state fault.1)) }
     {
         let mut desk = match Desk::open(alloc, book) {

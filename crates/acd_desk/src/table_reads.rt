@@ -9,6 +9,7 @@ ghost use Rattle.acd_tables.specs.Indexed.{pair_cmp};
 ghost use Rattle.acd_desk.specs.Tells.{told, agent_read, call_read, station_in, device_in, device_read, queue_read, report_read, live_call, snapshot_of, snapshot_read, table_read};
 
 use crate::group_states::group_states;
+use crate::question::Question;
 use acd_codec::{
     LiveCall, PlannedDevice, PlannedStation, Snapshot, agent_text, call_text, device_text,
     queue_text, snapshot_text,
@@ -19,36 +20,23 @@ use acd_terms::{AgentId, CallRecord, ConnectionRecord, DeviceId, Listed, Station
 use std::alloc::{AllocError, Global};
 use std::collections::BTreeSet;
 
-/// What may be asked of the tables.
-#[derive(Clone, Copy)]
-pub(crate) enum Question {
-    Agent(AgentId),
-    /// By its number.
-    Call(u64),
-    Device(DeviceId),
-    /// Of a group.
-    Queue(DeviceId),
-    /// At a moment, in seconds.
-    Report(u32),
-    /// All records.
-    Snapshot,
-}
-
-/// The text of what is asked, or none where there is no such thing.
+/// The text of what is asked at a moment, or none where the tables hold no such thing.
 pub(crate) fn table_read(
     alloc: Global,
     tables: &Tables,
+    moment: u32,
     question: Question,
 ) -> Result<Option<String>, AllocError>
     requires { BreaksNoRule tables.now }
-    ensures { IfOk result (λ text. told text ≡ table_read tables.now question) }
+    ensures { IfOk result (λ text. told text ≡ table_read tables.now moment question) }
 {
     match question {
         Question::Agent(agent) => agent_read(alloc, tables, agent),
         Question::Call(call) => call_read(alloc, tables, call),
         Question::Device(device) => device_read(alloc, tables, device),
         Question::Queue(group) => queue_read(alloc, tables, group),
-        Question::Report(moment) => report_read(alloc, tables, moment),
+        Question::Events(_) | Question::History(_) | Question::MonitorEvents(_, _) => Ok(None),
+        Question::Report => report_read(alloc, tables, moment),
         Question::Snapshot => snapshot_read(alloc, tables),
     }
 }

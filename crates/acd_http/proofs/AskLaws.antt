@@ -49,7 +49,7 @@ body_longer true n behind more asked enough e other =
 
 asked_longer : (w : Wanted) (bodiless : Bool) (behind more : List ℕ) (asked : Asked) → asked ≡ asked_by w bodiless behind → asked ≢ Truncated → asked ≡ asked_by w bodiless (behind ++ more)
 asked_longer (want.Refused why) bodiless behind more asked e other = e
-asked_longer (want.Look lookup) bodiless behind more asked e other = e
+asked_longer (want.Look question) bodiless behind more asked e other = e
 asked_longer (want.Body n) bodiless behind more asked e other = body_longer (nat_le n (length behind)) n behind more asked refl e other
 
 read_longer : (head behind more : List ℕ) (asked : Asked) → ReadAsks head behind asked → asked ≢ Truncated → ReadAsks head (behind ++ more) asked

@@ -1,26 +1,28 @@
 -- What an input asks, by what was read of it.
-use Rattle.std.proofs.Common.{◌≡◌, ℕ, ◌+◌, ◌-◌, ◌<◌, ◌≤◌, Bool, true, false, nat_le, List, ◌++◌, length, take, drop, Option, Some, None, Result, Ok, Err, MatchResult, refl, sym, ap, ◌∙◌, subst, arith, length-append, length-drop}
+use Rattle.std.proofs.Common.{◌≡◌, ℕ, ◌+◌, ◌-◌, ◌<◌, ◌≤◌, Bool, true, false, nat_le, List, [], ◌++◌, inl, inr, length, take, drop, Option, Some, None, Result, Ok, Err, MatchResult, refl, sym, ap, ◌∙◌, subst, arith, length-append, length-drop}
 use Rattle.std.specs.Io.KnownBytes.{Consumes, IsAtEnd}
 use Rattle.std.proofs.KnownBytes.{Consumes-trans, Consumes-whole}
 use Rattle.std.proofs.lemmas.List.{take-append-le, drop-append-le}
+use Rattle.std.proofs.lemmas.Bool.{cases_lt}
 use Rattle.std.proofs.lemmas.Bool.Decides.{nat_tests}
+use Rattle.std.specs.declared.alloc.AllocError.{AllocError}
 use Rattle.acd_codec.specs.Reading.{reads_as}
-use Rattle.acd_lines.specs.Output.{IsInput}
+use Rattle.acd_io.specs.Read.{IsInput}
 use Rattle.acd_http.specs.Head.{head_len}
-use Rattle.acd_http.specs.declared.receive.HeadFound.{HeadFound}
-use Rattle.acd_http.specs.declared.receive.HeadFound.TheVariants as found
 use Rattle.acd_http.specs.Received.{Found, BodyFound, IsRead}
 use Rattle.acd_http.specs.declared.asked.Asked.{Asked}
 use Rattle.acd_http.specs.declared.asked.Asked.TheVariants.{Truncated, Refused}
 use Rattle.acd_http.specs.declared.refused.Refused.TheVariants as refused
-use Rattle.acd_http.specs.Asking.{HeadAsks, AsksBy, Asks, IsAsked, IsHeadOf, IsHeadAsked, IsUnknown, is_bodiless, body_in, body_asks}
+use Rattle.acd_http.specs.Asking.{HeadAsks, AsksBy, Asks, IsAsked, IsHeadOf, IsWanted, IsHeadAsked, IsUnknown, asked_by, headless, is_bodiless, body_in, body_asks}
 use Rattle.acd_http.specs.declared.asked.Unknown.{Unknown}
 use Rattle.acd_http.specs.declared.asked.Unknown.TheVariants as unknown
-use Rattle.acd_http.specs.declared.asked.HeadAsked.TheVariants as head
+use Rattle.acd_http.specs.declared.wanted.Wanted.{Wanted}
+use Rattle.acd_http.specs.declared.wanted.Wanted.TheVariants as want
 use Rattle.acd_terms.specs.declared.command.Request.{Request}
 use Rattle.acd_codec.specs.declared.member.Member.{Member}
 use Rattle.acd_http.proofs.Readings.{head_is, no_head_is}
-use Rattle.acd_lines.proofs.Turns.{input_begun}
+use Rattle.acd_http.proofs.SmallBodies.{any_behind, not_truncated, bodiless_is}
+use Rattle.acd_io.proofs.Inputs.{input_begun}
 
 pub by_head : (input : List ℕ) (o : Option ℕ) (asked : Asked) → head_len (take 8192 input) ≡ o → AsksBy o input asked → Asks input asked
 unfolding Asks
@@ -83,25 +85,38 @@ head_stays was more now n e h =
     let is = head_is 8192 n was more h.0 in
     (ap (λ (l : List ℕ). head_len (take 8192 l)) e ∙ is.0, is.1 ∙ ap (take n) (sym e), omega (arith, h.2, ap length e, length-append was more))
 
-pub found_large : (first left : Option (List ℕ)) (seen : List ℕ) (f : HeadFound) → f ≡ found.TooLarge → Found f seen first left → IsAsked first (Refused refused.HeadTooLarge false)
-found_large first left seen f e h =
-    let is : Found found.TooLarge seen first left = subst (λ (x : HeadFound). Found x seen first left) e h in
-    too_large first left seen is.read is.head.0 is.head.1
-
-pub found_short : (first left : Option (List ℕ)) (seen : List ℕ) (f : HeadFound) → f ≡ found.Truncated → Found f seen first left → IsAsked first Truncated
-found_short first left seen f e h =
-    let is : Found found.Truncated seen first left = subst (λ (x : HeadFound). Found x seen first left) e h in
-    too_short first left seen is.read is.head.0 is.head.1 is.head.2
+-- no head has ended; s is the slice of which the length was taken
+pub no_head_tells : (first left : Option (List ℕ)) (seen s : List ℕ) (a : Asked) → s ≡ seen → Found None seen first left → a ≡ headless (length s) → IsAsked first a
+no_head_tells first left seen s a same h is = subst (λ (x : Asked). IsAsked first x) (sym (is ∙ ap (λ (l : List ℕ). headless (length l)) same))
+    (elim (cases_lt (length seen) 8192) [
+      | inl few ↦
+          let less : nat_le 8192 (length seen) ≡ false = grind (arith, nat_tests) in
+          let is : headless (length seen) ≡ Truncated = rw less refl in
+          subst (λ (x : Asked). IsAsked first x) (sym is) (too_short first left seen h.read h.head.0 few (h.head.1 few))
+      | inr full ↦
+          let enough : nat_le 8192 (length seen) ≡ true = grind (arith, nat_tests) in
+          let is : headless (length seen) ≡ Refused refused.HeadTooLarge false = rw enough refl in
+          subst (λ (x : Asked). IsAsked first x) (sym is) (too_large first left seen h.read h.head.0 full)
+    ])
 
 -- ---- what is known behind a head; s is the slice that was looked at
 
-pub known_tells : (first left : Option (List ℕ)) (seen s : List ℕ) (n : ℕ) (a : Asked) → s ≡ seen → IsHeadOf n seen → IsHeadAsked (take n s) (head.Known a) → Consumes first left seen → IsAsked first a
-known_tells first left seen s n a same h is read =
-    head_tells first left seen n a read h.0 (λ behind. subst (λ (l : List ℕ). HeadAsks (take n l) behind a) same (is.1 behind))
+pub known_tells : (first left : Option (List ℕ)) (seen s : List ℕ) (n : ℕ) (bodiless : Bool) (r : Result Wanted AllocError) (w : Wanted) (a : Asked) → s ≡ seen → IsHeadOf n seen → IsHeadAsked (take n s) bodiless r → r ≡ Ok w
+    → ((behind : List ℕ) → asked_by w bodiless behind ≡ a) → Consumes first left seen → IsAsked first a
+known_tells first left seen s n bodiless r w a same h is e asks read =
+    let told : IsHeadAsked (take n s) bodiless (Ok w) = subst (λ (x : Result Wanted AllocError). IsHeadAsked (take n s) bodiless x) e is in
+    head_tells first left seen n a read h.0 (λ behind. subst (λ (l : List ℕ). HeadAsks (take n l) behind a) same (subst (λ (x : Asked). HeadAsks (take n s) behind x) (asks behind) (told.1 behind)))
 
-pub unknown_tells : (first left : Option (List ℕ)) (seen s : List ℕ) (n : ℕ) (bodiless : Bool) → s ≡ seen → IsHeadOf n seen → IsHeadAsked (take n s) (head.NoMemory bodiless) → Consumes first left seen → IsUnknown first (unknown.NoMemory bodiless)
-unknown_tells first left seen s n bodiless same h is read =
-    (is.0, is.1, is.2, head_tells first left seen n is.0 read h.0 (λ behind. subst (λ (l : List ℕ). HeadAsks (take n l) behind is.0) same (is.3 behind)))
+pub unknown_tells : (first left : Option (List ℕ)) (seen s : List ℕ) (n : ℕ) (bodiless : Bool) (r : Result Wanted AllocError) (f : AllocError) → s ≡ seen → IsHeadOf n seen → IsHeadAsked (take n s) bodiless r → r ≡ Err f → Consumes first left seen
+    → IsUnknown first (unknown.NoMemory bodiless)
+unknown_tells first left seen s n bodiless r f same h is e read =
+    let told : IsHeadAsked (take n s) bodiless (Err f) = subst (λ (x : Result Wanted AllocError). IsHeadAsked (take n s) bodiless x) e is in
+    let a = asked_by told.0 bodiless [] in (
+      a,
+      not_truncated told.0 bodiless told.1,
+      bodiless_is told.0 bodiless told.1,
+      head_tells first left seen n a read h.0 (λ behind. subst (λ (l : List ℕ). HeadAsks (take n l) behind a) same (subst (λ (x : Asked). HeadAsks (take n s) behind x) (sym (any_behind told.0 bodiless behind told.1)) (told.2 behind))),
+    )
 
 body_whole : (r : Result Request Member) → (body_asks r ≡ Truncated → ⊥)
 body_whole (Ok request) h = cc
@@ -124,22 +139,22 @@ pub read_tells : (first left : Option (List ℕ)) (seen : List ℕ) (n len : ℕ
 read_tells first left seen n len body (Ok a) read e whole h is told = body_tells first left seen n len body a read e whole h is told
 read_tells first left seen n len body (Err u) read e whole h is told = subst (λ (v : Unknown). IsUnknown first v) (sym told) (no_memory first left seen n len body read e whole h is)
 
-pub whole_tells : (first left later : Option (List ℕ)) (was s now s' : List ℕ) (n len : ℕ) (whole : Bool) (r : Result Asked Unknown) → s ≡ was → IsHeadOf n was → IsHeadAsked (take n s) (head.Body len) → Consumes first left was
+pub whole_tells : (first left later : Option (List ℕ)) (was s now s' : List ℕ) (n len : ℕ) (bodiless whole : Bool) (r : Result Asked Unknown) → s ≡ was → IsHeadOf n was → IsWanted (take n s) bodiless (want.Body len) → Consumes first left was
     → whole ≡ true → BodyFound whole (n + len) was now left later → s' ≡ now
     → MatchResult r (λ (a : Asked). a ≡ body_asks (reads_as (take (n + len - n) (drop n s')))) (λ (u : Unknown). u ≡ unknown.NoMemory false) → MatchResult r (IsAsked first) (IsUnknown first)
-whole_tells first left later was s now s' n len whole r same h is read here found same' told =
+whole_tells first left later was s now s' n len bodiless whole r same h is read here found same' told =
     let stays = head_stays was found.more now n found.grown h in
     let ends : IsRead true (n + len) now later = subst (λ (b : Bool). IsRead b (n + len) now later) here found.end in
     let all = subst (λ (l : List ℕ). Consumes first later l) (sym found.grown) (Consumes-trans first left later was found.more read found.read) in
     let slice : take (n + len - n) (drop n s') ≡ take len (drop n now) = ap (λ (k : ℕ). take k (drop n s')) (omega arith) ∙ ap (λ (l : List ℕ). take len (drop n l)) same' in
     read_tells first later now n len (take (n + len - n) (drop n s')) r all stays.0 ends
-    (λ behind. subst (λ (l : List ℕ). HeadAsks l behind (body_in len behind)) (ap (take n) same ∙ stays.1) (is.1 behind)) slice told
+    (λ behind. subst (λ (l : List ℕ). HeadAsks l behind (body_in len behind)) (ap (take n) same ∙ stays.1) (is behind)) slice told
 
-pub part_tells : (first left later : Option (List ℕ)) (was s now : List ℕ) (n len : ℕ) (whole : Bool) → s ≡ was → IsHeadOf n was → IsHeadAsked (take n s) (head.Body len) → Consumes first left was
+pub part_tells : (first left later : Option (List ℕ)) (was s now : List ℕ) (n len : ℕ) (bodiless whole : Bool) → s ≡ was → IsHeadOf n was → IsWanted (take n s) bodiless (want.Body len) → Consumes first left was
     → whole ≡ false → BodyFound whole (n + len) was now left later → IsAsked first Truncated
-part_tells first left later was s now n len whole same h is read here found =
+part_tells first left later was s now n len bodiless whole same h is read here found =
     let stays = head_stays was found.more now n found.grown h in
     let ends : IsRead false (n + len) now later = subst (λ (b : Bool). IsRead b (n + len) now later) here found.end in
     let all = subst (λ (l : List ℕ). Consumes first later l) (sym found.grown) (Consumes-trans first left later was found.more read found.read) in
     body_short first later now n len all stays.0 stays.2 ends.0 ends.1
-    (λ behind. subst (λ (l : List ℕ). HeadAsks l behind (body_in len behind)) (ap (take n) same ∙ stays.1) (is.1 behind))
+    (λ behind. subst (λ (l : List ℕ). HeadAsks l behind (body_in len behind)) (ap (take n) same ∙ stays.1) (is behind))

@@ -11,7 +11,8 @@ use Rattle.acd_desk.proofs.Many.{Settles, ran_nothing, attended_ran, attended_mo
 use Rattle.acd_http.specs.declared.asked.Asked.{Asked}
 use Rattle.acd_http.specs.declared.asked.Asked.TheVariants as ask
 use Rattle.acd_http.specs.declared.serving.ExchangeFault.TheVariants.{Truncated, Read, Write, NoMemory}
-use Rattle.acd_http.specs.Exchanging.{Answers, told_of}
+use Rattle.acd_desk.specs.Tells.{told_of}
+use Rattle.acd_http.specs.Exchanging.{Answers}
 use Rattle.acd_http.specs.Listening.{Outcome, Served, Serves}
 use Rattle.acd_http.specs.Attending.{posted, posted_by, all_posted, LeadsToTheRun}
 

@@ -1,72 +1,28 @@
--- The reply for the desk's answer, and what goes out of it.
-use Rattle.std.proofs.Common.{◌≡◌, ℕ, List, [], ◌∷◌, ◌++◌, Bool, cond, length, Option, Result, Ok, Err, String, OnOk, inl, inr, refl, sym, ap, ◌∙◌, subst, append_assoc}
+-- What goes out of a reply.
+use Rattle.std.proofs.Common.{◌≡◌, ℕ, List, [], ◌++◌, Bool, cond, length, Option, Result, Ok, Err, OnOk, inr, refl, sym, ap, ◌∙◌, subst, append_assoc}
 use Rattle.std.specs.Io.KnownBytes.{Appends}
 use Rattle.std.proofs.KnownBytes.{Appends-trans}
-use Rattle.acd_terms.specs.declared.command.Request.{Request}
-use Rattle.acd_book.specs.Content.{Content}
-use Rattle.acd_desk.specs.declared.taken.Taken.{Taken}
-use Rattle.acd_desk.specs.declared.taken.Taken.TheVariants as taken
-use Rattle.acd_desk.specs.Arrived.{at}
-use Rattle.acd_desk.specs.Ran.{Standing, Took, Ran}
-use Rattle.acd_desk.specs.Told.{Told}
-use Rattle.acd_desk.specs.Tells.{told}
-use Rattle.acd_desk.specs.declared.fault.DeskFault.{DeskFault}
-use Rattle.acd_desk.proofs.Many.{Settles, ran_one, forgets}
-use Rattle.acd_desk.proofs.Telling.{told_so, told_nothing}
-use Rattle.acd_lines.specs.Sent.{Begins, Breaks}
-use Rattle.acd_lines.proofs.Sends.{begins_front, breaks_front}
+use Rattle.acd_codec.specs.declared.fault.FixedAnswer.TheVariants as fixed
+use Rattle.acd_desk.specs.Ran.{Standing}
+use Rattle.acd_desk.specs.AnswerTexts.{said}
+use Rattle.acd_io.specs.Sent.{Begins, Breaks}
+use Rattle.acd_io.proofs.Sends.{begins_front, breaks_front}
 use Rattle.acd_http.specs.declared.answer.Reply.{Reply}
-use Rattle.acd_http.specs.declared.answer.Reply.TheVariants.{Made, Fixed}
-use Rattle.acd_http.specs.declared.asked.Asked.TheVariants as ask
-use Rattle.acd_http.specs.declared.lookup.Lookup.{Lookup}
-use Rattle.acd_http.specs.declared.refused.Allow.{Allow}
-use Rattle.acd_http.specs.declared.reply.Kind.{Kind}
 use Rattle.acd_http.specs.Replying.{head_text, reply_bytes}
 use Rattle.acd_http.specs.declared.asked.Unknown.{Unknown}
 use Rattle.acd_http.specs.declared.asked.Unknown.TheVariants as unknown
 use Rattle.acd_http.specs.declared.serving.ExchangeFault.{ExchangeFault}
-use Rattle.acd_codec.specs.declared.fault.FixedAnswer.TheVariants as fixed
 use Rattle.acd_http.specs.Asking.{IsUnknown}
-use Rattle.acd_http.specs.Exchanging.{IsWritten, Replies, Exchanged, seen, told_of, kind_told, told_reply, fixed_reply, reply_out, status_of, kind_of, allow_of, body_of}
-
-module _ {D : Type 0} (stands : D → Standing) (moment : ℕ) where
-  pub replies_arrival : ((d : D) → Settles (stands d)) → (d e : D) (r : Request) (t : Taken) (out : List ℕ) → Took (stands d) (at moment r) t (stands e) → IsWritten r t out → Replies stands moment d (ask.Arrival r) out e
-  replies_arrival settles d e r t out took written =
-      let ran : (u : Taken) → Took (stands d) (at moment r) u (stands e) → Ran (stands d) (at moment r ∷ []) (u ∷ []) (stands e)
-      = λ u took. ran_one (stands d) (stands e) (at moment r) u (settles d) (settles e) took in
-      elim written [
-        | inl whole ↦ (t, whole, took, ran t took)
-        | inr lost ↦
-            let forgot = forgets (stands d) (stands e) (at moment r) t lost.0 took in
-            (taken.NoMemory, lost.1, forgot, ran taken.NoMemory forgot)
-      ]
-
-  -- what the desk told to a read
-  pub replies_look : {Z : Type 0} (d e : D) (wanted : Lookup) (bodiless : Bool) (found : Result (Option (String Z)) DeskFault) (out : List ℕ) → out ≡ told_reply bodiless (kind_told wanted) (seen found)
-      → Told (stands d) (stands e) found (λ (c : Content) (text : Option (String Z)). told text ≡ told_of c moment wanted) → Replies stands moment d (ask.Look wanted bodiless) out e
-  replies_look {Z} d e wanted bodiless (Ok text) out is h = (
-    Ok (told text),
-    is,
-    told_so (stands d) (stands e) text (told text) (λ (c : Content) (x : Option (String Z)). told x ≡ told_of c moment wanted) (λ (c : Content) (x : Option (List ℕ)). x ≡ told_of c moment wanted) (λ c same. same) h,
-  )
-  replies_look {Z} d e wanted bodiless (Err why) out is h = (
-    Err why,
-    is,
-    told_nothing (stands d) (stands e) why (λ (c : Content) (x : Option (String Z)). told x ≡ told_of c moment wanted) (λ (c : Content) (x : Option (List ℕ)). x ≡ told_of c moment wanted) h,
-  )
+use Rattle.acd_http.specs.Exchanging.{Exchanged, fixed_reply, reply_out}
 
 -- the bytes of a reply are its head and its body
-out_is : (bodiless : Bool) (r : Reply) → reply_out bodiless r ≡ head_text (status_of r) (kind_of r) (length (body_of r)) (allow_of r) ++ cond bodiless [] (body_of r)
+pub in_two : (bodiless : Bool) (r : Reply) (head sent body : List ℕ) (status : ℕ) → head ≡ head_text status r.kind (length body) r.allow → status ≡ (said r.answer).status → body ≡ (said r.answer).body → sent ≡ cond bodiless [] body
+    → head ++ sent ≡ reply_out bodiless r
 unfolding reply_bytes
-out_is bodiless (Made status kind body) = refl
-out_is bodiless (Fixed status allow body) = refl
-
-pub in_two : (bodiless : Bool) (r : Reply) (head sent body : List ℕ) (status : ℕ) (kind : Kind) (allow : Option Allow) → head ≡ head_text status kind (length body) allow → status ≡ status_of r → kind ≡ kind_of r
-    → allow ≡ allow_of r → body ≡ body_of r → sent ≡ cond bodiless [] body → head ++ sent ≡ reply_out bodiless r
-in_two bodiless r head sent body status kind allow is a b d e f =
-    let text : head_text status kind (length body) allow ≡ head_text (status_of r) (kind_of r) (length (body_of r)) (allow_of r) = rw (a, b, e, d) refl in
-    let right : sent ≡ cond bodiless [] (body_of r) = f ∙ ap (λ (l : List ℕ). cond bodiless [] l) e in
-    ap (λ (l : List ℕ). l ++ sent) (is ∙ text) ∙ ap (λ (l : List ℕ). head_text (status_of r) (kind_of r) (length (body_of r)) (allow_of r) ++ l) right ∙ sym (out_is bodiless r)
+in_two bodiless r head sent body status is a e f =
+    let text : head ≡ head_text (said r.answer).status r.kind (length (said r.answer).body) r.allow = is ∙ ap (λ (n : ℕ). head_text n r.kind (length body) r.allow) a ∙ ap (λ (l : List ℕ). head_text (said r.answer).status r.kind (length l) r.allow) e in
+    let right : sent ≡ cond bodiless [] (said r.answer).body = f ∙ ap (λ (l : List ℕ). cond bodiless [] l) e in
+    ap (λ (l : List ℕ). l ++ sent) text ∙ ap (λ (l : List ℕ). head_text (said r.answer).status r.kind (length (said r.answer).body) r.allow ++ l) right
 
 pub first_begun : (a c : Option (List ℕ)) (out xs ys : List ℕ) → out ≡ xs ++ ys → Begins a c xs → Begins a c out
 first_begun a c out xs ys e h = subst (Begins a c) (sym e) (begins_front a c xs ys h)

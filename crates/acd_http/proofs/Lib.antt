@@ -9,4 +9,3 @@ pub mod AskLaws
 pub mod Exchanges
 pub mod Visits
 pub mod Attending
-pub mod ReadingLines

@@ -3,18 +3,9 @@ use Rattle.std.proofs.Common.{◌≡◌, ℕ, zero, suc, ◌+◌, ◌≤◌, ◌
 use Rattle.std.specs.Option.{MatchOption}
 use Rattle.std.proofs.lemmas.List.{length-take, take-append-le}
 use Rattle.std.specs.Bool.{if◌then◌else◌}
-use Rattle.std.specs.Io.KnownBytes.{Consumes, Keeps, IsAtEnd}
-use Rattle.std.proofs.KnownBytes.{Consumes-trans, Consumes-whole}
 use Rattle.acd_http.specs.declared.head.Place.{Place}
 use Rattle.acd_http.specs.declared.head.Place.TheVariants.{Start}
-use Rattle.acd_lines.specs.Output.{IsInput}
 use Rattle.acd_http.specs.Head.{head_from, head_len, is_empty_at, place_after}
-
-pub kept_then : (a b c : Option (List ℕ)) (bs : List ℕ) → Keeps a b → Consumes b c bs → Consumes a c bs
-kept_then None b c bs h k = tt
-kept_then (Some xs) None c bs h k = absurd h
-kept_then (Some xs) (Some ys) None bs h k = k
-kept_then (Some xs) (Some ys) (Some zs) bs h k = sym h ∙ k
 
 pub short : (now old buf : List ℕ) (n : ℕ) → now ≡ old → length old ≤ 12288 → length buf ≤ 4096 → length now + length (take n buf) ≤ 16384
 short now old buf n e h k = omega (arith, ap length e, length-take n buf)
@@ -80,10 +71,6 @@ head_is room n now more e =
 
 pub no_head_is : (room : ℕ) (now more : List ℕ) → room ≤ length now → head_len (take room now) ≡ None → (head_len (take room (now ++ more)) ≡ None) × (room ≤ length (now ++ more))
 no_head_is room now more full e = (ap head_len (take-append-le room now more full) ∙ e, omega (arith, length-append now more))
-
-pub ended : (a b c : Option (List ℕ)) (seen bytes : List ℕ) → Consumes a b seen → Consumes b c bytes → bytes ≡ [] → IsAtEnd c → IsInput a seen
-ended a b c seen bytes h k none last =
-    Consumes-whole a c seen (λ (xs : List ℕ). xs ≡ seen) (subst (λ (l : List ℕ). Consumes a c l) (ap (λ (l : List ℕ). seen ++ l) none ∙ append-nil seen) (Consumes-trans a b c seen bytes h k)) last refl
 
 pub head_bounds : (n : ℕ) (now : List ℕ) → head_len (take 8192 now) ≡ Some n → (n ≤ 8192) × (n ≤ length now)
 head_bounds n now e =

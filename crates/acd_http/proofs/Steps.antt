@@ -1,19 +1,10 @@
 -- One byte further in a loop over bytes.
 use Rattle.std.proofs.Common.{◌≡◌, ◌==◌, ℕ, ◌+◌, ◌-◌, ◌*◌, ◌<◌, ◌≤◌, ◌++◌, true, false, List, [], ◌∷◌, length, drop, take, get_or, min, Some, None, inl, inr, refl, sym, ap, ◌∙◌, arith, add-one, drop-cons, ne_eqb, append_assoc, append-nil, length-drop}
 use Rattle.std.proofs.lemmas.List.{drop_all, take_all, take_more}
-use Rattle.std.proofs.lemmas.Bool.{cases_lt}
-use Rattle.std.proofs.lemmas.Bool.Decides.{nat_tests}
-use Rattle.std.proofs.Math.Nat.{min-eq_left, min-eq_right}
-use Rattle.std.proofs.lemmas.List.Folds.{list_all_at}
-use Rattle.std.specs.Char.{is_ascii_digit}
-use Rattle.std.specs.List.{list_all}
-use Rattle.std.specs.Str.Parse.{digits_value}
 use Rattle.acd_http.specs.declared.head.Place.{Place}
 use Rattle.acd_http.specs.Head.{lines_from, is_empty_at, place_after}
 use Rattle.acd_http.specs.declared.head.Place.TheVariants.{Start}
 use Rattle.acd_http.specs.Target.{begins_path, from_path, before_mark, behind_mark}
-use Rattle.acd_http.specs.Fields.{is_number, number_up_to}
-use Rattle.acd_lines.proofs.Moments.{value_more}
 
 at : (bytes : List ℕ) (i : ℕ) → i < length bytes → drop i bytes ≡ get_or bytes i 0 ∷ drop (i + 1) bytes
 at bytes i h = rw (drop-cons bytes i 0, add-one) refl
@@ -82,34 +73,3 @@ behind_end bytes i h = ap behind_mark (drop_all i bytes h)
 
 pub to_end : (bytes : List ℕ) (i : ℕ) → i ≤ length bytes → take (length bytes - i) (drop i bytes) ≡ drop i bytes
 to_end bytes i h = take_all (length bytes - i) (drop i bytes) (omega (arith, length-drop i bytes))
-
--- ---- a number that is cut
-
-pub cut_more : (digits : List ℕ) (i m d r : ℕ) → i < length digits → m ≡ min 1000000000000000 (digits_value 10 (take i digits)) → is_ascii_digit (get_or digits i 0) ≡ true → d ≡ get_or digits i 0 - 48 → r ≡ min 1000000000000000 (m * 10 + d)
-    → r ≡ min 1000000000000000 (digits_value 10 (take (i + 1) digits))
-cut_more digits i m d r h e digit is cut =
-    let v = digits_value 10 (take i digits) in
-    let more : v * 10 + d ≡ digits_value 10 (take (i + 1) digits) = value_more digits i v d h refl digit is in
-    elim (cases_lt 1000000000000000 v) [
-      | inl great ↦
-          let top : min 1000000000000000 v ≡ 1000000000000000 = min-eq_left (omega arith) in
-          cut ∙ min-eq_left (omega (arith, e, top)) ∙ sym (min-eq_left (omega (arith, more)))
-      | inr small ↦
-          let same : m ≡ v = e ∙ min-eq_right (omega arith) in
-          cut ∙ ap (λ (n : ℕ). min 1000000000000000 (n * 10 + d)) same ∙ ap (min 1000000000000000) more
-    ]
-
-pub is_cut : (digits : List ℕ) (n : ℕ) → (length digits == 0) ≡ false → list_all is_ascii_digit digits ≡ true → n ≡ min 1000000000000000 (digits_value 10 digits) → Some n ≡ number_up_to digits
-unfolding number_up_to
-is_cut digits n some all e = rw (some, all) (ap Some e)
-
-pub no_digits : (digits : List ℕ) → (length digits == 0) ≡ true → None ≡ number_up_to digits
-unfolding number_up_to
-no_digits digits h = rw h refl
-
-pub no_digit : (digits : List ℕ) (i : ℕ) → i < length digits → is_ascii_digit (get_or digits i 0) ≡ false → None ≡ number_up_to digits
-unfolding number_up_to
-no_digit digits i h other =
-    let some = list_all_at is_ascii_digit digits i 0 h other in
-    let none : is_number digits ≡ false = grind (arith, nat_tests) in
-    rw none refl

@@ -3,8 +3,8 @@ use Rattle.std.proofs.Common.{◌≡◌, false, ℕ, ◌+◌, suc, List, [], ◌
 use Rattle.std.specs.Io.KnownBytes.{Appends}
 use Rattle.std.proofs.KnownBytes.{Appends-nil}
 use Rattle.acd_desk.specs.Ran.{Standing}
-use Rattle.acd_lines.specs.declared.sending.Stopped.{Stopped}
-use Rattle.acd_lines.specs.Sent.{Begins}
+use Rattle.acd_io.specs.declared.sending.Stopped.{Stopped}
+use Rattle.acd_io.specs.Sent.{Begins}
 use Rattle.acd_http.specs.Listening.{Outcome, Served, Serves, ServedAll, EachWell, ServedWell, Noted, outcome_line, outcome_lines}
 
 pub noted_by : (r : Result (Unit {0}) Stopped) (a b : Option (List ℕ)) (slice text : List ℕ) → slice ≡ text → OnOk r (Appends a b slice) → OnErr r (Begins a b slice) → Noted r a b text

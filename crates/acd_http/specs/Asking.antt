@@ -1,10 +1,11 @@
 -- What the bytes of a connection ask.
 use Rattle.std.specs.Prelude.{◌≡◌, ◌≢◌, ◌⊎◌, ℕ, ◌≤◌, List, length, take, drop, Bool, true, false, nat_lt, nat_le, if◌then◌else◌, Option, Some, None, Result, Ok, Err}
 use Rattle.httparse.specs.Grammar.{RequestHead}
+use Rattle.std.specs.declared.alloc.AllocError.{AllocError}
 use Rattle.acd_terms.specs.declared.command.Request.{Request}
 use Rattle.acd_codec.specs.declared.member.Member.{Member}
 use Rattle.acd_codec.specs.Reading.{reads_as}
-use Rattle.acd_lines.specs.Output.{IsInput}
+use Rattle.acd_io.specs.Read.{IsInput}
 use Rattle.acd_http.specs.declared.refused.Refused.TheVariants as refused
 use Rattle.acd_http.specs.declared.refused.Part.TheVariants as part
 use Rattle.acd_http.specs.declared.wanted.Wanted.{Wanted}
@@ -13,10 +14,8 @@ use Rattle.acd_http.specs.declared.asked.Asked.{Asked}
 use Rattle.acd_http.specs.declared.asked.Asked.TheVariants.{Truncated, Refused, Look, Arrival}
 use Rattle.acd_http.specs.declared.asked.Unknown.{Unknown}
 use Rattle.acd_http.specs.declared.asked.Unknown.TheVariants as unknown
-use Rattle.acd_http.specs.declared.asked.HeadAsked.{HeadAsked}
-use Rattle.acd_http.specs.declared.asked.HeadAsked.TheVariants.{Known, Body, NoMemory}
 use Rattle.acd_http.specs.Head.{head_len, lines_in}
-use Rattle.acd_http.specs.Wanting.{IsWhole, IsUnread, wanted_of, has_no_body}
+use Rattle.acd_http.specs.Wanting.{IsWhole, IsUnread, wanted_of, has_no_body, is_body, IsSmall}
 
 -- a body that has come whole asks what it reads as
 abbrev pub body_asks : Result Request Member → Asked
@@ -30,7 +29,7 @@ body_in len behind = if nat_le len (length behind) then body_asks (reads_as (tak
 -- what a head wants, with the bytes behind it
 abbrev pub asked_by : Wanted → Bool → List ℕ → Asked
 asked_by (want.Refused why) bodiless behind = Refused why bodiless
-asked_by (want.Look lookup) bodiless behind = Look lookup bodiless
+asked_by (want.Look question) bodiless behind = Look question bodiless
 asked_by (want.Body len) bodiless behind = body_in len behind
 
 -- a head that can't be read is refused, and one that can asks what it wants
@@ -47,8 +46,11 @@ abbrev pub HeadAsks : List ℕ → List ℕ → Asked → Type 0
 HeadAsks head behind asked = AsksUnless (nat_lt 33 (lines_in head)) head behind asked
 
 -- a head that hasn't ended within 8192 bytes is too large, if so many came
+abbrev pub headless : ℕ → Asked
+headless size = if nat_le 8192 size then Refused refused.HeadTooLarge false else Truncated
+
 abbrev pub AsksBy : Option ℕ → List ℕ → Asked → Type 0
-AsksBy None input asked = asked ≡ (if nat_le 8192 (length input) then Refused refused.HeadTooLarge false else Truncated)
+AsksBy None input asked = asked ≡ headless (length input)
 AsksBy (Some n) input asked = HeadAsks (take n input) (drop n input) asked
 
 -- what these bytes ask
@@ -58,14 +60,17 @@ Asks input asked = AsksBy (head_len (take 8192 input)) input asked
 abbrev pub is_bodiless : Asked → Bool
 is_bodiless Truncated = false
 is_bodiless (Refused why bodiless) = bodiless
-is_bodiless (Look lookup bodiless) = bodiless
+is_bodiless (Look question bodiless) = bodiless
 is_bodiless (Arrival request) = false
 
--- for private clauses: what a head asks
-abbrev pub IsHeadAsked : List ℕ → HeadAsked → Type 0
-IsHeadAsked head (Known asked) = (asked ≢ Truncated) × ((behind : List ℕ) → HeadAsks head behind asked)
-IsHeadAsked head (Body len) = (len ≤ 4096) × ((behind : List ℕ) → HeadAsks head behind (body_in len behind))
-IsHeadAsked head (NoMemory bodiless) = (asked : Asked) × (asked ≢ Truncated) × (bodiless ≡ is_bodiless asked) × ((behind : List ℕ) → HeadAsks head behind asked)
+-- for private clauses: a head wants this, whatever follows it
+abbrev pub IsWanted : List ℕ → Bool → Wanted → Type 0
+IsWanted head bodiless w = (behind : List ℕ) → HeadAsks head behind (asked_by w bodiless behind)
+
+-- what a head was seen to want; it wants no body where there was no memory to see it
+abbrev pub IsHeadAsked : List ℕ → Bool → Result Wanted AllocError → Type 0
+IsHeadAsked head bodiless (Ok w) = IsSmall w × IsWanted head bodiless w
+IsHeadAsked head bodiless (Err e) = (w : Wanted) × (is_body w ≡ false) × IsWanted head bodiless w
 
 abbrev pub IsHeadOf : ℕ → List ℕ → Type 0
 IsHeadOf len input = (head_len (take 8192 input) ≡ Some len) × (len ≤ 8192) × (len ≤ length input)

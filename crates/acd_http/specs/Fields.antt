@@ -1,9 +1,9 @@
 -- The fields of a head, and the tests that every request passes first.
-use Rattle.std.specs.Prelude.{ℕ, List, length, map, min, Bool, true, false, not, ◌&&◌, ◌||◌, ◌==◌, nat_lt, if◌then◌else◌, codes, find, Option, Some, None, option_map}
-use Rattle.std.specs.List.{count_by, list_all}
-use Rattle.std.specs.Char.{to_ascii_lowercase, is_ascii_digit}
+use Rattle.std.specs.Prelude.{ℕ, List, map, Bool, true, false, not, ◌&&◌, ◌||◌, ◌==◌, nat_lt, if◌then◌else◌, codes, find, Option, Some, None, option_map}
+use Rattle.std.specs.List.{count_by}
+use Rattle.std.specs.Char.{to_ascii_lowercase}
 use Rattle.std.specs.Str.{bytes_eq}
-use Rattle.std.specs.Str.Parse.{digits_value}
+use Rattle.acd_io.specs.Digits.{number_up_to}
 use Rattle.acd_http.specs.declared.fields.Length.{Length}
 use Rattle.acd_http.specs.declared.fields.Length.TheVariants.{Absent, Faulty, Given, TooLarge}
 use Rattle.acd_http.specs.declared.refused.Refused.{Refused}
@@ -25,14 +25,6 @@ first_named name fields = option_map (λ (field : List ℕ × List ℕ). field.1
 -- HTTP/1.1 has one Host field, and HTTP/1.0 at most one
 abbrev pub is_host_fine : ℕ → ℕ → Bool
 is_host_fine minor hosts = (hosts == 1) || ((minor == 0) && (hosts == 0))
-
--- one or more digits
-abbrev pub is_number : List ℕ → Bool
-is_number text = not (length text == 0) && list_all is_ascii_digit text
-
--- the number that digits write, or 10^15 where it is greater
-unfoldable pub number_up_to : List ℕ → Option ℕ
-number_up_to text = if is_number text then Some (min 1000000000000000 (digits_value 10 text)) else None
 
 abbrev pub length_of : Option ℕ → Length
 length_of None = Faulty

@@ -13,4 +13,3 @@ pub mod Exchanging
 pub mod Laws
 pub mod Listening
 pub mod Attending
-pub mod ReadingLines

@@ -2,8 +2,8 @@
 use Rattle.std.specs.Prelude.{◌≡◌, ◌⊎◌, ℕ, suc, length, true, false, List, [], ◌∷◌, ◌++◌, Option, Some, None, Result, Ok, Err, codes, decimal}
 use Rattle.std.specs.Io.KnownBytes.{Appends}
 use Rattle.acd_desk.specs.Ran.{Standing}
-use Rattle.acd_lines.specs.declared.sending.Stopped.{Stopped}
-use Rattle.acd_lines.specs.Sent.{Begins}
+use Rattle.acd_io.specs.declared.sending.Stopped.{Stopped}
+use Rattle.acd_io.specs.Sent.{Begins}
 use Rattle.acd_http.specs.declared.asked.Asked.{Asked}
 use Rattle.acd_http.specs.declared.serving.ExchangeFault.{ExchangeFault}
 use Rattle.acd_http.specs.declared.serving.ExchangeFault.TheVariants.{Truncated, Read, Write, NoMemory}

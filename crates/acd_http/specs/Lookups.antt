@@ -3,15 +3,18 @@ use Rattle.std.specs.Prelude.{ℕ, ◌-◌, List, [], ◌∷◌, length, take, d
 use Rattle.std.specs.Option.{option_and_then}
 use Rattle.std.specs.Result.{result_ok}
 use Rattle.acd_terms.specs.Forms.{read_id, agent_digits, device_digits, number_between}
-use Rattle.acd_http.specs.Fields.{number_up_to}
+use Rattle.acd_io.specs.Digits.{number_up_to}
 use Rattle.acd_http.specs.Query.{after_of}
-use Rattle.acd_http.specs.declared.lookup.Lookup.{Lookup}
-use Rattle.acd_http.specs.declared.lookup.Lookup.TheVariants as lookup
+use Rattle.acd_desk.specs.declared.question.Question.{Question}
+use Rattle.acd_desk.specs.declared.question.Question.TheVariants as ask
 use Rattle.acd_http.specs.declared.refused.Refused.{Refused}
 use Rattle.acd_http.specs.declared.refused.Refused.TheVariants as refused
 use Rattle.acd_http.specs.declared.refused.Part.TheVariants as part
-use Rattle.acd_http.specs.declared.routes.Resource.{Resource}
-use Rattle.acd_http.specs.declared.routes.Resource.TheVariants.{Agent, Call, Device, Queue, Events, History, MonitorEvents, Report, Snapshot}
+use Rattle.acd_http.specs.declared.refused.Allow.TheVariants as allow
+use Rattle.acd_http.specs.Target.{path_of, query_of}
+use Rattle.acd_http.specs.Routing.{route_of}
+use Rattle.acd_http.specs.declared.routes.Route.{Route}
+use Rattle.acd_http.specs.declared.routes.Route.TheVariants.{Services, Agent, Call, Device, Queue, Events, History, MonitorEvents, Report, Snapshot}
 
 -- what stands behind the front of a route, and what stands before its end
 abbrev pub behind : List ℕ → List ℕ → List ℕ
@@ -39,23 +42,29 @@ abbrev pub monitor_in : List ℕ → Option ℕ
 monitor_in path = serial_of (before (codes "/events") (behind (codes "/monitors/") path))
 
 -- an identifier that isn't well formed names nothing
-abbrev pub found_or : Option Lookup → Result Lookup Refused
+abbrev pub found_or : Option Question → Result Question Refused
 found_or (Some x) = Ok x
 found_or None = Err refused.NotFound
 
 -- a malformed `after` is found first
-abbrev pub with_after : Option ℕ → (ℕ → Option Lookup) → Result Lookup Refused
+abbrev pub with_after : Option ℕ → (ℕ → Option Question) → Result Question Refused
 with_after None look = Err (refused.Malformed part.After)
 with_after (Some after) look = found_or (look after)
 
--- what a read looks up
-abbrev pub lookup_in : Resource → List ℕ → List ℕ → Result Lookup Refused
-lookup_in Agent path query = found_or (option_map lookup.Agent (agent_in path))
-lookup_in Call path query = found_or (option_map lookup.Call (serial_of (behind (codes "/calls/") path)))
-lookup_in Device path query = found_or (option_map lookup.Device (device_in (codes "/devices/") path))
-lookup_in Queue path query = found_or (option_map lookup.Queue (device_in (codes "/queues/") path))
-lookup_in Events path query = with_after (after_of query) (λ (after : ℕ). Some (lookup.Events after))
-lookup_in History path query = with_after (after_of query) (λ (after : ℕ). Some (lookup.History after))
-lookup_in MonitorEvents path query = with_after (after_of query) (λ (after : ℕ). option_map (λ (monitor : ℕ). lookup.MonitorEvents monitor after) (monitor_in path))
-lookup_in Report path query = Ok lookup.Report
-lookup_in Snapshot path query = Ok lookup.Snapshot
+-- what a GET of a route looks up; the services are none that is read
+abbrev pub look_up : Option Route → List ℕ → List ℕ → Result Question Refused
+look_up None path query = Err refused.NotFound
+look_up (Some Services) path query = Err (refused.MethodNotAllowed allow.Posts)
+look_up (Some Agent) path query = found_or (option_map ask.Agent (agent_in path))
+look_up (Some Call) path query = found_or (option_map ask.Call (serial_of (behind (codes "/calls/") path)))
+look_up (Some Device) path query = found_or (option_map ask.Device (device_in (codes "/devices/") path))
+look_up (Some Queue) path query = found_or (option_map ask.Queue (device_in (codes "/queues/") path))
+look_up (Some Events) path query = with_after (after_of query) (λ (after : ℕ). Some (ask.Events after))
+look_up (Some History) path query = with_after (after_of query) (λ (after : ℕ). Some (ask.History after))
+look_up (Some MonitorEvents) path query = with_after (after_of query) (λ (after : ℕ). option_map (λ (monitor : ℕ). ask.MonitorEvents monitor after) (monitor_in path))
+look_up (Some Report) path query = Ok ask.Report
+look_up (Some Snapshot) path query = Ok ask.Snapshot
+
+-- what a GET of a target looks up
+abbrev pub target_looked : List ℕ → Result Question Refused
+target_looked target = look_up (route_of (path_of target)) (path_of target) (query_of target)

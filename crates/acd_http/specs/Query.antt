@@ -3,7 +3,7 @@ use Rattle.std.specs.Prelude.{ℕ, List, [], ◌∷◌, length, Bool, nat_le, if
 use Rattle.std.specs.Str.{bytes_eq}
 use Rattle.std.specs.Str.Lossy.{utf8_lossy}
 use Rattle.form_urlencoded.specs.Form.{raw_pairs, decode}
-use Rattle.acd_http.specs.Fields.{number_up_to}
+use Rattle.acd_io.specs.Digits.{number_up_to}
 
 -- the text that a name or a value of a form stands for
 abbrev pub text : List ℕ → List ℕ

@@ -1,7 +1,7 @@
 -- What is answered to a request that the desk doesn't see.
 use Rattle.std.specs.Prelude.{ℕ, List, ◌++◌, codes, Option, Some, None}
 use Rattle.acd_codec.specs.declared.fault.FixedAnswer.TheVariants as fixed
-use Rattle.acd_codec.specs.ReplyTexts.{malformed_text, fixed_status, fixed_text}
+use Rattle.acd_desk.specs.AnswerTexts.{Said, fixed_said, malformed_said}
 use Rattle.acd_http.specs.declared.refused.Part.{Part}
 use Rattle.acd_http.specs.declared.refused.Part.TheVariants.{Head, Host, ContentLength, After}
 use Rattle.acd_http.specs.declared.refused.Allow.{Allow}
@@ -18,25 +18,15 @@ part_name After = codes "after"
 abbrev pub part_text : Part → List ℕ
 part_text part = codes "{\"error\":{\"code\":30,\"member\":\"" ++ part_name part ++ codes "\",\"name\":\"malformed\"}}"
 
-abbrev pub refused_status : Refused → ℕ
-refused_status HeadTooLarge = fixed_status fixed.HeadTooLarge
-refused_status (Malformed part) = 400
-refused_status (Body member) = 400
-refused_status NotImplemented = fixed_status fixed.NotImplemented
-refused_status NotFound = fixed_status fixed.NotFound
-refused_status (MethodNotAllowed allow) = fixed_status fixed.MethodNotAllowed
-refused_status LengthRequired = fixed_status fixed.LengthRequired
-refused_status BodyTooLarge = fixed_status fixed.BodyTooLarge
-
-abbrev pub refused_text : Refused → List ℕ
-refused_text HeadTooLarge = fixed_text fixed.HeadTooLarge
-refused_text (Malformed part) = part_text part
-refused_text (Body member) = malformed_text member
-refused_text NotImplemented = fixed_text fixed.NotImplemented
-refused_text NotFound = fixed_text fixed.NotFound
-refused_text (MethodNotAllowed allow) = fixed_text fixed.MethodNotAllowed
-refused_text LengthRequired = fixed_text fixed.LengthRequired
-refused_text BodyTooLarge = fixed_text fixed.BodyTooLarge
+abbrev pub refused_said : Refused → Said
+refused_said HeadTooLarge = fixed_said fixed.HeadTooLarge
+refused_said (Malformed part) = record { status = 400; body = part_text part }
+refused_said (Body member) = malformed_said member
+refused_said NotImplemented = fixed_said fixed.NotImplemented
+refused_said NotFound = fixed_said fixed.NotFound
+refused_said (MethodNotAllowed allow) = fixed_said fixed.MethodNotAllowed
+refused_said LengthRequired = fixed_said fixed.LengthRequired
+refused_said BodyTooLarge = fixed_said fixed.BodyTooLarge
 
 -- what the Allow field tells, which 405 alone has
 abbrev pub refused_allow : Refused → Option Allow

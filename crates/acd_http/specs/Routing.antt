@@ -1,5 +1,5 @@
 -- The routes.
-use Rattle.std.specs.Prelude.{ℕ, List, [], codes, if◌then◌else◌, Option, None, option_map, Result, Ok, Err}
+use Rattle.std.specs.Prelude.{ℕ, List, [], codes, Bool, true, false, if◌then◌else◌, Option, None, option_map, Result, Ok, Err}
 use Rattle.std.specs.Str.{is_utf8}
 use Rattle.matchit.specs.Rows.{RowsOf}
 use Rattle.matchit.specs.Route.{Scan, parse_route}
@@ -8,8 +8,20 @@ use Rattle.matchit.specs.Router.{RouteOf, route_from}
 use Rattle.matchit.specs.Seek.{first}
 use Rattle.matchit.specs.declared.error.InsertError.{InsertError}
 use Rattle.acd_http.specs.declared.routes.Route.{Route}
-use Rattle.acd_http.specs.declared.routes.Route.TheVariants.{Services, Read}
-use Rattle.acd_http.specs.declared.routes.Resource.TheVariants as resource
+use Rattle.acd_http.specs.declared.routes.Route.TheVariants.{Services, Agent, Call, Device, Queue, Events, History, MonitorEvents, Report, Snapshot}
+
+-- it leads to the services, and not to a read
+abbrev pub is_services : Route → Bool
+is_services Services = true
+is_services Agent = false
+is_services Call = false
+is_services Device = false
+is_services Queue = false
+is_services Events = false
+is_services History = false
+is_services MonitorEvents = false
+is_services Report = false
+is_services Snapshot = false
 
 abbrev pub scanned : Result Scan InsertError → Route → RowsOf (RouteOf Route) → RowsOf (RouteOf Route)
 scanned (Ok s) value old = let r = route_from s value in placed (r.pattern, r) old
@@ -22,15 +34,15 @@ add text value old = scanned (parse_route text) value old
 -- all routes
 unfoldable pub table : RowsOf (RouteOf Route)
 table =
-    add (codes "/history") (Read resource.History)
-    (add (codes "/snapshot") (Read resource.Snapshot)
-    (add (codes "/reports/queues") (Read resource.Report)
-    (add (codes "/monitors/{id}/events") (Read resource.MonitorEvents)
-    (add (codes "/events") (Read resource.Events)
-    (add (codes "/queues/{id}") (Read resource.Queue)
-    (add (codes "/devices/{id}") (Read resource.Device)
-    (add (codes "/calls/{id}") (Read resource.Call)
-    (add (codes "/agents/{id}") (Read resource.Agent)
+    add (codes "/history") History
+    (add (codes "/snapshot") Snapshot
+    (add (codes "/reports/queues") Report
+    (add (codes "/monitors/{id}/events") MonitorEvents
+    (add (codes "/events") Events
+    (add (codes "/queues/{id}") Queue
+    (add (codes "/devices/{id}") Device
+    (add (codes "/calls/{id}") Call
+    (add (codes "/agents/{id}") Agent
     (add (codes "/csta") Services [])))))))))
 
 -- where a path leads, as matchit matches it

@@ -1,26 +1,24 @@
 -- What a head that has come whole asks for.
-use Rattle.std.specs.Prelude.{◌≡◌, ℕ, ◌≤◌, List, [], length, map, Bool, true, false, if◌then◌else◌, codes, Option, Some, None, Result, Ok, Err}
+use Rattle.std.specs.Prelude.{◌≡◌, ℕ, ◌≤◌, List, [], length, map, Bool, true, false, if◌then◌else◌, codes, Option, Some, None, Result, Ok, Err, MatchResult}
 use Rattle.std.specs.Str.{bytes_eq}
 use Rattle.httparse.specs.Grammar.{RequestHead, ReadsRequest}
 use Rattle.httparse.specs.Spans.{name_and_value}
+use Rattle.std.specs.declared.alloc.AllocError.{AllocError}
 use Rattle.acd_http.specs.declared.method.Method.{Method}
 use Rattle.acd_http.specs.declared.method.Method.TheVariants.{Get, Head, Post}
 use Rattle.acd_http.specs.declared.routes.Route.{Route}
-use Rattle.acd_http.specs.declared.routes.Route.TheVariants as route
 use Rattle.acd_http.specs.declared.fields.Length.{Length}
 use Rattle.acd_http.specs.declared.fields.Length.TheVariants as len
 use Rattle.acd_http.specs.declared.refused.Refused.{Refused}
 use Rattle.acd_http.specs.declared.refused.Refused.TheVariants as refused
 use Rattle.acd_http.specs.declared.refused.Allow.TheVariants as allow
-use Rattle.acd_http.specs.declared.lookup.Lookup.{Lookup}
+use Rattle.acd_desk.specs.declared.question.Question.{Question}
 use Rattle.acd_http.specs.declared.wanted.Wanted.{Wanted}
 use Rattle.acd_http.specs.declared.wanted.Wanted.TheVariants as want
-use Rattle.acd_http.specs.declared.wanted.HeadRead.{HeadRead}
-use Rattle.acd_http.specs.declared.wanted.HeadRead.TheVariants.{Unread, Wants, NoMemory}
 use Rattle.acd_http.specs.Fields.{fields_refused, length_in}
-use Rattle.acd_http.specs.Target.{path_of, query_of}
-use Rattle.acd_http.specs.Routing.{route_of}
-use Rattle.acd_http.specs.Lookups.{lookup_in}
+use Rattle.acd_http.specs.Target.{path_of}
+use Rattle.acd_http.specs.Routing.{is_services, route_of}
+use Rattle.acd_http.specs.Lookups.{target_looked}
 
 -- the method, in its case
 abbrev pub method_of : List ℕ → Option Method
@@ -36,8 +34,8 @@ is_head (Some Get) = false
 is_head (Some Head) = true
 is_head (Some Post) = false
 
-abbrev pub looked : Result Lookup Refused → Wanted
-looked (Ok lookup) = want.Look lookup
+abbrev pub looked : Result Question Refused → Wanted
+looked (Ok question) = want.Look question
 looked (Err why) = want.Refused why
 
 -- a POST has a length, of at most 4096
@@ -47,19 +45,17 @@ by_length len.TooLarge = want.Refused refused.BodyTooLarge
 by_length len.Absent = want.Refused refused.LengthRequired
 by_length len.Faulty = want.Refused refused.LengthRequired
 
--- services are asked for by POST, and reads by GET and HEAD
-abbrev pub by_route : Method → Option Route → List ℕ → List ℕ → Length → Wanted
-by_route method None path query length = want.Refused refused.NotFound
-by_route Post (Some route.Services) path query length = by_length length
-by_route Get (Some route.Services) path query length = want.Refused (refused.MethodNotAllowed allow.Posts)
-by_route Head (Some route.Services) path query length = want.Refused (refused.MethodNotAllowed allow.Posts)
-by_route Post (Some (route.Read resource)) path query length = want.Refused (refused.MethodNotAllowed allow.Reads)
-by_route Get (Some (route.Read resource)) path query length = looked (lookup_in resource path query)
-by_route Head (Some (route.Read resource)) path query length = looked (lookup_in resource path query)
+-- services are asked for by POST
+abbrev pub posted : Option Route → Length → Wanted
+posted None length = want.Refused refused.NotFound
+posted (Some route) length = if is_services route then by_length length else want.Refused (refused.MethodNotAllowed allow.Reads)
 
+-- and reads by GET and HEAD
 abbrev pub by_method : Option Method → List ℕ → Length → Wanted
 by_method None target length = want.Refused refused.NotImplemented
-by_method (Some method) target length = by_route method (route_of (path_of target)) (path_of target) (query_of target) length
+by_method (Some Post) target length = posted (route_of (path_of target)) length
+by_method (Some Get) target length = looked (target_looked target)
+by_method (Some Head) target length = looked (target_looked target)
 
 abbrev pub or_refused : Option Refused → Wanted → Wanted
 or_refused (Some why) wanted = want.Refused why
@@ -92,8 +88,13 @@ is_body (want.Refused why) = false
 is_body (want.Look lookup) = false
 is_body (want.Body n) = true
 
--- for private clauses: what was read of a head
-abbrev pub IsHeadRead : List ℕ → HeadRead → Type 0
-IsHeadRead head Unread = IsUnread head
-IsHeadRead head (Wants bodiless w) = (h : RequestHead) × IsWhole head h × (bodiless ≡ has_no_body h) × (w ≡ wanted_of h)
-IsHeadRead head (NoMemory bodiless) = (h : RequestHead) × IsWhole head h × (bodiless ≡ has_no_body h) × (is_body (wanted_of h) ≡ false)
+-- a body that is asked for has at most 4096 bytes
+abbrev pub IsSmall : Wanted → Type 0
+IsSmall (want.Body n) = n ≤ 4096
+IsSmall (want.Refused why) = Unit {0}
+IsSmall (want.Look question) = Unit {0}
+
+-- for private clauses: what was read of a head; it wants no body where there was no memory to see what it wants
+abbrev pub IsHeadRead : List ℕ → Option (Bool × Result Wanted AllocError) → Type 0
+IsHeadRead head None = IsUnread head
+IsHeadRead head (Some read) = (h : RequestHead) × IsWhole head h × (read.0 ≡ has_no_body h) × MatchResult read.1 (λ (w : Wanted). w ≡ wanted_of h) (λ (e : AllocError). is_body (wanted_of h) ≡ false)

@@ -2,19 +2,18 @@
 
 ghost use Rattle.std.specs.Prelude.{◌≡◌, ℕ, List, [], false, MatchResult, Option};
 ghost use Rattle.std.specs.Io.KnownBytes.{Consumes};
-ghost use Rattle.acd_http.specs.Asking.{IsHeadAsked, IsHeadOf, IsAsked, IsUnknown, body_asks};
+ghost use Rattle.acd_http.specs.Asking.{IsHeadOf, IsAsked, IsUnknown, body_asks, headless};
 ghost use Rattle.acd_codec.specs.Reading.{reads_as};
 
-use crate::head::lines_in;
 use crate::input::{Input, ReadStopped};
-use crate::lookup::Lookup;
-use crate::receive::{CALLS, HeadFound, read_head, read_up_to};
-use crate::refused::{Part, Refused};
+use crate::receive::{CALLS, LONGEST_HEAD, read_head, read_up_to};
+use crate::refused::Refused;
 use crate::routes::Routes;
-use crate::wanted::{HeadRead, Wanted, read_request_head};
+use crate::wanted::{Wanted, head_asked};
 use acd_codec::{ReadFault, read_request};
+use acd_desk::Question;
 use acd_terms::Request;
-use std::alloc::Global;
+use std::alloc::{AllocError, Global};
 use std::io::Read;
 
 /// What the bytes of a connection ask. Its second part says whether the reply goes out without its body, as it
@@ -26,7 +25,7 @@ pub enum Asked {
     /// Something that is answered without the desk.
     Refused(Refused, bool),
     /// A read.
-    Look(Lookup, bool),
+    Look(Question, bool),
     /// A request to the switch.
     Arrival(Request),
 }
@@ -56,33 +55,15 @@ pub(crate) enum Unknown {
     NoMemory(bool),
 }
 
-/// What a head asks.
-#[derive(Clone, Copy, Debug)]
-enum HeadAsked {
-    /// This, whatever follows it.
-    Known(Asked),
-    /// What a body of this length asks.
-    Body(usize),
-    NoMemory(bool),
-}
-
-/// How many lines of a head aren't empty, at most: the request line and the fields.
-const LINES: usize = 33;
-
-fn head_asked(alloc: Global, routes: &Routes, head: &[u8]) -> HeadAsked
-    ensures { IsHeadAsked head.now result }
+// What an input of this length asks in which no head ends.
+#[tactic(auto, using(std::proofs::lemmas::Bool::Decides::nat_tests))]
+fn headless(len: usize) -> Asked
+    ensures { result ≡ headless len }
 {
-    if lines_in(head) > LINES {
-        return HeadAsked::Known(Asked::Refused(Refused::HeadTooLarge, false));
-    }
-    match read_request_head(alloc, routes, head) {
-        HeadRead::Unread => HeadAsked::Known(Asked::Refused(Refused::Malformed(Part::Head), false)),
-        HeadRead::NoMemory(bodiless) => HeadAsked::NoMemory(bodiless),
-        HeadRead::Wants(bodiless, wanted) => match wanted {
-            Wanted::Refused(refused) => HeadAsked::Known(Asked::Refused(refused, bodiless)),
-            Wanted::Look(lookup) => HeadAsked::Known(Asked::Look(lookup, bodiless)),
-            Wanted::Body(len) => HeadAsked::Body(len),
-        },
+    if len >= LONGEST_HEAD {
+        Asked::Refused(Refused::HeadTooLarge, false)
+    } else {
+        Asked::Truncated
     }
 }
 
@@ -109,14 +90,16 @@ fn asked_behind<R: Read>(
     requires { IsHeadOf len input.old }
     ensures { (first : Option (List ℕ)) → Consumes first (R.remaining reader.old) input.old → MatchResult result (IsAsked first) (IsUnknown first) }
 {
-    match head_asked(alloc, routes, &input.as_slice()[..len]) {
-        HeadAsked::Known(asked) => Ok(asked),
-        HeadAsked::NoMemory(bodiless) => Err(Unknown::NoMemory(bodiless)),
-        HeadAsked::Body(more) => match read_up_to(reader, calls, input, len + more) {
+    let (bodiless, wanted) = head_asked(alloc, routes, &input.as_slice()[..len]);
+    match wanted {
+        Ok(Wanted::Refused(why)) => Ok(Asked::Refused(why, bodiless)),
+        Ok(Wanted::Look(question)) => Ok(Asked::Look(question, bodiless)),
+        Ok(Wanted::Body(more)) => match read_up_to(reader, calls, input, len + more) {
             Ok(true) => body_asked(alloc, &input.as_slice()[len..len + more]),
             Ok(false) => Ok(Asked::Truncated),
             Err(ReadStopped) => Err(Unknown::Stopped),
         },
+        Err(AllocError) => Err(Unknown::NoMemory(bodiless)),
     }
 }
 
@@ -132,9 +115,8 @@ pub(crate) fn asked_by<R: Read>(
 {
     let mut calls = CALLS;
     match read_head(reader, &mut calls, input) {
-        Ok(HeadFound::Whole(len)) => asked_behind(alloc, routes, reader, &mut calls, input, len),
-        Ok(HeadFound::TooLarge) => Ok(Asked::Refused(Refused::HeadTooLarge, false)),
-        Ok(HeadFound::Truncated) => Ok(Asked::Truncated),
+        Ok(Some(len)) => asked_behind(alloc, routes, reader, &mut calls, input, len),
+        Ok(None) => Ok(headless(input.as_slice().len())),
         Err(ReadStopped) => Err(Unknown::Stopped),
     }
 }

@@ -1,12 +1,13 @@
 //! The fields of a head that every request is tested by.
 
-ghost use Rattle.std.specs.Prelude.{◌≡◌, ◌≤◌, ◌<◌, length, map, min, All, option_map, IfSome};
+ghost use Rattle.std.specs.Prelude.{◌≡◌, length, map, All, option_map};
 ghost use Rattle.std.specs.Char.{to_ascii_lowercase};
 ghost use Rattle.std.specs.Str.{bytes_eq};
 ghost use Rattle.httparse.specs.Spans.{header_bytes, IsHeaderWithin};
-ghost use Rattle.acd_http.specs.Fields.{count_named, first_named, is_host_fine, number_up_to, length_by, length_in, fields_refused};
+ghost use Rattle.acd_http.specs.Fields.{count_named, first_named, is_host_fine, length_by, length_in, fields_refused};
 
 use crate::refused::{Part, Refused};
+use acd_io::number_up_to;
 use httparse::spans::HeaderSpan;
 
 /// What the Content-Length fields of a head say.
@@ -38,9 +39,6 @@ impl Length {
 
 /// How many bytes of a body are read at most.
 const LONGEST_BODY: u64 = 4096;
-
-/// What a number is cut to.
-const GREATEST: u64 = 1_000_000_000_000_000;
 
 fn is_named(name: &[u8], wanted: &[u8]) -> bool
     ensures { result ≡ bytes_eq (map to_ascii_lowercase name.now) (map to_ascii_lowercase wanted.now) }
@@ -78,30 +76,6 @@ fn is_host_fine(minor: u8, hosts: usize) -> bool
     ensures { result ≡ is_host_fine minor hosts }
 {
     hosts == 1 || (minor == 0 && hosts == 0)
-}
-
-fn cut(number: u64) -> u64
-    ensures { result ≡ min 1000000000000000 number }
-{
-    number.min(GREATEST)
-}
-
-/// The number that one or more digits write, or 10^15 where it is greater.
-pub(crate) fn number_up_to(digits: &[u8]) -> Option<u64>
-    ensures value { result ≡ number_up_to digits.now }
-    ensures small { IfSome result (λ n. n ≤ 1000000000000000) }
-{
-    if digits.is_empty() {
-        return None;
-    }
-    let mut number = 0u64;
-    for digit in digits {
-        if !digit.is_ascii_digit() {
-            return None;
-        }
-        number = cut(number * 10 + u64::from(*digit - b'0'));
-    }
-    Some(number)
 }
 
 // What one Content-Length field says.

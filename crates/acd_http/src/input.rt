@@ -3,8 +3,9 @@
 ghost use Rattle.std.specs.Prelude.{◌≡◌, ℕ, ◌≤◌, ◌+◌, ◌++◌, [], List, length, IfOk, OnErr, false};
 ghost use Rattle.std.specs.Io.KnownBytes.{Consumes, IsAtEnd};
 
+use acd_io::retried;
 use std::alloc::{AllocError, Global};
-use std::io::{ErrorKind, Read};
+use std::io::Read;
 use std::marker::Model;
 
 /// A head of at most 8192 bytes, a body of at most 4096, and what came with them in the last read.
@@ -77,11 +78,7 @@ pub(crate) fn fill<R: Read>(
                 input.extend(&chunk[..n]);
                 return Ok(true);
             }
-            Err(e) => {
-                if e.kind() != ErrorKind::Interrupted {
-                    return Err(ReadStopped);
-                }
-            }
+            Err(e) => retried(e, ReadStopped)?,
         }
     }
     Err(ReadStopped)

@@ -2,7 +2,7 @@
 //!
 //! What bytes ask is `specs/Asking`, and what is written for it `specs/Exchanging`; [`laws`] say that bytes
 //! ask one thing, and by a beginning of theirs alone. Services are asked for by POST to `/csta`; what the desk
-//! tells is read by GET and HEAD. [`lines_with_reads`] answers lines of both.
+//! tells is read by GET and HEAD.
 //!
 //! ```ignore
 //! let routes = Routes::new(alloc)?;
@@ -20,7 +20,6 @@ mod listening;
 mod lookup;
 mod method;
 mod query;
-mod reading_lines;
 mod receive;
 mod refused;
 mod reply;
@@ -33,8 +32,6 @@ mod wanted;
 
 pub use asked::Asked;
 pub use listening::{ServeFault, serve_on, serve_until_failed};
-pub use lookup::Lookup;
-pub use reading_lines::lines_with_reads;
 pub use refused::{Allow, Part, Refused};
 pub use routes::Routes;
 pub use serving::{ExchangeFault, exchange};

@@ -2,7 +2,7 @@
 
 ghost use Rattle.std.specs.Prelude.{◌≡◌, ◌≤◌, ℕ, List, ◌++◌, min, length, Option, Err, OnOk};
 ghost use Rattle.std.specs.Io.KnownBytes.{Appends};
-ghost use Rattle.acd_lines.specs.Sent.{Begins};
+ghost use Rattle.acd_io.specs.Sent.{Begins};
 ghost use Rattle.acd_desk.specs.Ran.{standing};
 ghost use Rattle.acd_http.specs.Listening.{Served, ServedAll, ServedUntilFailed, Noted, fault_text, outcome_line};
 
@@ -12,7 +12,7 @@ use crate::serving::{ExchangeFault, exchange};
 use crate::short_text::ShortText;
 use acd_book::Book;
 use acd_desk::Desk;
-use acd_lines::{Stopped, send};
+use acd_io::{Stopped, send};
 use itoa::Buffer;
 use std::alloc::Global;
 use std::io::{Read, Write};
@@ -172,10 +172,14 @@ pub fn serve_on<B: Book, C: Clock, E: Write>(
     connections: u64,
     errors: &mut E,
 ) -> Result<(), ServeFault>
-    ensures ok { OnOk result (ServedAll (standing B.Book) connections desk.old desk.new (Appends (E.contents errors.old) (E.contents errors.new))) }
+    ensures ok { OnOk result (ServedAll (standing B.Book) connections desk.old desk.new
+        (Appends (E.contents errors.old) (E.contents errors.new))) }
     // a beginning of the lines was written
-    ensures write { result ≡ Err ServeFault.Write → ServedAll (standing B.Book) connections desk.old desk.new (Begins (E.contents errors.old) (E.contents errors.new)) }
-    ensures memory { result ≡ Err ServeFault.NoMemory → (desk.new ≡ desk.old) × (errors.new ≡ errors.old) }
+    ensures write { result ≡ Err ServeFault.Write
+        → ServedAll (standing B.Book) connections desk.old desk.new
+        (Begins (E.contents errors.old) (E.contents errors.new)) }
+    ensures memory { result ≡ Err ServeFault.NoMemory
+        → (desk.new ≡ desk.old) × (errors.new ≡ errors.old) }
 {
     let Ok(routes) = Routes::new(alloc) else {
         return Err(ServeFault::NoMemory);
@@ -222,10 +226,14 @@ pub fn serve_until_failed<B: Book, C: Clock, E: Write>(
     desk: &mut Desk<B>,
     errors: &mut E,
 ) -> Result<(), ServeFault>
-    ensures ok { OnOk result (ServedUntilFailed (standing B.Book) desk.old desk.new (Appends (E.contents errors.old) (E.contents errors.new))) }
+    ensures ok { OnOk result (ServedUntilFailed (standing B.Book) desk.old desk.new
+        (Appends (E.contents errors.old) (E.contents errors.new))) }
     // a beginning of the lines was written
-    ensures write { result ≡ Err ServeFault.Write → ServedUntilFailed (standing B.Book) desk.old desk.new (Begins (E.contents errors.old) (E.contents errors.new)) }
-    ensures memory { result ≡ Err ServeFault.NoMemory → (desk.new ≡ desk.old) × (errors.new ≡ errors.old) }
+    ensures write { result ≡ Err ServeFault.Write
+        → ServedUntilFailed (standing B.Book) desk.old desk.new
+        (Begins (E.contents errors.old) (E.contents errors.new)) }
+    ensures memory { result ≡ Err ServeFault.NoMemory
+        → (desk.new ≡ desk.old) × (errors.new ≡ errors.old) }
 {
     let Ok(routes) = Routes::new(alloc) else {
         return Err(ServeFault::NoMemory);

@@ -1,60 +1,16 @@
 //! What a GET or HEAD looks up.
 
 ghost use Rattle.std.specs.Prelude.{◌≡◌, ◌-◌, IfOk, length, take, drop, option_map, codes};
-ghost use Rattle.acd_http.specs.Lookups.{behind, before, is_serial, serial_of, agent_in, device_in, monitor_in, lookup_in, found_or};
+ghost use Rattle.acd_http.specs.Lookups.{behind, before, is_serial, serial_of, agent_in, device_in, monitor_in, look_up, target_looked, found_or};
 
-use crate::fields::number_up_to;
 use crate::query::after_of;
-use crate::refused::{Part, Refused};
-use crate::reply::Kind;
-use crate::routes::Resource;
+use crate::refused::{Allow, Part, Refused};
+use crate::routes::{Route, Routes};
+use crate::target::path_and_query;
+use acd_desk::Question;
+use acd_io::number_up_to;
 use acd_terms::{AgentId, DeviceId, Serial};
 use std::alloc::{AllocError, Global};
-
-/// What a GET or HEAD looks up.
-#[derive(Clone, Copy, Debug, PartialEq, Eq)]
-pub enum Lookup {
-    /// An agent.
-    Agent(AgentId),
-    /// A live call.
-    Call(Serial),
-    /// A planned device.
-    Device(DeviceId),
-    /// The queue of a group.
-    Queue(DeviceId),
-    /// The events with a number above this.
-    Events(u64),
-    /// The same, more of them at once.
-    History(u64),
-    /// The events of a running monitor, with a number above the second.
-    MonitorEvents(Serial, u64),
-    /// The queue report.
-    Report,
-    /// All records.
-    Snapshot,
-}
-
-impl Lookup {
-    ghost use Rattle.std.specs.Prelude.{◌≡◌};
-    ghost use Rattle.acd_http.specs.Exchanging.{kind_told};
-
-    /// What is told of it.
-    pub(crate) fn kind(&self) -> Kind
-        ensures { result ≡ kind_told self.now }
-    {
-        match self {
-            Lookup::Agent(_)
-            | Lookup::Call(_)
-            | Lookup::Device(_)
-            | Lookup::Queue(_)
-            | Lookup::Events(_)
-            | Lookup::History(_)
-            | Lookup::MonitorEvents(_, _)
-            | Lookup::Snapshot => Kind::Json,
-            Lookup::Report => Kind::Plain,
-        }
-    }
-}
 
 /// How many digits a call or a monitor has at most.
 const SERIAL_DIGITS: usize = 10;
@@ -82,14 +38,17 @@ fn is_serial(digits: &[u8]) -> bool
 }
 
 #[tactic(auto, unfolding(crate::specs::Lookups::serial_of))]
-fn serial_of(digits: &[u8]) -> Option<Serial>
+fn serial_of(digits: &[u8]) -> Option<u64>
     ensures { result ≡ serial_of digits.now }
 {
     if !is_serial(digits) {
         return None;
     }
     match number_up_to(digits) {
-        Some(number) => Serial::new(number),
+        Some(number) => match Serial::new(number) {
+            Some(serial) => Some(serial.number()),
+            None => None,
+        },
         None => None,
     }
 }
@@ -106,57 +65,73 @@ fn device_in(path: &[u8], front: &[u8]) -> Option<DeviceId>
     DeviceId::read(behind(path, front)).ok()
 }
 
-fn call_in(path: &[u8]) -> Option<Serial>
+fn call_in(path: &[u8]) -> Option<u64>
     ensures { result ≡ serial_of (behind (codes "/calls/") path.now) }
 {
     serial_of(behind(path, b"/calls/"))
 }
 
-fn monitor_in(path: &[u8]) -> Option<Serial>
+fn monitor_in(path: &[u8]) -> Option<u64>
     ensures { result ≡ monitor_in path.now }
 {
     serial_of(before(behind(path, b"/monitors/"), b"/events"))
 }
 
-fn found_or(lookup: Option<Lookup>) -> Result<Lookup, Refused>
-    ensures { result ≡ found_or lookup }
+fn found_or(question: Option<Question>) -> Result<Question, Refused>
+    ensures { result ≡ found_or question }
 {
-    match lookup {
-        Some(lookup) => Ok(lookup),
+    match question {
+        Some(question) => Ok(question),
         None => Err(Refused::NotFound),
     }
 }
 
-/// What a read looks up. A malformed `after` is answered before an identifier that isn't well formed.
-pub(crate) fn lookup_in(
+// What a read looks up. A malformed `after` is answered before an identifier that isn't well formed.
+fn look_up(
     alloc: Global,
-    resource: Resource,
+    route: Option<Route>,
     path: &[u8],
     query: &[u8],
-) -> Result<Result<Lookup, Refused>, AllocError>
-    ensures { IfOk result (λ found. found ≡ lookup_in resource path.now query.now) }
+) -> Result<Result<Question, Refused>, AllocError>
+    ensures { IfOk result (λ found. found ≡ look_up route path.now query.now) }
 {
-    match resource {
-        Resource::Agent => Ok(found_or(agent_in(path).map(Lookup::Agent))),
-        Resource::Call => Ok(found_or(call_in(path).map(Lookup::Call))),
-        Resource::Device => Ok(found_or(device_in(path, b"/devices/").map(Lookup::Device))),
-        Resource::Queue => Ok(found_or(device_in(path, b"/queues/").map(Lookup::Queue))),
-        Resource::Report => Ok(Ok(Lookup::Report)),
-        Resource::Snapshot => Ok(Ok(Lookup::Snapshot)),
-        Resource::Events => match after_of(alloc, query)? {
-            Some(after) => Ok(Ok(Lookup::Events(after))),
+    match route {
+        None => Ok(Err(Refused::NotFound)),
+        Some(Route::Services) => Ok(Err(Refused::MethodNotAllowed(Allow::Posts))),
+        Some(Route::Agent) => Ok(found_or(agent_in(path).map(Question::Agent))),
+        Some(Route::Call) => Ok(found_or(call_in(path).map(Question::Call))),
+        Some(Route::Device) => Ok(found_or(device_in(path, b"/devices/").map(Question::Device))),
+        Some(Route::Queue) => Ok(found_or(device_in(path, b"/queues/").map(Question::Queue))),
+        Some(Route::Report) => Ok(Ok(Question::Report)),
+        Some(Route::Snapshot) => Ok(Ok(Question::Snapshot)),
+        Some(Route::Events) => match after_of(alloc, query)? {
+            Some(after) => Ok(Ok(Question::Events(after))),
             None => Ok(Err(Refused::Malformed(Part::After))),
         },
-        Resource::History => match after_of(alloc, query)? {
-            Some(after) => Ok(Ok(Lookup::History(after))),
+        Some(Route::History) => match after_of(alloc, query)? {
+            Some(after) => Ok(Ok(Question::History(after))),
             None => Ok(Err(Refused::Malformed(Part::After))),
         },
-        Resource::MonitorEvents => match after_of(alloc, query)? {
+        Some(Route::MonitorEvents) => match after_of(alloc, query)? {
             Some(after) => match monitor_in(path) {
-                Some(monitor) => Ok(Ok(Lookup::MonitorEvents(monitor, after))),
+                Some(monitor) => Ok(Ok(Question::MonitorEvents(monitor, after))),
                 None => Ok(Err(Refused::NotFound)),
             },
             None => Ok(Err(Refused::Malformed(Part::After))),
         },
+    }
+}
+
+impl Routes {
+    /// What a GET of the target looks up, or how it is refused.
+    pub fn look_up(
+        &self,
+        alloc: Global,
+        target: &[u8],
+    ) -> Result<Result<Question, Refused>, AllocError>
+        ensures { IfOk result (λ found. found ≡ target_looked target.now) }
+    {
+        let (path, query) = path_and_query(target);
+        look_up(alloc, self.route_of(path), path, query)
     }
 }

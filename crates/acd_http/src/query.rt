@@ -3,7 +3,7 @@
 ghost use Rattle.std.specs.Prelude.{◌≡◌, IfOk};
 ghost use Rattle.acd_http.specs.Query.{text, is_after, after_number, after_step, after_of};
 
-use crate::fields::number_up_to;
+use acd_io::number_up_to;
 use form_urlencoded::{decode, raw_pairs};
 use std::alloc::{AllocError, Global};
 

@@ -9,22 +9,11 @@ use crate::head::head_len;
 use crate::input::{Input, ReadStopped, fill};
 use std::io::Read;
 
-/// How a head was found.
-#[derive(Clone, Copy, Debug)]
-pub(crate) enum HeadFound {
-    /// It has this length.
-    Whole(usize),
-    /// It hasn't ended within the greatest length.
-    TooLarge,
-    /// The input ended before it.
-    Truncated,
-}
-
 /// How often the reader is called at most.
 pub(crate) const CALLS: u64 = 1_000_000_000_000;
 
 /// How many bytes a head has at most.
-const LONGEST_HEAD: usize = 8192;
+pub(crate) const LONGEST_HEAD: usize = 8192;
 
 // The length of the head in the first bytes.
 fn front_len(bytes: &[u8]) -> Option<usize>
@@ -36,25 +25,26 @@ fn front_len(bytes: &[u8]) -> Option<usize>
     head_len(bytes)
 }
 
-/// Reads until the head has come whole.
+/// Reads until the head has come whole, and answers its length. None where it hasn't ended within the greatest length, or
+/// the input has before it.
 pub(crate) fn read_head<R: Read>(
     reader: &mut R,
     calls: &mut u64,
     input: &mut Input,
-) -> Result<HeadFound, ReadStopped>
+) -> Result<Option<usize>, ReadStopped>
     requires { input.old ≡ [] }
     ensures { IfOk result (λ found. Found found input.new (R.remaining reader.old) (R.remaining reader.new)) }
 {
     for _ in 0..CALLS {
         match front_len(input.as_slice()) {
-            Some(n) => return Ok(HeadFound::Whole(n)),
+            Some(n) => return Ok(Some(n)),
             None => {}
         }
         if input.as_slice().len() >= LONGEST_HEAD {
-            return Ok(HeadFound::TooLarge);
+            return Ok(None);
         }
         if !fill(reader, calls, input)? {
-            return Ok(HeadFound::Truncated);
+            return Ok(None);
         }
     }
     Err(ReadStopped)

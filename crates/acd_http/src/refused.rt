@@ -4,6 +4,7 @@ ghost use Rattle.std.specs.Prelude.{◌≡◌, ◌≤◌, length};
 ghost use Rattle.acd_http.specs.Refusing.{part_text};
 
 use acd_codec::{FixedAnswer, MALFORMED_STATUS, Member};
+use acd_desk::AnswerText;
 
 /// A part of a request that can be malformed, beside the members of its body.
 #[derive(Clone, Copy, Debug, PartialEq, Eq)]
@@ -65,37 +66,25 @@ pub enum Refused {
 
 impl Refused {
     ghost use Rattle.std.specs.Prelude.{◌≡◌, None};
-    ghost use Rattle.acd_http.specs.Refusing.{refused_status, refused_text, refused_allow};
+    ghost use Rattle.acd_desk.specs.AnswerTexts.{said};
+    ghost use Rattle.acd_http.specs.Refusing.{refused_said, refused_allow};
 
-    /// The status of the reply.
-    pub(crate) fn status(self) -> u16
-        ensures { result ≡ refused_status self }
+    /// What is answered. It takes no memory.
+    pub fn answer(self) -> AnswerText
+        ensures { said result ≡ refused_said self }
     {
         match self {
-            Refused::HeadTooLarge => FixedAnswer::HeadTooLarge.status(),
-            Refused::Malformed(_) => MALFORMED_STATUS,
-            Refused::Body(_) => MALFORMED_STATUS,
-            Refused::NotImplemented => FixedAnswer::NotImplemented.status(),
-            Refused::NotFound => FixedAnswer::NotFound.status(),
-            Refused::MethodNotAllowed(_) => FixedAnswer::MethodNotAllowed.status(),
-            Refused::LengthRequired => FixedAnswer::LengthRequired.status(),
-            Refused::BodyTooLarge => FixedAnswer::BodyTooLarge.status(),
-        }
-    }
-
-    /// The body of the reply. It takes no memory.
-    pub(crate) fn text(self) -> &'static str
-        ensures { result.now ≡ refused_text self }
-    {
-        match self {
-            Refused::HeadTooLarge => FixedAnswer::HeadTooLarge.text(),
-            Refused::Malformed(part) => part.malformed_text(),
-            Refused::Body(member) => member.malformed_text(),
-            Refused::NotImplemented => FixedAnswer::NotImplemented.text(),
-            Refused::NotFound => FixedAnswer::NotFound.text(),
-            Refused::MethodNotAllowed(_) => FixedAnswer::MethodNotAllowed.text(),
-            Refused::LengthRequired => FixedAnswer::LengthRequired.text(),
-            Refused::BodyTooLarge => FixedAnswer::BodyTooLarge.text(),
+            Refused::HeadTooLarge => AnswerText::fixed(FixedAnswer::HeadTooLarge),
+            Refused::Malformed(part) => AnswerText::Fixed {
+                status: MALFORMED_STATUS,
+                body: part.malformed_text(),
+            },
+            Refused::Body(member) => AnswerText::malformed(member),
+            Refused::NotImplemented => AnswerText::fixed(FixedAnswer::NotImplemented),
+            Refused::NotFound => AnswerText::fixed(FixedAnswer::NotFound),
+            Refused::MethodNotAllowed(_) => AnswerText::fixed(FixedAnswer::MethodNotAllowed),
+            Refused::LengthRequired => AnswerText::fixed(FixedAnswer::LengthRequired),
+            Refused::BodyTooLarge => AnswerText::fixed(FixedAnswer::BodyTooLarge),
         }
     }
 

@@ -5,6 +5,7 @@ ghost use Rattle.acd_http.specs.Replying.{phrase_of, kind_text, allow_text, stat
 
 use crate::refused::Allow;
 use crate::short_text::ShortText;
+use acd_desk::Question;
 use itoa::Buffer;
 
 /// What a body is.
@@ -12,6 +13,22 @@ use itoa::Buffer;
 pub(crate) enum Kind {
     Json,
     Plain,
+}
+
+impl Kind {
+    ghost use Rattle.std.specs.Prelude.{◌≡◌};
+    ghost use Rattle.acd_http.specs.Exchanging.{kind_told};
+
+    /// Of what is told to a question.
+    pub(crate) fn of(question: &Question) -> Kind
+        ensures { result ≡ kind_told question.now }
+    {
+        if question.is_plain() {
+            Kind::Plain
+        } else {
+            Kind::Json
+        }
+    }
 }
 
 // The canonical phrase of a status that the desk answers.

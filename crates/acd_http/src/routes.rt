@@ -6,9 +6,10 @@ ghost use Rattle.acd_http.specs.Routing.{add, table, matched, route_of};
 use matchit::{InsertError, Router};
 use std::alloc::Global;
 
-/// What a route reads.
+/// Where a path leads: to the services, or to a read.
 #[derive(Clone, Copy, Debug, PartialEq, Eq)]
-pub(crate) enum Resource {
+pub(crate) enum Route {
+    Services,
     Agent,
     Call,
     Device,
@@ -20,13 +21,15 @@ pub(crate) enum Resource {
     Snapshot,
 }
 
-/// Where a path leads.
-#[derive(Clone, Copy, Debug, PartialEq, Eq)]
-pub(crate) enum Route {
-    /// To the services.
-    Services,
-    /// To a read.
-    Read(Resource),
+impl Route {
+    ghost use Rattle.std.specs.Prelude.{◌≡◌};
+    ghost use Rattle.acd_http.specs.Routing.{is_services};
+
+    pub(crate) fn is_services(self) -> bool
+        ensures { result ≡ is_services self }
+    {
+        matches!(self, Route::Services)
+    }
 }
 
 /// The routes of a desk: `/csta`, `/agents/{id}`, `/calls/{id}`, `/devices/{id}`, `/queues/{id}`, `/events`, `/history`,
@@ -49,23 +52,15 @@ fn known_routes(alloc: Global) -> Result<Router<Route>, InsertError>
 {
     let mut router = Router::new(alloc);
     add(&mut router, "/csta", Route::Services)?;
-    add(&mut router, "/agents/{id}", Route::Read(Resource::Agent))?;
-    add(&mut router, "/calls/{id}", Route::Read(Resource::Call))?;
-    add(&mut router, "/devices/{id}", Route::Read(Resource::Device))?;
-    add(&mut router, "/queues/{id}", Route::Read(Resource::Queue))?;
-    add(&mut router, "/events", Route::Read(Resource::Events))?;
-    add(
-        &mut router,
-        "/monitors/{id}/events",
-        Route::Read(Resource::MonitorEvents),
-    )?;
-    add(
-        &mut router,
-        "/reports/queues",
-        Route::Read(Resource::Report),
-    )?;
-    add(&mut router, "/snapshot", Route::Read(Resource::Snapshot))?;
-    add(&mut router, "/history", Route::Read(Resource::History))?;
+    add(&mut router, "/agents/{id}", Route::Agent)?;
+    add(&mut router, "/calls/{id}", Route::Call)?;
+    add(&mut router, "/devices/{id}", Route::Device)?;
+    add(&mut router, "/queues/{id}", Route::Queue)?;
+    add(&mut router, "/events", Route::Events)?;
+    add(&mut router, "/monitors/{id}/events", Route::MonitorEvents)?;
+    add(&mut router, "/reports/queues", Route::Report)?;
+    add(&mut router, "/snapshot", Route::Snapshot)?;
+    add(&mut router, "/history", Route::History)?;
     Ok(router)
 }
 

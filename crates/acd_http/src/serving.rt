@@ -2,7 +2,7 @@
 
 ghost use Rattle.std.specs.Prelude.{◌≡◌, ◌≢◌, OnOk, OnErr, IfErr, ◌++◌, cond, []};
 ghost use Rattle.std.specs.Io.KnownBytes.{Appends};
-ghost use Rattle.acd_lines.specs.Sent.{Begins, Breaks};
+ghost use Rattle.acd_io.specs.Sent.{Begins, Breaks};
 ghost use Rattle.acd_desk.specs.Ran.{standing};
 ghost use Rattle.acd_http.specs.declared.asked.Asked.{Asked};
 ghost use Rattle.acd_http.specs.Asking.{IsAsked};
@@ -18,7 +18,7 @@ use crate::short_text::ShortText;
 use acd_book::Book;
 use acd_codec::FixedAnswer;
 use acd_desk::Desk;
-use acd_lines::{Stopped, send};
+use acd_io::{Stopped, send};
 use std::alloc::{AllocError, Global};
 use std::io::{Read, Write};
 use thiserror::Error;
@@ -74,8 +74,8 @@ fn respond<W: Write>(writer: &mut W, bodiless: bool, reply: &Reply) -> Result<()
     ensures short { IfErr result (λ fault. (fault ≡ ExchangeFault.Write) × Breaks (W.contents writer.old) (W.contents writer.new) (reply_out bodiless reply.now)) }
 {
     let mut calls = CALLS;
-    let body = reply.body();
-    let mut head = reply_head(reply.status(), reply.kind(), body.len(), reply.allow());
+    let body = reply.answer.body();
+    let mut head = reply_head(reply.answer.status(), reply.kind, body.len(), reply.allow);
     match send_both(writer, &mut calls, &mut head, body_sent(bodiless, body)) {
         Ok(()) => Ok(()),
         Err(Stopped) => Err(ExchangeFault::Write),
@@ -94,13 +94,20 @@ pub fn exchange<B: Book, R: Read, W: Write>(
     reader: &mut R,
     writer: &mut W,
 ) -> Result<(), ExchangeFault>
-    ensures ok { OnOk result (Exchanged (standing B.Book) moment (R.remaining reader.old) desk.old desk.new (Appends (W.contents writer.old) (W.contents writer.new))) }
+    ensures ok { OnOk result (Exchanged (standing B.Book) moment (R.remaining reader.old)
+        desk.old desk.new (Appends (W.contents writer.old) (W.contents writer.new))) }
     // a beginning of the reply was written
-    ensures write { result ≡ Err ExchangeFault.Write → Exchanged (standing B.Book) moment (R.remaining reader.old) desk.old desk.new (Begins (W.contents writer.old) (W.contents writer.new)) }
+    ensures write { result ≡ Err ExchangeFault.Write
+        → Exchanged (standing B.Book) moment (R.remaining reader.old) desk.old desk.new
+        (Begins (W.contents writer.old) (W.contents writer.new)) }
     // and not all of it
-    ensures short { result ≡ Err ExchangeFault.Write → Exchanged (standing B.Book) moment (R.remaining reader.old) desk.old desk.new (Breaks (W.contents writer.old) (W.contents writer.new)) }
-    ensures truncated { result ≡ Err ExchangeFault.Truncated → IsAsked (R.remaining reader.old) Asked.Truncated }
-    ensures quiet { IfErr result (λ fault. fault ≢ ExchangeFault.Write → (desk.new ≡ desk.old) × (writer.new ≡ writer.old)) }
+    ensures short { result ≡ Err ExchangeFault.Write
+        → Exchanged (standing B.Book) moment (R.remaining reader.old) desk.old desk.new
+        (Breaks (W.contents writer.old) (W.contents writer.new)) }
+    ensures truncated { result ≡ Err ExchangeFault.Truncated
+        → IsAsked (R.remaining reader.old) Asked.Truncated }
+    ensures quiet { IfErr result (λ fault. fault ≢ ExchangeFault.Write
+        → (desk.new ≡ desk.old) × (writer.new ≡ writer.old)) }
     ensures memory { result ≡ Err ExchangeFault.NoMemory → reader.new ≡ reader.old }
 {
     let mut input = match Input::new(alloc) {
@@ -108,7 +115,7 @@ pub fn exchange<B: Book, R: Read, W: Write>(
         Err(AllocError) => return Err(ExchangeFault::NoMemory),
     };
     match asked_by(alloc, routes, reader, &mut input) {
-        Ok(asked) => match answered(alloc, desk, moment, asked) {
+        Ok(asked) => match answered(desk, moment, asked) {
             Some(reply) => respond(writer, asked.is_bodiless(), &reply),
             None => Err(ExchangeFault::Truncated),
         },

@@ -2,56 +2,41 @@
 
 ghost use Rattle.std.specs.Prelude.{◌≡◌, Bool};
 ghost use Rattle.acd_desk.specs.Ran.{standing};
-ghost use Rattle.acd_desk.specs.Told.{Told};
-ghost use Rattle.acd_desk.specs.Tells.{told};
+ghost use Rattle.acd_desk.specs.AnswerTexts.{seen};
 ghost use Rattle.acd_http.specs.declared.asked.Asked.{Asked};
-ghost use Rattle.acd_http.specs.Exchanging.{reply_out, seen, told_of, told_reply, Replies};
+ghost use Rattle.acd_http.specs.Exchanging.{reply_out, kind_found, told_reply, Replies};
 
-use crate::answer::{Reply, fixed, refused};
-use crate::lookup::Lookup;
-use crate::refused::Refused;
+use crate::answer::Reply;
 use crate::reply::Kind;
-use acd_book::{Book, Text};
-use acd_codec::FixedAnswer;
-use acd_desk::{Desk, DeskFault};
+use acd_book::Book;
+use acd_desk::{AnswerText, Desk, DeskFault, Question};
 
-/// What the desk tells.
-pub(crate) fn tell<B: Book>(
-    desk: &mut Desk<B>,
-    moment: u32,
-    wanted: Lookup,
-) -> Result<Option<String>, DeskFault>
-    ensures { Told (standing B.Book desk.old) (standing B.Book desk.new) result (λ c text. told text ≡ told_of c moment wanted) }
+// What is told where nothing was found is JSON.
+fn kind_found(kind: Kind, found: &Result<Option<String>, DeskFault>) -> Kind
+    ensures { result ≡ kind_found kind (seen found.now) }
 {
-    match wanted {
-        Lookup::Agent(agent) => desk.agent(agent),
-        Lookup::Call(call) => desk.call(call.number()),
-        Lookup::Device(device) => desk.device(device),
-        Lookup::Queue(group) => desk.queue(group),
-        Lookup::Events(after) => desk.events(after),
-        Lookup::History(after) => desk.history(after),
-        Lookup::MonitorEvents(monitor, after) => desk.monitor_events(monitor.number(), after),
-        Lookup::Report => desk.report(moment),
-        Lookup::Snapshot => desk.snapshot(),
+    match found {
+        Ok(Some(_)) => kind,
+        Ok(None) | Err(_) => Kind::Json,
     }
 }
 
 fn reply_to(kind: Kind, found: Result<Option<String>, DeskFault>) -> Reply
     ensures { (bodiless : Bool) → reply_out bodiless result ≡ told_reply bodiless kind (seen found) }
 {
-    match found {
-        Ok(Some(text)) => Reply::Made(200, kind, Text::new(text)),
-        Ok(None) => refused(Refused::NotFound),
-        Err(DeskFault::NoMemory) => fixed(FixedAnswer::NoMemory),
-        Err(DeskFault::StoreFault) => fixed(FixedAnswer::StoreFault),
+    let kind = kind_found(kind, &found);
+    Reply {
+        answer: AnswerText::found(found),
+        kind,
+        allow: None,
     }
 }
 
 /// The reply to a read.
-pub(crate) fn told_reply<B: Book>(desk: &mut Desk<B>, moment: u32, wanted: Lookup) -> Reply
-    ensures { (bodiless : Bool) → Replies (standing B.Book) moment desk.old (Asked.Look wanted bodiless) (reply_out bodiless result) desk.new }
+pub(crate) fn told_reply<B: Book>(desk: &mut Desk<B>, moment: u32, question: Question) -> Reply
+    ensures { (bodiless : Bool) → Replies (standing B.Book) moment desk.old (Asked.Look question bodiless) (reply_out bodiless result) desk.new }
 {
-    let kind = wanted.kind();
-    let found = tell(desk, moment, wanted);
+    let kind = Kind::of(&question);
+    let found = desk.read(moment, question);
     reply_to(kind, found)
 }

@@ -4,14 +4,16 @@ ghost use Rattle.std.specs.Prelude.{◌≡◌, ℕ, ◌≤◌, length, map, All,
 ghost use Rattle.httparse.specs.Grammar.{RequestHead};
 ghost use Rattle.httparse.specs.Spans.{header_bytes, IsHeaderWithin};
 ghost use Rattle.acd_http.specs.Fields.{fields_refused, length_in};
-ghost use Rattle.acd_http.specs.Wanting.{is_head, looked, by_length, by_route, by_method, wants, is_body, IsHeadRead};
+ghost use Rattle.acd_http.specs.Wanting.{is_head, looked, by_length, posted, by_method, wants, is_body, IsHeadRead};
+ghost use Rattle.acd_http.specs.Asking.{IsHeadAsked};
 
 use crate::fields::{Length, fields_refused, length_in};
-use crate::lookup::{Lookup, lookup_in};
+use crate::head::lines_in;
 use crate::method::Method;
-use crate::refused::{Allow, Refused};
+use crate::refused::{Allow, Part, Refused};
 use crate::routes::{Route, Routes};
 use crate::target::path_and_query;
+use acd_desk::Question;
 use httparse::Status;
 use httparse::spans::{EMPTY_HEADER_SPAN, HeaderSpan, parse_request};
 use std::alloc::{AllocError, Global};
@@ -20,27 +22,16 @@ use std::alloc::{AllocError, Global};
 #[derive(Clone, Copy, Debug, PartialEq, Eq)]
 pub(crate) enum Wanted {
     Refused(Refused),
-    Look(Lookup),
+    Look(Question),
     /// The service that a body of this length asks for.
     Body(usize),
 }
 
-/// A head that was read.
-#[derive(Clone, Copy, Debug)]
-pub(crate) enum HeadRead {
-    /// The bytes aren't a head.
-    Unread,
-    /// Whether its method is HEAD, and what it asks for.
-    Wants(bool, Wanted),
-    /// Whether its method is HEAD. There was no memory to see what it asks for.
-    NoMemory(bool),
-}
-
-fn looked(found: Result<Lookup, Refused>) -> Wanted
+fn looked(found: Result<Question, Refused>) -> Wanted
     ensures { result ≡ looked found }
 {
     match found {
-        Ok(lookup) => Wanted::Look(lookup),
+        Ok(question) => Wanted::Look(question),
         Err(refused) => Wanted::Refused(refused),
     }
 }
@@ -55,37 +46,24 @@ fn by_length(length: Length) -> Wanted
     }
 }
 
-fn by_route(
-    alloc: Global,
-    method: Method,
-    route: Option<Route>,
-    path: &[u8],
-    query: &[u8],
-    length: Length,
-) -> Result<Wanted, AllocError>
-    ensures ok { IfOk result (λ w. w ≡ by_route method route path.now query.now length) }
-    ensures err { OnErr result (is_body (by_route method route path.now query.now length) ≡ false) }
+// What a POST asks for.
+fn posted(route: Option<Route>, length: Length) -> Wanted
+    ensures { result ≡ posted route length }
 {
     match route {
-        None => Ok(Wanted::Refused(Refused::NotFound)),
-        Some(Route::Services) => match method {
-            Method::Post => Ok(by_length(length)),
-            Method::Get | Method::Head => {
-                Ok(Wanted::Refused(Refused::MethodNotAllowed(Allow::Posts)))
+        None => Wanted::Refused(Refused::NotFound),
+        Some(route) => {
+            if route.is_services() {
+                by_length(length)
+            } else {
+                Wanted::Refused(Refused::MethodNotAllowed(Allow::Reads))
             }
-        },
-        Some(Route::Read(resource)) => match method {
-            Method::Post => Ok(Wanted::Refused(Refused::MethodNotAllowed(Allow::Reads))),
-            Method::Get | Method::Head => {
-                let found = lookup_in(alloc, resource, path, query)?;
-                Ok(looked(found))
-            }
-        },
+        }
     }
 }
 
-/// What a method asks of a target.
-pub(crate) fn by_method(
+// What a method asks of a target.
+fn by_method(
     alloc: Global,
     routes: &Routes,
     method: Option<Method>,
@@ -97,9 +75,13 @@ pub(crate) fn by_method(
 {
     match method {
         None => Ok(Wanted::Refused(Refused::NotImplemented)),
-        Some(method) => {
-            let (path, query) = path_and_query(target);
-            by_route(alloc, method, routes.route_of(path), path, query, length)
+        Some(Method::Post) => {
+            let (path, _) = path_and_query(target);
+            Ok(posted(routes.route_of(path), length))
+        }
+        Some(Method::Get | Method::Head) => {
+            let found = routes.look_up(alloc, target)?;
+            Ok(looked(found))
         }
     }
 }
@@ -125,24 +107,48 @@ fn wants(
     }
 }
 
-/// Reads a head that has come whole.
-pub(crate) fn read_request_head(alloc: Global, routes: &Routes, head: &[u8]) -> HeadRead
+// What a head that has come whole asks for, and whether its method is HEAD; there may be no memory to see it. None where the
+// bytes aren't a head.
+fn read_request_head(
+    alloc: Global,
+    routes: &Routes,
+    head: &[u8],
+) -> Option<(bool, Result<Wanted, AllocError>)>
     ensures { IsHeadRead head.now result }
 {
     let mut headers = [EMPTY_HEADER_SPAN; 32];
     match parse_request(head, &mut headers) {
         Ok(Status::Complete(spans)) => {
             if spans.len != head.len() {
-                return HeadRead::Unread;
+                return None;
             }
             let method = Method::read(spans.method.of(head));
             let target = spans.path.of(head);
             let fields = &headers[..spans.headers];
-            match wants(alloc, routes, spans.version, method, target, head, fields) {
-                Ok(wanted) => HeadRead::Wants(Method::is_head(method), wanted),
-                Err(AllocError) => HeadRead::NoMemory(Method::is_head(method)),
-            }
+            let wanted = wants(alloc, routes, spans.version, method, target, head, fields);
+            Some((Method::is_head(method), wanted))
         }
-        _ => HeadRead::Unread,
+        _ => None,
+    }
+}
+
+/// How many lines of a head aren't empty, at most: the request line and the fields.
+const LINES: usize = 33;
+
+/// Whether the reply to a head that has come whole goes out without its body, and what the head asks for; there may be no
+/// memory to see it.
+pub(crate) fn head_asked(
+    alloc: Global,
+    routes: &Routes,
+    head: &[u8],
+) -> (bool, Result<Wanted, AllocError>)
+    ensures { IsHeadAsked head.now result.0 result.1 }
+{
+    if lines_in(head) > LINES {
+        return (false, Ok(Wanted::Refused(Refused::HeadTooLarge)));
+    }
+    match read_request_head(alloc, routes, head) {
+        None => (false, Ok(Wanted::Refused(Refused::Malformed(Part::Head)))),
+        Some(read) => read,
     }
 }

@@ -1,10 +1,9 @@
 pub mod Splits
 pub mod Moments
-pub mod Sends
 pub mod Kept
 pub mod Cuts
-pub mod AnswerTexts
 pub mod Reaching
+pub mod Weaker
 pub mod Turns
 pub mod Telling
 pub mod Plans

@@ -1,12 +1,13 @@
 -- The lines of an input that were answered so far.
-use Rattle.std.proofs.Common.{◌≡◌, ℕ, ◌<◌, true, not, ◌==◌, List, [], ◌∷◌, ◌++◌, length, take, refl, sym, ap, ◌∙◌, subst, arith, append_assoc, append-nil}
-use Rattle.std.proofs.lemmas.List.{take_at, take_all}
+use Rattle.std.proofs.Common.{◌≡◌, ℕ, ◌<◌, true, not, ◌==◌, List, [], ◌∷◌, ◌++◌, length, take, refl, sym, ap, ◌∙◌, subst, append_assoc, append-nil}
+use Rattle.std.proofs.lemmas.List.{take_at}
 use Rattle.std.specs.Cmp.Derive.{both_true}
 use Rattle.std.specs.List.{concat}
 use Rattle.std.proofs.lemmas.List.Folds.{concat-append, list_all-append}
 use Rattle.std.specs.Io.BufRead.{ends_with_byte}
 use Rattle.acd_lines.specs.Input.{cut, text_of, has_none}
-use Rattle.acd_lines.specs.Parts.{Serves, ServesAll, ServesRead, ServesSome, Reached}
+use Rattle.acd_lines.specs.Output.{whole_lines}
+use Rattle.acd_lines.specs.Parts.{Serves, ServesText, ServesSome, Reached}
 use Rattle.acd_lines.proofs.Cuts.{cut_line, cut_open, ends_in_feed, whole_of}
 
 concat_one : (outs : List (List ℕ)) (out : List ℕ) → concat outs ++ out ≡ concat (outs ++ out ∷ [])
@@ -47,7 +48,7 @@ module _ {S L : Type 0} (asks : List ℕ → L) (A : S → L → List ℕ → S 
   }
 
   -- what was read up to now
-  pub read_reached : (s : S) (seen part written : List ℕ) (t : S) → Reached asks A s seen part written t → ServesRead asks A s seen written t
+  pub read_reached : (s : S) (seen part written : List ℕ) (t : S) → Reached asks A s seen part written t → ServesText asks A s (whole_lines seen) written t
   read_reached s seen part written t h = record {
     outs = h.outs;
     serves = subst (λ l. Serves asks A s l h.outs t) (sym (whole_of seen part h.pieces h.cuts h.ended h.no_feed)) h.serves;
@@ -56,24 +57,17 @@ module _ {S L : Type 0} (asks : List ℕ → L) (A : S → L → List ℕ → S 
 
   -- a fault behind whole lines
   pub some_reached : (s : S) (seen part written more : List ℕ) (t : S) → Reached asks A s seen part written t → ServesSome asks A s (seen ++ more) written t
-  some_reached s seen part written more t h = record {
-    n = length h.pieces;
-    outs = h.outs;
-    serves = subst (λ l. Serves asks A s l h.outs t) (sym (ap (take (length h.pieces)) (h.cuts more) ∙ take_at h.pieces _ _ refl)) h.serves;
-    whole = h.whole;
-  }
-
-  -- all lines are some
-  pub some_all : (s : S) (input written : List ℕ) (t : S) → ServesAll asks A s input written t → ServesSome asks A s input written t
-  some_all s input written t h = record {
-    n = length (cut input);
-    outs = h.outs;
-    serves = subst (λ l. Serves asks A s l h.outs t) (sym (take_all (length (cut input)) (cut input) (omega arith))) h.serves;
-    whole = h.whole;
-  }
+  some_reached s seen part written more t h = (
+    length h.pieces,
+    record {
+      outs = h.outs;
+      serves = subst (λ l. Serves asks A s l h.outs t) (sym (ap (take (length h.pieces)) (h.cuts more) ∙ take_at h.pieces _ _ refl)) h.serves;
+      whole = h.whole;
+    },
+  )
 
   -- the end of the input
-  pub all_ended : (s : S) (seen written : List ℕ) (t : S) → Reached asks A s seen [] written t → ServesAll asks A s seen written t
+  pub all_ended : (s : S) (seen written : List ℕ) (t : S) → Reached asks A s seen [] written t → ServesText asks A s (cut seen) written t
   unfolding cut
   all_ended s seen written t h = record {
     outs = h.outs;
@@ -86,7 +80,7 @@ module _ {S L : Type 0} (asks : List ℕ → L) (A : S → L → List ℕ → S 
 
   -- the end of the input behind a last line with no line feed
   pub all_open : (s : S) (seen part written : List ℕ) (mid : S) (out : List ℕ) (t : S) → Reached asks A s seen part written mid → 0 < length part → A mid (asks (text_of part)) out t
-      → ServesAll asks A s seen (written ++ out) t
+      → ServesText asks A s (cut seen) (written ++ out) t
   all_open s seen part written mid out t h some a = record {
     outs = h.outs ++ out ∷ [];
     serves = subst (λ l. Serves asks A s l (h.outs ++ out ∷ []) t) (sym (open_cut s seen part written mid h some)) (serves_more s h.pieces h.outs mid part out t h.serves a);

@@ -1,17 +1,16 @@
 -- What the lines that a desk answered one after the other say of the desk.
-use Rattle.std.proofs.Common.{◌≡◌, ℕ, List, [], ◌∷◌, ◌++◌, take, Option, refl, sym, ap, subst, ◌∙◌, inl, inr, append_assoc, append-nil}
-use Rattle.acd_terms.specs.declared.command.Request.{Request}
+use Rattle.std.proofs.Common.{◌≡◌, ℕ, List, [], ◌∷◌, ◌++◌, refl, sym, ap, subst, ◌∙◌, append_assoc, append-nil}
 use Rattle.acd_terms.specs.declared.command.Arrival.{Arrival}
 use Rattle.acd_desk.specs.declared.taken.Taken.{Taken}
-use Rattle.acd_desk.specs.declared.taken.Taken.TheVariants as taken
 use Rattle.acd_desk.specs.Arrived.{at}
-use Rattle.acd_desk.specs.Ran.{Standing, Took, Ran}
-use Rattle.acd_desk.proofs.Many.{Settles, ran_nothing, ran_more, forgets}
-use Rattle.acd_lines.specs.Input.{cut, Line, no_moment, too_long, faulty, arrival, line_of, text_of, lines_of, arrivals_in}
-use Rattle.acd_lines.specs.Answers.{Answers, IsWritten}
-use Rattle.acd_lines.specs.Output.{AnswerLines, whole_lines}
-use Rattle.acd_lines.specs.Parts.{Serves, AllDone, ReadDone, FirstDone, SomeDone, ShortDone}
-use Rattle.acd_lines.specs.Lines.{AnsweredAll, AnsweredRead, AnsweredFirst, AnsweredShort, AnsweredSome}
+use Rattle.acd_desk.specs.Ran.{Standing, Ran}
+use Rattle.acd_desk.proofs.Many.{Settles, ran_nothing, ran_more}
+use Rattle.acd_lines.specs.Input.{Line, no_moment, too_long, faulty, arrival, line_of, text_of, lines_of, arrivals_in}
+use Rattle.acd_lines.specs.Answers.{Answers}
+use Rattle.acd_lines.specs.Output.{AnswerLines}
+use Rattle.acd_lines.specs.Parts.{Serves, InTurn}
+use Rattle.acd_lines.specs.Lines.{LinesAnswered, ArrivalsAnswered}
+use Rattle.acd_lines.proofs.Weaker.{answered_so}
 
 -- the arrivals of a line, and those of the lines behind it
 arrivals_behind : (line : Line) (lines : List Line) → arrivals_in (line ∷ lines) ≡ arrivals_in (line ∷ []) ++ arrivals_in lines
@@ -21,13 +20,6 @@ arrivals_behind (faulty member) lines = refl
 arrivals_behind (arrival moment request) lines = refl
 
 module _ {D : Type 0} (stands : D → Standing) where
-  -- what is written for an answer of the desk, or noMemory in its place
-  pub answers_arrival : (d e : D) (moment : ℕ) (r : Request) (t : Taken) (out : List ℕ) → Took (stands d) (at moment r) t (stands e) → IsWritten r t out → Answers stands d (arrival moment r) out e
-  answers_arrival d e moment r t out took written = elim written [
-    | inl whole ↦ (t, whole, took)
-    | inr lost ↦ (taken.NoMemory, lost.1, forgets (stands d) (stands e) (at moment r) t lost.0 took)
-  ]
-
   -- one line more
   abbrev pub OneLine : D → List Arrival → List Taken → D → Line → List ℕ → Type 0
   OneLine s l ts e line out = (more : List Taken) × Ran (stands s) (l ++ arrivals_in (line ∷ [])) (ts ++ more) (stands e)
@@ -65,32 +57,8 @@ module _ {D : Type 0} (stands : D → Standing) where
       → (answers : List Taken) × AnswerLines (lines_of pieces) answers outs × Ran (stands s) (arrivals_in (lines_of pieces)) answers (stands e)
   told settles s e pieces outs h = serves_on settles s s e [] [] pieces outs (ran_nothing (stands s) (settles s)) h
 
-  -- ---- the clauses of `lines`
-
-  pub all_told : ((d : D) → Settles (stands d)) → (known : Option (List ℕ)) (s t : D) (a c : Option (List ℕ)) → AllDone line_of (Answers stands) known s t a c → AnsweredAll (stands s) known a c (stands t)
-  all_told settles known s t a c h =
-      let all = told settles s t (cut h.0) h.3.outs h.3.serves in
-      (h.0, h.1, all.0, h.2, record { outs = h.3.outs; answered = all.1; whole = h.3.whole }, h.4, all.2)
-
-  pub read_told : ((d : D) → Settles (stands d)) → (p q : Option (List ℕ)) (s t : D) (a c : Option (List ℕ)) → ReadDone line_of (Answers stands) p q s t a c → AnsweredRead (stands s) p q a c (stands t)
-  read_told settles p q s t a c h =
-      let all = told settles s t (whole_lines h.0) h.3.outs h.3.serves in
-      (h.0, h.1, all.0, h.2, record { outs = h.3.outs; answered = all.1; whole = h.3.whole }, h.4, all.2)
-
-  pub first_told : ((d : D) → Settles (stands d)) → (known : Option (List ℕ)) (s t : D) (a c : Option (List ℕ)) → FirstDone line_of (Answers stands) known s t a c → AnsweredFirst (stands s) known a c (stands t)
-  first_told settles known s t a c h =
-      let some = h.3 in
-      let all = told settles s t (take some.n (cut h.0)) some.outs some.serves in
-      (h.0, h.1, some.n, all.0, h.2, record { outs = some.outs; answered = all.1; whole = some.whole }, h.4, all.2)
-
-  pub short_told : ((d : D) → Settles (stands d)) → (known : Option (List ℕ)) (s t : D) (a c : Option (List ℕ)) → ShortDone line_of (Answers stands) known s t a c → AnsweredShort (stands s) known a c (stands t)
-  short_told settles known s t a c h =
-      let some = h.3 in
-      let all = told settles s t (take some.n (cut h.0)) some.outs some.serves in
-      (h.0, h.4.front, some.n, all.0, h.2, record { outs = some.outs; unwritten = h.4.rest; short = h.4.short; answered = all.1; whole = sym some.whole ∙ h.4.whole }, h.4.written, all.2)
-
-  pub some_told : ((d : D) → Settles (stands d)) → (known : Option (List ℕ)) (s t : D) (a c : Option (List ℕ)) → SomeDone line_of (Answers stands) known s t a c → AnsweredSome (stands s) known a c (stands t)
-  some_told settles known s t a c h =
-      let some = h.3 in
-      let all = told settles s t (take some.n (cut h.0)) some.outs some.serves in
-      (h.0, h.4.front, some.n, all.0, h.2, record { outs = some.outs; unwritten = h.4.rest; answered = all.1; whole = sym some.whole ∙ h.4.whole }, h.4.written, all.2)
+  -- lines that were answered in turn
+  pub lines_told : ((d : D) → Settles (stands d)) → (s t : D) (P : List (List ℕ) → Type 0) (W : List ℕ → Type 0) → LinesAnswered P (InTurn line_of (Answers stands) s t) W
+      → LinesAnswered P (ArrivalsAnswered (λ (arrivals : List Arrival) (answers : List Taken). Ran (stands s) arrivals answers (stands t))) W
+  lines_told settles s t P W h =
+      answered_so P (InTurn line_of (Answers stands) s t) (ArrivalsAnswered (λ (arrivals : List Arrival) (answers : List Taken). Ran (stands s) arrivals answers (stands t))) W (λ pieces outs served. told settles s t pieces outs served) h

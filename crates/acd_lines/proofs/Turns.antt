@@ -2,16 +2,20 @@
 use Rattle.std.proofs.Common.{◌≡◌, ℕ, zero, suc, ◌+◌, ◌<◌, true, List, [], ◌∷◌, ◌++◌, length, take, drop, Option, Some, None, refl, sym, ap, ◌∙◌, subst, arith, lit<, append_assoc, append-nil}
 use Rattle.std.proofs.lemmas.List.{length-take, take_at}
 use Rattle.std.specs.Io.BufRead.{strip_last}
-use Rattle.std.specs.Io.KnownBytes.{Consumes, IsAtEnd}
+use Rattle.std.specs.Io.KnownBytes.{Appends, Consumes, IsAtEnd}
 use Rattle.std.proofs.KnownBytes.{Consumes-nil, Consumes-trans, Consumes-whole}
-use Rattle.acd_lines.specs.Input.{has_none, text_of}
-use Rattle.acd_lines.specs.Output.{IsInput}
-use Rattle.acd_lines.specs.Sent.{Passes, Breaks}
-use Rattle.acd_lines.specs.Parts.{ServesAll, ServesSome, Reached, Stands, LineDone, LineStops, Feeds, Stops, FeedStops, Finishes, FinishStops, AllDone, ReadDone, FirstDone, SomeDone, ShortDone}
-use Rattle.acd_lines.proofs.Sends.{breaks_front, passes_same_front, passes_nothing, passes_then, breaks_then, passes_out, breaks_out, begins_so, passes_whole}
+use Rattle.acd_lines.specs.Input.{has_none, text_of, cut}
+use Rattle.acd_io.specs.Read.{IsInput}
+use Rattle.acd_io.proofs.Inputs.{input_begun}
+use Rattle.acd_io.specs.Sent.{Passes, Breaks, Begins}
+use Rattle.acd_lines.specs.Parts.{ServesSome, Reached, Stands, LineDone, LineStops, Feeds, Stops, FeedStops, Finishes, FinishStops, InTurn, ServesText}
+use Rattle.acd_io.proofs.Sends.{breaks_front, passes_same_front, passes_nothing, passes_then, breaks_then, passes_out, breaks_out, begins_so, passes_whole}
+use Rattle.acd_lines.specs.Output.{whole_lines}
+use Rattle.acd_lines.specs.Lines.{LinesAnswered, AllLines, FirstLines, EndedLines}
 use Rattle.acd_lines.proofs.Kept.{ByFront, kept_more, kept_line, kept_strip}
 use Rattle.acd_lines.proofs.Cuts.{text_line, text_open}
-use Rattle.acd_lines.proofs.Reaching.{reached_bytes, reached_line, read_reached, some_reached, some_all, all_ended, all_open}
+use Rattle.acd_lines.proofs.Reaching.{reached_bytes, reached_line, read_reached, some_reached, all_ended, all_open}
+use Rattle.acd_lines.proofs.Weaker.{picked_so, out_so, all_are_first}
 
 -- the text of a line, of which a beginning was kept
 line_text_of : {L : Type 0} (asks : List ℕ → L) → ByFront asks → (m : ℕ) (part kept end : List ℕ) → 4107 < m → kept ≡ take (m + 1) part → asks (strip_last 13 (take (m + 1) (kept ++ end))) ≡ asks (text_of ((part ++ end) ++ 10 ∷ []))
@@ -42,20 +46,6 @@ no_part : (n : ℕ) (part : List ℕ) → 0 < n → length (take n part) ≡ 0 �
 no_part n [] h e = refl
 no_part zero (x ∷ part) h e = absurd (omega arith)
 no_part (suc n) (x ∷ part) h e = absurd (omega arith)
-
-pub no_bytes : (n : ℕ) (xs : List ℕ) → n ≡ 0 → take n xs ≡ []
-no_bytes n xs e = ap (λ (k : ℕ). take k xs) e
-
--- what was consumed up to the end is the input
-pub input_ended : (a b c : Option (List ℕ)) (seen buf : List ℕ) (n : ℕ) → Consumes a b seen → Consumes b c (take n buf) → n ≡ 0 → IsAtEnd c → IsInput a seen
-input_ended a b c seen buf n h k e last =
-    Consumes-whole a c seen (λ (xs : List ℕ). xs ≡ seen) (subst (λ (l : List ℕ). Consumes a c l) (ap (λ (l : List ℕ). seen ++ l) (no_bytes n buf e) ∙ append-nil seen) (Consumes-trans a b c seen (take n buf) h k)) last refl
-
--- what was consumed begins the input
-pub input_begun : (a b : Option (List ℕ)) (seen : List ℕ) → Consumes a b seen → (more : List ℕ) × IsInput a (seen ++ more)
-input_begun None b seen h = ([], tt)
-input_begun (Some xs) None seen h = absurd h
-input_begun (Some xs) (Some ys) seen h = (ys, h)
 
 -- the buffer after a read
 pub chunk_read : (items buf : List ℕ) (len : ℕ) → length buf ≡ length items → len ≡ length items → take len (buf ++ drop (length buf) items) ≡ buf
@@ -204,13 +194,13 @@ module _ {S L : Type 0} (asks : List ℕ → L) (by_front : ByFront asks) (A : S
   -- ---- the end of the input
 
   -- it ends in a line feed, or is empty
-  pub end_empty : (m : ℕ) (s : S) (seen part answers : List ℕ) (t : S) (kept : List ℕ) → kept ≡ take (m + 1) part → length kept ≡ 0 → Reached asks A s seen part answers t → ServesAll asks A s seen (answers ++ []) t
+  pub end_empty : (m : ℕ) (s : S) (seen part answers : List ℕ) (t : S) (kept : List ℕ) → kept ≡ take (m + 1) part → length kept ≡ 0 → Reached asks A s seen part answers t → ServesText asks A s (cut seen) (answers ++ []) t
   end_empty m s seen part answers t kept e none h =
       let nothing : part ≡ [] = no_part (m + 1) part (omega arith) (ap length (sym e) ∙ none) in
-      subst (λ (w : List ℕ). ServesAll asks A s seen w t) (sym (append-nil answers)) (all_ended asks A s seen answers t (subst (λ (l : List ℕ). Reached asks A s seen l answers t) nothing h))
+      subst (λ (w : List ℕ). ServesText asks A s (cut seen) w t) (sym (append-nil answers)) (all_ended asks A s seen answers t (subst (λ (l : List ℕ). Reached asks A s seen l answers t) nothing h))
 
   -- a last line without one
-  pub end_line : (m : ℕ) (s : S) (seen part answers kept : List ℕ) (mid : S) (out : List ℕ) (t : S) → 4107 < m → kept ≡ take (m + 1) part → 0 < length kept → Reached asks A s seen part answers mid → A mid (asks kept) out t → ServesAll asks A s seen (answers ++ out) t
+  pub end_line : (m : ℕ) (s : S) (seen part answers kept : List ℕ) (mid : S) (out : List ℕ) (t : S) → 4107 < m → kept ≡ take (m + 1) part → 0 < length kept → Reached asks A s seen part answers mid → A mid (asks kept) out t → ServesText asks A s (cut seen) (answers ++ out) t
   end_line m s seen part answers kept mid out t big e some h answered =
       let line = ap asks e ∙ kept_line asks by_front m part big ∙ ap asks (sym (text_open part h.no_feed)) in
       all_open asks A s seen part answers mid out t h (omega (arith, ap length e, length-take (m + 1) part)) (subst (λ (l : L). A mid l out t) line answered)
@@ -223,7 +213,7 @@ module _ {S L : Type 0} (asks : List ℕ → L) (by_front : ByFront asks) (A : S
   finish_empty_stops mid kept b c before none begun = λ s seen part answers is reached.
       ([], end_empty 4108 s seen part answers mid kept is none reached, breaks_front b c before [] begun)
 
-  last_line : (mid t s : S) (seen part answers kept text out : List ℕ) → 0 < length kept → text ≡ kept → A mid (asks text) out t → kept ≡ take 4109 part → Reached asks A s seen part answers mid → ServesAll asks A s seen (answers ++ out) t
+  last_line : (mid t s : S) (seen part answers kept text out : List ℕ) → 0 < length kept → text ≡ kept → A mid (asks text) out t → kept ≡ take 4109 part → Reached asks A s seen part answers mid → ServesText asks A s (cut seen) (answers ++ out) t
   last_line mid t s seen part answers kept text out some same answered is reached =
       end_line 4108 s seen part answers kept mid out t (lit< tt) is some reached (subst (λ (l : List ℕ). A mid (asks l) out t) same answered)
 
@@ -252,45 +242,53 @@ module _ {S L : Type 0} (asks : List ℕ → L) (by_front : ByFront asks) (A : S
     passes = passes_then a b c [] waiting waiting' h.answers k.answers h.passes k.passes;
   }
 
-  pub some_short : (known : Option (List ℕ)) (s t : S) (a c : Option (List ℕ)) → ShortDone asks A known s t a c → SomeDone asks A known s t a c
-  some_short known s t a c h = (h.0, h.1, h.2, h.3, begins_so a c h.1 h.4)
+  -- these lines were answered, and the answers went out so
+  answered_by : (P : List (List ℕ) → Type 0) (W : List ℕ → Type 0) (s t : S) (pieces : List (List ℕ)) (text : List ℕ) → P pieces → ServesText asks A s pieces text t → W text → LinesAnswered P (InTurn asks A s t) W
+  answered_by P W s t pieces text picked served out = record { taken = pieces; answers = served.outs; picked = picked; answered = served.serves; out = subst W served.whole out }
 
-  pub all_done : (n : ℕ) (s : S) (seen kept waiting : List ℕ) (mid t : S) (a b c known : Option (List ℕ)) → (h : Stands asks A n s seen kept [] [] waiting mid a b) → IsInput known seen → (out : List ℕ) × ServesAll asks A s seen (h.answers ++ out) t × Passes b c [] (waiting ++ out)
-      → AllDone asks A known s t a c
+  pub some_short : (known : Option (List ℕ)) (s t : S) (a c : Option (List ℕ)) → LinesAnswered (FirstLines known) (InTurn asks A s t) (Breaks a c) → LinesAnswered (FirstLines known) (InTurn asks A s t) (Begins a c)
+  some_short known s t a c h = out_so (FirstLines known) (InTurn asks A s t) (Breaks a c) (Begins a c) (begins_so a c) h
+
+  pub all_done : (n : ℕ) (s : S) (seen kept waiting : List ℕ) (mid t : S) (a b c known : Option (List ℕ)) → (h : Stands asks A n s seen kept [] [] waiting mid a b) → IsInput known seen → (out : List ℕ) × ServesText asks A s (cut seen) (h.answers ++ out) t × Passes b c [] (waiting ++ out)
+      → LinesAnswered (AllLines known) (InTurn asks A s t) (Appends a c)
   all_done n s seen kept waiting mid t a b c known h input done =
-      (seen, h.answers ++ done.0, input, done.1, passes_whole a c (h.answers ++ done.0) (passes_then a b c [] waiting [] h.answers done.0 h.passes done.2))
+      answered_by (AllLines known) (Appends a c) s t (cut seen) (h.answers ++ done.0) (seen, input, refl) done.1 (passes_whole a c (h.answers ++ done.0) (passes_then a b c [] waiting [] h.answers done.0 h.passes done.2))
 
-  pub all_first : (known : Option (List ℕ)) (s t : S) (a c : Option (List ℕ)) → AllDone asks A known s t a c → FirstDone asks A known s t a c
-  all_first known s t a c h = (h.0, h.1, h.2, some_all asks A s h.0 h.1 t h.3, h.4)
+  pub all_first : (known : Option (List ℕ)) (s t : S) (a c : Option (List ℕ)) → LinesAnswered (AllLines known) (InTurn asks A s t) (Appends a c) → LinesAnswered (FirstLines known) (InTurn asks A s t) (Appends a c)
+  all_first known s t a c h = picked_so (AllLines known) (FirstLines known) (InTurn asks A s t) (Appends a c) (all_are_first known) h
 
   -- no more was read
-  pub first_done : (n : ℕ) (s : S) (seen kept waiting : List ℕ) (t : S) (a b p q : Option (List ℕ)) → Stands asks A n s seen kept [] [] waiting t a b → waiting ≡ [] → Consumes p q seen → FirstDone asks A p s t a b
+  pub first_done : (n : ℕ) (s : S) (seen kept waiting : List ℕ) (t : S) (a b p q : Option (List ℕ)) → Stands asks A n s seen kept [] [] waiting t a b → waiting ≡ [] → Consumes p q seen → LinesAnswered (FirstLines p) (InTurn asks A s t) (Appends a b)
   first_done n s seen kept waiting t a b p q h none taken =
       let more = input_begun p q seen taken in
-      (seen ++ more.0, h.answers, more.1, some_reached asks A s seen h.part h.answers more.0 t h.reached, passes_whole a b h.answers (subst (λ (w : List ℕ). Passes a b w h.answers) none h.passes))
+      let some = some_reached asks A s seen h.part h.answers more.0 t h.reached in
+      answered_by (FirstLines p) (Appends a b) s t (take some.0 (cut (seen ++ more.0))) h.answers (seen ++ more.0, some.0, more.1, refl) some.1 (passes_whole a b h.answers (subst (λ (w : List ℕ). Passes a b w h.answers) none h.passes))
 
   -- the writer stopped at the end of the input
-  pub end_stopped : (n : ℕ) (s : S) (seen kept waiting : List ℕ) (mid t : S) (a b c known : Option (List ℕ)) → (h : Stands asks A n s seen kept [] [] waiting mid a b) → IsInput known seen → (out : List ℕ) × ServesAll asks A s seen (h.answers ++ out) t × Breaks b c (waiting ++ out)
-      → ShortDone asks A known s t a c
+  pub end_stopped : (n : ℕ) (s : S) (seen kept waiting : List ℕ) (mid t : S) (a b c known : Option (List ℕ)) → (h : Stands asks A n s seen kept [] [] waiting mid a b) → IsInput known seen → (out : List ℕ) × ServesText asks A s (cut seen) (h.answers ++ out) t × Breaks b c (waiting ++ out)
+      → LinesAnswered (FirstLines known) (InTurn asks A s t) (Breaks a c)
   end_stopped n s seen kept waiting mid t a b c known h input done =
-      (seen, h.answers ++ done.0, input, some_all asks A s seen (h.answers ++ done.0) t done.1, breaks_then a b c [] waiting h.answers done.0 h.passes done.2)
+      answered_by (FirstLines known) (Breaks a c) s t (cut seen) (h.answers ++ done.0) (all_are_first known (cut seen) (seen, input, refl)) done.1 (breaks_then a b c [] waiting h.answers done.0 h.passes done.2)
 
   -- it stopped in a chunk
-  pub feed_stopped : (n : ℕ) (s : S) (seen chunk kept waiting : List ℕ) (mid t : S) (a b c p q : Option (List ℕ)) → (h : Stands asks A n s seen kept [] [] waiting mid a b) → Consumes p q (seen ++ chunk) → Stops asks A s (seen ++ chunk) h.answers t b c waiting → ShortDone asks A p s t a c
+  pub feed_stopped : (n : ℕ) (s : S) (seen chunk kept waiting : List ℕ) (mid t : S) (a b c p q : Option (List ℕ)) → (h : Stands asks A n s seen kept [] [] waiting mid a b) → Consumes p q (seen ++ chunk) → Stops asks A s (seen ++ chunk) h.answers t b c waiting
+      → LinesAnswered (FirstLines p) (InTurn asks A s t) (Breaks a c)
   feed_stopped n s seen chunk kept waiting mid t a b c p q h taken stopped =
       let more = input_begun p q (seen ++ chunk) taken in
-      ((seen ++ chunk) ++ more.0, h.answers ++ stopped.0, more.1, stopped.1 more.0, breaks_then a b c [] waiting h.answers stopped.0 h.passes stopped.2)
+      let some = stopped.1 more.0 in
+      answered_by (FirstLines p) (Breaks a c) s t (take some.0 (cut ((seen ++ chunk) ++ more.0))) (h.answers ++ stopped.0) ((seen ++ chunk) ++ more.0, some.0, more.1, refl) some.1 (breaks_then a b c [] waiting h.answers stopped.0 h.passes stopped.2)
 
   -- the reader stopped between two reads
-  pub read_done : (n : ℕ) (s : S) (seen kept waiting : List ℕ) (t : S) (a b p q : Option (List ℕ)) → Stands asks A n s seen kept [] [] waiting t a b → waiting ≡ [] → Consumes p q seen → ReadDone asks A p q s t a b
+  pub read_done : (n : ℕ) (s : S) (seen kept waiting : List ℕ) (t : S) (a b p q : Option (List ℕ)) → Stands asks A n s seen kept [] [] waiting t a b → waiting ≡ [] → Consumes p q seen → LinesAnswered (EndedLines p q) (InTurn asks A s t) (Appends a b)
   read_done n s seen kept waiting t a b p q h none taken =
-      (seen, h.answers, taken, read_reached asks A s seen h.part h.answers t h.reached, passes_whole a b h.answers (subst (λ (w : List ℕ). Passes a b w h.answers) none h.passes))
+      answered_by (EndedLines p q) (Appends a b) s t (whole_lines seen) h.answers (seen, taken, refl) (read_reached asks A s seen h.part h.answers t h.reached) (passes_whole a b h.answers (subst (λ (w : List ℕ). Passes a b w h.answers) none h.passes))
 
-  pub read_stopped : (n : ℕ) (s : S) (seen kept waiting : List ℕ) (t : S) (a b p q : Option (List ℕ)) → Stands asks A n s seen kept [] [] waiting t a b → Consumes p q seen → SomeDone asks A p s t a b
+  pub read_stopped : (n : ℕ) (s : S) (seen kept waiting : List ℕ) (t : S) (a b p q : Option (List ℕ)) → Stands asks A n s seen kept [] [] waiting t a b → Consumes p q seen → LinesAnswered (FirstLines p) (InTurn asks A s t) (Begins a b)
   read_stopped n s seen kept waiting t a b p q h taken =
       let more = input_begun p q seen taken in
-      (seen ++ more.0, h.answers, more.1, some_reached asks A s seen h.part h.answers more.0 t h.reached, record { front = h.passes.sent; rest = waiting; whole = h.passes.whole; written = h.passes.written })
+      let some = some_reached asks A s seen h.part h.answers more.0 t h.reached in
+      answered_by (FirstLines p) (Begins a b) s t (take some.0 (cut (seen ++ more.0))) h.answers (seen ++ more.0, some.0, more.1, refl) some.1 (record { front = h.passes.sent; rest = waiting; whole = h.passes.whole; written = h.passes.written })
 
   -- nothing was read
-  pub nothing_read : (s : S) (p a : Option (List ℕ)) → SomeDone asks A p s s a a
+  pub nothing_read : (s : S) (p a : Option (List ℕ)) → LinesAnswered (FirstLines p) (InTurn asks A s s) (Begins a a)
   nothing_read s p a = read_stopped 0 s [] [] [] s a a p p (starts 0 s [] [] a refl refl) (Consumes-nil p)

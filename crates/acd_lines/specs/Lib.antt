@@ -1,6 +1,5 @@
 pub mod Input
 pub mod Answers
 pub mod Output
-pub mod Sent
-pub mod Parts
 pub mod Lines
+pub mod Parts

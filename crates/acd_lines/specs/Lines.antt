@@ -1,32 +1,58 @@
--- What lines were answered, from the bytes read to the bytes written, by a desk as it stood before and as it stands behind them.
-use Rattle.std.specs.Prelude.{ℕ, List, take, Option}
-use Rattle.std.specs.Io.KnownBytes.{Appends, Consumes}
+-- What was answered: of what was asked so much was taken, there is one answer line for each of it, and so much of these lines was written.
+use Rattle.std.specs.Prelude.{◌≡◌, ℕ, List, map, take, Option}
+use Rattle.std.specs.List.{concat}
+use Rattle.std.specs.Io.KnownBytes.{Consumes}
+use Rattle.acd_terms.specs.declared.command.Request.{Request}
+use Rattle.acd_terms.specs.declared.command.Arrival.{Arrival}
+use Rattle.acd_book.specs.declared.book.Book.{Ghosts}
+use Rattle.acd_desk.specs.declared.desk.Desk.{Desk}
 use Rattle.acd_desk.specs.declared.taken.Taken.{Taken}
-use Rattle.acd_desk.specs.Ran.{Standing, Ran}
+use Rattle.acd_desk.specs.Arrived.{at}
+use Rattle.acd_desk.specs.Ran.{DeskRan}
 use Rattle.acd_lines.specs.Input.{cut, lines_of, arrivals_in}
-use Rattle.acd_lines.specs.Output.{IsInput, IsOutput, IsBegun, IsShort, whole_lines}
+use Rattle.acd_io.specs.Read.{IsInput}
+use Rattle.acd_lines.specs.Output.{whole_lines, AnswerLines, imported}
 
--- the whole input: one answer line for each line, and the desk has run over the arrivals among them
-abbrev pub AnsweredAll : Standing → Option (List ℕ) → Option (List ℕ) → Option (List ℕ) → Standing → Type 0
-AnsweredAll old had before behind new = (input written : List ℕ) × (answers : List Taken) × IsInput had input × IsOutput (lines_of (cut input)) answers written × Appends before behind written
-    × Ran old (arrivals_in (lines_of (cut input))) answers new
+-- what was taken, and the answer lines to it: how much that is, how it was answered, and how the lines went out
+pub record LinesAnswered {A : Type 0} (Picked : List A → Type 0) (Answered : List A → List (List ℕ) → Type 0) (WentOut : List ℕ → Type 0) : Type 0 where
+  pub taken : List A
+  pub answers : List (List ℕ)
+  pub picked : Picked taken
+  pub answered : Answered taken answers
+  pub out : WentOut (concat answers)
 
--- the lines that had ended in what was read
-abbrev pub AnsweredRead : Standing → Option (List ℕ) → Option (List ℕ) → Option (List ℕ) → Option (List ℕ) → Standing → Type 0
-AnsweredRead old had left before behind new = (bytes written : List ℕ) × (answers : List Taken) × Consumes had left bytes × IsOutput (lines_of (whole_lines bytes)) answers written × Appends before behind written
-    × Ran old (arrivals_in (lines_of (whole_lines bytes))) answers new
+-- ---- how much was taken
 
--- the first n lines of the input
-abbrev pub AnsweredFirst : Standing → Option (List ℕ) → Option (List ℕ) → Option (List ℕ) → Standing → Type 0
-AnsweredFirst old had before behind new = (input written : List ℕ) × (n : ℕ) × (answers : List Taken) × IsInput had input × IsOutput (lines_of (take n (cut input))) answers written × Appends before behind written
-    × Ran old (arrivals_in (lines_of (take n (cut input)))) answers new
+-- the lines of the whole input, which is what the reader had where that is known
+abbrev pub AllLines : Option (List ℕ) → List (List ℕ) → Type 0
+AllLines had lines = (input : List ℕ) × IsInput had input × (lines ≡ cut input)
 
--- the same, where only a beginning of their answer lines was written
-abbrev pub AnsweredSome : Standing → Option (List ℕ) → Option (List ℕ) → Option (List ℕ) → Standing → Type 0
-AnsweredSome old had before behind new = (input written : List ℕ) × (n : ℕ) × (answers : List Taken) × IsInput had input × IsBegun (lines_of (take n (cut input))) answers written × Appends before behind written
-    × Ran old (arrivals_in (lines_of (take n (cut input)))) answers new
+-- so many of them from the first on
+abbrev pub FirstLines : Option (List ℕ) → List (List ℕ) → Type 0
+FirstLines had lines = (input : List ℕ) × (n : ℕ) × IsInput had input × (lines ≡ take n (cut input))
 
--- the same, where their answer lines were not all written
-abbrev pub AnsweredShort : Standing → Option (List ℕ) → Option (List ℕ) → Option (List ℕ) → Standing → Type 0
-AnsweredShort old had before behind new = (input written : List ℕ) × (n : ℕ) × (answers : List Taken) × IsInput had input × IsShort (lines_of (take n (cut input))) answers written × Appends before behind written
-    × Ran old (arrivals_in (lines_of (take n (cut input)))) answers new
+-- those that had ended in what was read
+abbrev pub EndedLines : Option (List ℕ) → Option (List ℕ) → List (List ℕ) → Type 0
+EndedLines had left lines = (bytes : List ℕ) × Consumes had left bytes × (lines ≡ whole_lines bytes)
+
+-- all requests of a plan
+abbrev pub AllRequests : List Request → List Request → Type 0
+AllRequests plan requests = requests ≡ plan
+
+-- so many of them from the first on
+abbrev pub FirstRequests : List Request → List Request → Type 0
+FirstRequests plan requests = (n : ℕ) × (requests ≡ take n plan)
+
+-- ---- how it was answered
+
+-- each line by an answer line, and of the arrivals among the lines and their answers this is said
+abbrev pub ArrivalsAnswered : (List Arrival → List Taken → Type 0) → List (List ℕ) → List (List ℕ) → Type 0
+ArrivalsAnswered Said lines outs = (answers : List Taken) × AnswerLines (lines_of lines) answers outs × Said (arrivals_in (lines_of lines)) answers
+
+-- the same of the requests of a plan, which come in at moment 0
+abbrev pub RequestsAnswered : (List Arrival → List Taken → Type 0) → List Request → List (List ℕ) → Type 0
+RequestsAnswered Said requests outs = (answers : List Taken) × AnswerLines (imported requests) answers outs × Said (map (at 0) requests) answers
+
+-- the desk has run over them
+abbrev pub HasRun : {B : Type 0} → Ghosts B → Desk B → Desk B → List Arrival → List Taken → Type 0
+HasRun book old new arrivals answers = DeskRan book old arrivals answers new

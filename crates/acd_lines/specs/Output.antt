@@ -1,6 +1,5 @@
 -- The output of an input: one answer line for each line, with the answers to the arrivals in order.
-use Rattle.std.specs.Prelude.{◌≡◌, ◌⊎◌, ℕ, ◌<◌, List, [], ◌∷◌, ◌++◌, filter, length, map, Option, IfSome}
-use Rattle.std.specs.List.{concat}
+use Rattle.std.specs.Prelude.{◌≡◌, ◌⊎◌, ℕ, List, [], ◌∷◌, filter, map}
 use Rattle.std.specs.Io.BufRead.{ends_with_byte}
 use Rattle.acd_terms.specs.declared.command.Request.{Request}
 use Rattle.acd_codec.specs.declared.member.Member.TheVariants as members
@@ -8,10 +7,6 @@ use Rattle.acd_codec.specs.declared.fault.FixedAnswer.TheVariants as fixed
 use Rattle.acd_desk.specs.declared.taken.Taken.{Taken}
 use Rattle.acd_lines.specs.Input.{Line, no_moment, too_long, faulty, arrival, cut}
 use Rattle.acd_lines.specs.Answers.{malformed_line, fixed_line, taken_line}
-
--- an input, which is what the reader had where that is known
-abbrev pub IsInput : Option (List ℕ) → List ℕ → Type 0
-IsInput known input = IfSome known (λ xs. xs ≡ input)
 
 -- the lines of some bytes that have ended
 abbrev pub whole_lines : List ℕ → List (List ℕ)
@@ -25,27 +20,6 @@ AnswerLines (too_long ∷ lines) answers (out ∷ outs) = (out ≡ fixed_line fi
 AnswerLines (faulty member ∷ lines) answers (out ∷ outs) = ((out ≡ malformed_line member) ⊎ (out ≡ fixed_line fixed.NoMemory)) × AnswerLines lines answers outs
 AnswerLines (arrival moment request ∷ lines) (t ∷ answers) (out ∷ outs) = (out ≡ taken_line request t) × AnswerLines lines answers outs
 AnswerLines _ _ _ = ⊥
-
--- all answer lines were written
-pub record IsOutput (lines : List Line) (answers : List Taken) (written : List ℕ) : Type 0 where
-  pub outs : List (List ℕ)
-  pub answered : AnswerLines lines answers outs
-  pub whole : written ≡ concat outs
-
--- a beginning of these answer lines was written
-pub record IsBegun (lines : List Line) (answers : List Taken) (written : List ℕ) : Type 0 where
-  pub outs : List (List ℕ)
-  pub unwritten : List ℕ
-  pub answered : AnswerLines lines answers outs
-  pub whole : concat outs ≡ written ++ unwritten
-
--- a beginning of these answer lines was written, and not all of them
-pub record IsShort (lines : List Line) (answers : List Taken) (written : List ℕ) : Type 0 where
-  pub outs : List (List ℕ)
-  pub unwritten : List ℕ
-  pub short : 0 < length unwritten
-  pub answered : AnswerLines lines answers outs
-  pub whole : concat outs ≡ written ++ unwritten
 
 -- the requests of a plan, which come in at moment 0
 abbrev pub imported : List Request → List Line

@@ -1,18 +1,18 @@
 -- The lines that were answered so far, by what their texts ask for, and by a relation of the desk, what is asked, what is written for it, and the desk after it.
-use Rattle.std.specs.Prelude.{◌≡◌, ℕ, List, [], ◌∷◌, ◌++◌, map, take, true, Option}
+use Rattle.std.specs.Prelude.{◌≡◌, ℕ, List, [], ◌∷◌, ◌++◌, take, true, Option}
 use Rattle.std.specs.List.{concat, list_all}
 use Rattle.std.specs.Io.BufRead.{ends_with_byte}
-use Rattle.std.specs.Io.KnownBytes.{Appends, Consumes}
 use Rattle.acd_terms.specs.declared.command.Request.{Request}
+use Rattle.acd_terms.specs.declared.command.Arrival.{Arrival}
 use Rattle.acd_desk.specs.declared.taken.Taken.{Taken}
+use Rattle.acd_desk.specs.declared.answer_text.AnswerText.{AnswerText}
+use Rattle.acd_desk.specs.AnswerTexts.{said}
 use Rattle.acd_desk.specs.Arrived.{at}
 use Rattle.acd_desk.specs.Ran.{Standing, Ran}
 use Rattle.acd_lines.specs.Input.{has_none, text_of, cut}
 use Rattle.acd_lines.specs.Answers.{line_text}
-use Rattle.acd_lines.specs.Output.{IsInput, whole_lines, AnswerLines, IsShort, imported}
-use Rattle.acd_lines.specs.Sent.{Passes, Begins, Breaks}
-use Rattle.acd_lines.specs.declared.answer_line.AnswerLine.{AnswerLine}
-use Rattle.acd_lines.specs.declared.answer_line.AnswerLine.TheVariants.{Made, Fixed}
+use Rattle.acd_io.specs.Sent.{Passes, Breaks}
+use Rattle.acd_lines.specs.Lines.{LinesAnswered, AllRequests, FirstRequests, RequestsAnswered}
 
 module _ {S L : Type 0} (Answers : S → L → List ℕ → S → Type 0) where
   -- a line was answered
@@ -31,24 +31,19 @@ module _ {S L : Type 0} (asks : List ℕ → L) (Answers : S → L → List ℕ 
   Serves s (piece ∷ pieces) [] t = ⊥
   Serves s (piece ∷ pieces) (out ∷ outs) t = (mid : S) × Answers s (asks (text_of piece)) out mid × Serves mid pieces outs t
 
-  -- the whole input was answered
-  pub record ServesAll (s : S) (input answers : List ℕ) (t : S) : Type 0 where
-    pub outs : List (List ℕ)
-    pub serves : Serves s (cut input) outs t
-    pub whole : answers ≡ concat outs
+  -- from one desk to another
+  abbrev pub InTurn : S → S → List (List ℕ) → List (List ℕ) → Type 0
+  InTurn s t pieces outs = Serves s pieces outs t
 
-  -- the lines that had ended in what was read were answered
-  pub record ServesRead (s : S) (bytes answers : List ℕ) (t : S) : Type 0 where
+  -- these lines were answered, by this text
+  pub record ServesText (s : S) (pieces : List (List ℕ)) (text : List ℕ) (t : S) : Type 0 where
     pub outs : List (List ℕ)
-    pub serves : Serves s (whole_lines bytes) outs t
-    pub whole : answers ≡ concat outs
+    pub serves : Serves s pieces outs t
+    pub whole : text ≡ concat outs
 
-  -- the first n lines of the input were answered
-  pub record ServesSome (s : S) (input answers : List ℕ) (t : S) : Type 0 where
-    pub n : ℕ
-    pub outs : List (List ℕ)
-    pub serves : Serves s (take n (cut input)) outs t
-    pub whole : answers ≡ concat outs
+  -- the first lines of an input were
+  abbrev pub ServesSome : S → List ℕ → List ℕ → S → Type 0
+  ServesSome s input text t = (n : ℕ) × ServesText s (take n (cut input)) text t
 
   -- the whole lines of seen were answered, and part is what came behind them
   pub record Reached (s : S) (seen part answers : List ℕ) (t : S) : Type 0 where
@@ -83,55 +78,25 @@ module _ {S L : Type 0} (asks : List ℕ → L) (Answers : S → L → List ℕ 
   -- the input is at its end
   abbrev pub Finishes : S → S → List ℕ → Option (List ℕ) → Option (List ℕ) → List ℕ → Type 0
   Finishes mid t kept old new before = (s : S) (seen part answers : List ℕ) → kept ≡ take 4109 part → Reached s seen part answers mid
-      → (out : List ℕ) × ServesAll s seen (answers ++ out) t × Passes old new [] (before ++ out)
+      → (out : List ℕ) × ServesText s (cut seen) (answers ++ out) t × Passes old new [] (before ++ out)
 
   abbrev pub FinishStops : S → S → List ℕ → Option (List ℕ) → Option (List ℕ) → List ℕ → Type 0
   FinishStops mid t kept old new before = (s : S) (seen part answers : List ℕ) → kept ≡ take 4109 part → Reached s seen part answers mid
-      → (out : List ℕ) × ServesAll s seen (answers ++ out) t × Breaks old new (before ++ out)
-
-  -- all of the input was answered, and the answers were written
-  abbrev pub AllDone : Option (List ℕ) → S → S → Option (List ℕ) → Option (List ℕ) → Type 0
-  AllDone known s t a c = (input answers : List ℕ) × IsInput known input × ServesAll s input answers t × Appends a c answers
-
-  -- the lines that had ended in what was read were
-  abbrev pub ReadDone : Option (List ℕ) → Option (List ℕ) → S → S → Option (List ℕ) → Option (List ℕ) → Type 0
-  ReadDone p q s t a c = (bytes answers : List ℕ) × Consumes p q bytes × ServesRead s bytes answers t × Appends a c answers
-
-  -- some lines were answered, and their answers were written
-  abbrev pub FirstDone : Option (List ℕ) → S → S → Option (List ℕ) → Option (List ℕ) → Type 0
-  FirstDone known s t a c = (input answers : List ℕ) × IsInput known input × ServesSome s input answers t × Appends a c answers
-
-  -- some lines were answered, and a beginning of their answers was written
-  abbrev pub SomeDone : Option (List ℕ) → S → S → Option (List ℕ) → Option (List ℕ) → Type 0
-  SomeDone known s t a c = (input answers : List ℕ) × IsInput known input × ServesSome s input answers t × Begins a c answers
-
-  -- the same, where not all of it was
-  abbrev pub ShortDone : Option (List ℕ) → S → S → Option (List ℕ) → Option (List ℕ) → Type 0
-  ShortDone known s t a c = (input answers : List ℕ) × IsInput known input × ServesSome s input answers t × Breaks a c answers
+      → (out : List ℕ) × ServesText s (cut seen) (answers ++ out) t × Breaks old new (before ++ out)
 
 module _ {D : Type 0} (stands : D → Standing) where
-  -- the requests of a plan were taken, and their answers were written but for what waits
-  pub record Imports (d : D) (requests : List Request) (e : D) (old new : Option (List ℕ)) (waiting : List ℕ) : Type 0 where
-    pub answers : List Taken
-    pub outs : List (List ℕ)
-    pub answered : AnswerLines (imported requests) answers outs
-    pub passes : Passes old new waiting (concat outs)
-    pub ran : Ran (stands d) (map (at 0) requests) answers (stands e)
+  -- a desk has run over the requests of a plan
+  abbrev pub HasImported : D → D → List Request → List (List ℕ) → Type 0
+  HasImported d e requests outs = RequestsAnswered (λ (arrivals : List Arrival) (answers : List Taken). Ran (stands d) arrivals answers (stands e)) requests outs
+
+  -- they were taken, and their answers were written but for what waits
+  abbrev pub Imports : D → List Request → D → Option (List ℕ) → Option (List ℕ) → List ℕ → Type 0
+  Imports d requests e old new waiting = LinesAnswered (AllRequests requests) (HasImported d e) (Passes old new waiting)
 
   -- the writer stopped, and some of them were taken
   abbrev pub ImportStops : D → List Request → D → Option (List ℕ) → Option (List ℕ) → Type 0
-  ImportStops d requests e old new = (written : List ℕ) × (n : ℕ) × (answers : List Taken) × IsShort (imported (take n requests)) answers written × Appends old new written
-      × Ran (stands d) (map (at 0) (take n requests)) answers (stands e)
+  ImportStops d requests e old new = LinesAnswered (FirstRequests requests) (HasImported d e) (Breaks old new)
 
--- the text of an answer
-abbrev pub answered_text : AnswerLine → List ℕ
-answered_text (Made status body) = line_text status body
-answered_text (Fixed status body) = line_text status body.now
-
-abbrev pub status_of : AnswerLine → ℕ
-status_of (Made status body) = status
-status_of (Fixed status body) = status
-
-abbrev pub body_of : AnswerLine → List ℕ
-body_of (Made status body) = body
-body_of (Fixed status body) = body.now
+-- the line that an answer is
+abbrev pub answered_text : AnswerText → List ℕ
+answered_text a = line_text (said a)

@@ -8,12 +8,11 @@ ghost use Rattle.acd_lines.specs.Input.{asked};
 ghost use Rattle.acd_lines.specs.Answers.{malformed_line, fixed_line};
 ghost use Rattle.acd_lines.specs.Parts.{answered_text};
 
-use crate::answer::{fixed, malformed, read};
-use crate::answer_line::AnswerLine;
+use crate::answer::read;
 use crate::moment::moment_of;
 use acd_book::Book;
 use acd_codec::{FixedAnswer, Member, RequestReader};
-use acd_desk::Desk;
+use acd_desk::{AnswerText, Desk};
 use std::alloc::Global;
 
 // How many bytes behind a moment are read at most.
@@ -34,7 +33,7 @@ pub trait Answering<B: Book> {
     ghost answers: { DeskOver B → Asked → List ℕ → DeskOver B → Type 0 };
 
     /// The answer to what stands behind a moment, in at most 4096 bytes.
-    fn answer(&mut self, alloc: Global, desk: &mut Desk<B>, moment: u32, text: &[u8]) -> AnswerLine
+    fn answer(&mut self, alloc: Global, desk: &mut Desk<B>, moment: u32, text: &[u8]) -> AnswerText
         ensures { answers desk.old (read moment text.now) (answered_text result) desk.new };
 
     ghost needs_a_moment: { (d : DeskOver B) → answers d unmarked (malformed_line members.Moment) d };
@@ -49,14 +48,14 @@ pub(crate) fn answer_line<B: Book, A: Answering<B>>(
     alloc: Global,
     desk: &mut Desk<B>,
     text: &[u8],
-) -> AnswerLine
+) -> AnswerText
     ensures { A.answers desk.old (asked A.unmarked A.long A.read text.now) (answered_text result) desk.new }
 {
     let Some((moment, behind)) = moment_of(text) else {
-        return malformed(Member::Moment);
+        return AnswerText::malformed(Member::Moment);
     };
     if behind.len() > LONGEST {
-        return fixed(FixedAnswer::BodyTooLarge);
+        return AnswerText::fixed(FixedAnswer::BodyTooLarge);
     }
     lines.answer(alloc, desk, moment, behind)
 }
@@ -97,11 +96,11 @@ impl<B: Book> Answering<B> for Requests {
 
     fn answer(
         &mut self,
-        alloc: Global,
+        _alloc: Global,
         desk: &mut Desk<B>,
         moment: u32,
         text: &[u8],
-    ) -> AnswerLine {
-        read(alloc, &mut self.reader, desk, moment, text)
+    ) -> AnswerText {
+        read(&mut self.reader, desk, moment, text)
     }
 }

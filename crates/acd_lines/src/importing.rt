@@ -1,29 +1,27 @@
 //! The requests of a plan, and their answer lines.
 
-ghost use Rattle.std.specs.Prelude.{◌≡◌, ℕ, List, [], map, take, OnOk, OnErr, IfErr};
+ghost use Rattle.std.specs.Prelude.{◌≡◌, [], OnOk, OnErr, IfErr};
 ghost use Rattle.std.specs.Io.KnownBytes.{Appends};
-ghost use Rattle.acd_desk.specs.declared.taken.Taken.{Taken};
-ghost use Rattle.acd_desk.specs.Arrived.{at};
-ghost use Rattle.acd_desk.specs.Ran.{standing, Ran};
+ghost use Rattle.acd_desk.specs.Ran.{standing};
 ghost use Rattle.acd_lines.specs.Input.{arrival};
 ghost use Rattle.acd_lines.specs.Answers.{Answers};
-ghost use Rattle.acd_lines.specs.Output.{IsOutput, IsBegun, IsShort, imported};
+ghost use Rattle.acd_lines.specs.Lines.{LinesAnswered, AllRequests, FirstRequests, RequestsAnswered, HasRun};
 ghost use Rattle.acd_lines.specs.Parts.{LineDone, LineStops, Imports, ImportStops};
+ghost use Rattle.acd_io.specs.Sent.{Begins, Breaks};
 
 use crate::answer::execute;
 use crate::outbox::Outbox;
-use crate::sending::Stopped;
 use crate::serve::push_answer;
 use crate::session::LinesFault;
 use acd_book::Book;
 use acd_desk::Desk;
+use acd_io::Stopped;
 use acd_terms::Request;
 use std::alloc::{AllocError, Global};
 use std::io::Write;
 
 // Answers a request of the plan.
 fn serve_request<B: Book, W: Write>(
-    alloc: Global,
     desk: &mut Desk<B>,
     outbox: &mut Outbox,
     writer: &mut W,
@@ -32,13 +30,12 @@ fn serve_request<B: Book, W: Write>(
     ensures ok { OnOk result (LineDone (Answers (standing B.Book)) desk.old (arrival 0 request.now) desk.new (W.contents writer.old) (W.contents writer.new) outbox.old.waiting.items outbox.new.waiting.items) }
     ensures err { OnErr result (LineStops (Answers (standing B.Book)) desk.old (arrival 0 request.now) desk.new (W.contents writer.old) (W.contents writer.new) outbox.old.waiting.items) }
 {
-    let answered = execute(alloc, desk, 0, request);
+    let answered = execute(desk, 0, request);
     push_answer(outbox, writer, &answered)
 }
 
 // Answers all of them.
 fn serve_requests<B: Book, W: Write>(
-    alloc: Global,
     desk: &mut Desk<B>,
     outbox: &mut Outbox,
     writer: &mut W,
@@ -49,7 +46,7 @@ fn serve_requests<B: Book, W: Write>(
     ensures err { OnErr result (ImportStops (standing B.Book) desk.old requests.now desk.new (W.contents writer.old) (W.contents writer.new)) }
 {
     for request in requests {
-        serve_request(alloc, desk, outbox, writer, request)?;
+        serve_request(desk, outbox, writer, request)?;
     }
     outbox.flush(writer)
 }
@@ -64,20 +61,23 @@ pub fn import<B: Book, W: Write>(
     writer: &mut W,
 ) -> Result<(), LinesFault>
     // one answer line for each request, and the desk has run over them
-    ensures ok { OnOk result ((written : List ℕ) × (answers : List Taken) × IsOutput (imported requests.now) answers written × Appends (W.contents writer.old) (W.contents writer.new) written
-        × Ran (standing B.Book desk.old) (map (at 0) requests.now) answers (standing B.Book desk.new)) }
+    ensures ok { OnOk result (LinesAnswered (AllRequests requests.now)
+        (RequestsAnswered (HasRun B.Book desk.old desk.new))
+        (Appends (W.contents writer.old) (W.contents writer.new))) }
     // else the writer has failed, behind a beginning of them
-    ensures stopped { OnErr result ((written : List ℕ) × (n : ℕ) × (answers : List Taken) × IsBegun (imported (take n requests.now)) answers written × Appends (W.contents writer.old) (W.contents writer.new) written
-        × Ran (standing B.Book desk.old) (map (at 0) (take n requests.now)) answers (standing B.Book desk.new)) }
+    ensures stopped { OnErr result (LinesAnswered (FirstRequests requests.now)
+        (RequestsAnswered (HasRun B.Book desk.old desk.new))
+        (Begins (W.contents writer.old) (W.contents writer.new))) }
     // and not all of what was answered was written
-    ensures short { OnErr result ((written : List ℕ) × (n : ℕ) × (answers : List Taken) × IsShort (imported (take n requests.now)) answers written × Appends (W.contents writer.old) (W.contents writer.new) written
-        × Ran (standing B.Book desk.old) (map (at 0) (take n requests.now)) answers (standing B.Book desk.new)) }
+    ensures short { OnErr result (LinesAnswered (FirstRequests requests.now)
+        (RequestsAnswered (HasRun B.Book desk.old desk.new))
+        (Breaks (W.contents writer.old) (W.contents writer.new))) }
     ensures fault { IfErr result (λ fault. fault ≡ LinesFault.Write) }
 {
     let mut outbox = match Outbox::new(alloc) {
         Ok(outbox) => outbox,
         Err(AllocError) => Outbox::unbuffered(alloc),
     };
-    serve_requests(alloc, desk, &mut outbox, writer, requests)?;
+    serve_requests(desk, &mut outbox, writer, requests)?;
     Ok(())
 }

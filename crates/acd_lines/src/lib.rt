@@ -10,21 +10,15 @@
 #![tactic(auto)]
 
 mod answer;
-mod answer_line;
 mod answering;
 mod importing;
 mod moment;
 mod outbox;
 mod partial;
-mod retry;
-mod sending;
 mod serve;
 mod session;
 mod split;
 
-pub use answer::fixed;
-pub use answer_line::AnswerLine;
 pub use answering::{Answering, Requests};
 pub use importing::import;
-pub use sending::{Stopped, send};
 pub use session::{LinesFault, answer_lines, lines, lines_until_failed};

@@ -4,6 +4,7 @@ ghost use Rattle.std.specs.Prelude.{◌≡◌, option_map};
 ghost use Rattle.acd_lines.specs.Input.{number_of, moment_of};
 
 use crate::split::split_once;
+use acd_io::number_up_to;
 
 /// How many digits a moment has at most.
 const DIGITS: usize = 10;
@@ -11,17 +12,11 @@ const DIGITS: usize = 10;
 fn number_of(digits: &[u8]) -> Option<u32>
     ensures { result ≡ number_of digits.now }
 {
-    if digits.is_empty() || digits.len() > DIGITS {
+    if digits.len() > DIGITS {
         return None;
     }
-    let mut value = 0u64;
-    for digit in digits {
-        if !digit.is_ascii_digit() {
-            return None;
-        }
-        value = value * 10 + u64::from(*digit - b'0');
-    }
-    u32::try_from(value).ok()
+    let number = number_up_to(digits)?;
+    u32::try_from(number).ok()
 }
 
 /// The moment, and what stands behind its space.

@@ -1,9 +1,9 @@
 //! Answers that wait to be written together.
 
 ghost use Rattle.std.specs.Prelude.{◌≡◌, ◌++◌, [], IfOk, OnOk, OnErr};
-ghost use Rattle.acd_lines.specs.Sent.{Passes, Breaks};
+ghost use Rattle.acd_io.specs.Sent.{Passes, Breaks};
 
-use crate::sending::{Stopped, send};
+use acd_io::{Stopped, send};
 use std::alloc::{AllocError, Global};
 use std::io::Write;
 

@@ -3,17 +3,16 @@
 ghost use Rattle.std.specs.Prelude.{◌≡◌, ◌++◌, [], take, OnOk, OnErr};
 ghost use Rattle.std.specs.Io.BufRead.{strip_last};
 ghost use Rattle.acd_lines.specs.Input.{asked};
-ghost use Rattle.acd_lines.specs.Sent.{Passes, Breaks};
+ghost use Rattle.acd_io.specs.Sent.{Passes, Breaks};
 ghost use Rattle.acd_lines.specs.Parts.{LineDone, LineStops, Feeds, FeedStops, Finishes, FinishStops, answered_text};
 
-use crate::answer_line::AnswerLine;
 use crate::answering::{Answering, answer_line};
 use crate::outbox::Outbox;
 use crate::partial::Partial;
-use crate::sending::Stopped;
 use crate::split::split_once;
 use acd_book::Book;
-use acd_desk::Desk;
+use acd_desk::{AnswerText, Desk};
+use acd_io::Stopped;
 use itoa::Buffer;
 use std::alloc::Global;
 use std::io::Write;
@@ -22,7 +21,7 @@ use std::io::Write;
 pub(crate) fn push_answer<W: Write>(
     outbox: &mut Outbox,
     writer: &mut W,
-    answered: &AnswerLine,
+    answered: &AnswerText,
 ) -> Result<(), Stopped>
     ensures ok { OnOk result (Passes (W.contents writer.old) (W.contents writer.new) outbox.new.waiting.items (outbox.old.waiting.items ++ answered_text answered.now)) }
     ensures err { OnErr result (Breaks (W.contents writer.old) (W.contents writer.new) (outbox.old.waiting.items ++ answered_text answered.now)) }

@@ -1,19 +1,20 @@
 //! Lines in, answer lines out.
 
 ghost use Rattle.std.specs.Prelude.{◌≡◌, true, false, OnOk, OnErr, IfErr};
+ghost use Rattle.std.specs.Io.KnownBytes.{Appends};
 ghost use Rattle.acd_desk.specs.Ran.{standing};
 ghost use Rattle.acd_lines.specs.Input.{asked};
-ghost use Rattle.acd_lines.specs.Parts.{AllDone, ReadDone, FirstDone, ShortDone, SomeDone};
-ghost use Rattle.acd_lines.specs.Lines.{AnsweredAll, AnsweredRead, AnsweredFirst, AnsweredShort, AnsweredSome};
+ghost use Rattle.acd_lines.specs.Lines.{LinesAnswered, AllLines, FirstLines, EndedLines, ArrivalsAnswered, HasRun};
+ghost use Rattle.acd_lines.specs.Parts.{InTurn};
+ghost use Rattle.acd_io.specs.Sent.{Begins, Breaks};
 
 use crate::answering::{Answering, Requests};
 use crate::outbox::Outbox;
 use crate::partial::Partial;
-use crate::retry::retried;
-use crate::sending::Stopped;
 use crate::serve::{feed, finish};
 use acd_book::Book;
 use acd_desk::Desk;
+use acd_io::{Stopped, retried};
 use std::alloc::{AllocError, Global};
 use std::io::{Read, Write};
 use thiserror::Error;
@@ -70,12 +71,26 @@ pub fn answer_lines<B: Book, A: Answering<B>, R: Read, W: Write>(
     reader: &mut R,
     writer: &mut W,
 ) -> Result<(), LinesFault>
-    ensures ok { OnOk result ((ends ≡ true → (standing B.Book desk.new).failed ≡ false) → AllDone (asked A.unmarked A.long A.read) A.answers (R.remaining reader.old) desk.old desk.new (W.contents writer.old) (W.contents writer.new)) }
-    ensures first { OnOk result (FirstDone (asked A.unmarked A.long A.read) A.answers (R.remaining reader.old) desk.old desk.new (W.contents writer.old) (W.contents writer.new)) }
-    ensures read { IfErr result (λ fault. fault ≡ LinesFault.Read → ReadDone (asked A.unmarked A.long A.read) A.answers (R.remaining reader.old) (R.remaining reader.new) desk.old desk.new (W.contents writer.old) (W.contents writer.new)) }
-    ensures write { IfErr result (λ fault. fault ≡ LinesFault.Write → ShortDone (asked A.unmarked A.long A.read) A.answers (R.remaining reader.old) desk.old desk.new (W.contents writer.old) (W.contents writer.new)) }
-    ensures stopped { OnErr result (SomeDone (asked A.unmarked A.long A.read) A.answers (R.remaining reader.old) desk.old desk.new (W.contents writer.old) (W.contents writer.new)) }
-    ensures memory { IfErr result (λ fault. fault ≡ LinesFault.NoMemory → (reader.new ≡ reader.old) × (writer.new ≡ writer.old) × (desk.new ≡ desk.old)) }
+    ensures ok { OnOk result ((ends ≡ true → (standing B.Book desk.new).failed ≡ false)
+        → LinesAnswered (AllLines (R.remaining reader.old))
+        (InTurn (asked A.unmarked A.long A.read) A.answers desk.old desk.new)
+        (Appends (W.contents writer.old) (W.contents writer.new))) }
+    ensures first { OnOk result (LinesAnswered (FirstLines (R.remaining reader.old))
+        (InTurn (asked A.unmarked A.long A.read) A.answers desk.old desk.new)
+        (Appends (W.contents writer.old) (W.contents writer.new))) }
+    ensures read { IfErr result (λ fault. fault ≡ LinesFault.Read → LinesAnswered
+        (EndedLines (R.remaining reader.old) (R.remaining reader.new))
+        (InTurn (asked A.unmarked A.long A.read) A.answers desk.old desk.new)
+        (Appends (W.contents writer.old) (W.contents writer.new))) }
+    ensures write { IfErr result (λ fault. fault ≡ LinesFault.Write → LinesAnswered
+        (FirstLines (R.remaining reader.old))
+        (InTurn (asked A.unmarked A.long A.read) A.answers desk.old desk.new)
+        (Breaks (W.contents writer.old) (W.contents writer.new))) }
+    ensures stopped { OnErr result (LinesAnswered (FirstLines (R.remaining reader.old))
+        (InTurn (asked A.unmarked A.long A.read) A.answers desk.old desk.new)
+        (Begins (W.contents writer.old) (W.contents writer.new))) }
+    ensures memory { IfErr result (λ fault. fault ≡ LinesFault.NoMemory
+        → (reader.new ≡ reader.old) × (writer.new ≡ writer.old) × (desk.new ≡ desk.old)) }
 {
     let mut chunk = vec![in alloc; 0u8; CHUNK]?;
     let mut partial = Partial::new(alloc)?;
@@ -115,15 +130,26 @@ pub fn lines<B: Book, R: Read, W: Write>(
     writer: &mut W,
 ) -> Result<(), LinesFault>
     // one answer line for each line, and the desk has run over the arrivals among them
-    ensures ok { OnOk result (AnsweredAll (standing B.Book desk.old) (R.remaining reader.old) (W.contents writer.old) (W.contents writer.new) (standing B.Book desk.new)) }
+    ensures ok { OnOk result (LinesAnswered (AllLines (R.remaining reader.old))
+        (ArrivalsAnswered (HasRun B.Book desk.old desk.new))
+        (Appends (W.contents writer.old) (W.contents writer.new))) }
     // where reading failed, for the lines that had ended in what was read
-    ensures read { IfErr result (λ fault. fault ≡ LinesFault.Read → AnsweredRead (standing B.Book desk.old) (R.remaining reader.old) (R.remaining reader.new) (W.contents writer.old) (W.contents writer.new) (standing B.Book desk.new)) }
+    ensures read { IfErr result (λ fault. fault ≡ LinesFault.Read → LinesAnswered
+        (EndedLines (R.remaining reader.old) (R.remaining reader.new))
+        (ArrivalsAnswered (HasRun B.Book desk.old desk.new))
+        (Appends (W.contents writer.old) (W.contents writer.new))) }
     // where writing failed, not all that was answered was written
-    ensures write { IfErr result (λ fault. fault ≡ LinesFault.Write → AnsweredShort (standing B.Book desk.old) (R.remaining reader.old) (W.contents writer.old) (W.contents writer.new) (standing B.Book desk.new)) }
+    ensures write { IfErr result (λ fault. fault ≡ LinesFault.Write → LinesAnswered
+        (FirstLines (R.remaining reader.old))
+        (ArrivalsAnswered (HasRun B.Book desk.old desk.new))
+        (Breaks (W.contents writer.old) (W.contents writer.new))) }
     // after any fault, for a beginning of the input
-    ensures stopped { OnErr result (AnsweredSome (standing B.Book desk.old) (R.remaining reader.old) (W.contents writer.old) (W.contents writer.new) (standing B.Book desk.new)) }
+    ensures stopped { OnErr result (LinesAnswered (FirstLines (R.remaining reader.old))
+        (ArrivalsAnswered (HasRun B.Book desk.old desk.new))
+        (Begins (W.contents writer.old) (W.contents writer.new))) }
     // without memory nothing was read
-    ensures memory { IfErr result (λ fault. fault ≡ LinesFault.NoMemory → (reader.new ≡ reader.old) × (writer.new ≡ writer.old) × (desk.new ≡ desk.old)) }
+    ensures memory { IfErr result (λ fault. fault ≡ LinesFault.NoMemory
+        → (reader.new ≡ reader.old) × (writer.new ≡ writer.old) × (desk.new ≡ desk.old)) }
 {
     answer_lines(
         alloc,
@@ -144,17 +170,31 @@ pub fn lines_until_failed<B: Book, R: Read, W: Write>(
     writer: &mut W,
 ) -> Result<(), LinesFault>
     // all lines were answered, by a desk that hasn't failed
-    ensures ok { OnOk result ((standing B.Book desk.new).failed ≡ false → AnsweredAll (standing B.Book desk.old) (R.remaining reader.old) (W.contents writer.old) (W.contents writer.new) (standing B.Book desk.new)) }
+    ensures ok { OnOk result ((standing B.Book desk.new).failed ≡ false → LinesAnswered
+        (AllLines (R.remaining reader.old))
+        (ArrivalsAnswered (HasRun B.Book desk.old desk.new))
+        (Appends (W.contents writer.old) (W.contents writer.new))) }
     // those that were answered are the first, and all of their answers were written
-    ensures first { OnOk result (AnsweredFirst (standing B.Book desk.old) (R.remaining reader.old) (W.contents writer.old) (W.contents writer.new) (standing B.Book desk.new)) }
+    ensures first { OnOk result (LinesAnswered (FirstLines (R.remaining reader.old))
+        (ArrivalsAnswered (HasRun B.Book desk.old desk.new))
+        (Appends (W.contents writer.old) (W.contents writer.new))) }
     // where reading failed, for the lines that had ended in what was read
-    ensures read { IfErr result (λ fault. fault ≡ LinesFault.Read → AnsweredRead (standing B.Book desk.old) (R.remaining reader.old) (R.remaining reader.new) (W.contents writer.old) (W.contents writer.new) (standing B.Book desk.new)) }
+    ensures read { IfErr result (λ fault. fault ≡ LinesFault.Read → LinesAnswered
+        (EndedLines (R.remaining reader.old) (R.remaining reader.new))
+        (ArrivalsAnswered (HasRun B.Book desk.old desk.new))
+        (Appends (W.contents writer.old) (W.contents writer.new))) }
     // where writing failed, not all that was answered was written
-    ensures write { IfErr result (λ fault. fault ≡ LinesFault.Write → AnsweredShort (standing B.Book desk.old) (R.remaining reader.old) (W.contents writer.old) (W.contents writer.new) (standing B.Book desk.new)) }
+    ensures write { IfErr result (λ fault. fault ≡ LinesFault.Write → LinesAnswered
+        (FirstLines (R.remaining reader.old))
+        (ArrivalsAnswered (HasRun B.Book desk.old desk.new))
+        (Breaks (W.contents writer.old) (W.contents writer.new))) }
     // after any fault, for a beginning of the input
-    ensures stopped { OnErr result (AnsweredSome (standing B.Book desk.old) (R.remaining reader.old) (W.contents writer.old) (W.contents writer.new) (standing B.Book desk.new)) }
+    ensures stopped { OnErr result (LinesAnswered (FirstLines (R.remaining reader.old))
+        (ArrivalsAnswered (HasRun B.Book desk.old desk.new))
+        (Begins (W.contents writer.old) (W.contents writer.new))) }
     // without memory nothing was read
-    ensures memory { IfErr result (λ fault. fault ≡ LinesFault.NoMemory → (reader.new ≡ reader.old) × (writer.new ≡ writer.old) × (desk.new ≡ desk.old)) }
+    ensures memory { IfErr result (λ fault. fault ≡ LinesFault.NoMemory
+        → (reader.new ≡ reader.old) × (writer.new ≡ writer.old) × (desk.new ≡ desk.old)) }
 {
     answer_lines(alloc, &mut Requests::new(alloc), desk, true, reader, writer)
 }

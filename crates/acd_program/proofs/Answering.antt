@@ -1,6 +1,5 @@
 -- What a new desk answers, by what its run leaves.
-use Rattle.std.proofs.Common.{◌≡◌, ℕ, List, [], Option, Some, None, take, refl, sym, subst, ◌∙◌, inl, inr, true≢false, arith}
-use Rattle.std.specs.Io.KnownBytes.{Appends}
+use Rattle.std.proofs.Common.{◌≡◌, ℕ, List, [], Option, Some, None, refl, sym, subst, ◌∙◌, inl, inr, true≢false, arith}
 use Rattle.std.proofs.KnownBytes.{Appends-nil}
 use Rattle.acd_terms.specs.Limits.{greatest_limits, limits_fit}
 use Rattle.acd_terms.specs.declared.command.Arrival.{Arrival}
@@ -14,9 +13,11 @@ use Rattle.acd_desk.specs.declared.desk.Desk.{Desk}
 use Rattle.acd_desk.specs.Opening.{Opened}
 use Rattle.acd_desk.specs.Ran.{Ran}
 use Rattle.acd_desk.proofs.ContentLaws.{empty_sound}
-use Rattle.acd_lines.specs.Input.{cut, lines_of, arrivals_in}
-use Rattle.acd_lines.specs.Output.{IsInput, IsOutput, IsBegun}
-use Rattle.acd_program.specs.Answered.{nothing, in_memory, IsNewDesk, AnsweredFromNothing, AnswersAll, AnswersSome}
+use Rattle.acd_io.specs.Read.{IsInput}
+use Rattle.acd_program.specs.Answered.{nothing, in_memory, IsNewDesk, AnsweredFromNothing}
+use Rattle.acd_lines.specs.Lines.{LinesAnswered, FirstLines, ArrivalsAnswered}
+use Rattle.acd_io.specs.Sent.{Begins}
+use Rattle.acd_lines.proofs.Weaker.{arrivals_so}
 
 pub new_over : (old : BookState) (new : Standing) → new.book.is_clean → old.is_sound → old.content ≡ nothing → Opened old new → IsNewDesk new
 unfolding limits_fit
@@ -44,7 +45,7 @@ from_nothing : (old new : Standing) → IsNewDesk old → IsQuiet old new → (a
 from_nothing old new first quiet arrivals answers ran = record {
   even = ran.even;
   replies = subst (λ (c : Content). sent answers ≡ replies c (served arrivals answers)) first.empty (ran.replies quiet.clean first.starts);
-  no_fault = λ found. elim (ran.fault found) [
+  no_fault = λ found. elim (ran.cause (ran.shuts found)) [
     | inl cause ↦ elim cause [
       | inl failed ↦ absurd (true≢false (sym failed ∙ first.works))
       | inr risen ↦ quiet.quiet risen
@@ -53,32 +54,11 @@ from_nothing old new first quiet arrivals answers ran = record {
   ];
 }
 
-pub answers_all : (old new : Standing) → IsNewDesk old → IsQuiet old new → (had before behind : Option (List ℕ))
-    → ((input written : List ℕ) × (answers : List Taken) × IsInput had input × IsOutput (lines_of (cut input)) answers written × Appends before behind written × Ran old (arrivals_in (lines_of (cut input))) answers new)
-    → AnswersAll had before behind
-answers_all old new first quiet had before behind h = record {
-  input = h.0;
-  written = h.1;
-  answers = h.2;
-  whole = h.3;
-  output = h.4;
-  appended = h.5;
-  from_nothing = from_nothing old new first quiet (arrivals_in (lines_of (cut h.0))) h.2 h.6;
-}
-
-pub answers_some : (old new : Standing) → IsNewDesk old → IsQuiet old new → (had before behind : Option (List ℕ))
-    → ((input written : List ℕ) × (n : ℕ) × (answers : List Taken) × IsInput had input × IsBegun (lines_of (take n (cut input))) answers written × Appends before behind written × Ran old (arrivals_in (lines_of (take n (cut input)))) answers new)
-    → AnswersSome had before behind
-answers_some old new first quiet had before behind h = record {
-  input = h.0;
-  written = h.1;
-  count = h.2;
-  answers = h.3;
-  whole = h.4;
-  output = h.5;
-  appended = h.6;
-  from_nothing = from_nothing old new first quiet (arrivals_in (lines_of (take h.2 (cut h.0)))) h.3 h.7;
-}
+-- lines over a new desk
+pub lines_from_nothing : (P : List (List ℕ) → Type 0) (W : List ℕ → Type 0) (old new : Standing) → IsNewDesk old → IsQuiet old new → LinesAnswered P (ArrivalsAnswered (λ (l : List Arrival) (ts : List Taken). Ran old l ts new)) W
+    → LinesAnswered P (ArrivalsAnswered AnsweredFromNothing) W
+lines_from_nothing P W old new first quiet h =
+    arrivals_so P (λ (l : List Arrival) (ts : List Taken). Ran old l ts new) AnsweredFromNothing W (λ l ts ran. from_nothing old new first quiet l ts ran) h
 
 -- no line was answered
 none_from_nothing : AnsweredFromNothing [] []
@@ -92,14 +72,11 @@ is_some_input : (had : Option (List ℕ)) → IsInput had (some_input had)
 is_some_input (Some input) = refl
 is_some_input None = search
 
-pub answers_none : (had before : Option (List ℕ)) → AnswersSome had before before
+pub answers_none : (had before : Option (List ℕ)) → LinesAnswered (FirstLines had) (ArrivalsAnswered AnsweredFromNothing) (Begins before before)
 answers_none had before = record {
-  input = some_input had;
-  written = [];
-  count = 0;
+  taken = [];
   answers = [];
-  whole = is_some_input had;
-  output = record { outs = []; unwritten = []; answered = search; whole = refl };
-  appended = Appends-nil before;
-  from_nothing = none_from_nothing;
+  picked = (some_input had, 0, is_some_input had, refl);
+  answered = ([], search, none_from_nothing);
+  out = record { front = []; rest = []; whole = refl; written = Appends-nil before };
 }

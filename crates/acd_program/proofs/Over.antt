@@ -1,5 +1,5 @@
 -- What lines over a book leave, by what opening a desk and its run left; and over a connection, by what its book left.
-use Rattle.std.proofs.Common.{◌≡◌, ℕ, ◌≤◌, Bool, true, List, Option, take, sym, subst, ◌∙◌, inl, inr, true≢false}
+use Rattle.std.proofs.Common.{◌≡◌, ℕ, ◌≤◌, Bool, true, List, sym, subst, ◌∙◌, inl, inr, true≢false}
 use Rattle.std.specs.List.{Contains}
 use Rattle.sqlite.specs.State.{State}
 use Rattle.acd_terms.specs.declared.command.Arrival.{Arrival}
@@ -11,38 +11,20 @@ use Rattle.acd_desk.specs.declared.taken.Taken.{Taken}
 use Rattle.acd_desk.specs.declared.taken.Taken.TheVariants.{StoreFault}
 use Rattle.acd_desk.specs.Served.{served, maybe_last, sent}
 use Rattle.acd_desk.specs.Standing.{Standing}
-use Rattle.acd_desk.specs.Stands.{IsSound, ran_after, replies, StopsAt}
+use Rattle.acd_desk.specs.Stands.{IsSound, replies, StopsAt}
 use Rattle.acd_desk.specs.Opening.{Opened}
 use Rattle.acd_desk.specs.Ran.{Ran, IsFault, Holds}
 use Rattle.acd_desk.specs.Session.{Session}
 use Rattle.acd_desk.proofs.Sessions.{session_ran}
-use Rattle.acd_lines.specs.Input.{cut, lines_of, arrivals_in}
-use Rattle.acd_lines.specs.Lines.{AnsweredAll, AnsweredFirst, AnsweredSome}
-use Rattle.acd_program.specs.Over.{AnswersOver, BeginsOver, FailsOver, OverConnection}
+use Rattle.acd_lines.specs.Lines.{LinesAnswered, ArrivalsAnswered}
+use Rattle.acd_lines.proofs.Weaker.{arrivals_so}
+use Rattle.acd_program.specs.Over.{IsSession, IsFailedSession, OverConnection}
 use Rattle.acd_program.specs.Taking.{IsOf, IsTaken}
 
-pub answers_over : (old : BookState) (d e : Standing) → Opened old d → (had before behind : Option (List ℕ)) → AnsweredAll d had before behind e → AnswersOver old had before behind e.book
-answers_over old d e opened had before behind h = record {
-  input = h.0;
-  written = h.1;
-  answers = h.2;
-  whole = h.3;
-  output = h.4;
-  appended = h.5;
-  session = session_ran IsFault old d e (arrivals_in (lines_of (cut h.0))) h.2 opened h.6 h.6.later;
-}
-
-pub begins_over : (old : BookState) (d e : Standing) → Opened old d → (had before behind : Option (List ℕ)) → AnsweredSome d had before behind e → BeginsOver old had before behind e.book
-begins_over old d e opened had before behind h = record {
-  input = h.0;
-  written = h.1;
-  count = h.2;
-  answers = h.3;
-  whole = h.4;
-  output = h.5;
-  appended = h.6;
-  session = session_ran IsFault old d e (arrivals_in (lines_of (take h.2 (cut h.0)))) h.3 opened h.7 h.7.later;
-}
+-- lines over a desk of the book
+pub lines_over : (P : List (List ℕ) → Type 0) (W : List ℕ → Type 0) (old : BookState) (d e : Standing) → Opened old d → LinesAnswered P (ArrivalsAnswered (λ (l : List Arrival) (ts : List Taken). Ran d l ts e)) W
+    → LinesAnswered P (ArrivalsAnswered (IsSession old e.book)) W
+lines_over P W old d e opened h = arrivals_so P (λ (l : List Arrival) (ts : List Taken). Ran d l ts e) (IsSession old e.book) W (λ l ts ran. session_ran IsFault old d e l ts opened ran ran.later) h
 
 -- a desk that was just opened hadn't failed
 failed_since : (old : BookState) (d e : Standing) (l : List Arrival) (ts : List Taken) → Opened old d → Ran d l ts e → e.failed ≡ true → Contains ts StoreFault
@@ -51,20 +33,10 @@ failed_since old d e l ts opened ran failed = elim (ran.tells failed) [
   | inr told ↦ told
 ]
 
-pub fails_over : (old : BookState) (d e : Standing) → Opened old d → (had before behind : Option (List ℕ)) → (e.failed ≡ true) × AnsweredFirst d had before behind e → FailsOver old had before behind e.book
-fails_over old d e opened had before behind both =
-    let h = both.1 in
-    record {
-      input = h.0;
-      written = h.1;
-      count = h.2;
-      answers = h.3;
-      whole = h.4;
-      output = h.5;
-      appended = h.6;
-      session = session_ran IsFault old d e (arrivals_in (lines_of (take h.2 (cut h.0)))) h.3 opened h.7 h.7.later;
-      failed = failed_since old d e (arrivals_in (lines_of (take h.2 (cut h.0)))) h.3 opened h.7 both.0;
-    }
+pub lines_failed : (P : List (List ℕ) → Type 0) (W : List ℕ → Type 0) (old : BookState) (d e : Standing) → Opened old d → e.failed ≡ true → LinesAnswered P (ArrivalsAnswered (λ (l : List Arrival) (ts : List Taken). Ran d l ts e)) W
+    → LinesAnswered P (ArrivalsAnswered (IsFailedSession old e.book)) W
+lines_failed P W old d e opened failed h =
+    arrivals_so P (λ (l : List Arrival) (ts : List Taken). Ran d l ts e) (IsFailedSession old e.book) W (λ l ts ran. (session_ran IsFault old d e l ts opened ran ran.later, failed_since old d e l ts opened ran failed)) h
 
 -- ---- over a book that came of another
 
@@ -80,11 +52,8 @@ session_of P old mid new l ts of s =
       opened = λ clean is. of.opened (s.clean clean) is;
       accepts = λ clean is. subst (λ (c : Content). BreaksNoRule c.rows) (same clean is) (s.accepts clean (sound clean is));
       replies = λ clean is whole. subst (λ (c : Content). sent ts ≡ replies c (served l ts)) (same clean is) (s.replies clean (sound clean is) (well clean is whole));
-      content = λ clean is whole opened. subst (λ (c : Content). new.content ≡ ran_after c (served l ts)) (same clean is) (s.content clean (sound clean is) (well clean is whole) opened);
-      whole = λ clean is whole opened. s.whole clean (sound clean is) (well clean is whole) opened;
-      laws = λ clean is whole opened. s.laws clean (sound clean is) (well clean is whole) opened;
+      holds = λ clean is whole opened. subst (λ (c : Content). Holds c (served l ts) new) (same clean is) (s.holds clean (sound clean is) (well clean is whole) opened);
       up = λ clean is last. s.up clean (sound clean is) last;
-      holds = λ clean is whole last. subst (λ (c : Content). Holds c (served l ts) new) (same clean is) (s.holds clean (sound clean is) (well clean is whole) last);
       stops = λ clean is whole c at. subst (λ (x : Content). StopsAt x (served l ts) (maybe_last l ts) c) (same clean is) (s.stops clean (sound clean is) (well clean is whole) c at);
       sound_stops = λ clean is whole c at. s.sound_stops clean (sound clean is) (well clean is whole) c at;
       later = s.later;
@@ -93,41 +62,11 @@ session_of P old mid new l ts of s =
       counts = subst (λ (k : ℕ). k ≤ new.failures) of.failures s.counts;
     }
 
-pub answers_of : (old mid new : BookState) (had before behind : Option (List ℕ)) → IsOf old mid → AnswersOver mid had before behind new → AnswersOver old had before behind new
-answers_of old mid new had before behind of h = record {
-  input = h.input;
-  written = h.written;
-  answers = h.answers;
-  whole = h.whole;
-  output = h.output;
-  appended = h.appended;
-  session = session_of IsFault old mid new (arrivals_in (lines_of (cut h.input))) h.answers of h.session;
-}
+pub lines_since : (P : List (List ℕ) → Type 0) (W : List ℕ → Type 0) (old mid new : BookState) → IsOf old mid → LinesAnswered P (ArrivalsAnswered (IsSession mid new)) W → LinesAnswered P (ArrivalsAnswered (IsSession old new)) W
+lines_since P W old mid new of h = arrivals_so P (IsSession mid new) (IsSession old new) W (λ l ts s. session_of IsFault old mid new l ts of s) h
 
-pub begins_of : (old mid new : BookState) (had before behind : Option (List ℕ)) → IsOf old mid → BeginsOver mid had before behind new → BeginsOver old had before behind new
-begins_of old mid new had before behind of h = record {
-  input = h.input;
-  written = h.written;
-  count = h.count;
-  answers = h.answers;
-  whole = h.whole;
-  output = h.output;
-  appended = h.appended;
-  session = session_of IsFault old mid new (arrivals_in (lines_of (take h.count (cut h.input)))) h.answers of h.session;
-}
-
-pub fails_of : (old mid new : BookState) (had before behind : Option (List ℕ)) → IsOf old mid → FailsOver mid had before behind new → FailsOver old had before behind new
-fails_of old mid new had before behind of h = record {
-  input = h.input;
-  written = h.written;
-  count = h.count;
-  answers = h.answers;
-  whole = h.whole;
-  output = h.output;
-  appended = h.appended;
-  session = session_of IsFault old mid new (arrivals_in (lines_of (take h.count (cut h.input)))) h.answers of h.session;
-  failed = h.failed;
-}
+pub failed_lines_since : (P : List (List ℕ) → Type 0) (W : List ℕ → Type 0) (old mid new : BookState) → IsOf old mid → LinesAnswered P (ArrivalsAnswered (IsFailedSession mid new)) W → LinesAnswered P (ArrivalsAnswered (IsFailedSession old new)) W
+failed_lines_since P W old mid new of h = arrivals_so P (IsFailedSession mid new) (IsFailedSession old new) W (λ l ts s. (session_of IsFault old mid new l ts of s.0, s.1)) h
 
 -- whatever carries over to what a book came of is said of the database
 pub over_connection : (P : BookState → BookState → Type 0) (makes : Bool) (s t : State) (mid : BookState) (failures : ℕ) → ((old : BookState) → IsOf old mid → P mid (book_state t failures) → P old (book_state t failures))

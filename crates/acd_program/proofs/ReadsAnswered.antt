@@ -1,5 +1,6 @@
 -- What lines and the reads among them leave over a database, step by step.
 use Rattle.std.proofs.Common.{◌≡◌, ◌⊎◌, ℕ, Bool, true, List, Option, Some, Result, Ok, Err, IfOk, OnOk, sym, subst, inl, inr, refl}
+use Rattle.std.specs.Io.KnownBytes.{Appends}
 use Rattle.sqlite.specs.State.{State}
 use Rattle.sqlite.specs.Held.{Held}
 use Rattle.sqlite.specs.Files.{over_files, file_state}
@@ -13,8 +14,8 @@ use Rattle.acd_sqlbook.specs.declared.book.SqlBook.{SqlBook}
 use Rattle.acd_desk.specs.declared.desk.Desk.{Desk}
 use Rattle.acd_desk.specs.Opening.{Opened}
 use Rattle.acd_desk.specs.Standing.{standing}
-use Rattle.acd_lines.specs.Parts.{AllDone}
-use Rattle.acd_http.specs.ReadingLines.{reading_line_of, ReadingAnswers}
+use Rattle.acd_lines.specs.Lines.{LinesAnswered, AllLines}
+use Rattle.acd_read_lines.specs.ReadingLines.{ReadInTurn}
 use Rattle.acd_program.specs.Over.{held, unmade}
 use Rattle.acd_program.specs.Taking.{IsOf, IsTaken}
 use Rattle.acd_program.specs.Serving.{in_database}
@@ -28,7 +29,7 @@ use Rattle.acd_program.proofs.Tasks.{ok_so}
 
 -- the book behind the answers of a desk over it
 pub reads_over : {B F : Type 0} (says : book.Ghosts B) (r : Result (Unit {0}) F) (old : BookState) (first final : Desk B) (last : B) (had a b : Option (List ℕ)) → Opened old (standing says first) → last ≡ final.book
-    → OnOk r (AllDone reading_line_of (ReadingAnswers (standing says)) had first final a b) → OnOk r (ReadsOver says old had a b last)
+    → OnOk r (LinesAnswered (AllLines had) (ReadInTurn says first final) (Appends a b)) → OnOk r (ReadsOver says old had a b last)
 reads_over says (Ok u) old first final last had a b opened back h = record { first = first; final = final; opened = opened_desk old (standing says first) opened; answered = h; back = back }
 reads_over says (Err e) old first final last had a b opened back h = tt
 

@@ -17,7 +17,9 @@ use Rattle.acd_program.specs.declared.desk.Done.{Done}
 use Rattle.acd_program.specs.declared.desk.Done.TheVariants.{Nothing, Told, Audited}
 use Rattle.acd_program.specs.Found.{IsFindingOf, HasCount, finding_line}
 use Rattle.acd_program.specs.Statuses.{finding_status}
-use Rattle.acd_program.specs.Over.{AnswersOver, OverConnection}
+use Rattle.acd_lines.specs.Lines.{AllLines, AllRequests, ArrivalsAnswered, RequestsAnswered}
+use Rattle.acd_lines.proofs.Weaker.{out_so}
+use Rattle.acd_program.specs.Over.{IsSession, AnswersOver, OverConnection}
 use Rattle.acd_program.specs.Work.{Asked, IsText, ImportsOver, AuditsOver, WorkDone, IsPrinted, text_left, status_left}
 use Rattle.acd_program.specs.InFiles.{IsLaidIn, WorkedOver}
 use Rattle.acd_program.specs.Files.{IsOpenedIn}
@@ -29,24 +31,12 @@ use Rattle.sqlite_disk.specs.declared.Files.{Files}
 use Rattle.acd_program.proofs.InFiles.{over_so, over_fact, over_makes, appends_nothing}
 
 answers_printed : (old new : BookState) (had before between behind : Option (List ℕ)) → Appends between behind [] → AnswersOver old had before between new → AnswersOver old had before behind new
-answers_printed old new had before between behind none h = record {
-  input = h.input;
-  written = h.written;
-  answers = h.answers;
-  whole = h.whole;
-  output = h.output;
-  appended = appends_nothing before between behind h.written h.appended none;
-  session = h.session;
-}
+answers_printed old new had before between behind none h =
+    out_so (AllLines had) (ArrivalsAnswered (IsSession old new)) (Appends before between) (Appends before behind) (λ text written. appends_nothing before between behind text written none) h
 
 imports_printed : (requests : List Request) (old new : BookState) (before between behind : Option (List ℕ)) → Appends between behind [] → ImportsOver requests old before between new → ImportsOver requests old before behind new
-imports_printed requests old new before between behind none h = record {
-  written = h.written;
-  answers = h.answers;
-  output = h.output;
-  appended = appends_nothing before between behind h.written h.appended none;
-  session = h.session;
-}
+imports_printed requests old new before between behind none h =
+    out_so (AllRequests requests) (RequestsAnswered (IsSession old new)) (Appends before between) (Appends before behind) (λ text written. appends_nothing before between behind text written none) h
 
 nothing_left : (left : Done) (between behind : Option (List ℕ)) → left ≡ Nothing → Appends between behind (text_left left) → Appends between behind []
 nothing_left left between behind is h = subst (λ (x : Done). Appends between behind (text_left x)) is h

@@ -1,15 +1,15 @@
 -- What work over a book leaves, by what its desk left; and over a connection, by what its book left.
-use Rattle.std.proofs.Common.{◌≡◌, ℕ, Bool, List, [], map, take, Option, Some, Result, Ok, Err, OnOk, IfOk, ap, ◌∙◌, inl, inr}
+use Rattle.std.proofs.Common.{◌≡◌, ℕ, Bool, List, [], Option, Some, Result, Ok, Err, OnOk, IfOk, ap, ◌∙◌, inl, inr}
 use Rattle.std.specs.Prelude.{unwrap_or, String}
 use Rattle.std.proofs.Math.Nat.{zero-max}
 use Rattle.std.specs.Io.KnownBytes.{Appends}
 use Rattle.acd_terms.specs.declared.command.Request.{Request}
+use Rattle.acd_terms.specs.declared.command.Arrival.{Arrival}
 use Rattle.acd_book.specs.Content.{Content}
 use Rattle.acd_book.specs.State.{BookState}
 use Rattle.acd_sqlbook.specs.State.{book_state}
 use Rattle.sqlite.specs.State.{State}
 use Rattle.acd_desk.specs.declared.taken.Taken.{Taken}
-use Rattle.acd_desk.specs.Arrived.{at}
 use Rattle.acd_reports.specs.QueueReport.{queue_report}
 use Rattle.acd_desk.specs.Standing.{Standing}
 use Rattle.acd_desk.specs.Stands.{IsSound}
@@ -19,7 +19,8 @@ use Rattle.acd_desk.proofs.Rising.{sound_rises}
 use Rattle.acd_desk.specs.Opening.{Opened}
 use Rattle.acd_desk.specs.Ran.{Ran, IsFault}
 use Rattle.acd_desk.proofs.Sessions.{session_ran}
-use Rattle.acd_lines.specs.Output.{IsOutput, IsBegun, imported}
+use Rattle.acd_lines.specs.Lines.{LinesAnswered, AllRequests, RequestsAnswered}
+use Rattle.acd_lines.proofs.Weaker.{requests_so}
 use Rattle.acd_program.specs.declared.desk.Telling.{Telling}
 use Rattle.acd_program.specs.declared.desk.Telling.TheVariants.{Report, Export}
 use Rattle.acd_program.specs.declared.desk.BookWork.{BookWork}
@@ -27,54 +28,21 @@ use Rattle.acd_program.specs.declared.desk.BookWork.TheVariants.{Import, Tell, A
 use Rattle.acd_program.specs.declared.desk.Done.{Done}
 use Rattle.acd_program.specs.declared.desk.Done.TheVariants as left
 use Rattle.acd_program.specs.Found.{IsFindingOf}
-use Rattle.acd_program.specs.Work.{ImportsOver, BeginsImport, TellsOver, IsFindingIfOrdered, IsText, AuditsOver, BookDone, telling_text, text_left, status_left}
-use Rattle.acd_program.specs.Over.{OverConnection, held, unmade}
+use Rattle.acd_program.specs.Work.{ImportsOver, TellsOver, IsFindingIfOrdered, IsText, AuditsOver, BookDone, telling_text, text_left, status_left}
+use Rattle.acd_program.specs.Over.{IsSession, OverConnection, held, unmade}
 use Rattle.acd_program.specs.Taking.{IsOf, IsTaken}
 use Rattle.acd_program.proofs.InFiles.{over_so}
 use Rattle.acd_program.proofs.Over.{session_of}
 use Rattle.acd_program.proofs.Asking.{asked_by, asked_so, asked_of, asked_in_order}
 
 pub imports_over : (old : BookState) (d e : Standing) (requests : List Request) (before behind : Option (List ℕ)) → Opened old d
-    → ((written : List ℕ) × (answers : List Taken) × IsOutput (imported requests) answers written × Appends before behind written × Ran d (map (at 0) requests) answers e)
-    → ImportsOver requests old before behind e.book
-imports_over old d e requests before behind opened h = record {
-  written = h.0;
-  answers = h.1;
-  output = h.2;
-  appended = h.3;
-  session = session_ran IsFault old d e (map (at 0) requests) h.1 opened h.4 h.4.later;
-}
-
-pub begins_import : (old : BookState) (d e : Standing) (requests : List Request) (before behind : Option (List ℕ)) → Opened old d
-    → ((written : List ℕ) × (n : ℕ) × (answers : List Taken) × IsBegun (imported (take n requests)) answers written × Appends before behind written × Ran d (map (at 0) (take n requests)) answers e)
-    → BeginsImport requests old before behind e.book
-begins_import old d e requests before behind opened h = record {
-  count = h.1;
-  written = h.0;
-  answers = h.2;
-  output = h.3;
-  appended = h.4;
-  session = session_ran IsFault old d e (map (at 0) (take h.1 requests)) h.2 opened h.5 h.5.later;
-}
+    → LinesAnswered (AllRequests requests) (RequestsAnswered (λ (l : List Arrival) (ts : List Taken). Ran d l ts e)) (Appends before behind) → ImportsOver requests old before behind e.book
+imports_over old d e requests before behind opened h =
+    requests_so (AllRequests requests) (λ (l : List Arrival) (ts : List Taken). Ran d l ts e) (IsSession old e.book) (Appends before behind) (λ l ts ran. session_ran IsFault old d e l ts opened ran ran.later) h
 
 pub imports_of : (old mid new : BookState) (requests : List Request) (before behind : Option (List ℕ)) → IsOf old mid → ImportsOver requests mid before behind new → ImportsOver requests old before behind new
-imports_of old mid new requests before behind of h = record {
-  written = h.written;
-  answers = h.answers;
-  output = h.output;
-  appended = h.appended;
-  session = session_of IsFault old mid new (map (at 0) requests) h.answers of h.session;
-}
-
-pub begins_import_of : (old mid new : BookState) (requests : List Request) (before behind : Option (List ℕ)) → IsOf old mid → BeginsImport requests mid before behind new → BeginsImport requests old before behind new
-begins_import_of old mid new requests before behind of h = record {
-  count = h.count;
-  written = h.written;
-  answers = h.answers;
-  output = h.output;
-  appended = h.appended;
-  session = session_of IsFault old mid new (map (at 0) (take h.count requests)) h.answers of h.session;
-}
+imports_of old mid new requests before behind of h =
+    requests_so (AllRequests requests) (IsSession mid new) (IsSession old new) (Appends before behind) (λ l ts s. session_of IsFault old mid new l ts of s) h
 
 audits_of : (counts : Bool) (old mid new : BookState) (done : Done) → IsOf old mid → AuditsOver IsFindingIfOrdered counts mid done new → AuditsOver IsFindingOf counts old done new
 audits_of counts old mid new left.Nothing of h = h

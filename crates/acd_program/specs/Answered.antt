@@ -1,5 +1,5 @@
 -- What a new desk in memory answers.
-use Rattle.std.specs.Prelude.{◌≡◌, ℕ, false, List, length, take, Option}
+use Rattle.std.specs.Prelude.{◌≡◌, ℕ, false, List, length, Option}
 use Rattle.std.specs.List.{Contains}
 use Rattle.std.specs.Io.KnownBytes.{Appends}
 use Rattle.acd_terms.specs.Limits.{greatest_limits}
@@ -12,8 +12,7 @@ use Rattle.acd_desk.specs.declared.taken.Taken.TheVariants.{StoreFault}
 use Rattle.acd_desk.specs.Served.{served, sent}
 use Rattle.acd_desk.specs.Stands.{replies}
 use Rattle.acd_desk.specs.Standing.{Standing, Starts}
-use Rattle.acd_lines.specs.Input.{cut, lines_of, arrivals_in}
-use Rattle.acd_lines.specs.Output.{IsInput, IsOutput, IsBegun}
+use Rattle.acd_lines.specs.Lines.{LinesAnswered, AllLines, ArrivalsAnswered}
 
 -- nothing was executed, under the greatest limits
 abbrev pub nothing : Content
@@ -36,22 +35,5 @@ pub record AnsweredFromNothing (arrivals : List Arrival) (answers : List Taken) 
   pub no_fault : ¬ (Contains answers StoreFault)
 
 -- the whole input, and one answer line for each of its lines
-pub record AnswersAll (had before behind : Option (List ℕ)) : Type 0 where
-  pub input : List ℕ
-  pub written : List ℕ
-  pub answers : List Taken
-  pub whole : IsInput had input
-  pub output : IsOutput (lines_of (cut input)) answers written
-  pub appended : Appends before behind written
-  pub from_nothing : AnsweredFromNothing (arrivals_in (lines_of (cut input))) answers
-
--- the first lines of an input, and a beginning of their answer lines
-pub record AnswersSome (had before behind : Option (List ℕ)) : Type 0 where
-  pub input : List ℕ
-  pub written : List ℕ
-  pub count : ℕ
-  pub answers : List Taken
-  pub whole : IsInput had input
-  pub output : IsBegun (lines_of (take count (cut input))) answers written
-  pub appended : Appends before behind written
-  pub from_nothing : AnsweredFromNothing (arrivals_in (lines_of (take count (cut input)))) answers
+abbrev pub AnswersAll : Option (List ℕ) → Option (List ℕ) → Option (List ℕ) → Type 0
+AnswersAll had before behind = LinesAnswered (AllLines had) (ArrivalsAnswered AnsweredFromNothing) (Appends before behind)

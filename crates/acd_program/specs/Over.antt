@@ -1,9 +1,10 @@
 -- What lines over a book answer, and what they leave.
-use Rattle.std.specs.Prelude.{◌≡◌, ◌⊎◌, ℕ, Bool, true, List, take, Option, IsTrue, ⊤}
+use Rattle.std.specs.Prelude.{◌≡◌, ◌⊎◌, ℕ, Bool, true, List, Option, IsTrue, ⊤}
 use Rattle.std.specs.List.{Contains}
 use Rattle.std.specs.Io.KnownBytes.{Appends}
 use Rattle.sqlite_trees.specs.Tree.{Trees}
 use Rattle.sqlite.specs.State.{State, HasCleanDisk}
+use Rattle.acd_terms.specs.declared.command.Arrival.{Arrival}
 use Rattle.acd_book.specs.State.{BookState}
 use Rattle.acd_columns.specs.AnyRows.{IsFiled}
 use Rattle.acd_columns.specs.Content.{Encodes}
@@ -15,8 +16,7 @@ use Rattle.acd_desk.specs.declared.taken.Taken.{Taken}
 use Rattle.acd_desk.specs.declared.taken.Taken.TheVariants.{StoreFault}
 use Rattle.acd_desk.specs.Ran.{IsFault}
 use Rattle.acd_desk.specs.Session.{Session}
-use Rattle.acd_lines.specs.Input.{cut, lines_of, arrivals_in}
-use Rattle.acd_lines.specs.Output.{IsInput, IsOutput, IsBegun}
+use Rattle.acd_lines.specs.Lines.{LinesAnswered, AllLines, ArrivalsAnswered}
 use Rattle.acd_program.specs.Answered.{nothing}
 use Rattle.acd_program.specs.declared.session.SessionFault.{SessionFault}
 use Rattle.acd_program.specs.declared.session.SessionFault.TheVariants.{Open, Lines, StoreFailed}
@@ -32,38 +32,17 @@ IsLinesFault StoreFailed = ⊥
 abbrev pub IsStoreFailed : SessionFault → Type 0
 IsStoreFailed fault = fault ≡ StoreFailed
 
+-- the answers to arrivals that are a session, from a book to what it is then
+abbrev pub IsSession : BookState → BookState → List Arrival → List Taken → Type 0
+IsSession old new arrivals answers = Session IsFault old arrivals answers new
+
+-- and one of them is a storeFault
+abbrev pub IsFailedSession : BookState → BookState → List Arrival → List Taken → Type 0
+IsFailedSession old new arrivals answers = Session IsFault old arrivals answers new × Contains answers StoreFault
+
 -- the whole input, and one answer line for each of its lines; the arrivals among them are a session over the book
-pub record AnswersOver (old : BookState) (had before behind : Option (List ℕ)) (new : BookState) : Type 0 where
-  pub input : List ℕ
-  pub written : List ℕ
-  pub answers : List Taken
-  pub whole : IsInput had input
-  pub output : IsOutput (lines_of (cut input)) answers written
-  pub appended : Appends before behind written
-  pub session : Session IsFault old (arrivals_in (lines_of (cut input))) answers new
-
--- the first lines of an input, and a beginning of their answer lines
-pub record BeginsOver (old : BookState) (had before behind : Option (List ℕ)) (new : BookState) : Type 0 where
-  pub input : List ℕ
-  pub written : List ℕ
-  pub count : ℕ
-  pub answers : List Taken
-  pub whole : IsInput had input
-  pub output : IsBegun (lines_of (take count (cut input))) answers written
-  pub appended : Appends before behind written
-  pub session : Session IsFault old (arrivals_in (lines_of (take count (cut input)))) answers new
-
--- the first lines of an input, and one answer line for each of them; one is a storeFault
-pub record FailsOver (old : BookState) (had before behind : Option (List ℕ)) (new : BookState) : Type 0 where
-  pub input : List ℕ
-  pub written : List ℕ
-  pub count : ℕ
-  pub answers : List Taken
-  pub whole : IsInput had input
-  pub output : IsOutput (lines_of (take count (cut input))) answers written
-  pub appended : Appends before behind written
-  pub session : Session IsFault old (arrivals_in (lines_of (take count (cut input)))) answers new
-  pub failed : Contains answers StoreFault
+abbrev pub AnswersOver : BookState → Option (List ℕ) → Option (List ℕ) → Option (List ℕ) → BookState → Type 0
+AnswersOver old had before behind new = LinesAnswered (AllLines had) (ArrivalsAnswered (IsSession old new)) (Appends before behind)
 
 -- ---- over a connection
 

@@ -1,5 +1,6 @@
 -- What lines and the reads among them are answered, over the book of a database or over a new one in memory.
 use Rattle.std.specs.Prelude.{◌≡◌, ◌⊎◌, ℕ, Bool, true, List, Option}
+use Rattle.std.specs.Io.KnownBytes.{Appends}
 use Rattle.sqlite.specs.State.{State}
 use Rattle.sqlite.specs.Held.{Held}
 use Rattle.sqlite_trees.specs.declared.store.Store.{Ghosts}
@@ -10,8 +11,8 @@ use Rattle.acd_columns.specs.Schema.{no_schema}
 use Rattle.acd_sqlbook.specs.declared.book.SqlBook.{SqlBook}
 use Rattle.acd_desk.specs.declared.desk.Desk.{Desk}
 use Rattle.acd_desk.specs.Standing.{standing}
-use Rattle.acd_lines.specs.Parts.{AllDone}
-use Rattle.acd_http.specs.ReadingLines.{reading_line_of, ReadingAnswers}
+use Rattle.acd_lines.specs.Lines.{LinesAnswered, AllLines}
+use Rattle.acd_read_lines.specs.ReadingLines.{ReadInTurn}
 use Rattle.acd_program.specs.Answered.{in_memory, IsNewDesk}
 use Rattle.acd_program.specs.Over.{held, unmade}
 use Rattle.acd_program.specs.Serving.{IsDeskOf, in_database}
@@ -21,14 +22,14 @@ pub record ReadsFromNothing (had before behind : Option (List ℕ)) : Type 0 whe
   pub first : Desk Content
   pub final : Desk Content
   pub opened : IsNewDesk (standing in_memory first)
-  pub answered : AllDone reading_line_of (ReadingAnswers (standing in_memory)) had first final before behind
+  pub answered : LinesAnswered (AllLines had) (ReadInTurn in_memory first final) (Appends before behind)
 
 -- over a desk of the book it was, and the book came back
 pub record ReadsOver {B : Type 0} (says : book.Ghosts B) (old : BookState) (had before behind : Option (List ℕ)) (last : B) : Type 0 where
   pub first : Desk B
   pub final : Desk B
   pub opened : IsDeskOf old (standing says first)
-  pub answered : AllDone reading_line_of (ReadingAnswers (standing says)) had first final before behind
+  pub answered : LinesAnswered (AllLines had) (ReadInTurn says first final) (Appends before behind)
   pub back : last ≡ final.book
 
 module _ {S : Type 0} (store : Ghosts S) where

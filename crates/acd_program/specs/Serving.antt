@@ -12,7 +12,7 @@ use Rattle.acd_sqlbook.specs.State.{book_state}
 use Rattle.acd_desk.specs.declared.desk.Desk.{Desk}
 use Rattle.acd_desk.specs.Stands.{IsSound}
 use Rattle.acd_desk.specs.Standing.{Standing, Starts, standing}
-use Rattle.acd_lines.specs.Sent.{Begins}
+use Rattle.acd_io.specs.Sent.{Begins}
 use Rattle.acd_http.specs.Listening.{ServedFor}
 use Rattle.acd_program.specs.Over.{held, unmade}
 

@@ -1,6 +1,6 @@
 -- Exit statuses, and what goes with them.
 use Rattle.std.specs.Prelude.{◌≡◌, ◌⊎◌, ℕ, List, Option}
-use Rattle.acd_lines.specs.Sent.{Begins}
+use Rattle.acd_io.specs.Sent.{Begins}
 use Rattle.acd_program.specs.declared.auditing.Finding.{Finding}
 use Rattle.acd_program.specs.declared.auditing.Finding.TheVariants.{Sound, Counted, Differs}
 use Rattle.acd_http.specs.Listening.{Outcome, outcome_lines}

@@ -1,5 +1,5 @@
 -- What is done over a book, and what is left to print of it.
-use Rattle.std.specs.Prelude.{◌≡◌, ℕ, Bool, List, [], map, take, Option, Result, Ok, string_bytes}
+use Rattle.std.specs.Prelude.{◌≡◌, ℕ, Bool, List, [], Option, Result, Ok, string_bytes}
 use Rattle.std.specs.Io.KnownBytes.{Appends}
 use Rattle.acd_terms.specs.declared.command.Request.{Request}
 use Rattle.acd_book.specs.Content.{Content, Within}
@@ -7,15 +7,11 @@ use Rattle.acd_book.specs.Order.{IsOrdered}
 use Rattle.acd_book.specs.State.{BookState, IfHonest}
 use Rattle.acd_reports.specs.QueueReport.{queue_report}
 use Rattle.acd_reports.specs.Export.{events_csv}
-use Rattle.acd_desk.specs.declared.taken.Taken.{Taken}
-use Rattle.acd_desk.specs.Arrived.{at}
-use Rattle.acd_desk.specs.Ran.{IsFault}
-use Rattle.acd_desk.specs.Session.{Session}
 use Rattle.acd_desk.specs.Stands.{IsSound}
-use Rattle.acd_lines.specs.Output.{IsOutput, IsBegun, imported}
+use Rattle.acd_lines.specs.Lines.{LinesAnswered, AllRequests, RequestsAnswered}
 use Rattle.acd_program.specs.Found.{IsFindingOf, HasCount, finding_line}
 use Rattle.acd_program.specs.Statuses.{finding_status}
-use Rattle.acd_program.specs.Over.{AnswersOver}
+use Rattle.acd_program.specs.Over.{AnswersOver, IsSession}
 use Rattle.acd_program.specs.declared.auditing.Finding.{Finding}
 use Rattle.acd_program.specs.declared.desk.Telling.{Telling}
 use Rattle.acd_program.specs.declared.desk.Telling.TheVariants.{Report, Export}
@@ -77,21 +73,8 @@ AuditsOver IsAnswer counts old (Told text) new = ⊥
 AuditsOver IsAnswer counts old (Audited found) new = HasCount counts found × Asked old IsAnswer found new
 
 -- the requests came in at moment 0, one after the other, and one answer line was written for each; they are a session over the book
-pub record ImportsOver (requests : List Request) (old : BookState) (before behind : Option (List ℕ)) (new : BookState) : Type 0 where
-  pub written : List ℕ
-  pub answers : List Taken
-  pub output : IsOutput (imported requests) answers written
-  pub appended : Appends before behind written
-  pub session : Session IsFault old (map (at 0) requests) answers new
-
--- the first of them, and a beginning of their answer lines
-pub record BeginsImport (requests : List Request) (old : BookState) (before behind : Option (List ℕ)) (new : BookState) : Type 0 where
-  pub count : ℕ
-  pub written : List ℕ
-  pub answers : List Taken
-  pub output : IsBegun (imported (take count requests)) answers written
-  pub appended : Appends before behind written
-  pub session : Session IsFault old (map (at 0) (take count requests)) answers new
+abbrev pub ImportsOver : List Request → BookState → Option (List ℕ) → Option (List ℕ) → BookState → Type 0
+ImportsOver requests old before behind new = LinesAnswered (AllRequests requests) (RequestsAnswered (IsSession old new)) (Appends before behind)
 
 -- the work was done; only what isn't printed behind it is written
 abbrev pub BookDone : (Content → Finding → Type 0) → BookWork → BookState → Option (List ℕ) → Option (List ℕ) → Done → BookState → Type 0

@@ -3,7 +3,7 @@
 ghost use Rattle.std.specs.Prelude.{◌≡◌, IfOk};
 ghost use Rattle.acd_book.specs.State.{IfHonest};
 ghost use Rattle.acd_desk.specs.Standing.{standing};
-ghost use Rattle.acd_desk.specs.Told.{Told};
+ghost use Rattle.acd_desk.specs.Told.{DeskTold};
 ghost use Rattle.acd_program.specs.Found.{uncounted, IsFinding, HasCount};
 
 use acd_book::Book;
@@ -32,7 +32,7 @@ fn uncounted(told: Audit) -> Finding
 pub(crate) fn audited<B: Book>(desk: &mut Desk<B>, counts: bool) -> Result<Finding, DeskFault>
     ensures found { IfHonest (standing B.Book desk.old).book (standing B.Book desk.new).book
         (IfOk result (λ found. IsFinding (standing B.Book desk.old) found)) }
-    ensures told { Told (standing B.Book desk.old) (standing B.Book desk.new) result (λ c found. Unit {0}) }
+    ensures told { DeskTold B.Book desk.old desk.new result (λ c found. Unit {0}) }
     ensures counted { IfOk result (HasCount counts) }
 {
     let told = match desk.audit() {

@@ -6,7 +6,9 @@ ghost use Rattle.sqlite.specs.State.{HasCleanDisk};
 ghost use Rattle.acd_terms.specs.Limits.{greatest_limits};
 ghost use Rattle.acd_schema.specs.SettingUp.{MayMake};
 ghost use Rattle.acd_sqlbook.specs.State.{book_state};
-ghost use Rattle.acd_program.specs.Over.{AnswersOver, FailsOver, BeginsOver, OverConnection, Unserved, unmade};
+ghost use Rattle.acd_lines.specs.Lines.{LinesAnswered, AllLines, FirstLines, ArrivalsAnswered};
+ghost use Rattle.acd_io.specs.Sent.{Begins};
+ghost use Rattle.acd_program.specs.Over.{IsSession, IsFailedSession, OverConnection, Unserved, unmade};
 ghost use Rattle.acd_program.specs.Taking.{IsOf, IsTaken};
 ghost use Rattle.acd_program.specs.Endings.{EndsLines, EndsOnStoreFault, EndsUnread};
 
@@ -79,15 +81,29 @@ pub fn lines_over_connection<S: Alter, R: Read, W: Write>(
 ) -> (Result<(), ConnectionFault>, Connection<S>)
     requires { conn.in_transaction ≡ false }
     // one answer line for each line, and the arrivals among them are a session over what the database held
-    ensures ok { OnOk result.0 (OverConnection (λ old new. AnswersOver old (R.remaining reader.old) (W.contents writer.old) (W.contents writer.new) new) makes (state S.Store conn) (state S.Store result.1)) }
+    ensures ok { OnOk result.0 (OverConnection (λ old new.
+        LinesAnswered (AllLines (R.remaining reader.old))
+        (ArrivalsAnswered (IsSession old new))
+        (Appends (W.contents writer.old) (W.contents writer.new)))
+        makes (state S.Store conn) (state S.Store result.1)) }
     // where reading or writing ended it, for a beginning of the input
-    ensures stopped { IfErr result.0 (λ fault. EndsLines fault → OverConnection (λ old new. BeginsOver old (R.remaining reader.old) (W.contents writer.old) (W.contents writer.new) new) makes (state S.Store conn) (state S.Store result.1)) }
+    ensures stopped { IfErr result.0 (λ fault. EndsLines fault → OverConnection (λ old new.
+        LinesAnswered (FirstLines (R.remaining reader.old))
+        (ArrivalsAnswered (IsSession old new))
+        (Begins (W.contents writer.old) (W.contents writer.new)))
+        makes (state S.Store conn) (state S.Store result.1)) }
     // where a storeFault ended it, which was asked for, for the first lines
     ensures failed { IfErr result.0 (λ fault. EndsOnStoreFault fault → (ends_on_store_fault ≡ true)
-        × OverConnection (λ old new. FailsOver old (R.remaining reader.old) (W.contents writer.old) (W.contents writer.new) new) makes (state S.Store conn) (state S.Store result.1)) }
+        × OverConnection (λ old new.
+        LinesAnswered (FirstLines (R.remaining reader.old))
+        (ArrivalsAnswered (IsFailedSession old new))
+        (Appends (W.contents writer.old) (W.contents writer.new)))
+        makes (state S.Store conn) (state S.Store result.1)) }
     // where there is no desk nothing was read or written, and a crash leaves what it left before or a new book
-    ensures unread { IfErr result.0 (λ fault. EndsUnread fault → (reader.new ≡ reader.old) × (writer.new ≡ writer.old)) }
-    ensures unserved { IfErr result.0 (λ fault. EndsUnread fault → Unserved makes (state S.Store conn) (state S.Store result.1)) }
+    ensures unread { IfErr result.0 (λ fault. EndsUnread fault
+        → (reader.new ≡ reader.old) × (writer.new ≡ writer.old)) }
+    ensures unserved { IfErr result.0 (λ fault. EndsUnread fault
+        → Unserved makes (state S.Store conn) (state S.Store result.1)) }
     ensures idle { result.1.in_transaction ≡ false }
 {
     let book = match book_over(alloc, conn, makes) {

@@ -2,9 +2,8 @@
 
 ghost use Rattle.std.specs.Prelude.{◌≡◌, false, [], Some, IfOk, OnOk, unwrap_or};
 ghost use Rattle.sqlite.specs.Held.{state};
-ghost use Rattle.acd_desk.specs.Standing.{standing};
 ghost use Rattle.acd_desk.specs.Stands.{IsSound};
-ghost use Rattle.acd_desk.specs.Told.{Told};
+ghost use Rattle.acd_desk.specs.Told.{DeskTold};
 ghost use Rattle.acd_desk.specs.Tells.{told};
 ghost use Rattle.acd_program.specs.Over.{AnswersOver, OverConnection};
 ghost use Rattle.acd_program.specs.Work.{telling_text, text_left, status_left, ImportsOver, TellsOver, AuditsOver, IsFindingIfOrdered, BookDone, WorkDone};
@@ -79,8 +78,8 @@ fn imported<'a, B: Book, W: Write>(
 
 // What the desk tells. There always is a text.
 fn text_of<B: Book>(desk: &mut Desk<B>, telling: Telling) -> Result<Option<String>, DeskFault>
-    ensures { Told (standing B.Book desk.old) (standing B.Book desk.new) result
-        (λ c text. IsSound c → told text ≡ Some (telling_text telling c)) }
+    ensures { DeskTold B.Book desk.old desk.new result (λ c text.
+        IsSound c → told text ≡ Some (telling_text telling c)) }
 {
     match telling {
         Telling::Report => desk.report(0),

@@ -1,8 +1,11 @@
 //! A desk in memory, whose replies last as long as the program runs.
 
 ghost use Rattle.std.specs.Prelude.{IfOk, OnOk, OnErr};
+ghost use Rattle.std.specs.Io.KnownBytes.{Appends};
 ghost use Rattle.acd_desk.specs.Ran.{standing};
-ghost use Rattle.acd_program.specs.Answered.{in_memory, IsNewDesk, AnswersAll, AnswersSome};
+ghost use Rattle.acd_lines.specs.Lines.{LinesAnswered, AllLines, FirstLines, ArrivalsAnswered};
+ghost use Rattle.acd_io.specs.Sent.{Begins};
+ghost use Rattle.acd_program.specs.Answered.{in_memory, IsNewDesk, AnsweredFromNothing};
 
 use acd_book::MemoryBook;
 use acd_desk::{Desk, OpenFault};
@@ -33,9 +36,13 @@ pub fn lines_over_memory<R: Read, W: Write>(
     writer: &mut W,
 ) -> Result<(), LinesFault>
     // one answer line for each line, and the arrivals among them are answered as the abstract desk answers them
-    ensures ok { OnOk result (AnswersAll (R.remaining reader.old) (W.contents writer.old) (W.contents writer.new)) }
+    ensures ok { OnOk result (LinesAnswered (AllLines (R.remaining reader.old))
+        (ArrivalsAnswered AnsweredFromNothing)
+        (Appends (W.contents writer.old) (W.contents writer.new))) }
     // after any fault, for a beginning of the input
-    ensures stopped { OnErr result (AnswersSome (R.remaining reader.old) (W.contents writer.old) (W.contents writer.new)) }
+    ensures stopped { OnErr result (LinesAnswered (FirstLines (R.remaining reader.old))
+        (ArrivalsAnswered AnsweredFromNothing)
+        (Begins (W.contents writer.old) (W.contents writer.new))) }
 {
     match new_desk(alloc) {
         Ok(mut desk) => lines(alloc, &mut desk, reader, writer),

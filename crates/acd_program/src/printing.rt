@@ -2,7 +2,7 @@
 
 ghost use Rattle.std.specs.Prelude.{◌≡◌, ◌++◌, ◌∷◌, [], decimal, OnOk, OnErr, IfOk, IfErr};
 ghost use Rattle.std.specs.Io.KnownBytes.{Appends};
-ghost use Rattle.acd_lines.specs.Sent.{Begins};
+ghost use Rattle.acd_io.specs.Sent.{Begins};
 ghost use Rattle.acd_program.specs.Found.{finding_line};
 ghost use Rattle.acd_program.specs.Statuses.{IsDone, finding_status};
 ghost use Rattle.acd_program.specs.Work.{text_left, status_left};
@@ -10,7 +10,7 @@ ghost use Rattle.acd_program.specs.Work.{text_left, status_left};
 use crate::auditing::Finding;
 use crate::desk::Done;
 use crate::fault::Fault;
-use acd_lines::{Stopped, send};
+use acd_io::{Stopped, send};
 use itoa::Buffer;
 use std::io::Write;
 

@@ -1,10 +1,11 @@
 //! Lines and the reads among them, over the desk of a database or a new one in memory.
 
 ghost use Rattle.std.specs.Prelude.{◌≡◌, true, false, OnOk};
+ghost use Rattle.std.specs.Io.KnownBytes.{Appends};
 ghost use Rattle.sqlite.specs.Held.{state};
 ghost use Rattle.acd_desk.specs.Standing.{standing};
-ghost use Rattle.acd_lines.specs.Parts.{AllDone};
-ghost use Rattle.acd_http.specs.ReadingLines.{reading_line_of, ReadingAnswers};
+ghost use Rattle.acd_lines.specs.Lines.{LinesAnswered, AllLines};
+ghost use Rattle.acd_read_lines.specs.ReadingLines.{ReadInTurn};
 ghost use Rattle.acd_program.specs.ReadsAnswered.{ReadsFromNothing, ReadsOver, ReadsDatabase};
 
 use crate::connection::book_over;
@@ -13,8 +14,8 @@ use crate::memory::new_desk;
 use crate::serving::unless_failed;
 use acd_book::Book;
 use acd_desk::Desk;
-use acd_http::lines_with_reads;
 use acd_lines::LinesFault;
+use acd_read_lines::lines_with_reads;
 use sqlite::{Alter, Connection};
 use std::alloc::{AllocError, Global};
 use std::io::{Read, Write};
@@ -50,7 +51,9 @@ fn answer<'a, B: Book, R: Read, W: Write>(
     reader: &mut R,
     writer: &mut W,
 ) -> Result<(), Fault<'a>>
-    ensures { OnOk result (AllDone reading_line_of (ReadingAnswers (standing B.Book)) (R.remaining reader.old) desk.old desk.new (W.contents writer.old) (W.contents writer.new)) }
+    ensures { OnOk result (LinesAnswered (AllLines (R.remaining reader.old))
+        (ReadInTurn B.Book desk.old desk.new)
+        (Appends (W.contents writer.old) (W.contents writer.new))) }
 {
     match lines_with_reads(alloc, desk, ends_on_store_fault, reader, writer) {
         Ok(()) => ended(desk, ends_on_store_fault),

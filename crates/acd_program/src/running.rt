@@ -282,7 +282,8 @@ pub fn program<S: AsStr, R: Read, W: Write, E: Write>(
     errors: &mut E,
 ) -> u8
     // success says nothing on the stream of errors but the lines of connections' faults, or a beginning of them
-    ensures success { result ≡ 0 → (errors.new ≡ errors.old) ⊎ TellsConnections (E.contents errors.old) (E.contents errors.new) }
+    ensures success { result ≡ 0 → (errors.new ≡ errors.old)
+        ⊎ TellsConnections (E.contents errors.old) (E.contents errors.new) }
     // a difference that an audit tells says nothing there
     ensures differs { result ≡ 3 → errors.new ≡ errors.old }
     // for a command line that is refused nothing is read, and nothing is written but why

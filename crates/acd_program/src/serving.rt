@@ -3,7 +3,7 @@
 ghost use Rattle.std.specs.Prelude.{◌≡◌, false, OnOk};
 ghost use Rattle.sqlite.specs.Held.{state};
 ghost use Rattle.acd_desk.specs.Standing.{standing};
-ghost use Rattle.acd_lines.specs.Sent.{Begins};
+ghost use Rattle.acd_io.specs.Sent.{Begins};
 ghost use Rattle.acd_http.specs.Listening.{ServedAll, ServedUntilFailed, ServedFor};
 ghost use Rattle.acd_program.specs.Serving.{ServesOver, ServesDatabase};
 

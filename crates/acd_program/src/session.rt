@@ -1,10 +1,12 @@
 //! Lines over a book, from the opening of its desk to the end.
 
 ghost use Rattle.std.specs.Prelude.{◌≡◌, true, OnOk, IfErr};
+ghost use Rattle.std.specs.Io.KnownBytes.{Appends};
 ghost use Rattle.acd_desk.specs.Opening.{Refused};
-ghost use Rattle.acd_desk.specs.Standing.{standing};
-ghost use Rattle.acd_lines.specs.Lines.{AnsweredAll, AnsweredFirst, AnsweredSome};
-ghost use Rattle.acd_program.specs.Over.{AnswersOver, FailsOver, BeginsOver, IsOpenFault, IsLinesFault, IsStoreFailed};
+ghost use Rattle.acd_desk.specs.Ran.{HasFailed};
+ghost use Rattle.acd_lines.specs.Lines.{LinesAnswered, AllLines, FirstLines, ArrivalsAnswered, HasRun};
+ghost use Rattle.acd_io.specs.Sent.{Begins};
+ghost use Rattle.acd_program.specs.Over.{IsSession, IsFailedSession, IsOpenFault, IsLinesFault, IsStoreFailed};
 
 use acd_book::Book;
 use acd_desk::{Desk, OpenFault};
@@ -35,10 +37,17 @@ fn answer<B: Book, R: Read, W: Write>(
     reader: &mut R,
     writer: &mut W,
 ) -> Result<(), SessionFault>
-    ensures ok { OnOk result (AnsweredAll (standing B.Book desk.old) (R.remaining reader.old) (W.contents writer.old) (W.contents writer.new) (standing B.Book desk.new)) }
-    ensures stopped { IfErr result (λ fault. IsLinesFault fault → AnsweredSome (standing B.Book desk.old) (R.remaining reader.old) (W.contents writer.old) (W.contents writer.new) (standing B.Book desk.new)) }
-    ensures failed { IfErr result (λ fault. IsStoreFailed fault → ((standing B.Book desk.new).failed ≡ true)
-        × AnsweredFirst (standing B.Book desk.old) (R.remaining reader.old) (W.contents writer.old) (W.contents writer.new) (standing B.Book desk.new)) }
+    ensures ok { OnOk result (LinesAnswered (AllLines (R.remaining reader.old))
+        (ArrivalsAnswered (HasRun B.Book desk.old desk.new))
+        (Appends (W.contents writer.old) (W.contents writer.new))) }
+    ensures stopped { IfErr result (λ fault. IsLinesFault fault
+        → LinesAnswered (FirstLines (R.remaining reader.old))
+        (ArrivalsAnswered (HasRun B.Book desk.old desk.new))
+        (Begins (W.contents writer.old) (W.contents writer.new))) }
+    ensures failed { IfErr result (λ fault. IsStoreFailed fault → HasFailed B.Book desk.new
+        × LinesAnswered (FirstLines (R.remaining reader.old))
+        (ArrivalsAnswered (HasRun B.Book desk.old desk.new))
+        (Appends (W.contents writer.old) (W.contents writer.new))) }
     ensures asked { IfErr result (λ fault. IsStoreFailed fault → ends_on_store_fault ≡ true) }
     ensures opened { IfErr result (λ fault. (why : OpenFault) → ¬ (IsOpenFault why fault)) }
 {
@@ -69,14 +78,23 @@ pub fn lines_over_book<B: Book, R: Read, W: Write>(
     writer: &mut W,
 ) -> (Result<(), SessionFault>, B)
     // one answer line for each line, and the arrivals among them were taken in turn
-    ensures ok { OnOk result.0 (AnswersOver (B.state book) (R.remaining reader.old) (W.contents writer.old) (W.contents writer.new) (B.state result.1)) }
+    ensures ok { OnOk result.0 (LinesAnswered (AllLines (R.remaining reader.old))
+        (ArrivalsAnswered (IsSession (B.state book) (B.state result.1)))
+        (Appends (W.contents writer.old) (W.contents writer.new))) }
     // where reading or writing ended it, for a beginning of the input
-    ensures stopped { IfErr result.0 (λ fault. IsLinesFault fault → BeginsOver (B.state book) (R.remaining reader.old) (W.contents writer.old) (W.contents writer.new) (B.state result.1)) }
+    ensures stopped { IfErr result.0 (λ fault. IsLinesFault fault
+        → LinesAnswered (FirstLines (R.remaining reader.old))
+        (ArrivalsAnswered (IsSession (B.state book) (B.state result.1)))
+        (Begins (W.contents writer.old) (W.contents writer.new))) }
     // where a storeFault ended it, which was asked for, the first lines were answered whole, and that is among the answers
     ensures failed { IfErr result.0 (λ fault. IsStoreFailed fault → (ends_on_store_fault ≡ true)
-        × FailsOver (B.state book) (R.remaining reader.old) (W.contents writer.old) (W.contents writer.new) (B.state result.1)) }
+        × LinesAnswered (FirstLines (R.remaining reader.old))
+        (ArrivalsAnswered (IsFailedSession (B.state book) (B.state result.1)))
+        (Appends (W.contents writer.old) (W.contents writer.new))) }
     // where the book makes no desk nothing was read or written
-    ensures refused { IfErr result.0 (λ fault. (why : OpenFault) → IsOpenFault why fault → Refused (B.state book) why (B.state result.1) × (reader.new ≡ reader.old) × (writer.new ≡ writer.old)) }
+    ensures refused { IfErr result.0 (λ fault. (why : OpenFault) → IsOpenFault why fault
+        → Refused (B.state book) why (B.state result.1)
+        × (reader.new ≡ reader.old) × (writer.new ≡ writer.old)) }
 {
     let mut desk = match Desk::open(alloc, book) {
         Ok(desk) => desk,

@@ -1,8 +1,8 @@
 use Rattle.std.proofs.Common.{ℕ, List, ◌++◌, take, ap, sym, ◌∙◌, arith, append-nil}
 use Rattle.std.proofs.lemmas.Bool.{true≢false}
-use Rattle.acd_http.proofs.Readings.{kept_then, short}
+use Rattle.acd_http.proofs.Readings.{short}
 use Rattle.acd_http.proofs.input.fill.Goals as goal
-use Rattle.acd_lines.proofs.Turns.{no_bytes}
+use Rattle.acd_io.proofs.Inputs.{no_bytes, kept_then}
 
 pub returns-in-Ok-eq0 : goal.returns-in-Ok-eq0
 returns-in-Ok-eq0 g c =

@@ -1,11 +1,15 @@
 use Rattle.std.proofs.Common.{ap, ◌∙◌}
 use Rattle.acd_desk.specs.Ran.{standing}
+use Rattle.acd_desk.specs.AnswerTexts.{seen}
+use Rattle.acd_desk.specs.Tells.{told_of}
+use Rattle.acd_desk.proofs.Telling.{told_seen}
 use Rattle.acd_http.specs.declared.reply.Kind.{Kind}
-use Rattle.acd_http.specs.Exchanging.{seen, told_reply}
-use Rattle.acd_http.proofs.Exchanges.{replies_look}
+use Rattle.acd_http.specs.Exchanging.{told_reply}
 use Rattle.acd_http.proofs.telling.told_reply.Goals as goal
 
 pub returns : goal.returns
-returns g c bodiless =
-    replies_look (standing g.B.Book) c.args.moment c.args.desk.now c.tell-found.new.desk c.args.wanted bodiless c.tell-found.result _
-    (c.reply_to.ensures bodiless ∙ ap (λ (k : Kind). told_reply bodiless k (seen c.tell-found.result)) c.kind-kind.ensures) c.tell-found.ensures
+returns g c bodiless = (
+  seen c.read-found.result,
+  c.reply_to.ensures bodiless ∙ ap (λ (k : Kind). told_reply bodiless k (seen c.read-found.result)) c.of-kind.ensures,
+  told_seen (standing g.B.Book c.args.desk.now) (standing g.B.Book c.read-found.new.self) c.read-found.result (λ k. told_of k c.args.moment c.args.question) c.read-found.ensures,
+)

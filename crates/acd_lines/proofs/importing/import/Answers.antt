@@ -1,5 +1,5 @@
 use Rattle.acd_desk.specs.Ran.{standing}
-use Rattle.acd_lines.proofs.Sends.{on_err}
+use Rattle.acd_io.proofs.Sends.{on_err}
 use Rattle.acd_lines.proofs.Plans.{import_told, import_begun}
 use Rattle.acd_lines.proofs.importing.import.Goals as goal
 

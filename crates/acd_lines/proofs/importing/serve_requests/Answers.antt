@@ -2,7 +2,7 @@ use Rattle.std.proofs.Common.{List, sym, subst, take, ◌+◌}
 use Rattle.acd_terms.specs.declared.command.Request.{Request}
 use Rattle.acd_desk.specs.Ran.{standing}
 use Rattle.acd_lines.specs.Parts.{Imports}
-use Rattle.acd_lines.proofs.Sends.{OnErr-is, OnOk-weaker, OnErr-weaker}
+use Rattle.acd_io.proofs.Sends.{OnErr-is, OnOk-weaker, OnErr-weaker}
 use Rattle.acd_lines.proofs.Plans.{take_more, take_whole, imports_none, imports_more, import_stopped, imports_out, import_stopped_out}
 use Rattle.acd_lines.proofs.importing.serve_requests.Goals as goal
 

@@ -1,7 +1,7 @@
 use Rattle.std.proofs.Common.{length, sym, ◌∙◌, lit<}
 use Rattle.std.proofs.lemmas.Bool.{eqb-true}
 use Rattle.acd_lines.specs.Input.{asked}
-use Rattle.acd_lines.proofs.Sends.{OnOk-weaker, OnErr-weaker}
+use Rattle.acd_io.proofs.Sends.{OnOk-weaker, OnErr-weaker}
 use Rattle.acd_lines.proofs.Kept.{by_front, whole_line}
 use Rattle.acd_lines.proofs.Turns.{done_same, stops_same}
 use Rattle.acd_lines.proofs.serve.end_line.Goals as goal

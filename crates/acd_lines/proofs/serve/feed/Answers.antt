@@ -1,7 +1,7 @@
 use Rattle.std.proofs.Common.{[], ◌∷◌, ◌++◌, refl}
 use Rattle.acd_lines.specs.Input.{asked}
 use Rattle.acd_lines.proofs.Kept.{by_front}
-use Rattle.acd_lines.proofs.Sends.{OnErr-is, OnOk-both, OnErr-weaker}
+use Rattle.acd_io.proofs.Sends.{OnErr-is, OnOk-both, OnErr-weaker}
 use Rattle.acd_lines.proofs.Turns.{behind_line, feed_none, feed_line, feed_stops, feed_rest, feed_out, feed_out_stops}
 use Rattle.acd_lines.proofs.serve.feed.Goals as goal
 

@@ -2,8 +2,8 @@ use Rattle.std.proofs.Common.{length, sym, ◌∙◌}
 use Rattle.std.proofs.lemmas.Bool.{eqb-true}
 use Rattle.acd_lines.specs.Input.{asked}
 use Rattle.acd_lines.proofs.Kept.{by_front}
-use Rattle.acd_lines.proofs.Moments.{positive}
-use Rattle.acd_lines.proofs.Sends.{OnErr-is, OnOk-weaker, OnErr-weaker}
+use Rattle.acd_io.proofs.DigitLemmas.{positive}
+use Rattle.acd_io.proofs.Sends.{OnErr-is, OnOk-weaker, OnErr-weaker}
 use Rattle.acd_lines.proofs.Turns.{finish_empty, finish_empty_stops, finish_line, finish_line_stops, finish_stops}
 use Rattle.acd_lines.proofs.serve.finish.Goals as goal
 

@@ -1,5 +1,5 @@
 use Rattle.acd_lines.specs.Parts.{answered_text}
-use Rattle.acd_lines.proofs.Sends.{OnErr-weaker}
+use Rattle.acd_io.proofs.Sends.{OnErr-weaker}
 use Rattle.acd_lines.proofs.serve.serve.Goals as goal
 
 pub returns-clause-err : goal.returns-clause-err

@@ -1,10 +1,11 @@
 use Rattle.std.proofs.Common.{◌<◌, ◌++◌, [], length, take, drop, sym, ap, ◌∙◌, subst, arith}
 use Rattle.std.specs.Io.KnownBytes.{Consumes}
 use Rattle.std.proofs.KnownBytes.{Consumes-nil, Consumes-kept, Consumes-trans}
+use Rattle.acd_io.proofs.Inputs.{input_ended}
 use Rattle.acd_lines.specs.Input.{asked}
 use Rattle.acd_lines.proofs.Kept.{by_front}
-use Rattle.acd_lines.proofs.Sends.{on_err, if_fault, other_fault}
-use Rattle.acd_lines.proofs.Turns.{chunk_read, starts, stands_same, input_ended, fed, all_done, all_first, first_done, end_stopped, feed_stopped, read_done, read_stopped, nothing_read, some_short}
+use Rattle.acd_io.proofs.Sends.{on_err, if_fault, other_fault}
+use Rattle.acd_lines.proofs.Turns.{chunk_read, starts, stands_same, fed, all_done, all_first, first_done, end_stopped, feed_stopped, read_done, read_stopped, nothing_read, some_short}
 use Rattle.acd_lines.specs.declared.session.LinesFault.{LinesFault}
 use Rattle.acd_lines.proofs.session.answer_lines.Goals as goal
 use Rattle.acd_lines.proofs.session.answer_lines.Goals.{in-Ok+in_ok-feed-in-Ok, in-Err+in_ok-retried-in-Err}

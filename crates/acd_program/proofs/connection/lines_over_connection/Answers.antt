@@ -1,4 +1,5 @@
 use Rattle.std.proofs.Common.{◌≡◌, true, OnOk, IfErr, refl, sym, subst}
+use Rattle.std.specs.Io.KnownBytes.{Appends}
 use Rattle.sqlite.specs.Held.{state}
 use Rattle.acd_book.specs.State.{BookState}
 use Rattle.acd_sqlbook.specs.State.{book_state}
@@ -8,8 +9,10 @@ use Rattle.acd_program.specs.declared.session.SessionFault.{SessionFault}
 use Rattle.acd_program.specs.declared.session.SessionFault.TheVariants.{Open, Lines, StoreFailed}
 use Rattle.acd_program.specs.declared.connection.ConnectionFault.TheVariants.{Session}
 use Rattle.acd_program.specs.Endings.{EndsUnread}
-use Rattle.acd_program.specs.Over.{AnswersOver, BeginsOver, FailsOver, OverConnection, Unserved, IsOpenFault, IsLinesFault, IsStoreFailed}
-use Rattle.acd_program.proofs.Over.{answers_of, begins_of, fails_of, over_connection}
+use Rattle.acd_lines.specs.Lines.{LinesAnswered, AllLines, FirstLines, ArrivalsAnswered}
+use Rattle.acd_io.specs.Sent.{Begins}
+use Rattle.acd_program.specs.Over.{IsSession, IsFailedSession, OverConnection, Unserved, IsOpenFault, IsLinesFault, IsStoreFailed}
+use Rattle.acd_program.proofs.Over.{lines_since, failed_lines_since, over_connection}
 use Rattle.acd_program.proofs.Taking.{unserved_refused}
 use Rattle.acd_program.proofs.connection.lines_over_connection.Goals as goal
 
@@ -18,40 +21,40 @@ returns-in-Ok-done-clause-ok g c =
     let had : _ = g.R.Read.remaining c.args.reader.now in
     let before : _ = g.W.Write.contents c.args.writer.now in
     let behind : _ = g.W.Write.contents c.lines_over_book-done.new.writer in
-    let P : BookState → BookState → Type 0 = λ old new. AnswersOver old had before behind new in
+    let P : BookState → BookState → Type 0 = λ old new. LinesAnswered (AllLines had) (ArrivalsAnswered (IsSession old new)) (Appends before behind) in
     let mid : BookState = book_state (state g.S.Store c.in-Ok.book.conn) c.in-Ok.book.failures in
     let last : _ = c.lines_over_book-done.result.1 in
     let new : BookState = book_state (state g.S.Store last.conn) last.failures in
     let said : P mid new = subst (λ (r : _). OnOk r (P mid new)) c.in-Ok-done.is c.lines_over_book-done.ensures.ok in
     subst (λ (x : _). OverConnection P c.args.makes (state g.S.Store c.args.conn) (state g.S.Store x)) (sym c.into_connection.ensures.same)
-    (over_connection P c.args.makes (state g.S.Store c.args.conn) (state g.S.Store last.conn) mid last.failures (λ old of h. answers_of old mid new had before behind of h) c.in-Ok.ensures.taken said)
+    (over_connection P c.args.makes (state g.S.Store c.args.conn) (state g.S.Store last.conn) mid last.failures (λ old of h. lines_since (AllLines had) (Appends before behind) old mid new of h) c.in-Ok.ensures.taken said)
 
 pub returns-in-Err-done-clause-stopped : goal.returns-in-Err-done-clause-stopped
 returns-in-Err-done-clause-stopped g c is =
     let had : _ = g.R.Read.remaining c.args.reader.now in
     let before : _ = g.W.Write.contents c.args.writer.now in
     let behind : _ = g.W.Write.contents c.lines_over_book-done.new.writer in
-    let P : BookState → BookState → Type 0 = λ old new. BeginsOver old had before behind new in
+    let P : BookState → BookState → Type 0 = λ old new. LinesAnswered (FirstLines had) (ArrivalsAnswered (IsSession old new)) (Begins before behind) in
     let mid : BookState = book_state (state g.S.Store c.in-Ok.book.conn) c.in-Ok.book.failures in
     let last : _ = c.lines_over_book-done.result.1 in
     let new : BookState = book_state (state g.S.Store last.conn) last.failures in
     let said : P mid new = (subst (λ (r : _). IfErr r (λ (fault : SessionFault). IsLinesFault fault → P mid new)) c.in-Err-done.is c.lines_over_book-done.ensures.stopped) is in
     subst (λ (x : _). OverConnection P c.args.makes (state g.S.Store c.args.conn) (state g.S.Store x)) (sym c.into_connection-in-Err-done.ensures.same)
-    (over_connection P c.args.makes (state g.S.Store c.args.conn) (state g.S.Store last.conn) mid last.failures (λ old of h. begins_of old mid new had before behind of h) c.in-Ok.ensures.taken said)
+    (over_connection P c.args.makes (state g.S.Store c.args.conn) (state g.S.Store last.conn) mid last.failures (λ old of h. lines_since (FirstLines had) (Begins before behind) old mid new of h) c.in-Ok.ensures.taken said)
 
 pub returns-in-Err-done-clause-failed : goal.returns-in-Err-done-clause-failed
 returns-in-Err-done-clause-failed g c is =
     let had : _ = g.R.Read.remaining c.args.reader.now in
     let before : _ = g.W.Write.contents c.args.writer.now in
     let behind : _ = g.W.Write.contents c.lines_over_book-done.new.writer in
-    let P : BookState → BookState → Type 0 = λ old new. FailsOver old had before behind new in
+    let P : BookState → BookState → Type 0 = λ old new. LinesAnswered (FirstLines had) (ArrivalsAnswered (IsFailedSession old new)) (Appends before behind) in
     let mid : BookState = book_state (state g.S.Store c.in-Ok.book.conn) c.in-Ok.book.failures in
     let last : _ = c.lines_over_book-done.result.1 in
     let new : BookState = book_state (state g.S.Store last.conn) last.failures in
     let said : (c.args.ends_on_store_fault ≡ true) × P mid new = (subst (λ (r : _). IfErr r (λ (fault : SessionFault). IsStoreFailed fault → (c.args.ends_on_store_fault ≡ true) × P mid new)) c.in-Err-done.is c.lines_over_book-done.ensures.failed) is in (
       said.0,
       subst (λ (x : _). OverConnection P c.args.makes (state g.S.Store c.args.conn) (state g.S.Store x)) (sym c.into_connection-in-Err-done.ensures.same)
-          (over_connection P c.args.makes (state g.S.Store c.args.conn) (state g.S.Store last.conn) mid last.failures (λ old of h. fails_of old mid new had before behind of h) c.in-Ok.ensures.taken said.1),
+          (over_connection P c.args.makes (state g.S.Store c.args.conn) (state g.S.Store last.conn) mid last.failures (λ old of h. failed_lines_since (FirstLines had) (Appends before behind) old mid new of h) c.in-Ok.ensures.taken said.1),
     )
 
 unread : (fault : SessionFault) (P : Type 0) → EndsUnread (Session fault) → ((why : OpenFault) → IsOpenFault why fault → P) → P

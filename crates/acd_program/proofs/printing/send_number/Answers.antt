@@ -1,8 +1,8 @@
 use Rattle.std.proofs.Common.{◌++◌, ◌∷◌, [], ◌∙◌, List, ℕ, subst}
 use Rattle.std.specs.Prelude.{decimal}
 use Rattle.std.specs.Io.KnownBytes.{Appends}
-use Rattle.acd_lines.specs.Sent.{Begins}
-use Rattle.acd_lines.proofs.Sends.{begins_front, on_err}
+use Rattle.acd_io.specs.Sent.{Begins}
+use Rattle.acd_io.proofs.Sends.{begins_front, on_err}
 use Rattle.acd_program.proofs.Sending.{second_err, third_err}
 use Rattle.acd_program.proofs.printing.send_number.Goals as goal
 

@@ -1,8 +1,9 @@
 use Rattle.std.proofs.Common.{◌≡◌, true, false, subst, OnOk}
 use Rattle.acd_desk.specs.Standing.{standing}
-use Rattle.acd_lines.specs.Parts.{AllDone}
-use Rattle.acd_lines.proofs.Sends.{OnOk-weaker}
-use Rattle.acd_http.specs.ReadingLines.{reading_line_of, ReadingAnswers}
+use Rattle.acd_io.proofs.Sends.{OnOk-weaker}
+use Rattle.std.specs.Io.KnownBytes.{Appends}
+use Rattle.acd_lines.specs.Lines.{LinesAnswered, AllLines}
+use Rattle.acd_read_lines.specs.ReadingLines.{ReadInTurn}
 use Rattle.acd_program.proofs.reading_lines.answer.Goals as goal
 
 pub returns-in-Ok : goal.returns-in-Ok
@@ -11,6 +12,6 @@ returns-in-Ok g c =
     let a : _ = g.W.Write.contents c.args.writer.now in
     let b : _ = g.W.Write.contents c.lines_with_reads.new.writer in
     let last : _ = c.lines_with_reads.new.desk in
-    let all : (c.args.ends_on_store_fault ≡ true → (standing g.B.Book last).failed ≡ false) → AllDone reading_line_of (ReadingAnswers (standing g.B.Book)) had c.args.desk.now last a b
-    = subst (λ (r : _). OnOk r ((c.args.ends_on_store_fault ≡ true → (standing g.B.Book last).failed ≡ false) → AllDone reading_line_of (ReadingAnswers (standing g.B.Book)) had c.args.desk.now last a b)) c.in-Ok.is c.lines_with_reads.ensures.ok in
+    let all : (c.args.ends_on_store_fault ≡ true → (standing g.B.Book last).failed ≡ false) → LinesAnswered (AllLines had) (ReadInTurn g.B.Book c.args.desk.now last) (Appends a b)
+    = subst (λ (r : _). OnOk r ((c.args.ends_on_store_fault ≡ true → (standing g.B.Book last).failed ≡ false) → LinesAnswered (AllLines had) (ReadInTurn g.B.Book c.args.desk.now last) (Appends a b))) c.in-Ok.is c.lines_with_reads.ensures.ok in
     OnOk-weaker c.ended.result _ _ all c.ended.ensures

@@ -1,5 +1,5 @@
 use Rattle.std.proofs.Common.{sym, true≢false}
-use Rattle.acd_lines.proofs.Sends.{OnOk-weaker}
+use Rattle.acd_io.proofs.Sends.{OnOk-weaker}
 use Rattle.acd_program.proofs.reading_lines.reading_lines_over_memory.Goals as goal
 
 pub returns-in-Ok : goal.returns-in-Ok

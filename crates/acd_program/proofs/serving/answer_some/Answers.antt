@@ -1,7 +1,7 @@
 use Rattle.std.proofs.Common.{ℕ, subst, OnOk}
 use Rattle.std.specs.Io.KnownBytes.{Appends}
 use Rattle.acd_desk.specs.Standing.{standing}
-use Rattle.acd_lines.specs.Sent.{Begins}
+use Rattle.acd_io.specs.Sent.{Begins}
 use Rattle.acd_http.specs.Listening.{ServedAll}
 use Rattle.acd_program.proofs.Served.{begins_all}
 use Rattle.acd_program.proofs.serving.answer_some.Goals as goal

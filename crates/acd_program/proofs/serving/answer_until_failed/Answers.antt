@@ -2,7 +2,7 @@ use Rattle.std.proofs.Common.{subst, OnOk}
 use Rattle.std.specs.Io.KnownBytes.{Appends}
 use Rattle.acd_desk.specs.Standing.{standing}
 use Rattle.acd_http.specs.Listening.{ServedUntilFailed}
-use Rattle.acd_lines.proofs.Sends.{OnOk-weaker}
+use Rattle.acd_io.proofs.Sends.{OnOk-weaker}
 use Rattle.acd_program.proofs.Served.{begins_until}
 use Rattle.acd_program.proofs.serving.answer_until_failed.Goals as goal
 

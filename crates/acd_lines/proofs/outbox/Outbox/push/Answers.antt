@@ -1,4 +1,4 @@
-use Rattle.acd_lines.proofs.Sends.{breaks_front, passes_sent, breaks_sent, on_err, OnOk-weaker, OnErr-weaker}
+use Rattle.acd_io.proofs.Sends.{breaks_front, passes_sent, breaks_sent, on_err, OnOk-weaker, OnErr-weaker}
 use Rattle.acd_lines.proofs.outbox.Outbox.push.Goals as goal
 
 pub returns-in_err-flush-clause-err : goal.returns-in_err-flush-clause-err

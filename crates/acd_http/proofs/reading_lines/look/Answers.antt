@@ -1,9 +1,0 @@
-use Rattle.acd_desk.specs.Ran.{standing}
-use Rattle.acd_lines.specs.Parts.{answered_text}
-use Rattle.acd_http.proofs.ReadingLines.{tells_look}
-use Rattle.acd_http.proofs.reading_lines.look.Goals as goal
-
-pub returns : goal.returns
-returns g c =
-    tells_look (standing g.B.Book) c.args.desk.now c.tell-found.new.desk c.args.moment c.args.wanted c.kind-kind.result c.tell-found.result (answered_text c.told_line.result)
-    c.kind-kind.ensures c.told_line.ensures c.tell-found.ensures

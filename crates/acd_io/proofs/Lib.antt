@@ -1,0 +1,3 @@
+pub mod Sends
+pub mod Inputs
+pub mod DigitLemmas

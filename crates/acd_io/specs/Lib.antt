@@ -1,0 +1,3 @@
+pub mod Read
+pub mod Sent
+pub mod Digits

@@ -1,0 +1,6 @@
+-- What a reader had.
+use Rattle.std.specs.Prelude.{◌≡◌, ℕ, List, Option, IfSome}
+
+-- an input, which is what the reader had where that is known
+abbrev pub IsInput : Option (List ℕ) → List ℕ → Type 0
+IsInput known input = IfSome known (λ xs. xs ≡ input)

@@ -1,0 +1,37 @@
+//! Bytes that are written whole.
+
+ghost use Rattle.std.specs.Prelude.{OnOk, OnErr};
+ghost use Rattle.std.specs.Io.KnownBytes.{Appends};
+ghost use Rattle.acd_io.specs.Sent.{Begins, Breaks};
+
+use crate::retry::retried;
+use std::io::Write;
+use thiserror::Error;
+
+/// The writer failed, or was called as often as it may be.
+#[derive(Clone, Copy, Debug, PartialEq, Eq, Error)]
+#[error("cannot write")]
+pub struct Stopped;
+
+/// Writes all of the bytes. Each call of the writer takes one off `calls`; a call that is interrupted is made
+/// again.
+pub fn send<W: Write>(writer: &mut W, calls: &mut u64, bytes: &[u8]) -> Result<(), Stopped>
+    ensures ok { OnOk result (Appends (W.contents writer.old) (W.contents writer.new) bytes.now) }
+    ensures err { OnErr result (Begins (W.contents writer.old) (W.contents writer.new) bytes.now) }
+    // the writer didn't take all of them
+    ensures short { OnErr result (Breaks (W.contents writer.old) (W.contents writer.new) bytes.now) }
+{
+    let mut done = 0;
+    while done < bytes.len() {
+        if *calls == 0 {
+            return Err(Stopped);
+        }
+        *calls -= 1;
+        match writer.write(&bytes[done..]) {
+            Ok(0) => return Err(Stopped),
+            Ok(n) => done += n,
+            Err(e) => retried(e, Stopped)?,
+        }
+    }
+    Ok(())
+}
