@@ -31,12 +31,12 @@ loop-group-preserved g c =
 
 pub returns : goal.returns
 returns g c = record {
-  same = search rules;
-  works = search rules;
+  same = c.loop-group.invariant.same;
+  works = c.loop-group.invariant.works;
   put = λ clean r d.
       subst (λ (gs : List ℕ). Drafts (state g.S.Store c.loop-group.tx.conn.now) (with_part table.AgentGroups (all_put (map (λ (k : ℕ). (c.args.agent, k)) gs) r.further) r)) (take_all c.loop-group.group-index c.args.groups.now c.loop-group-test.false)
       (c.loop-group.invariant.put clean r d);
-  failed = search rules;
+  failed = λ clean r d. tt;
 }
 
 pub returns-in_err-insert_further : goal.returns-in_err-insert_further

@@ -19,8 +19,8 @@ use Rattle.acd_statements.proofs.parts.put_agent.Goals as goal
 
 pub returns : goal.returns
 returns g c = record {
-  same = search rules;
-  works = search rules;
+  same = c.insert_all.ensures.same ∙ c.drop_further.ensures.same ∙ c.put.ensures.same;
+  works = works_on _ _ _ (works_on _ _ _ c.put.ensures.works c.drop_further.ensures.works) c.insert_all.ensures.works;
   put = λ clean.
       let a = c.args.agent.now in
       let first = state g.S.Store c.put.new.tx.conn.now in
@@ -53,8 +53,8 @@ returns g c = record {
 
 pub returns-in_err-put : goal.returns-in_err-put
 returns-in_err-put g c = record {
-  same = search rules;
-  works = search rules;
+  same = c.put.ensures.same;
+  works = c.put.ensures.works;
   put = search rules;
   failed =
       let old = state g.S.Store c.args.tx.now.conn.now in
@@ -66,8 +66,8 @@ returns-in_err-put g c = record {
 
 pub returns-in_err-drop_further : goal.returns-in_err-drop_further
 returns-in_err-drop_further g c = record {
-  same = search rules;
-  works = search rules;
+  same = c.drop_further.ensures.same ∙ c.put.ensures.same;
+  works = works_on _ _ _ c.put.ensures.works c.drop_further.ensures.works;
   put = search rules;
   failed =
       let old = state g.S.Store c.args.tx.now.conn.now in

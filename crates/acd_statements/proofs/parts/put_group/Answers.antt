@@ -1,5 +1,6 @@
-use Rattle.std.proofs.Common.{ap, arith}
+use Rattle.std.proofs.Common.{ap, arith, ◌∙◌}
 use Rattle.sqlite.specs.Held.{state}
+use Rattle.acd_columns.proofs.Endings.{works_on}
 use Rattle.sqlite.specs.State.{HasCleanDisk}
 use Rattle.acd_columns.specs.declared.relations.GroupRow.{GroupRow}
 use Rattle.acd_columns.specs.Relations.{Relations, with_priority_of, with_group_parts}
@@ -14,8 +15,8 @@ use Rattle.acd_statements.proofs.parts.put_group.Goals as goal
 
 pub returns : goal.returns
 returns g c = record {
-  same = search rules;
-  works = search rules;
+  same = c.put_priority.ensures.same ∙ c.put.ensures.same;
+  works = works_on _ _ _ c.put.ensures.works c.put_priority.ensures.works;
   put = λ clean.
       let z = c.args.group.now in
       let mid = state g.S.Store c.put.new.tx.conn.now in
@@ -35,8 +36,8 @@ returns g c = record {
 
 pub returns-in_err-put : goal.returns-in_err-put
 returns-in_err-put g c = record {
-  same = search rules;
-  works = search rules;
+  same = c.put.ensures.same;
+  works = c.put.ensures.works;
   put = search rules;
   failed =
       let old = state g.S.Store c.args.tx.now.conn.now in

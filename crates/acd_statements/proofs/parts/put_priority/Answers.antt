@@ -20,8 +20,8 @@ remove-requires g c = rw c.number.ensures.value (id_fits 15 _ (omega arith) c.nu
 
 pub returns-then-eq : goal.returns-then-eq
 returns-then-eq g c = record {
-  same = search rules;
-  works = search rules;
+  same = c.remove.ensures.same;
+  works = c.remove.ensures.works;
   put = λ clean.
       let z = c.args.group.now in
       let none : (z.priority == 0) ≡ true = ap (λ n. z.priority == n) (sym c.lowest.ensures) ∙ sym c.eq.ensures ∙ c.if-eq.true in
@@ -38,8 +38,8 @@ returns-then-eq g c = record {
 
 pub returns-else-eq : goal.returns-else-eq
 returns-else-eq g c = record {
-  same = search rules;
-  works = search rules;
+  same = c.put.ensures.same;
+  works = c.put.ensures.works;
   put = λ clean.
       let z = c.args.group.now in
       let some : (z.priority == 0) ≡ false = ap (λ n. z.priority == n) (sym c.lowest.ensures) ∙ sym c.eq.ensures ∙ c.if-eq.false in

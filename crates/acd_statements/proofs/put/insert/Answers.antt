@@ -7,18 +7,18 @@ use Rattle.acd_statements.proofs.put.insert.Goals as goal
 
 pub returns : goal.returns
 returns g c = record {
-  same = search rules;
-  works = search rules;
+  same = c.run.ensures.same;
+  works = c.run.ensures.works;
   put = λ clean content drafts.
       inserted_in g.R.Described.descr g.R.Described.filed c.args.item.now (g.R.Described.reads c.args.item.now) content (state g.S.Store c.args.tx.now.conn.now) (state g.S.Store c.run.new.tx.conn.now) c.in_ok-run.field-0 drafts
       (rw (c.insert_text.ensures) at (c.in_ok-run.ensures.ran clean));
-  failed = search rules;
+  failed = λ clean r d. tt;
 }
 
 pub returns-in_err-run : goal.returns-in_err-run
 returns-in_err-run g c = record {
-  same = search rules;
-  works = search rules;
+  same = c.run.ensures.same;
+  works = c.run.ensures.works;
   put = search rules;
   failed =
       let old = state g.S.Store c.args.tx.now.conn.now in

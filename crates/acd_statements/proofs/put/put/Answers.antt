@@ -1,5 +1,6 @@
-use Rattle.std.proofs.Common.{◌≡◌, ℕ, Err, inl, inr, rules, arith}
+use Rattle.std.proofs.Common.{◌≡◌, ℕ, Err, inl, inr, rules, arith, ◌∙◌}
 use Rattle.sqlite.specs.Held.{state}
+use Rattle.acd_columns.proofs.Endings.{works_on}
 use Rattle.sqlite.specs.State.{HasCleanDisk}
 use Rattle.acd_columns.proofs.Filed.{updated_in, put_in}
 use Rattle.acd_statements.specs.Refusing.{RefusesOn, RefusesPut}
@@ -8,18 +9,18 @@ use Rattle.acd_statements.proofs.put.put.Goals as goal
 
 pub returns-then-changed-gt0 : goal.returns-then-changed-gt0
 returns-then-changed-gt0 g c = record {
-  same = search rules;
-  works = search rules;
+  same = c.run.ensures.same;
+  works = c.run.ensures.works;
   put = λ clean content drafts.
       updated_in g.R.Described.descr g.R.Described.filed g.R.Changed.update g.met.R.Changed.updates c.args.item.now (g.R.Described.reads c.args.item.now) content (state g.S.Store c.args.tx.now.conn.now) (state g.S.Store c.run.new.tx.conn.now) c.in_ok-changed.changed drafts
       (rw (c.update_text.ensures) at (c.in_ok-changed.ensures.ran clean)) (λ none. omega (arith, none, c.if-changed-gt0.true));
-  failed = search rules;
+  failed = λ clean r drafts. tt;
 }
 
 pub returns : goal.returns
 returns g c = record {
-  same = search rules;
-  works = search rules;
+  same = c.run-2.ensures.same ∙ c.run.ensures.same;
+  works = works_on _ _ _ c.run.ensures.works c.run-2.ensures.works;
   put = λ clean content drafts.
       let old = state g.S.Store c.args.tx.now.conn.now in
       let mid = state g.S.Store c.run.new.tx.conn.now in
@@ -28,13 +29,13 @@ returns g c = record {
       let none : c.in_ok-changed.changed ≡ 0 = omega (arith, c.if-changed-gt0.false) in
       put_in g.R.Described.descr g.R.Described.filed g.R.Changed.update g.met.R.Changed.updates c.args.item.now (g.R.Described.reads c.args.item.now) content old mid new c.in_ok-changed.changed c.in_ok-run.field-0 drafts
       (rw (c.update_text.ensures) at (c.in_ok-changed.ensures.ran middle)) none (rw (c.insert_text.ensures) at (c.in_ok-run.ensures.ran clean));
-  failed = search rules;
+  failed = λ clean r drafts. tt;
 }
 
 pub returns-in_err-changed : goal.returns-in_err-changed
 returns-in_err-changed g c = record {
-  same = search rules;
-  works = search rules;
+  same = c.run.ensures.same;
+  works = c.run.ensures.works;
   put = search rules;
   failed =
       let old = state g.S.Store c.args.tx.now.conn.now in
@@ -48,8 +49,8 @@ returns-in_err-changed g c = record {
 
 pub returns-in_err-run : goal.returns-in_err-run
 returns-in_err-run g c = record {
-  same = search rules;
-  works = search rules;
+  same = c.run-2.ensures.same ∙ c.run.ensures.same;
+  works = works_on _ _ _ c.run.ensures.works c.run-2.ensures.works;
   put = search rules;
   failed =
       let old = state g.S.Store c.args.tx.now.conn.now in

@@ -9,8 +9,8 @@ use Rattle.acd_statements.proofs.write.drop_connection.Goals as goal
 
 pub returns : goal.returns
 returns g c = record {
-  same = search rules;
-  works = search rules;
+  same = c.write.ensures.same;
+  works = c.write.ensures.works;
   put = λ clean.
       let old = state g.S.Store c.args.tx.now.conn.now in
       let new = state g.S.Store c.write.new.tx.conn.now in

@@ -1,5 +1,6 @@
-use Rattle.std.proofs.Common.{◌≡◌, arith}
+use Rattle.std.proofs.Common.{◌≡◌, arith, ◌∙◌}
 use Rattle.sqlite.specs.Held.{state}
+use Rattle.acd_columns.proofs.Endings.{works_on}
 use Rattle.sqlite.specs.State.{HasCleanDisk}
 use Rattle.acd_terms.specs.Lists.{put_by}
 use Rattle.acd_model.specs.Scans.{at_connection}
@@ -16,21 +17,21 @@ use Rattle.acd_statements.proofs.write.put_connection.Goals as goal
 
 pub returns-then-changed-gt0 : goal.returns-then-changed-gt0
 returns-then-changed-gt0 g c = record {
-  same = search rules;
-  works = search rules;
+  same = c.changed_rows.ensures.same;
+  works = c.changed_rows.ensures.works;
   put = λ clean content d.
       let old = state g.S.Store c.args.tx.now.conn.now in
       let new = state g.S.Store c.changed_rows.new.tx.conn.now in
       sets_connection c.args.connection.now content old new c.in_ok-changed.changed d
       (rw (c.integer.ensures, c.device.ensures, c.small.ensures, c.connection_code.ensures, c.device_or_null.ensures, c.integer_or_null.ensures, c.small_or_null.ensures, c.small_or_null-2.ensures) at (c.in_ok-changed.ensures.ran clean))
       (λ none. omega (arith, none, c.if-changed-gt0.true));
-  failed = search rules;
+  failed = λ clean r drafts. tt;
 }
 
 pub returns : goal.returns
 returns g c = record {
-  same = search rules;
-  works = search rules;
+  same = c.insert_connection.ensures.same ∙ c.changed_rows.ensures.same;
+  works = works_on _ _ _ c.changed_rows.ensures.works c.insert_connection.ensures.works;
   put = λ clean.
       let old = state g.S.Store c.args.tx.now.conn.now in
       let mid = state g.S.Store c.changed_rows.new.tx.conn.now in
@@ -55,8 +56,8 @@ returns g c = record {
 
 pub returns-in_err-changed : goal.returns-in_err-changed
 returns-in_err-changed g c = record {
-  same = search rules;
-  works = search rules;
+  same = c.changed_rows.ensures.same;
+  works = c.changed_rows.ensures.works;
   put = search rules;
   failed =
       let old = state g.S.Store c.args.tx.now.conn.now in

@@ -1,12 +1,5 @@
-use Rattle.std.proofs.Common.{rules}
 use Rattle.acd_statements.proofs.records.EventStored.run.Goals as goal
 
 pub returns : goal.returns
-returns g c = record {
-  same = search rules;
-  works = search rules;
-  ran = λ clean.
-      rw (c.integer.ensures, c.small.ensures, c.small-2.ensures, c.kind_code.ensures, c.device_or_null.ensures, c.integer_or_null.ensures, c.agent_or_null.ensures, c.device_or_null-2.ensures, c.device_or_null-3.ensures, c.cause_or_null.ensures, c.small_or_null.ensures, c.columns-columns.ensures) at (c.changed_rows.ensures.ran clean);
-  failed = λ clean inside.
-      rw (c.integer.ensures, c.small.ensures, c.small-2.ensures, c.kind_code.ensures, c.device_or_null.ensures, c.integer_or_null.ensures, c.agent_or_null.ensures, c.device_or_null-2.ensures, c.device_or_null-3.ensures, c.cause_or_null.ensures, c.small_or_null.ensures, c.columns-columns.ensures) at (c.changed_rows.ensures.failed clean inside);
-}
+returns g c =
+    rw (c.integer.ensures, c.small.ensures, c.small-2.ensures, c.kind_code.ensures, c.device_or_null.ensures, c.integer_or_null.ensures, c.agent_or_null.ensures, c.device_or_null-2.ensures, c.device_or_null-3.ensures, c.cause_or_null.ensures, c.small_or_null.ensures, c.columns-columns.ensures) at c.changed_rows.ensures
