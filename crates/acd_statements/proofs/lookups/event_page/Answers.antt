@@ -1,5 +1,6 @@
 use Rattle.std.proofs.Common.{ℕ, nat_lt, refl, rules}
 use Rattle.sqlite.specs.Held.{state}
+use Rattle.acd_statements.proofs.Chained.{finds_failed}
 use Rattle.acd_terms.specs.declared.event.Event.{Event}
 use Rattle.acd_book.specs.Content.{Content}
 use Rattle.acd_columns.specs.Rows.{event_values}
@@ -23,7 +24,7 @@ returns g c = record {
 pub returns-in_err-rows : goal.returns-in_err-rows
 returns-in_err-rows g c = record {
   idle = search rules;
-  found = search rules;
+  found = finds_failed c.in_err-rows.ensures.found (search rules);
   blamed =
       blames_as (state g.S.Store c.args.conn.now) (state g.S.Store c.event_rows.new.conn) c.in_err-rows.field-0.0 c.from_residual.result (search rules) c.in_err-rows.ensures.blamed;
 }

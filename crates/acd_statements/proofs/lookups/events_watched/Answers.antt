@@ -1,4 +1,5 @@
 use Rattle.sqlite.specs.Held.{state}
+use Rattle.acd_statements.proofs.Chained.{finds_failed}
 use Rattle.acd_statements.proofs.FirstFound.{watched}
 use Rattle.std.proofs.Common.{rules}
 use Rattle.acd_statements.proofs.Blamed.{blames_as, blames_behind}
@@ -16,6 +17,6 @@ returns-in-Some g c = record {
 pub returns-in_err-watch : goal.returns-in_err-watch
 returns-in_err-watch g c = record {
   idle = search rules;
-  found = search rules;
+  found = finds_failed c.in_err-watch.ensures.found (search rules);
   blamed = blames_as (state g.S.Store c.args.conn.now) (state g.S.Store c.monitor_at.new.conn) c.in_err-watch.field-0.0 c.from_residual.result (search rules) c.in_err-watch.ensures.blamed;
 }

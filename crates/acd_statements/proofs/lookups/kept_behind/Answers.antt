@@ -1,4 +1,5 @@
 use Rattle.sqlite.specs.Held.{state}
+use Rattle.acd_statements.proofs.Chained.{finds_failed}
 use Rattle.acd_statements.proofs.FirstFound.{kept_first}
 use Rattle.std.proofs.Common.{nat_lt, map, refl, rules}
 use Rattle.acd_book.specs.Content.{Content}
@@ -25,7 +26,7 @@ returns g c = record {
 pub returns-in_err-rows : goal.returns-in_err-rows
 returns-in_err-rows g c = record {
   idle = search rules;
-  found = search rules;
+  found = finds_failed c.in_err-rows.ensures.found (search rules);
   blamed =
       blames_as (state g.S.Store c.args.conn.now) (state g.S.Store c.kept_page.new.conn) c.in_err-rows.field-0.0 c.from_residual.result (search rules) c.in_err-rows.ensures.blamed;
 }

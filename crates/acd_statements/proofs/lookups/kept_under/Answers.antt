@@ -1,4 +1,5 @@
 use Rattle.sqlite.specs.Held.{state}
+use Rattle.acd_statements.proofs.Chained.{finds_failed}
 use Rattle.acd_book.specs.Content.{Content, kept_of, is_key}
 use Rattle.acd_book.specs.declared.kept.Kept.{Kept}
 use Rattle.acd_columns.specs.Rows.{IsReadable, kept_values}
@@ -27,7 +28,7 @@ returns g c = record {
 pub returns-in_err-rows : goal.returns-in_err-rows
 returns-in_err-rows g c = record {
   idle = search rules;
-  found = search rules;
+  found = finds_failed c.in_err-rows.ensures.found (search rules);
   blamed =
       blames_as (state g.S.Store c.args.conn.now) (state g.S.Store c.kept_row.new.conn) c.in_err-rows.field-0.0 c.from_residual.result (search rules) c.in_err-rows.ensures.blamed;
 }

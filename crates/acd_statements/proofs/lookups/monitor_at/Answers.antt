@@ -1,4 +1,5 @@
 use Rattle.sqlite.specs.Held.{state}
+use Rattle.acd_statements.proofs.Chained.{finds_failed}
 use Rattle.acd_statements.proofs.FirstFound.{monitor_listed, monitor_first}
 use Rattle.std.proofs.Common.{map, refl, rules}
 use Rattle.std.specs.Prelude.{option_to_list}
@@ -34,7 +35,7 @@ returns g c = record {
 pub returns-in_err-monitors : goal.returns-in_err-monitors
 returns-in_err-monitors g c = record {
   idle = search rules;
-  found = search rules;
+  found = finds_failed c.in_err-monitors.ensures.found (search rules);
   blamed =
       blames_as (state g.S.Store c.args.conn.now) (state g.S.Store c.records.new.conn) c.in_err-monitors.field-0.0 c.from_residual.result (search rules) (c.in_err-monitors.ensures.blamed monitors_answered (λ x. refl));
 }
@@ -42,6 +43,6 @@ returns-in_err-monitors g c = record {
 pub returns-in_err-rows : goal.returns-in_err-rows
 returns-in_err-rows g c = record {
   idle = search rules;
-  found = search rules;
+  found = finds_failed c.in_err-rows.ensures.found (search rules);
   blamed = blames_as (state g.S.Store c.args.conn.now) (state g.S.Store c.monitor_row.new.conn) c.in_err-rows.field-0.0 c.from_residual-in_err-rows.result (search rules) c.in_err-rows.ensures.blamed;
 }

@@ -12,7 +12,7 @@ use Rattle.acd_columns.specs.Relations.{Relations}
 use Rattle.acd_columns.specs.Rows.{further_values}
 use Rattle.acd_columns.specs.declared.texts.TheConstants.{INSERT_AGENT_GROUP}
 use Rattle.acd_statements.specs.Refusing.{RefusesOn, RefusesFurther}
-use Rattle.acd_statements.proofs.Refused.{any_default, by_more, by_same, by_later}
+use Rattle.acd_statements.proofs.Refused.{any_default, by_more, by_same, by_later, unless_ok}
 use Rattle.acd_statements.proofs.parts.insert_all.Goals as goal
 use Rattle.std.proofs.lemmas.List.{take_all}
 
@@ -43,7 +43,7 @@ pub returns-in_err-insert_further : goal.returns-in_err-insert_further
 returns-in_err-insert_further g c = record {
   same = c.insert_further.ensures.same ∙ c.loop-group.invariant.same;
   works = works_on _ _ _ c.loop-group.invariant.works c.insert_further.ensures.works;
-  put = search rules;
+  put = λ clean. unless_ok c.in_err-insert_further.field-0.0 c.from_residual.result (search rules);
   failed =
       let old = state g.S.Store c.args.tx.now.conn.now in
       let mid = state g.S.Store c.loop-group.tx.conn.now in

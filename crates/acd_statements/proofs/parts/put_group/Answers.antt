@@ -10,7 +10,7 @@ use Rattle.acd_statements.proofs.Planned.{leaves_on}
 use Rattle.std.proofs.Common.{inl, inr, rules, subst}
 use Rattle.acd_columns.specs.declared.texts.TheConstants.{UPDATE_GROUP}
 use Rattle.acd_statements.specs.Refusing.{RefusesPut, RefusesPriority, RefusesGroup}
-use Rattle.acd_statements.proofs.Refused.{by_more, by_same, by_later}
+use Rattle.acd_statements.proofs.Refused.{by_more, by_same, by_later, unless_ok}
 use Rattle.acd_statements.proofs.parts.put_group.Goals as goal
 
 pub returns : goal.returns
@@ -38,7 +38,7 @@ pub returns-in_err-put : goal.returns-in_err-put
 returns-in_err-put g c = record {
   same = c.put.ensures.same;
   works = c.put.ensures.works;
-  put = search rules;
+  put = λ clean. unless_ok c.in_err-put.field-0.0 c.from_residual.result (search rules);
   failed =
       let old = state g.S.Store c.args.tx.now.conn.now in
       let mid = state g.S.Store c.put.new.tx.conn.now in

@@ -1,4 +1,4 @@
-use Rattle.std.proofs.Common.{◌≡◌, map, ◌∙◌, rules}
+use Rattle.std.proofs.Common.{◌≡◌, map, ◌∙◌, rules, refl}
 use Rattle.std.specs.Prelude.{Vec}
 use Rattle.std.specs.declared.alloc.Global.{Global}
 use Rattle.sqlite.specs.Held.{state}
@@ -6,7 +6,7 @@ use Rattle.acd_terms.specs.declared.record.AgentRecord.{AgentRecord}
 use Rattle.acd_book.specs.Content.{Content}
 use Rattle.acd_columns.specs.declared.relations.AgentRow.{AgentRow}
 use Rattle.acd_columns.specs.Relations.{agent_part}
-use Rattle.acd_statements.proofs.Chained.{behind}
+use Rattle.acd_statements.proofs.Chained.{behind, finds_failed}
 use Rattle.acd_statements.proofs.Answered.{agents_answered}
 use Rattle.acd_statements.proofs.Blamed.{blames_fail, blames_then}
 use Rattle.acd_statements.proofs.BlamedPlan.{agents_told}
@@ -27,6 +27,6 @@ returns-in-Ok g c = record {
 pub returns-in-Err : goal.returns-in-Err
 returns-in-Err g c = record {
   idle = search rules;
-  found = search rules;
+  found = finds_failed c.in-Err.ensures.found refl;
   blamed = blames_fail (state g.S.Store c.args.conn.now) (state g.S.Store c.records.new.conn) c.in-Err.error (c.in-Err.ensures.blamed agents_answered agents_told);
 }

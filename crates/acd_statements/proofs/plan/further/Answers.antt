@@ -1,4 +1,5 @@
 use Rattle.sqlite.specs.Held.{state}
+use Rattle.acd_statements.proofs.Chained.{finds_failed}
 use Rattle.acd_book.specs.Content.{Content}
 use Rattle.acd_columns.specs.Ranges.{further_in as read}
 use Rattle.acd_columns.specs.Relations.{further_in}
@@ -24,6 +25,6 @@ returns-in-Ok g c = record {
 pub returns-in-Err : goal.returns-in-Err
 returns-in-Err g c = record {
   idle = search rules;
-  found = search rules;
+  found = finds_failed c.in-Err.ensures.found refl;
   blamed = blames_fail (state g.S.Store c.args.conn.now) (state g.S.Store c.further_rows.new.conn) c.in-Err.error c.in-Err.ensures.blamed;
 }

@@ -1,4 +1,4 @@
-use Rattle.std.proofs.Common.{◌≡◌, map, ◌∙◌, rules}
+use Rattle.std.proofs.Common.{◌≡◌, map, ◌∙◌, rules, refl}
 use Rattle.std.specs.Prelude.{Vec}
 use Rattle.std.specs.declared.alloc.Global.{Global}
 use Rattle.sqlite.specs.Held.{state}
@@ -6,7 +6,7 @@ use Rattle.acd_terms.specs.declared.record.GroupRecord.{GroupRecord}
 use Rattle.acd_book.specs.Content.{Content}
 use Rattle.acd_columns.specs.declared.relations.GroupRow.{GroupRow}
 use Rattle.acd_columns.specs.Relations.{group_part}
-use Rattle.acd_statements.proofs.Chained.{behind}
+use Rattle.acd_statements.proofs.Chained.{behind, finds_failed}
 use Rattle.acd_statements.proofs.Answered.{groups_answered}
 use Rattle.acd_statements.proofs.Blamed.{blames_fail, blames_behind}
 use Rattle.acd_statements.proofs.BlamedPlan.{groups_told}
@@ -27,6 +27,6 @@ returns-in-Ok g c = record {
 pub returns-in-Err : goal.returns-in-Err
 returns-in-Err g c = record {
   idle = search rules;
-  found = search rules;
+  found = finds_failed c.in-Err.ensures.found refl;
   blamed = blames_fail (state g.S.Store c.args.conn.now) (state g.S.Store c.records.new.conn) c.in-Err.error (c.in-Err.ensures.blamed groups_answered groups_told);
 }

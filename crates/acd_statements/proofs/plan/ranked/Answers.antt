@@ -1,4 +1,5 @@
 use Rattle.sqlite.specs.Held.{state}
+use Rattle.acd_statements.proofs.Chained.{finds_failed}
 use Rattle.acd_statements.proofs.Planned.{ranked_so}
 use Rattle.std.proofs.Common.{refl, rules}
 use Rattle.acd_statements.proofs.Answered.{priorities_answered}
@@ -17,6 +18,6 @@ returns-in-Ok g c = record {
 pub returns-in-Err : goal.returns-in-Err
 returns-in-Err g c = record {
   idle = search rules;
-  found = search rules;
+  found = finds_failed c.in-Err.ensures.found refl;
   blamed = blames_fail (state g.S.Store c.args.conn.now) (state g.S.Store c.records.new.conn) c.in-Err.error (c.in-Err.ensures.blamed priorities_answered (λ x. refl));
 }

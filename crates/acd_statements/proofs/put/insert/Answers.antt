@@ -2,7 +2,7 @@ use Rattle.std.proofs.Common.{rules}
 use Rattle.sqlite.specs.Held.{state}
 use Rattle.acd_columns.proofs.Filed.{inserted_in}
 use Rattle.acd_statements.specs.Refusing.{RefusesOn}
-use Rattle.acd_statements.proofs.Refused.{refused_on, by_same}
+use Rattle.acd_statements.proofs.Refused.{refused_on, by_same, unless_ok}
 use Rattle.acd_statements.proofs.put.insert.Goals as goal
 
 pub returns : goal.returns
@@ -19,7 +19,7 @@ pub returns-in_err-run : goal.returns-in_err-run
 returns-in_err-run g c = record {
   same = c.run.ensures.same;
   works = c.run.ensures.works;
-  put = search rules;
+  put = λ clean. unless_ok c.in_err-run.field-0.0 c.from_residual.result (search rules);
   failed =
       let old = state g.S.Store c.args.tx.now.conn.now in
       let new = state g.S.Store c.run.new.tx.conn.now in

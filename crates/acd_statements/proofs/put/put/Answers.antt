@@ -4,7 +4,7 @@ use Rattle.acd_columns.proofs.Endings.{works_on}
 use Rattle.sqlite.specs.State.{HasCleanDisk}
 use Rattle.acd_columns.proofs.Filed.{updated_in, put_in}
 use Rattle.acd_statements.specs.Refusing.{RefusesOn, RefusesPut}
-use Rattle.acd_statements.proofs.Refused.{refused_on, by_more, by_same, by_later, still_drafts}
+use Rattle.acd_statements.proofs.Refused.{refused_on, by_more, by_same, by_later, still_drafts, unless_ok}
 use Rattle.acd_statements.proofs.put.put.Goals as goal
 
 pub returns-then-changed-gt0 : goal.returns-then-changed-gt0
@@ -36,7 +36,7 @@ pub returns-in_err-changed : goal.returns-in_err-changed
 returns-in_err-changed g c = record {
   same = c.run.ensures.same;
   works = c.run.ensures.works;
-  put = search rules;
+  put = λ clean. unless_ok c.in_err-changed.field-0.0 c.from_residual.result (search rules);
   failed =
       let old = state g.S.Store c.args.tx.now.conn.now in
       let mid = state g.S.Store c.run.new.tx.conn.now in
@@ -51,7 +51,7 @@ pub returns-in_err-run : goal.returns-in_err-run
 returns-in_err-run g c = record {
   same = c.run-2.ensures.same ∙ c.run.ensures.same;
   works = works_on _ _ _ c.run.ensures.works c.run-2.ensures.works;
-  put = search rules;
+  put = λ clean. unless_ok c.in_err-run.field-0.0 c.from_residual-in_err-run.result (search rules);
   failed =
       let old = state g.S.Store c.args.tx.now.conn.now in
       let mid = state g.S.Store c.run.new.tx.conn.now in

@@ -12,7 +12,7 @@ use Rattle.std.proofs.Common.{inl, inr, rules}
 use Rattle.acd_columns.specs.Rows.{connection_values}
 use Rattle.acd_columns.specs.declared.texts.TheConstants.{INSERT_CONNECTION, UPDATE_CONNECTION}
 use Rattle.acd_statements.specs.Refusing.{RefusesOn, RefusesPutConnection}
-use Rattle.acd_statements.proofs.Refused.{refused_on, by_more, by_same, by_later, still_connected}
+use Rattle.acd_statements.proofs.Refused.{refused_on, by_more, by_same, by_later, still_connected, unless_ok}
 use Rattle.acd_statements.proofs.write.put_connection.Goals as goal
 
 pub returns-then-changed-gt0 : goal.returns-then-changed-gt0
@@ -58,7 +58,7 @@ pub returns-in_err-changed : goal.returns-in_err-changed
 returns-in_err-changed g c = record {
   same = c.changed_rows.ensures.same;
   works = c.changed_rows.ensures.works;
-  put = search rules;
+  put = λ clean. unless_ok c.in_err-changed.field-0.0 c.from_residual.result (search rules);
   failed =
       let old = state g.S.Store c.args.tx.now.conn.now in
       let mid = state g.S.Store c.changed_rows.new.tx.conn.now in
