@@ -9,7 +9,7 @@ use Rattle.acd_statements.proofs.write.write.Goals as goal
 
 pub returns : goal.returns
 returns g c = record {
-  same = search rules;
+  same = c.execute.ensures.same_reference;
   works =
       works_inside c.args.sql.now (bound c.args.params.now) (state g.S.Store c.args.tx.now.conn.now) (state g.S.Store c.execute.new.self.conn.now) c.execute.result
       c.execute.ensures.survives (λ clean inside. c.execute.ensures.runs clean inside) (λ out. ap (state g.S.Store) (c.execute.ensures.ended out).1);
@@ -21,7 +21,7 @@ returns g c = record {
 
 pub returns-in_err-execute : goal.returns-in_err-execute
 returns-in_err-execute g c = record {
-  same = search rules;
+  same = c.execute.ensures.same_reference;
   works =
       works_inside c.args.sql.now (bound c.args.params.now) (state g.S.Store c.args.tx.now.conn.now) (state g.S.Store c.execute.new.self.conn.now) c.execute.result
       c.execute.ensures.survives (λ clean inside. c.execute.ensures.runs clean inside) (λ out. ap (state g.S.Store) (c.execute.ensures.ended out).1);
