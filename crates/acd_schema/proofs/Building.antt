@@ -46,16 +46,6 @@ builds schema text table rows it old new count b h =
           (all_rows old.now.trees first.0.trees schema.tables rows (record table { tree = next_tree schema }) others b.rows_are last);
     }
 
-pub builds_if : (text : List ℕ) (old new : State) (r : Result (Unit {0}) Error) → OnOk r (Ran text [] old new)
-    → OnOk r ((schema : Schema) (table : Table) (rows : List (List Row)) → Makes schema text table → Builds old schema rows → Builds new (created schema table) (rows ++ [] ∷ []))
-builds_if text old new (Err e) ran = tt
-builds_if text old new (Ok x) ran = λ (schema : Schema) (table : Table) (rows : List (List Row)) (it : Makes schema text table) (b : Builds old schema rows). builds schema text table rows it old new ran.0 b ran.1
-
 -- a transaction begins
 pub begins_with : (old : State) (schema : Schema) (rows : List (List Row)) → old.now.schema ≡ schema → HasRows old.now.trees schema.tables rows → Builds (record old { in_transaction = true }) schema rows
 begins_with old schema rows is had = record { inside = refl; schema_is = is; rows_are = had }
-
-pub all_built : (old mid new : State) (r : Result (Unit {0}) Error) → (Builds old no_schema (no_rows 0) → Builds mid old_schema (no_rows 9))
-    → OnOk r ((rows : List (List Row)) → Builds mid old_schema rows → Builds new book_schema ((rows ++ [] ∷ []) ++ [] ∷ [])) → OnOk r (Builds old no_schema (no_rows 0) → Builds new book_schema (no_rows 11))
-all_built old mid new (Err e) nine two = tt
-all_built old mid new (Ok x) nine two = λ (b : Builds old no_schema (no_rows 0)). two (no_rows 9) (nine b)

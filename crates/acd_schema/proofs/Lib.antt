@@ -8,3 +8,4 @@ mod Looks
 mod Migrated
 mod Taken
 mod Takings
+mod Steps

@@ -1,15 +1,21 @@
 -- What a crash leaves of the making of the tables, and why they aren't made.
-use Rattle.std.specs.Prelude.{◌≡◌, ◌⊎◌, ℕ, Option}
+use Rattle.std.specs.Prelude.{◌≡◌, ◌⊎◌, ℕ, List, Option, Result, IfErr, OnOk}
+use Rattle.std.specs.Borrow.{MutBor}
+use Rattle.sqlite_value.specs.Order.{Row}
 use Rattle.sqlite_trees.specs.Tree.{Trees}
+use Rattle.sqlite_trees.specs.declared.store.Store.{Ghosts}
+use Rattle.sqlite_schema.specs.declared.schema.Schema.{Schema}
 use Rattle.sqlite.specs.Effect.{Database}
-use Rattle.sqlite.specs.State.{State}
+use Rattle.sqlite.specs.Held.{Held, state}
+use Rattle.sqlite.specs.State.{State, HasCleanDisk}
 use Rattle.sqlite.specs.declared.error.Error.{Error}
 use Rattle.acd_terms.specs.declared.rows.Limits.{Limits}
 use Rattle.acd_book.specs.Content.{empty_content}
 use Rattle.acd_columns.specs.declared.meta.Meta.{Meta}
 use Rattle.acd_columns.specs.declared.texts.TheConstants.{INSERT_META}
 use Rattle.acd_columns.specs.Content.{Encodes}
-use Rattle.acd_columns.specs.Making.{HasRows, no_rows}
+use Rattle.acd_columns.specs.Draft.{Works}
+use Rattle.acd_columns.specs.Making.{Builds, HasRows, no_rows}
 use Rattle.acd_columns.specs.Rows.{meta_values}
 use Rattle.acd_columns.specs.Schema.{book_schema}
 use Rattle.acd_statements.specs.Failing.{IsMemory, HasFailed, Refuses}
@@ -36,3 +42,12 @@ FailsToMake old new e = IsMemory e ⊎ HasFailed old new
 -- why a new book isn't
 abbrev pub FailsToSetUp : State → State → Limits → Error → Type 0
 FailsToSetUp old new limits e = IsMemory e ⊎ (HasFailed old new ⊎ IsUnstarted old.step_limit limits)
+
+-- ---- inside the transaction
+
+-- tables with these rows become tables with those, and nothing is committed
+pub record MakesTables {S : Type 0} (g : Ghosts S) (old new : MutBor (Held S)) (result : Result (Unit {0}) Error) (before : Schema) (had : List (List Row)) (after : Schema) (have : List (List Row)) : Type 0 where
+  pub same : new.ghost_name ≡ old.ghost_name
+  pub works : Works (state g old.now) (state g new.now)
+  pub made : HasCleanDisk (state g new.now) → OnOk result (Builds (state g old.now) before had → Builds (state g new.now) after have)
+  pub failed : HasCleanDisk (state g new.now) → Builds (state g old.now) before had → IfErr result (FailsToMake (state g old.now) (state g new.now))

@@ -2,17 +2,15 @@
 
 ghost use Rattle.std.specs.Prelude.{◌≡◌, ◌↔◌, ◌++◌, ◌∷◌, [], List, false, IsTrue, IfErr, OnOk};
 ghost use Rattle.sqlite_value.specs.Order.{Row as Values};
-ghost use Rattle.sqlite_schema.specs.declared.schema.Table.{Table};
-ghost use Rattle.sqlite_schema.specs.declared.schema.Schema.{Schema};
-ghost use Rattle.sqlite.specs.Change.{created};
 ghost use Rattle.sqlite.specs.State.{HasCleanDisk};
 ghost use Rattle.sqlite.specs.Held.{state};
 ghost use Rattle.acd_columns.specs.Schema.{no_schema, old_schema, book_schema};
-ghost use Rattle.acd_columns.specs.Making.{Makes, Builds, no_rows, plan_schema, state_schema};
+ghost use Rattle.acd_columns.specs.Making.{Builds, no_rows, plan_schema, state_schema};
 ghost use Rattle.acd_columns.specs.Draft.{Works, Holds, LimitsFit};
 ghost use Rattle.acd_book.specs.Content.{empty_content};
-ghost use Rattle.acd_schema.specs.SettingUp.{MayMake, FailsToMake, FailsToSetUp};
-ghost use Rattle.acd_statements.specs.Failing.{FailsToWrite};
+ghost use Rattle.acd_schema.specs.SettingUp.{MakesTables, MayMake, FailsToMake, FailsToSetUp};
+ghost use Rattle.acd_statements.specs.Between.{IsUp};
+ghost use Rattle.acd_statements.specs.Inside.{RunsText};
 
 use acd_columns::Meta;
 use acd_columns::texts::{
@@ -34,74 +32,45 @@ pub fn has_no_tables(schema: &Schema) -> bool
 
 // Makes one table.
 fn make<S: Alter>(tx: &mut Transaction<'_, S>, sql: &str) -> Result<(), Error>
-    ensures same { tx.new.conn.ghost_name ≡ tx.old.conn.ghost_name }
-    ensures works { Works (state S.Store tx.old.conn.now) (state S.Store tx.new.conn.now) }
-    ensures made { HasCleanDisk (state S.Store tx.new.conn.now) → OnOk result ((schema : Schema) (table : Table) (rows : List (List Values)) → Makes schema sql.now table
-        → Builds (state S.Store tx.old.conn.now) schema rows → Builds (state S.Store tx.new.conn.now) (created schema table) (rows ++ [] ∷ [])) }
-    ensures failed { HasCleanDisk (state S.Store tx.new.conn.now)
-        → IsTrue (state S.Store tx.old.conn.now).in_transaction → IfErr result (FailsToWrite
-        (state S.Store tx.old.conn.now) (state S.Store tx.new.conn.now) sql.now []) }
+    ensures { RunsText S.Store tx.old.conn tx.new.conn result sql.now [] }
 {
     write(tx, sql, &[])
 }
 
 // The limits and the plan.
 fn make_plan<S: Alter>(tx: &mut Transaction<'_, S>) -> Result<(), Error>
-    ensures same { tx.new.conn.ghost_name ≡ tx.old.conn.ghost_name }
-    ensures works { Works (state S.Store tx.old.conn.now) (state S.Store tx.new.conn.now) }
-    ensures made { HasCleanDisk (state S.Store tx.new.conn.now) → OnOk result (Builds (state S.Store tx.old.conn.now) no_schema (no_rows 0) → Builds (state S.Store tx.new.conn.now) plan_schema (no_rows 4)) }
-    ensures failed { HasCleanDisk (state S.Store tx.new.conn.now)
-        → Builds (state S.Store tx.old.conn.now) no_schema (no_rows 0)
-        → IfErr result (FailsToMake
-        (state S.Store tx.old.conn.now) (state S.Store tx.new.conn.now)) }
+    ensures { MakesTables S.Store tx.old.conn tx.new.conn result
+        no_schema (no_rows 0) plan_schema (no_rows 4) }
 {
     make(tx, CREATE_META)?;
     make(tx, CREATE_GROUPS)?;
     make(tx, CREATE_STATIONS)?;
-    make(tx, CREATE_AGENTS)?;
-    Ok(())
+    make(tx, CREATE_AGENTS)
 }
 
 // What changes from call to call.
 fn make_state<S: Alter>(tx: &mut Transaction<'_, S>) -> Result<(), Error>
-    ensures same { tx.new.conn.ghost_name ≡ tx.old.conn.ghost_name }
-    ensures works { Works (state S.Store tx.old.conn.now) (state S.Store tx.new.conn.now) }
-    ensures made { HasCleanDisk (state S.Store tx.new.conn.now) → OnOk result (Builds (state S.Store tx.old.conn.now) plan_schema (no_rows 4) → Builds (state S.Store tx.new.conn.now) state_schema (no_rows 7)) }
-    ensures failed { HasCleanDisk (state S.Store tx.new.conn.now)
-        → Builds (state S.Store tx.old.conn.now) plan_schema (no_rows 4)
-        → IfErr result (FailsToMake
-        (state S.Store tx.old.conn.now) (state S.Store tx.new.conn.now)) }
+    ensures { MakesTables S.Store tx.old.conn tx.new.conn result
+        plan_schema (no_rows 4) state_schema (no_rows 7) }
 {
     make(tx, CREATE_CALLS)?;
     make(tx, CREATE_CONNECTIONS)?;
-    make(tx, CREATE_MONITORS)?;
-    Ok(())
+    make(tx, CREATE_MONITORS)
 }
 
 // The events and the kept replies.
 fn make_log<S: Alter>(tx: &mut Transaction<'_, S>) -> Result<(), Error>
-    ensures same { tx.new.conn.ghost_name ≡ tx.old.conn.ghost_name }
-    ensures works { Works (state S.Store tx.old.conn.now) (state S.Store tx.new.conn.now) }
-    ensures made { HasCleanDisk (state S.Store tx.new.conn.now) → OnOk result (Builds (state S.Store tx.old.conn.now) state_schema (no_rows 7) → Builds (state S.Store tx.new.conn.now) old_schema (no_rows 9)) }
-    ensures failed { HasCleanDisk (state S.Store tx.new.conn.now)
-        → Builds (state S.Store tx.old.conn.now) state_schema (no_rows 7)
-        → IfErr result (FailsToMake
-        (state S.Store tx.old.conn.now) (state S.Store tx.new.conn.now)) }
+    ensures { MakesTables S.Store tx.old.conn tx.new.conn result
+        state_schema (no_rows 7) old_schema (no_rows 9) }
 {
     make(tx, CREATE_EVENTS)?;
-    make(tx, CREATE_KEPT)?;
-    Ok(())
+    make(tx, CREATE_KEPT)
 }
 
 // Makes the nine tables of version 1.
 fn make_nine<S: Alter>(tx: &mut Transaction<'_, S>) -> Result<(), Error>
-    ensures same { tx.new.conn.ghost_name ≡ tx.old.conn.ghost_name }
-    ensures works { Works (state S.Store tx.old.conn.now) (state S.Store tx.new.conn.now) }
-    ensures made { HasCleanDisk (state S.Store tx.new.conn.now) → OnOk result (Builds (state S.Store tx.old.conn.now) no_schema (no_rows 0) → Builds (state S.Store tx.new.conn.now) old_schema (no_rows 9)) }
-    ensures failed { HasCleanDisk (state S.Store tx.new.conn.now)
-        → Builds (state S.Store tx.old.conn.now) no_schema (no_rows 0)
-        → IfErr result (FailsToMake
-        (state S.Store tx.old.conn.now) (state S.Store tx.new.conn.now)) }
+    ensures { MakesTables S.Store tx.old.conn tx.new.conn result
+        no_schema (no_rows 0) old_schema (no_rows 9) }
 {
     make_plan(tx)?;
     make_state(tx)?;
@@ -112,7 +81,8 @@ fn make_nine<S: Alter>(tx: &mut Transaction<'_, S>) -> Result<(), Error>
 pub(crate) fn make_two<S: Alter>(tx: &mut Transaction<'_, S>) -> Result<(), Error>
     ensures same { tx.new.conn.ghost_name ≡ tx.old.conn.ghost_name }
     ensures works { Works (state S.Store tx.old.conn.now) (state S.Store tx.new.conn.now) }
-    ensures made { HasCleanDisk (state S.Store tx.new.conn.now) → OnOk result ((rows : List (List Values)) → Builds (state S.Store tx.old.conn.now) old_schema rows
+    ensures made { HasCleanDisk (state S.Store tx.new.conn.now) → OnOk result
+        ((rows : List (List Values)) → Builds (state S.Store tx.old.conn.now) old_schema rows
         → Builds (state S.Store tx.new.conn.now) book_schema ((rows ++ [] ∷ []) ++ [] ∷ [])) }
     ensures failed { HasCleanDisk (state S.Store tx.new.conn.now)
         → (rows : List (List Values)) → Builds (state S.Store tx.old.conn.now) old_schema rows
@@ -120,19 +90,13 @@ pub(crate) fn make_two<S: Alter>(tx: &mut Transaction<'_, S>) -> Result<(), Erro
         (state S.Store tx.old.conn.now) (state S.Store tx.new.conn.now)) }
 {
     make(tx, CREATE_AGENT_GROUPS)?;
-    make(tx, CREATE_GROUP_PRIORITY)?;
-    Ok(())
+    make(tx, CREATE_GROUP_PRIORITY)
 }
 
 // Makes the eleven tables.
 fn make_tables<S: Alter>(tx: &mut Transaction<'_, S>) -> Result<(), Error>
-    ensures same { tx.new.conn.ghost_name ≡ tx.old.conn.ghost_name }
-    ensures works { Works (state S.Store tx.old.conn.now) (state S.Store tx.new.conn.now) }
-    ensures made { HasCleanDisk (state S.Store tx.new.conn.now) → OnOk result (Builds (state S.Store tx.old.conn.now) no_schema (no_rows 0) → Builds (state S.Store tx.new.conn.now) book_schema (no_rows 11)) }
-    ensures failed { HasCleanDisk (state S.Store tx.new.conn.now)
-        → Builds (state S.Store tx.old.conn.now) no_schema (no_rows 0)
-        → IfErr result (FailsToMake
-        (state S.Store tx.old.conn.now) (state S.Store tx.new.conn.now)) }
+    ensures { MakesTables S.Store tx.old.conn tx.new.conn result
+        no_schema (no_rows 0) book_schema (no_rows 11) }
 {
     make_nine(tx)?;
     make_two(tx)
@@ -143,7 +107,8 @@ pub(crate) fn set_up_old<S: Alter>(conn: &mut Connection<S>) -> Result<(), Error
     requires idle { conn.old.in_transaction ≡ false }
     requires empty { (state S.Store conn.old).now.schema ≡ no_schema }
     ensures idle { conn.new.in_transaction ≡ false }
-    ensures made { HasCleanDisk (state S.Store conn.new) → OnOk result ((state S.Store conn.new).now.schema ≡ old_schema) }
+    ensures made { HasCleanDisk (state S.Store conn.new)
+        → OnOk result ((state S.Store conn.new).now.schema ≡ old_schema) }
 {
     let mut tx = conn.transaction();
     make_nine(&mut tx)?;
@@ -157,9 +122,11 @@ pub fn set_up<S: Alter>(conn: &mut Connection<S>, limits: Limits) -> Result<(), 
     requires fit { LimitsFit limits }
     ensures idle { conn.new.in_transaction ≡ false }
     ensures clean { HasCleanDisk (state S.Store conn.new) → HasCleanDisk (state S.Store conn.old) }
-    ensures made { HasCleanDisk (state S.Store conn.new) → OnOk result (Holds (state S.Store conn.new) (empty_content limits)) }
-    ensures up { HasCleanDisk (state S.Store conn.new) → OnOk result (IsTrue (state S.Store conn.new).is_open) }
-    ensures stops { HasCleanDisk (state S.Store conn.new) → MayMake (state S.Store conn.old) (state S.Store conn.new) limits }
+    ensures made { HasCleanDisk (state S.Store conn.new)
+        → OnOk result (Holds (state S.Store conn.new) (empty_content limits)) }
+    ensures up { IsUp (state S.Store conn.new) result }
+    ensures stops { HasCleanDisk (state S.Store conn.new)
+        → MayMake (state S.Store conn.old) (state S.Store conn.new) limits }
     ensures failed { HasCleanDisk (state S.Store conn.new) → IfErr result (FailsToSetUp
         (state S.Store conn.old) (state S.Store conn.new) limits) }
 {

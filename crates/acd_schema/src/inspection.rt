@@ -475,7 +475,8 @@ fn found_in<S: Alter>(alloc: Global, conn: &mut Connection<S>) -> Result<Found, 
 pub fn look_over<S: Alter>(alloc: Global, conn: &mut Connection<S>) -> Result<Found, Error>
     requires { conn.old.in_transaction ≡ false }
     ensures idle { conn.new.in_transaction ≡ false }
-    ensures looked { HasLooked (state S.Store conn.old) (state S.Store conn.new) result (λ d found. IsFound d found) }
+    ensures looked { HasLooked (state S.Store conn.old) (state S.Store conn.new) result
+        (λ d found. IsFound d found) }
 {
     // What these two promise holds of the connection before anything is read; their answers aren't needed.
     let _settled = conn.is_autocommit();

@@ -5,7 +5,7 @@ ghost use Rattle.sqlite.specs.State.{HasCleanDisk};
 ghost use Rattle.sqlite.specs.Held.{state};
 ghost use Rattle.acd_columns.specs.Schema.{old_schema, book_schema};
 ghost use Rattle.acd_columns.specs.Draft.{Works};
-ghost use Rattle.acd_schema.specs.Migrating.{IsAltered, IsMade, IsRestored, MayAlter};
+ghost use Rattle.acd_schema.specs.Migrating.{IfFirst, IsAltered, IsMade, IsRestored, MayAlter};
 
 use crate::create::make_two;
 use acd_statements::write::tell_second;
@@ -15,7 +15,9 @@ use sqlite::{Alter, Connection, Error, Transaction};
 fn alter<S: Alter>(tx: &mut Transaction<'_, S>) -> Result<(), Error>
     ensures same { tx.new.conn.ghost_name ≡ tx.old.conn.ghost_name }
     ensures works { Works (state S.Store tx.old.conn.now) (state S.Store tx.new.conn.now) }
-    ensures altered { HasCleanDisk (state S.Store tx.new.conn.now) → OnOk result (IsTrue (state S.Store tx.old.conn.now).in_transaction → (state S.Store tx.old.conn.now).now.schema ≡ old_schema
+    ensures altered { HasCleanDisk (state S.Store tx.new.conn.now) → OnOk result
+        (IsTrue (state S.Store tx.old.conn.now).in_transaction
+        → (state S.Store tx.old.conn.now).now.schema ≡ old_schema
         → IsAltered (state S.Store tx.old.conn.now) (state S.Store tx.new.conn.now)) }
 {
     make_two(tx)?;
@@ -29,10 +31,15 @@ pub fn migrate<S: Alter>(conn: &mut Connection<S>) -> Result<(), Error>
     requires idle { conn.old.in_transaction ≡ false }
     ensures idle { conn.new.in_transaction ≡ false }
     ensures clean { HasCleanDisk (state S.Store conn.new) → HasCleanDisk (state S.Store conn.old) }
-    ensures was { HasCleanDisk (state S.Store conn.new) → IsTrue (state S.Store conn.new).is_open → IsTrue (state S.Store conn.old).is_open }
-    ensures made { HasCleanDisk (state S.Store conn.new) → (state S.Store conn.old).now.schema ≡ old_schema → OnOk result (IsMade (state S.Store conn.old) (state S.Store conn.new)) }
-    ensures undone { HasCleanDisk (state S.Store conn.new) → (state S.Store conn.old).now.schema ≡ old_schema → OnErr result (IsTrue (state S.Store conn.new).is_open → IsRestored (state S.Store conn.old) (state S.Store conn.new)) }
-    ensures stops { HasCleanDisk (state S.Store conn.new) → (state S.Store conn.old).now.schema ≡ old_schema → MayAlter (state S.Store conn.old) (state S.Store conn.new) }
+    ensures was { HasCleanDisk (state S.Store conn.new)
+        → IsTrue (state S.Store conn.new).is_open → IsTrue (state S.Store conn.old).is_open }
+    ensures made { IfFirst (state S.Store conn.old) (state S.Store conn.new)
+        (OnOk result (IsMade (state S.Store conn.old) (state S.Store conn.new))) }
+    ensures undone { IfFirst (state S.Store conn.old) (state S.Store conn.new)
+        (OnErr result (IsTrue (state S.Store conn.new).is_open
+        → IsRestored (state S.Store conn.old) (state S.Store conn.new))) }
+    ensures stops { IfFirst (state S.Store conn.old) (state S.Store conn.new)
+        (MayAlter (state S.Store conn.old) (state S.Store conn.new)) }
 {
     let mut tx = conn.transaction();
     alter(&mut tx)?;

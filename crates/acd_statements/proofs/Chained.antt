@@ -1,5 +1,5 @@
 -- Reads, one after the other.
-use Rattle.std.proofs.Common.{◌≡◌, List, [], ◌∷◌, Result, Ok, Err, IsTrue, IfOk}
+use Rattle.std.proofs.Common.{◌≡◌, List, [], ◌∷◌, Result, Ok, Err, IsTrue, IfOk, sym, subst}
 use Rattle.sqlite_value.specs.Order.{Row}
 use Rattle.sqlite.specs.declared.error.Error.{Error}
 use Rattle.sqlite.specs.State.{State, HasCleanDisk}
@@ -33,6 +33,10 @@ finds_meta old new rows (Err e) read up quiet stops are = record { up = λ k. tt
 
 pub finds_none : {A : Type 0} (old new : State) (e : Error) (IsAnswer : Content → A → Type 0) → Quiet old new → (HasCleanDisk new → (c : Content) → Holds old c → NoStop old new) → Finds old new (Err e) IsAnswer
 finds_none old new e IsAnswer quiet stops = record { up = λ k. tt; quiet = quiet; stops = stops; answer = λ k. tt }
+
+-- a read that failed finds nothing, whatever was asked for
+pub finds_failed : {A B : Type 0} {old new : State} {e : Error} {r : Result B Error} {P : Content → A → Type 0} {Q : Content → B → Type 0} → Finds {E = Error} old new (Err e) P → r ≡ Err e → Finds old new r Q
+finds_failed {A} {B} {old} {new} {e} {r} {P} {Q} h is = subst (λ (r : Result B Error). Finds old new r Q) (sym is) (finds_none old new e Q h.quiet h.stops)
 
 module _ {A B : Type 0} (old mid new : State) (a : A) (P : Content → A → Type 0) (Q : Content → B → Type 0) (first : Finds {E = Error} old mid (Ok a) P) where
   -- both, where the second succeeded

@@ -1,5 +1,5 @@
 -- Why a part of a commit isn't written.
-use Rattle.std.proofs.Common.{◌≡◌, inl, inr, ℕ, ◌<◌, List, length, get_or, Option, Result, Ok, Err, IsTrue, IfErr, sym, ap, subst, ◌∙◌, arith}
+use Rattle.std.proofs.Common.{◌≡◌, inl, inr, ℕ, ◌<◌, List, length, get_or, Option, Result, Ok, Err, IsTrue, IfErr, OnOk, sym, ap, subst, ◌∙◌, arith}
 use Rattle.std.proofs.lemmas.Grind.{common_steps}
 use Rattle.sqlite_value.specs.Order.{Row}
 use Rattle.sqlite.specs.declared.error.Error.{Error}
@@ -20,6 +20,10 @@ use Rattle.acd_columns.proofs.Sets.{set_none}
 use Rattle.acd_statements.specs.Failing.{FailsToWrite}
 use Rattle.acd_statements.specs.Refusing.{RefusesOn, FailsToLeave, IsBlamed}
 use Rattle.acd_statements.proofs.Failures.{failed_after}
+
+-- nothing is said of a success where there was none
+pub unless_ok : {A P : Type 0} (e : Error) (r : Result A Error) → r ≡ Err e → OnOk r P
+unless_ok {A} {P} e r is = subst (λ (r : Result A Error). OnOk r P) (sym is) tt
 
 -- ---- one statement
 

@@ -3,14 +3,12 @@
 ghost use Rattle.std.specs.Prelude.{◌≡◌, ◌∷◌, [], false, map, codes, IsPermutation};
 ghost use Rattle.std.specs.Str.{bytes_eq};
 ghost use Rattle.sqlite_value.specs.Order.{column};
-ghost use Rattle.sqlite.specs.Effect.{Database};
-ghost use Rattle.sqlite.specs.Held.{state};
 ghost use Rattle.acd_columns.specs.declared.tables.Log.TheVariants as log;
 ghost use Rattle.acd_columns.specs.declared.tables.Table.TheVariants as table;
 ghost use Rattle.acd_columns.specs.AnyRows.{has_meta, rows_in, BeginsAsBook, TellsLow};
 ghost use Rattle.acd_columns.specs.Content.{tree_of};
-ghost use Rattle.acd_columns.specs.Schema.{nine, Begins, book_schema};
-ghost use Rattle.acd_columns.specs.Seeing.{Sees};
+ghost use Rattle.acd_columns.specs.Schema.{nine, Begins};
+ghost use Rattle.acd_statements.specs.Between.{LooksAt, IsOfBook};
 
 use crate::read::read;
 use acd_columns::texts::{
@@ -37,8 +35,9 @@ pub fn has_meta(schema: &Schema) -> bool
 /// The versions that the table tells.
 pub fn version_rows<S: Alter>(conn: &mut Connection<S>) -> Result<Vec<Row>, Error>
     requires { conn.old.in_transaction ≡ false }
-    ensures idle { conn.new.in_transaction ≡ false }
-    ensures seen { (d : Database) → BeginsAsBook d.schema → Sees d (state S.Store conn.old) (state S.Store conn.new) result (λ rows. IsPermutation (map (λ r. column r 2 ∷ []) (d.trees (tree_of table.Meta))) rows.items) }
+    ensures { LooksAt BeginsAsBook S.Store conn.old conn.new result
+        (λ d rows. IsPermutation
+        (map (λ r. column r 2 ∷ []) (d.trees (tree_of table.Meta))) rows.items) }
 {
     read(conn, SELECT_VERSION, &[])
 }
@@ -46,8 +45,8 @@ pub fn version_rows<S: Alter>(conn: &mut Connection<S>) -> Result<Vec<Row>, Erro
 /// The rows of connections in the order in which they stand. Their key isn't the number of a row, so that to put them in its order takes longer than to read them.
 pub fn unordered_connection_rows<S: Alter>(conn: &mut Connection<S>) -> Result<Vec<Row>, Error>
     requires { conn.old.in_transaction ≡ false }
-    ensures idle { conn.new.in_transaction ≡ false }
-    ensures seen { (d : Database) → Begins nine d.schema → Sees d (state S.Store conn.old) (state S.Store conn.new) result (λ rows. IsPermutation (rows_in table.Connections d.trees) rows.items) }
+    ensures { LooksAt (Begins nine) S.Store conn.old conn.new result
+        (λ d rows. IsPermutation (rows_in table.Connections d.trees) rows.items) }
 {
     read(conn, SELECT_STANDING_CONNECTIONS, &[])
 }
@@ -55,8 +54,8 @@ pub fn unordered_connection_rows<S: Alter>(conn: &mut Connection<S>) -> Result<V
 /// The rows of further groups, in the order in which they stand.
 pub fn further_rows<S: Alter>(conn: &mut Connection<S>) -> Result<Vec<Row>, Error>
     requires { conn.old.in_transaction ≡ false }
-    ensures idle { conn.new.in_transaction ≡ false }
-    ensures seen { (d : Database) → d.schema ≡ book_schema → Sees d (state S.Store conn.old) (state S.Store conn.new) result (λ rows. IsPermutation (rows_in table.AgentGroups d.trees) rows.items) }
+    ensures { LooksAt IsOfBook S.Store conn.old conn.new result
+        (λ d rows. IsPermutation (rows_in table.AgentGroups d.trees) rows.items) }
 {
     read(conn, SELECT_STANDING_AGENT_GROUPS, &[])
 }
@@ -64,8 +63,8 @@ pub fn further_rows<S: Alter>(conn: &mut Connection<S>) -> Result<Vec<Row>, Erro
 /// An event whose number is below 1.
 pub(crate) fn low_event_rows<S: Alter>(conn: &mut Connection<S>) -> Result<Vec<Row>, Error>
     requires { conn.old.in_transaction ≡ false }
-    ensures idle { conn.new.in_transaction ≡ false }
-    ensures seen { (d : Database) → Begins nine d.schema → Sees d (state S.Store conn.old) (state S.Store conn.new) result (λ rows. TellsLow log.Events d.trees rows.items) }
+    ensures { LooksAt (Begins nine) S.Store conn.old conn.new result
+        (λ d rows. TellsLow log.Events d.trees rows.items) }
 {
     read(conn, SELECT_LOW_EVENT, &[])
 }
@@ -73,8 +72,8 @@ pub(crate) fn low_event_rows<S: Alter>(conn: &mut Connection<S>) -> Result<Vec<R
 /// A kept record whose stamp is below 1.
 pub(crate) fn low_kept_rows<S: Alter>(conn: &mut Connection<S>) -> Result<Vec<Row>, Error>
     requires { conn.old.in_transaction ≡ false }
-    ensures idle { conn.new.in_transaction ≡ false }
-    ensures seen { (d : Database) → Begins nine d.schema → Sees d (state S.Store conn.old) (state S.Store conn.new) result (λ rows. TellsLow log.Kept d.trees rows.items) }
+    ensures { LooksAt (Begins nine) S.Store conn.old conn.new result
+        (λ d rows. TellsLow log.Kept d.trees rows.items) }
 {
     read(conn, SELECT_LOW_KEPT, &[])
 }

@@ -4,15 +4,15 @@
 //! stands above that, and no answer is so long, which is seen to before the rows are handed on.
 
 ghost use Rattle.std.specs.Prelude.{◌≡◌, ◌⊎◌, ◌-◌, ◌^◌, ◌<◌, [], false, length, map, take, filter, Some, IfErr, IfOk, IfSome, OnOk};
-ghost use Rattle.sqlite.specs.Held.{state};
 ghost use Rattle.acd_model.specs.Scans.{monitor_of};
 ghost use Rattle.acd_book.specs.Content.{IsKeptAfter, events_behind, events_of_monitor, is_told, kept_of};
 ghost use Rattle.acd_columns.specs.Rows.{event_values, kept_values};
 ghost use Rattle.acd_columns.specs.Draft.{Fits};
-ghost use Rattle.acd_columns.specs.Finding.{Finds, kept_behind};
+ghost use Rattle.acd_columns.specs.Finding.{kept_behind};
 ghost use Rattle.acd_columns.specs.Values.{whole_at};
 ghost use Rattle.acd_statements.specs.Failing.{IsMemory};
-ghost use Rattle.acd_statements.specs.Reading.{Blames, HasFitting};
+ghost use Rattle.acd_statements.specs.Reading.{HasFitting};
+ghost use Rattle.acd_statements.specs.Between.{LooksUp};
 
 use crate::fitting::fits;
 use crate::query::{event_rows, event_rows_at, kept_row, kept_rows, monitor_row};
@@ -64,9 +64,8 @@ fn event_page<S: Alter>(
     limit: u64,
 ) -> Result<Vec<Row>, Error>
     requires { conn.old.in_transaction ≡ false }
-    ensures idle { conn.new.in_transaction ≡ false }
-    ensures found { Finds (state S.Store conn.old) (state S.Store conn.new) result (λ c rows. rows.items ≡ map event_values (events_behind c.events number limit)) }
-    ensures blamed { Blames (state S.Store conn.old) (state S.Store conn.new) result }
+    ensures { LooksUp S.Store conn.old conn.new result
+        (λ c rows. rows.items ≡ map event_values (events_behind c.events number limit)) }
 {
     let rows = event_rows(conn, number.min(GREATEST), limit.min(GREATEST))?;
     meant(rows, number, limit)
@@ -79,9 +78,9 @@ fn event_page_at<S: Alter>(
     limit: u64,
 ) -> Result<Vec<Row>, Error>
     requires { conn.old.in_transaction ≡ false }
-    ensures idle { conn.new.in_transaction ≡ false }
-    ensures found { Finds (state S.Store conn.old) (state S.Store conn.new) result (λ c rows. rows.items ≡ map event_values (take limit (filter (is_told (Some device) number) c.events))) }
-    ensures blamed { Blames (state S.Store conn.old) (state S.Store conn.new) result }
+    ensures { LooksUp S.Store conn.old conn.new result
+        (λ c rows. rows.items
+        ≡ map event_values (take limit (filter (is_told (Some device) number) c.events))) }
 {
     let rows = event_rows_at(conn, device, number.min(GREATEST), limit.min(GREATEST))?;
     meant(rows, number, limit)
@@ -90,9 +89,8 @@ fn event_page_at<S: Alter>(
 // The first row of a kept record above a stamp.
 fn kept_page<S: Alter>(conn: &mut Connection<S>, stamp: u64) -> Result<Vec<Row>, Error>
     requires { conn.old.in_transaction ≡ false }
-    ensures idle { conn.new.in_transaction ≡ false }
-    ensures found { Finds (state S.Store conn.old) (state S.Store conn.new) result (λ c rows. rows.items ≡ map kept_values (kept_behind c.kept stamp 1)) }
-    ensures blamed { Blames (state S.Store conn.old) (state S.Store conn.new) result }
+    ensures { LooksUp S.Store conn.old conn.new result
+        (λ c rows. rows.items ≡ map kept_values (kept_behind c.kept stamp 1)) }
 {
     let rows = kept_rows(conn, stamp.min(GREATEST), 1)?;
     meant(rows, stamp, 1)
@@ -106,9 +104,8 @@ pub fn kept_under<S: Alter>(
     invoke: Invoke,
 ) -> Result<Option<Kept>, Error>
     requires { conn.old.in_transaction ≡ false }
-    ensures idle { conn.new.in_transaction ≡ false }
-    ensures found { Finds (state S.Store conn.old) (state S.Store conn.new) result (λ c found. found ≡ kept_of c.kept requester.now invoke) }
-    ensures blamed { Blames (state S.Store conn.old) (state S.Store conn.new) result }
+    ensures { LooksUp S.Store conn.old conn.new result
+        (λ c found. found ≡ kept_of c.kept requester.now invoke) }
 {
     let rows = kept_row(conn, requester, invoke)?;
     first(alloc, &rows)
@@ -121,9 +118,7 @@ pub fn kept_behind<S: Alter>(
     stamp: u64,
 ) -> Result<Option<Kept>, Error>
     requires { conn.old.in_transaction ≡ false }
-    ensures idle { conn.new.in_transaction ≡ false }
-    ensures found { Finds (state S.Store conn.old) (state S.Store conn.new) result (λ c found. IsKeptAfter c.kept stamp found) }
-    ensures blamed { Blames (state S.Store conn.old) (state S.Store conn.new) result }
+    ensures { LooksUp S.Store conn.old conn.new result (λ c found. IsKeptAfter c.kept stamp found) }
 {
     let rows = kept_page(conn, stamp)?;
     first(alloc, &rows)
@@ -137,9 +132,8 @@ pub fn events_behind<S: Alter>(
     limit: usize,
 ) -> Result<Vec<Event>, Error>
     requires { conn.old.in_transaction ≡ false }
-    ensures idle { conn.new.in_transaction ≡ false }
-    ensures found { Finds (state S.Store conn.old) (state S.Store conn.new) result (λ c events. events.items ≡ events_behind c.events number limit) }
-    ensures blamed { Blames (state S.Store conn.old) (state S.Store conn.new) result }
+    ensures { LooksUp S.Store conn.old conn.new result
+        (λ c events. events.items ≡ events_behind c.events number limit) }
 {
     let rows = event_page(conn, number, limit as u64)?;
     records(alloc, &rows)
@@ -154,9 +148,8 @@ fn events_at<S: Alter>(
     limit: usize,
 ) -> Result<Vec<Event>, Error>
     requires { conn.old.in_transaction ≡ false }
-    ensures idle { conn.new.in_transaction ≡ false }
-    ensures found { Finds (state S.Store conn.old) (state S.Store conn.new) result (λ c events. events.items ≡ take limit (filter (is_told (Some device) number) c.events)) }
-    ensures blamed { Blames (state S.Store conn.old) (state S.Store conn.new) result }
+    ensures { LooksUp S.Store conn.old conn.new result
+        (λ c events. events.items ≡ take limit (filter (is_told (Some device) number) c.events)) }
 {
     let rows = event_page_at(conn, device, number, limit as u64)?;
     records(alloc, &rows)
@@ -169,9 +162,8 @@ fn monitor_at<S: Alter>(
     number: u64,
 ) -> Result<Option<MonitorRecord>, Error>
     requires { conn.old.in_transaction ≡ false }
-    ensures idle { conn.new.in_transaction ≡ false }
-    ensures found { Finds (state S.Store conn.old) (state S.Store conn.new) result (λ c found. found ≡ monitor_of c.rows number) }
-    ensures blamed { Blames (state S.Store conn.old) (state S.Store conn.new) result }
+    ensures { LooksUp S.Store conn.old conn.new result
+        (λ c found. found ≡ monitor_of c.rows number) }
 {
     if !fits(number) {
         let monitors = select::records::<MonitorRecord, S>(alloc, conn)?;
@@ -190,9 +182,8 @@ pub fn events_watched<S: Alter>(
     limit: usize,
 ) -> Result<Vec<Event>, Error>
     requires { conn.old.in_transaction ≡ false }
-    ensures idle { conn.new.in_transaction ≡ false }
-    ensures found { Finds (state S.Store conn.old) (state S.Store conn.new) result (λ c events. events.items ≡ events_of_monitor c monitor number limit) }
-    ensures blamed { Blames (state S.Store conn.old) (state S.Store conn.new) result }
+    ensures { LooksUp S.Store conn.old conn.new result
+        (λ c events. events.items ≡ events_of_monitor c monitor number limit) }
 {
     match monitor_at(alloc, conn, monitor)? {
         Some(watch) => {

@@ -1,16 +1,15 @@
 //! The statements that put a group and an agent, each with what stands of it in another table.
 
-ghost use Rattle.std.specs.Prelude.{◌≡◌, ℕ, ◌==◌, ◌∷◌, [], map, not, filter};
-ghost use Rattle.sqlite.specs.Held.{state};
+ghost use Rattle.std.specs.Prelude.{ℕ, ◌∷◌, [], map};
 ghost use Rattle.acd_terms.specs.Lists.{put_by};
 ghost use Rattle.acd_columns.specs.Content.{with_part};
-ghost use Rattle.acd_columns.specs.Draft.{Works, Fits, FiguresFit};
+ghost use Rattle.acd_columns.specs.Draft.{Fits, FiguresFit};
 ghost use Rattle.acd_columns.specs.Relations.{pair_order, all_put, with_priority_of, with_group_parts, with_agent_parts};
 ghost use Rattle.acd_columns.specs.declared.texts.TheConstants.{INSERT_AGENT_GROUP, DELETE_AGENT_GROUPS};
 ghost use Rattle.acd_columns.specs.Rows.{further_values};
 ghost use Rattle.acd_columns.specs.Values.{id_value};
-ghost use Rattle.acd_statements.specs.Refusing.{RefusesOn, RefusesPriority, RefusesGroup, RefusesFurther, RefusesAgent, IsBlamed};
-ghost use Rattle.acd_statements.specs.Writing.{Leaves};
+ghost use Rattle.acd_statements.specs.Refusing.{RefusesOn, RefusesPriority, RefusesGroup, RefusesFurther, RefusesAgent, without_further};
+ghost use Rattle.acd_statements.specs.Inside.{WritesRow};
 
 use crate::bind;
 use crate::put::{put, remove};
@@ -22,11 +21,9 @@ use sqlite::{Alter, Error, Transaction};
 
 // Puts the priority of a group, which has no row where it is 0.
 fn put_priority<S: Alter>(tx: &mut Transaction<'_, S>, group: &GroupRecord) -> Result<(), Error>
-    ensures same { tx.new.conn.ghost_name ≡ tx.old.conn.ghost_name }
-    ensures works { Works (state S.Store tx.old.conn.now) (state S.Store tx.new.conn.now) }
-    ensures put { Leaves (state S.Store tx.old.conn.now) (state S.Store tx.new.conn.now) result (λ r. record r { priorities = with_priority_of group.now r.priorities }) }
-    ensures failed { IsBlamed (RefusesPriority group.now)
-        (state S.Store tx.old.conn.now) (state S.Store tx.new.conn.now) result }
+    ensures { WritesRow S.Store tx.old.conn tx.new.conn result
+        (λ r. record r { priorities = with_priority_of group.now r.priorities })
+        (RefusesPriority group.now) }
 {
     let (device, priority) = (group.device, group.priority);
     if priority == Priority::lowest() {
@@ -39,11 +36,8 @@ fn put_priority<S: Alter>(tx: &mut Transaction<'_, S>, group: &GroupRecord) -> R
 /// Puts a group, in place of one that has a row.
 pub fn put_group<S: Alter>(tx: &mut Transaction<'_, S>, group: &GroupRecord) -> Result<(), Error>
     requires { FiguresFit group.now.figures }
-    ensures same { tx.new.conn.ghost_name ≡ tx.old.conn.ghost_name }
-    ensures works { Works (state S.Store tx.old.conn.now) (state S.Store tx.new.conn.now) }
-    ensures put { Leaves (state S.Store tx.old.conn.now) (state S.Store tx.new.conn.now) result (with_group_parts group.now) }
-    ensures failed { IsBlamed (RefusesGroup group.now)
-        (state S.Store tx.old.conn.now) (state S.Store tx.new.conn.now) result }
+    ensures { WritesRow S.Store tx.old.conn tx.new.conn result
+        (with_group_parts group.now) (RefusesGroup group.now) }
 {
     put(tx, &GroupRow::of(group))?;
     put_priority(tx, group)
@@ -55,11 +49,10 @@ fn insert_further<S: Alter>(
     agent: AgentId,
     group: DeviceId,
 ) -> Result<(), Error>
-    ensures same { tx.new.conn.ghost_name ≡ tx.old.conn.ghost_name }
-    ensures works { Works (state S.Store tx.old.conn.now) (state S.Store tx.new.conn.now) }
-    ensures put { Leaves (state S.Store tx.old.conn.now) (state S.Store tx.new.conn.now) result (λ r. with_part Table.AgentGroups (put_by (pair_order (agent, group)) r.further (agent, group)) r) }
-    ensures failed { IsBlamed (RefusesOn INSERT_AGENT_GROUP.now (further_values (agent, group)))
-        (state S.Store tx.old.conn.now) (state S.Store tx.new.conn.now) result }
+    ensures { WritesRow S.Store tx.old.conn tx.new.conn result
+        (λ r. with_part Table.AgentGroups
+        (put_by (pair_order (agent, group)) r.further (agent, group)) r)
+        (RefusesOn INSERT_AGENT_GROUP.now (further_values (agent, group))) }
 {
     write(
         tx,
@@ -73,11 +66,10 @@ fn insert_all<S: Alter>(
     agent: AgentId,
     groups: &[DeviceId],
 ) -> Result<(), Error>
-    ensures same { tx.new.conn.ghost_name ≡ tx.old.conn.ghost_name }
-    ensures works { Works (state S.Store tx.old.conn.now) (state S.Store tx.new.conn.now) }
-    ensures put { Leaves (state S.Store tx.old.conn.now) (state S.Store tx.new.conn.now) result (λ r. with_part Table.AgentGroups (all_put (map (λ (g : ℕ). (agent, g)) groups.now) r.further) r) }
-    ensures failed { IsBlamed (RefusesFurther agent groups.now)
-        (state S.Store tx.old.conn.now) (state S.Store tx.new.conn.now) result }
+    ensures { WritesRow S.Store tx.old.conn tx.new.conn result
+        (λ r. with_part Table.AgentGroups
+        (all_put (map (λ (g : ℕ). (agent, g)) groups.now) r.further) r)
+        (RefusesFurther agent groups.now) }
 {
     for group in groups {
         insert_further(tx, agent, *group)?;
@@ -87,11 +79,8 @@ fn insert_all<S: Alter>(
 
 // Takes out the further groups of an agent.
 fn drop_further<S: Alter>(tx: &mut Transaction<'_, S>, agent: AgentId) -> Result<(), Error>
-    ensures same { tx.new.conn.ghost_name ≡ tx.old.conn.ghost_name }
-    ensures works { Works (state S.Store tx.old.conn.now) (state S.Store tx.new.conn.now) }
-    ensures put { Leaves (state S.Store tx.old.conn.now) (state S.Store tx.new.conn.now) result (λ r. with_part Table.AgentGroups (filter (λ (p : ℕ × ℕ). not (p.0 == agent)) r.further) r) }
-    ensures failed { IsBlamed (RefusesOn DELETE_AGENT_GROUPS.now (id_value agent ∷ []))
-        (state S.Store tx.old.conn.now) (state S.Store tx.new.conn.now) result }
+    ensures { WritesRow S.Store tx.old.conn tx.new.conn result
+        (without_further agent) (RefusesOn DELETE_AGENT_GROUPS.now (id_value agent ∷ [])) }
 {
     write(tx, DELETE_AGENT_GROUPS, &[bind::agent(agent)])
 }
@@ -99,11 +88,8 @@ fn drop_further<S: Alter>(tx: &mut Transaction<'_, S>, agent: AgentId) -> Result
 /// Puts an agent, in place of one that has a row, and its further groups in place of those that have rows.
 pub fn put_agent<S: Alter>(tx: &mut Transaction<'_, S>, agent: &AgentRecord) -> Result<(), Error>
     requires { Fits agent.now.stamp }
-    ensures same { tx.new.conn.ghost_name ≡ tx.old.conn.ghost_name }
-    ensures works { Works (state S.Store tx.old.conn.now) (state S.Store tx.new.conn.now) }
-    ensures put { Leaves (state S.Store tx.old.conn.now) (state S.Store tx.new.conn.now) result (with_agent_parts agent.now) }
-    ensures failed { IsBlamed (RefusesAgent agent.now)
-        (state S.Store tx.old.conn.now) (state S.Store tx.new.conn.now) result }
+    ensures { WritesRow S.Store tx.old.conn tx.new.conn result
+        (with_agent_parts agent.now) (RefusesAgent agent.now) }
 {
     put(tx, &AgentRow::of(agent))?;
     drop_further(tx, agent.agent)?;

@@ -2,14 +2,12 @@
 
 ghost use Rattle.std.specs.Prelude.{◌≡◌, ◌==◌, false, nat_le, length, map, IsPermutation};
 ghost use Rattle.std.specs.List.{list_any, list_all};
-ghost use Rattle.sqlite.specs.Effect.{Database};
-ghost use Rattle.sqlite.specs.Held.{state};
 ghost use Rattle.acd_columns.specs.declared.tables.Table.TheVariants as table;
 ghost use Rattle.acd_columns.specs.AnyRows.{rows_in, is_beside, is_ranked};
 ghost use Rattle.acd_columns.specs.Decoding.{as_group, as_agent, as_further};
 ghost use Rattle.acd_columns.specs.Relations.{groups_beside, is_above, is_behind, are_behind, are_of_groups};
-ghost use Rattle.acd_columns.specs.Schema.{nine, Begins, book_schema};
-ghost use Rattle.acd_columns.specs.Seeing.{Sees};
+ghost use Rattle.acd_columns.specs.Schema.{nine, Begins};
+ghost use Rattle.acd_statements.specs.Between.{LooksAt, IsOfBook};
 
 use crate::look::further_rows;
 use crate::reads::records;
@@ -83,8 +81,8 @@ fn are_behind_agents<S: Alter>(
     pairs: &[(AgentId, DeviceId)],
 ) -> Result<bool, Error>
     requires { conn.old.in_transaction ≡ false }
-    ensures idle { conn.new.in_transaction ≡ false }
-    ensures seen { (d : Database) → Begins nine d.schema → Sees d (state S.Store conn.old) (state S.Store conn.new) result (λ placed. placed ≡ are_behind (map as_agent (rows_in table.Agents d.trees)) pairs.now) }
+    ensures { LooksAt (Begins nine) S.Store conn.old conn.new result
+        (λ d placed. placed ≡ are_behind (map as_agent (rows_in table.Agents d.trees)) pairs.now) }
 {
     match select::records::<AgentRow, S>(alloc, conn) {
         Ok(agents) => Ok(are_behind(&agents, pairs)),
@@ -98,8 +96,9 @@ fn further_pairs<S: Alter>(
     conn: &mut Connection<S>,
 ) -> Result<Vec<(AgentId, DeviceId)>, Error>
     requires { conn.old.in_transaction ≡ false }
-    ensures idle { conn.new.in_transaction ≡ false }
-    ensures seen { (d : Database) → d.schema ≡ book_schema → Sees d (state S.Store conn.old) (state S.Store conn.new) result (λ pairs. IsPermutation (map as_further (rows_in table.AgentGroups d.trees)) pairs.items) }
+    ensures { LooksAt IsOfBook S.Store conn.old conn.new result
+        (λ d pairs. IsPermutation
+        (map as_further (rows_in table.AgentGroups d.trees)) pairs.items) }
 {
     match further_rows(conn) {
         Ok(rows) => records(alloc, &rows),
@@ -111,8 +110,8 @@ fn further_pairs<S: Alter>(
 /// failure of the store.
 pub fn are_further_placed<S: Alter>(alloc: Global, conn: &mut Connection<S>) -> Result<bool, Error>
     requires { conn.old.in_transaction ≡ false }
-    ensures idle { conn.new.in_transaction ≡ false }
-    ensures seen { (d : Database) → d.schema ≡ book_schema → Sees d (state S.Store conn.old) (state S.Store conn.new) result (λ placed. placed ≡ is_beside d.trees) }
+    ensures { LooksAt IsOfBook S.Store conn.old conn.new result
+        (λ d placed. placed ≡ is_beside d.trees) }
 {
     match further_pairs(alloc, conn) {
         Ok(pairs) => are_behind_agents(alloc, conn, &pairs),
@@ -141,8 +140,9 @@ fn are_of_groups_there<S: Alter>(
     priorities: &[GroupPriority],
 ) -> Result<bool, Error>
     requires { conn.old.in_transaction ≡ false }
-    ensures idle { conn.new.in_transaction ≡ false }
-    ensures seen { (d : Database) → Begins nine d.schema → Sees d (state S.Store conn.old) (state S.Store conn.new) result (λ placed. placed ≡ are_of_groups (map as_group (rows_in table.Groups d.trees)) priorities.now) }
+    ensures { LooksAt (Begins nine) S.Store conn.old conn.new result
+        (λ d placed. placed
+        ≡ are_of_groups (map as_group (rows_in table.Groups d.trees)) priorities.now) }
 {
     match select::records::<GroupRow, S>(alloc, conn) {
         Ok(groups) => Ok(are_of_groups(&groups, priorities)),
@@ -156,8 +156,8 @@ pub fn are_priorities_placed<S: Alter>(
     conn: &mut Connection<S>,
 ) -> Result<bool, Error>
     requires { conn.old.in_transaction ≡ false }
-    ensures idle { conn.new.in_transaction ≡ false }
-    ensures seen { (d : Database) → d.schema ≡ book_schema → Sees d (state S.Store conn.old) (state S.Store conn.new) result (λ placed. placed ≡ is_ranked d.trees) }
+    ensures { LooksAt IsOfBook S.Store conn.old conn.new result
+        (λ d placed. placed ≡ is_ranked d.trees) }
 {
     match select::records::<GroupPriority, S>(alloc, conn) {
         Ok(priorities) => are_of_groups_there(alloc, conn, &priorities),

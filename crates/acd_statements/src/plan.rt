@@ -1,12 +1,13 @@
 //! The groups and the agents, joined of what their tables hold.
 
-ghost use Rattle.std.specs.Prelude.{◌≡◌, ◌⊎◌, ◌<◌, ◌++◌, ◌∷◌, [], ℕ, false, length, map, option_to_list, None, IfErr, IfOk, IfSome, OnOk};
+ghost use Rattle.std.specs.Prelude.{◌≡◌, ◌⊎◌, ◌<◌, ◌++◌, ◌∷◌, [], false, length, map, option_to_list, None, IfErr, IfOk, IfSome, OnOk};
 ghost use Rattle.sqlite.specs.Held.{state};
 ghost use Rattle.acd_terms.specs.Groups.{are_groups};
 ghost use Rattle.acd_columns.specs.Finding.{Finds};
 ghost use Rattle.acd_statements.specs.Failing.{IsMemory};
-ghost use Rattle.acd_statements.specs.Reading.{Blames, BlamesIf, HasStray};
+ghost use Rattle.acd_statements.specs.Reading.{BlamesIf, HasStray};
 ghost use Rattle.acd_columns.specs.Relations.{group_part, agent_part, priority_of, joined_group, groups_beside, behind_first, joined_agent, further_in};
+ghost use Rattle.acd_statements.specs.Between.{LooksUp};
 
 use crate::query::further_rows;
 use crate::reads::records;
@@ -67,9 +68,8 @@ fn ranked<S: Alter>(
     parts: &[GroupRow],
 ) -> Result<Vec<GroupRecord>, Error>
     requires { conn.old.in_transaction ≡ false }
-    ensures idle { conn.new.in_transaction ≡ false }
-    ensures found { Finds (state S.Store conn.old) (state S.Store conn.new) result (λ c groups. parts.now ≡ map group_part c.rows.groups → groups.items ≡ c.rows.groups) }
-    ensures blamed { Blames (state S.Store conn.old) (state S.Store conn.new) result }
+    ensures { LooksUp S.Store conn.old conn.new result
+        (λ c groups. parts.now ≡ map group_part c.rows.groups → groups.items ≡ c.rows.groups) }
 {
     match select::records::<GroupPriority, S>(alloc, conn) {
         Ok(priorities) => joined_groups(alloc, parts, &priorities),
@@ -83,9 +83,7 @@ pub(crate) fn groups<S: Alter>(
     conn: &mut Connection<S>,
 ) -> Result<Vec<GroupRecord>, Error>
     requires { conn.old.in_transaction ≡ false }
-    ensures idle { conn.new.in_transaction ≡ false }
-    ensures found { Finds (state S.Store conn.old) (state S.Store conn.new) result (λ c groups. groups.items ≡ c.rows.groups) }
-    ensures blamed { Blames (state S.Store conn.old) (state S.Store conn.new) result }
+    ensures { LooksUp S.Store conn.old conn.new result (λ c groups. groups.items ≡ c.rows.groups) }
 {
     match select::records::<GroupRow, S>(alloc, conn) {
         Ok(parts) => ranked(alloc, conn, &parts),
@@ -170,9 +168,8 @@ fn further<S: Alter>(
     conn: &mut Connection<S>,
 ) -> Result<Vec<(AgentId, DeviceId)>, Error>
     requires { conn.old.in_transaction ≡ false }
-    ensures idle { conn.new.in_transaction ≡ false }
-    ensures found { Finds (state S.Store conn.old) (state S.Store conn.new) result (λ c pairs. pairs.items ≡ further_in c.rows.agents) }
-    ensures blamed { Blames (state S.Store conn.old) (state S.Store conn.new) result }
+    ensures { LooksUp S.Store conn.old conn.new result
+        (λ c pairs. pairs.items ≡ further_in c.rows.agents) }
 {
     match further_rows(conn) {
         Ok(rows) => records(alloc, &rows),
@@ -188,7 +185,8 @@ fn grouped<S: Alter>(
 ) -> Result<Vec<AgentRecord>, Error>
     requires { conn.old.in_transaction ≡ false }
     ensures idle { conn.new.in_transaction ≡ false }
-    ensures found { Finds (state S.Store conn.old) (state S.Store conn.new) result (λ c agents. parts.now ≡ map agent_part c.rows.agents → agents.items ≡ c.rows.agents) }
+    ensures found { Finds (state S.Store conn.old) (state S.Store conn.new) result
+        (λ c agents. parts.now ≡ map agent_part c.rows.agents → agents.items ≡ c.rows.agents) }
     ensures blamed { BlamesIf (λ c. parts.now ≡ map agent_part c.rows.agents)
         (state S.Store conn.old) (state S.Store conn.new) result }
 {
@@ -204,9 +202,7 @@ pub(crate) fn agents<S: Alter>(
     conn: &mut Connection<S>,
 ) -> Result<Vec<AgentRecord>, Error>
     requires { conn.old.in_transaction ≡ false }
-    ensures idle { conn.new.in_transaction ≡ false }
-    ensures found { Finds (state S.Store conn.old) (state S.Store conn.new) result (λ c agents. agents.items ≡ c.rows.agents) }
-    ensures blamed { Blames (state S.Store conn.old) (state S.Store conn.new) result }
+    ensures { LooksUp S.Store conn.old conn.new result (λ c agents. agents.items ≡ c.rows.agents) }
 {
     match select::records::<AgentRow, S>(alloc, conn) {
         Ok(parts) => grouped(alloc, conn, &parts),

@@ -1,20 +1,19 @@
 //! The queries between transactions, one a function: rows of one table, in the order of its key.
 
 ghost use Rattle.std.specs.Prelude.{◌≡◌, Some, false, map, take, filter, option_to_list, IsPermutation};
-ghost use Rattle.sqlite.specs.Effect.{Database};
 ghost use Rattle.sqlite.specs.Held.{state};
 ghost use Rattle.acd_model.specs.Scans.{monitor_of};
 ghost use Rattle.acd_book.specs.Content.{events_behind, is_told, kept_of};
 ghost use Rattle.acd_columns.specs.Relations.{further_in};
-ghost use Rattle.acd_columns.specs.Rows.{further_values, group_values, station_values, agent_values, call_values, connection_values, monitor_values, event_values, kept_values};
+ghost use Rattle.acd_columns.specs.Rows.{further_values, connection_values, monitor_values, event_values, kept_values};
 ghost use Rattle.acd_columns.specs.declared.tables.Log.TheVariants as log;
 ghost use Rattle.acd_columns.specs.declared.tables.Table.TheVariants as table;
 ghost use Rattle.acd_columns.specs.AnyRows.{rows_in, IsPageRows};
 ghost use Rattle.acd_columns.specs.Draft.{Fits};
 ghost use Rattle.acd_columns.specs.Finding.{Finds, kept_behind};
 ghost use Rattle.acd_columns.specs.Schema.{nine, Begins};
-ghost use Rattle.acd_columns.specs.Seeing.{Sees};
 ghost use Rattle.acd_statements.specs.Reading.{Blames};
+ghost use Rattle.acd_statements.specs.Between.{LooksUp, SeesOf};
 
 use crate::read::read;
 use crate::{bind, select};
@@ -29,9 +28,8 @@ use sqlite::{Alter, Connection, Error, Row};
 pub fn monitor_row<S: Alter>(conn: &mut Connection<S>, monitor: u64) -> Result<Vec<Row>, Error>
     requires idle { conn.old.in_transaction ≡ false }
     requires number { Fits monitor }
-    ensures idle { conn.new.in_transaction ≡ false }
-    ensures found { Finds (state S.Store conn.old) (state S.Store conn.new) result (λ c rows. rows.items ≡ map monitor_values (option_to_list (monitor_of c.rows monitor))) }
-    ensures blamed { Blames (state S.Store conn.old) (state S.Store conn.new) result }
+    ensures { LooksUp S.Store conn.old conn.new result
+        (λ c rows. rows.items ≡ map monitor_values (option_to_list (monitor_of c.rows monitor))) }
 {
     read(conn, SELECT_MONITOR, &[bind::integer(monitor)])
 }
@@ -46,8 +44,10 @@ pub fn event_rows<S: Alter>(
     requires number { Fits number }
     requires limit { Fits limit }
     ensures idle { conn.new.in_transaction ≡ false }
-    ensures found { Finds (state S.Store conn.old) (state S.Store conn.new) result (λ c rows. rows.items ≡ map event_values (events_behind c.events number limit)) }
-    ensures seen { (d : Database) → Begins nine d.schema → Sees d (state S.Store conn.old) (state S.Store conn.new) result (λ rows. IsPageRows log.Events number limit d.trees rows.items) }
+    ensures found { Finds (state S.Store conn.old) (state S.Store conn.new) result
+        (λ c rows. rows.items ≡ map event_values (events_behind c.events number limit)) }
+    ensures seen { SeesOf (Begins nine) S.Store conn.old conn.new result
+        (λ d rows. IsPageRows log.Events number limit d.trees rows.items) }
     ensures blamed { Blames (state S.Store conn.old) (state S.Store conn.new) result }
 {
     read(
@@ -67,8 +67,10 @@ pub fn kept_rows<S: Alter>(
     requires stamp { Fits stamp }
     requires limit { Fits limit }
     ensures idle { conn.new.in_transaction ≡ false }
-    ensures found { Finds (state S.Store conn.old) (state S.Store conn.new) result (λ c rows. rows.items ≡ map kept_values (kept_behind c.kept stamp limit)) }
-    ensures seen { (d : Database) → Begins nine d.schema → Sees d (state S.Store conn.old) (state S.Store conn.new) result (λ rows. IsPageRows log.Kept stamp limit d.trees rows.items) }
+    ensures found { Finds (state S.Store conn.old) (state S.Store conn.new) result
+        (λ c rows. rows.items ≡ map kept_values (kept_behind c.kept stamp limit)) }
+    ensures seen { SeesOf (Begins nine) S.Store conn.old conn.new result
+        (λ d rows. IsPageRows log.Kept stamp limit d.trees rows.items) }
     ensures blamed { Blames (state S.Store conn.old) (state S.Store conn.new) result }
 {
     read(
@@ -85,9 +87,9 @@ pub fn kept_row<S: Alter>(
     invoke: Invoke,
 ) -> Result<Vec<Row>, Error>
     requires idle { conn.old.in_transaction ≡ false }
-    ensures idle { conn.new.in_transaction ≡ false }
-    ensures found { Finds (state S.Store conn.old) (state S.Store conn.new) result (λ c rows. rows.items ≡ map kept_values (option_to_list (kept_of c.kept requester.now invoke))) }
-    ensures blamed { Blames (state S.Store conn.old) (state S.Store conn.new) result }
+    ensures { LooksUp S.Store conn.old conn.new result
+        (λ c rows. rows.items
+        ≡ map kept_values (option_to_list (kept_of c.kept requester.now invoke))) }
 {
     read(
         conn,
@@ -102,8 +104,10 @@ pub fn kept_row<S: Alter>(
 pub fn connection_rows<S: Alter>(conn: &mut Connection<S>) -> Result<Vec<Row>, Error>
     requires { conn.old.in_transaction ≡ false }
     ensures idle { conn.new.in_transaction ≡ false }
-    ensures found { Finds (state S.Store conn.old) (state S.Store conn.new) result (λ c rows. rows.items ≡ map connection_values c.rows.connections) }
-    ensures seen { (d : Database) → Begins nine d.schema → Sees d (state S.Store conn.old) (state S.Store conn.new) result (λ rows. IsPermutation (rows_in table.Connections d.trees) rows.items) }
+    ensures found { Finds (state S.Store conn.old) (state S.Store conn.new) result
+        (λ c rows. rows.items ≡ map connection_values c.rows.connections) }
+    ensures seen { SeesOf (Begins nine) S.Store conn.old conn.new result
+        (λ d rows. IsPermutation (rows_in table.Connections d.trees) rows.items) }
     ensures blamed { Blames (state S.Store conn.old) (state S.Store conn.new) result }
 {
     read(conn, SELECT_CONNECTIONS, &[])
@@ -112,9 +116,8 @@ pub fn connection_rows<S: Alter>(conn: &mut Connection<S>) -> Result<Vec<Row>, E
 /// The further groups, by agent and group.
 pub fn further_rows<S: Alter>(conn: &mut Connection<S>) -> Result<Vec<Row>, Error>
     requires { conn.old.in_transaction ≡ false }
-    ensures idle { conn.new.in_transaction ≡ false }
-    ensures found { Finds (state S.Store conn.old) (state S.Store conn.new) result (λ c rows. rows.items ≡ map further_values (further_in c.rows.agents)) }
-    ensures blamed { Blames (state S.Store conn.old) (state S.Store conn.new) result }
+    ensures { LooksUp S.Store conn.old conn.new result
+        (λ c rows. rows.items ≡ map further_values (further_in c.rows.agents)) }
 {
     read(conn, SELECT_AGENT_GROUPS, &[])
 }
@@ -129,9 +132,9 @@ pub fn event_rows_at<S: Alter>(
     requires idle { conn.old.in_transaction ≡ false }
     requires number { Fits number }
     requires limit { Fits limit }
-    ensures idle { conn.new.in_transaction ≡ false }
-    ensures found { Finds (state S.Store conn.old) (state S.Store conn.new) result (λ c rows. rows.items ≡ map event_values (take limit (filter (is_told (Some device) number) c.events))) }
-    ensures blamed { Blames (state S.Store conn.old) (state S.Store conn.new) result }
+    ensures { LooksUp S.Store conn.old conn.new result
+        (λ c rows. rows.items
+        ≡ map event_values (take limit (filter (is_told (Some device) number) c.events))) }
 {
     read(
         conn,

@@ -1,6 +1,6 @@
 //! Reads between transactions: they change nothing, but that a failure may shut the connection.
 
-ghost use Rattle.std.specs.Prelude.{◌≡◌, ◌∷◌, [], false, OnOk, IfOk, IsTrue, IsPermutation, ⊤};
+ghost use Rattle.std.specs.Prelude.{◌≡◌, ◌∷◌, [], false, IfOk, IsPermutation, ⊤};
 ghost use Rattle.acd_statements.specs.Reading.{IsAnswered, Blames};
 ghost use Rattle.sqlite.specs.Given.{IsPlain};
 ghost use Rattle.sqlite.specs.Listing.{understood};
@@ -15,7 +15,9 @@ ghost use Rattle.acd_columns.specs.Rows.{meta_shown};
 ghost use Rattle.acd_columns.specs.AnyRows.{rows_in};
 ghost use Rattle.acd_columns.specs.declared.tables.Table.TheVariants as table;
 ghost use Rattle.acd_columns.specs.Draft.{Holds, Quiet, NoStop};
+ghost use Rattle.acd_columns.specs.Finding.{Finds};
 ghost use Rattle.acd_columns.specs.Seeing.{Sees};
+ghost use Rattle.acd_statements.specs.Between.{SeesOf, IsUp};
 
 use acd_columns::texts::SELECT_META;
 use sqlite::types::ValueRef;
@@ -25,10 +27,12 @@ use sqlite::{Alter, Connection, Error, Row};
 pub fn probe<S: Alter>(conn: &mut Connection<S>) -> Result<(), Error>
     requires { conn.old.in_transaction ≡ false }
     ensures idle { conn.new.in_transaction ≡ false }
-    ensures up { HasCleanDisk (state S.Store conn.new) → OnOk result (IsTrue (state S.Store conn.new).is_open) }
+    ensures up { IsUp (state S.Store conn.new) result }
     ensures quiet { Quiet (state S.Store conn.old) (state S.Store conn.new) }
-    ensures stops { HasCleanDisk (state S.Store conn.new) → NoStop (state S.Store conn.old) (state S.Store conn.new) }
-    ensures seen { (d : Database) → Sees d (state S.Store conn.old) (state S.Store conn.new) result (λ _. ⊤) }
+    ensures stops { HasCleanDisk (state S.Store conn.new)
+        → NoStop (state S.Store conn.old) (state S.Store conn.new) }
+    ensures seen { (d : Database)
+        → Sees d (state S.Store conn.old) (state S.Store conn.new) result (λ _. ⊤) }
     ensures blamed { Blames (state S.Store conn.old) (state S.Store conn.new) result }
 {
     conn.query_row("SELECT 1", &[])?;
@@ -43,12 +47,17 @@ pub(crate) fn read<S: Alter>(
 ) -> Result<Vec<Row>, Error>
     requires { conn.old.in_transaction ≡ false }
     ensures idle { conn.new.in_transaction ≡ false }
-    ensures up { HasCleanDisk (state S.Store conn.new) → OnOk result (IsTrue (state S.Store conn.new).is_open) }
-    ensures quiet { IsPlain (understood book_schema sql.now) → Quiet (state S.Store conn.old) (state S.Store conn.new) }
-    ensures stops { HasCleanDisk (state S.Store conn.new) → IsPlain (understood book_schema sql.now) → (c : Content) → Holds (state S.Store conn.old) c
+    ensures up { IsUp (state S.Store conn.new) result }
+    ensures quiet { IsPlain (understood book_schema sql.now)
+        → Quiet (state S.Store conn.old) (state S.Store conn.new) }
+    ensures stops { HasCleanDisk (state S.Store conn.new) → IsPlain (understood book_schema sql.now)
+        → (c : Content) → Holds (state S.Store conn.old) c
         → NoStop (state S.Store conn.old) (state S.Store conn.new) }
-    ensures shown { HasCleanDisk (state S.Store conn.new) → IfOk result (λ rows. Shown sql.now (bound params.now) (state S.Store conn.old) (state S.Store conn.new) rows.items) }
-    ensures seen { (d : Database) → IsPlain (understood d.schema sql.now) → Sees d (state S.Store conn.old) (state S.Store conn.new) result (λ rows. Shown sql.now (bound params.now) (state S.Store conn.old) (state S.Store conn.new) rows.items) }
+    ensures shown { HasCleanDisk (state S.Store conn.new) → IfOk result (λ rows. Shown sql.now
+        (bound params.now) (state S.Store conn.old) (state S.Store conn.new) rows.items) }
+    ensures seen { SeesOf (λ schema. IsPlain (understood schema sql.now)) S.Store conn.old conn.new
+        result (λ d rows. Shown sql.now (bound params.now)
+        (state S.Store conn.old) (state S.Store conn.new) rows.items) }
     ensures blamed { IsAnswered sql.now (bound params.now)
         → Blames (state S.Store conn.old) (state S.Store conn.new) result }
 {
@@ -59,11 +68,10 @@ pub(crate) fn read<S: Alter>(
 pub fn meta_rows<S: Alter>(conn: &mut Connection<S>) -> Result<Vec<Row>, Error>
     requires { conn.old.in_transaction ≡ false }
     ensures idle { conn.new.in_transaction ≡ false }
-    ensures up { HasCleanDisk (state S.Store conn.new) → OnOk result (IsTrue (state S.Store conn.new).is_open) }
-    ensures quiet { Quiet (state S.Store conn.old) (state S.Store conn.new) }
-    ensures stops { HasCleanDisk (state S.Store conn.new) → (c : Content) → Holds (state S.Store conn.old) c → NoStop (state S.Store conn.old) (state S.Store conn.new) }
-    ensures rows { HasCleanDisk (state S.Store conn.new) → IfOk result (λ rows. (c : Content) → Holds (state S.Store conn.old) c → rows.items ≡ meta_shown (meta_of c.rows) ∷ []) }
-    ensures seen { (d : Database) → Begins nine d.schema → Sees d (state S.Store conn.old) (state S.Store conn.new) result (λ rows. IsPermutation (rows_in table.Meta d.trees) rows.items) }
+    ensures found { Finds (state S.Store conn.old) (state S.Store conn.new) result
+        (λ c rows. rows.items ≡ meta_shown (meta_of c.rows) ∷ []) }
+    ensures seen { SeesOf (Begins nine) S.Store conn.old conn.new result
+        (λ d rows. IsPermutation (rows_in table.Meta d.trees) rows.items) }
     ensures blamed { Blames (state S.Store conn.old) (state S.Store conn.new) result }
 {
     read(conn, SELECT_META, &[])

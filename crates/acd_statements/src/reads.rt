@@ -1,17 +1,17 @@
 //! Reads between transactions, as records. A row with a value out of its range is a failure of the store.
 
 ghost use Rattle.std.specs.Prelude.{◌≡◌, ◌++◌, ◌∷◌, [], Option, Some, false, map, take, option_to_list, IfErr, IfOk, OnOk};
-ghost use Rattle.sqlite.specs.Held.{state};
 ghost use Rattle.sqlite_value.specs.Order.{Row as Values};
 ghost use Rattle.acd_columns.specs.Relations.{meta_of};
-ghost use Rattle.acd_columns.specs.Finding.{Finds, joined_rows};
+ghost use Rattle.acd_columns.specs.Finding.{joined_rows};
 ghost use Rattle.acd_columns.specs.Rows.{meta_shown};
 ghost use Rattle.acd_columns.specs.declared.meta.Meta.{Meta as MetaRow};
 ghost use Rattle.acd_columns.specs.declared.tables.Table.TheVariants as table;
 ghost use Rattle.acd_columns.specs.AnyRows.{is_good};
 ghost use Rattle.acd_statements.specs.Failing.{IsMemory};
-ghost use Rattle.acd_statements.specs.Reading.{Blames, FailsToDecode};
+ghost use Rattle.acd_statements.specs.Reading.{FailsToDecode};
 ghost use Rattle.acd_columns.specs.Ranges.{further_in, connection_in, monitor_in, event_in, kept_in};
+ghost use Rattle.acd_statements.specs.Between.{LooksUp};
 
 use crate::query::connection_rows;
 use crate::read::meta_rows;
@@ -142,9 +142,7 @@ fn only_meta(rows: &[Row]) -> Result<Meta, Error>
 /// The limits and the counters.
 pub fn read_meta<S: Alter>(conn: &mut Connection<S>) -> Result<Meta, Error>
     requires { conn.old.in_transaction ≡ false }
-    ensures idle { conn.new.in_transaction ≡ false }
-    ensures found { Finds (state S.Store conn.old) (state S.Store conn.new) result (λ c meta. meta ≡ meta_of c.rows) }
-    ensures blamed { Blames (state S.Store conn.old) (state S.Store conn.new) result }
+    ensures { LooksUp S.Store conn.old conn.new result (λ c meta. meta ≡ meta_of c.rows) }
 {
     match meta_rows(conn) {
         Ok(rows) => only_meta(&rows),
@@ -157,9 +155,8 @@ fn connections<S: Alter>(
     conn: &mut Connection<S>,
 ) -> Result<Vec<ConnectionRecord>, Error>
     requires { conn.old.in_transaction ≡ false }
-    ensures idle { conn.new.in_transaction ≡ false }
-    ensures found { Finds (state S.Store conn.old) (state S.Store conn.new) result (λ c connections. connections.items ≡ c.rows.connections) }
-    ensures blamed { Blames (state S.Store conn.old) (state S.Store conn.new) result }
+    ensures { LooksUp S.Store conn.old conn.new result
+        (λ c connections. connections.items ≡ c.rows.connections) }
 {
     let rows = connection_rows(conn)?;
     records(alloc, &rows)
@@ -168,9 +165,9 @@ fn connections<S: Alter>(
 // The groups, the stations and the agents.
 fn planned<S: Alter>(alloc: Global, conn: &mut Connection<S>) -> Result<Plan, Error>
     requires { conn.old.in_transaction ≡ false }
-    ensures idle { conn.new.in_transaction ≡ false }
-    ensures found { Finds (state S.Store conn.old) (state S.Store conn.new) result (λ c t. (t.0.items ≡ c.rows.groups) × (t.1.items ≡ c.rows.stations) × (t.2.items ≡ c.rows.agents)) }
-    ensures blamed { Blames (state S.Store conn.old) (state S.Store conn.new) result }
+    ensures { LooksUp S.Store conn.old conn.new result
+        (λ c t. (t.0.items ≡ c.rows.groups)
+        × (t.1.items ≡ c.rows.stations) × (t.2.items ≡ c.rows.agents)) }
 {
     let groups = plan::groups(alloc, conn)?;
     let stations = select::records::<StationRecord, S>(alloc, conn)?;
@@ -181,9 +178,9 @@ fn planned<S: Alter>(alloc: Global, conn: &mut Connection<S>) -> Result<Plan, Er
 // The calls, the connections and the monitors.
 fn traffic<S: Alter>(alloc: Global, conn: &mut Connection<S>) -> Result<Traffic, Error>
     requires { conn.old.in_transaction ≡ false }
-    ensures idle { conn.new.in_transaction ≡ false }
-    ensures found { Finds (state S.Store conn.old) (state S.Store conn.new) result (λ c t. (t.0.items ≡ c.rows.calls) × (t.1.items ≡ c.rows.connections) × (t.2.items ≡ c.rows.monitors)) }
-    ensures blamed { Blames (state S.Store conn.old) (state S.Store conn.new) result }
+    ensures { LooksUp S.Store conn.old conn.new result
+        (λ c t. (t.0.items ≡ c.rows.calls)
+        × (t.1.items ≡ c.rows.connections) × (t.2.items ≡ c.rows.monitors)) }
 {
     let calls = select::records::<CallRecord, S>(alloc, conn)?;
     let connections = connections(alloc, conn)?;
@@ -215,9 +212,7 @@ fn joined(meta: Meta, plan: Plan, traffic: Traffic) -> Rows
 /// The limits, the tables and the counters.
 pub fn rows<S: Alter>(alloc: Global, conn: &mut Connection<S>) -> Result<Rows, Error>
     requires { conn.old.in_transaction ≡ false }
-    ensures idle { conn.new.in_transaction ≡ false }
-    ensures found { Finds (state S.Store conn.old) (state S.Store conn.new) result (λ c rows. rows ≡ c.rows) }
-    ensures blamed { Blames (state S.Store conn.old) (state S.Store conn.new) result }
+    ensures { LooksUp S.Store conn.old conn.new result (λ c rows. rows ≡ c.rows) }
 {
     let meta = read_meta(conn)?;
     let planned = planned(alloc, conn)?;

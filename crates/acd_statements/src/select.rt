@@ -1,16 +1,15 @@
 //! Reads of a whole table between transactions.
 
 ghost use Rattle.std.specs.Prelude.{◌≡◌, ◌++◌, ◌∷◌, [], Some, false, map, IfErr, IfOk, OnOk, IsPermutation};
-ghost use Rattle.sqlite.specs.Effect.{Database};
 ghost use Rattle.sqlite.specs.Held.{state};
 ghost use Rattle.acd_columns.specs.AnyRows.{rows_in, TellsGood};
 ghost use Rattle.acd_columns.specs.Finding.{Finds};
 ghost use Rattle.acd_columns.specs.Relations.{relations_of};
 ghost use Rattle.acd_columns.specs.Schema.{Begins};
-ghost use Rattle.acd_columns.specs.Seeing.{Sees};
 ghost use Rattle.acd_columns.specs.Descriptions.{are_read};
 ghost use Rattle.acd_statements.specs.Failing.{IsMemory};
 ghost use Rattle.acd_statements.specs.Reading.{IsAnswered, IsToldOf, FailsToDecode, Blames};
+ghost use Rattle.acd_statements.specs.Between.{LooksAt, SeesOf};
 
 use crate::read::read;
 use crate::stored::Selected;
@@ -21,8 +20,10 @@ use std::alloc::Global;
 pub fn rows<R: Selected, S: Alter>(conn: &mut Connection<S>) -> Result<Vec<Row>, Error>
     requires { conn.old.in_transaction ≡ false }
     ensures idle { conn.new.in_transaction ≡ false }
-    ensures found { Finds (state S.Store conn.old) (state S.Store conn.new) result (λ c rows. rows.items ≡ map R.descr.values (R.descr.records (relations_of c))) }
-    ensures seen { (d : Database) → Begins R.base d.schema → Sees d (state S.Store conn.old) (state S.Store conn.new) result (λ rows. IsPermutation (rows_in R.descr.table d.trees) rows.items) }
+    ensures found { Finds (state S.Store conn.old) (state S.Store conn.new) result
+        (λ c rows. rows.items ≡ map R.descr.values (R.descr.records (relations_of c))) }
+    ensures seen { SeesOf (Begins R.base) S.Store conn.old conn.new result
+        (λ d rows. IsPermutation (rows_in R.descr.table d.trees) rows.items) }
     ensures blamed { IsAnswered R.select []
         → Blames (state S.Store conn.old) (state S.Store conn.new) result }
 {
@@ -69,8 +70,11 @@ pub fn records<R: Selected, S: Alter>(
 ) -> Result<Vec<R>, Error>
     requires { conn.old.in_transaction ≡ false }
     ensures idle { conn.new.in_transaction ≡ false }
-    ensures found { Finds (state S.Store conn.old) (state S.Store conn.new) result (λ c found. found.items ≡ R.descr.records (relations_of c)) }
-    ensures seen { (d : Database) → Begins R.base d.schema → Sees d (state S.Store conn.old) (state S.Store conn.new) result (λ found. IsPermutation (rows_in R.descr.table d.trees) (map R.descr.values found.items)) }
+    ensures found { Finds (state S.Store conn.old) (state S.Store conn.new) result
+        (λ c found. found.items ≡ R.descr.records (relations_of c)) }
+    ensures seen { SeesOf (Begins R.base) S.Store conn.old conn.new result
+        (λ d found. IsPermutation
+        (rows_in R.descr.table d.trees) (map R.descr.values found.items)) }
     ensures blamed { IsAnswered R.select [] → IsToldOf R.descr
         → Blames (state S.Store conn.old) (state S.Store conn.new) result }
 {
@@ -90,8 +94,8 @@ fn are_read<R: Selected>(rows: &[Row]) -> bool
 /// Whether each value of a table is in its range.
 pub fn is_good<R: Selected, S: Alter>(conn: &mut Connection<S>) -> Result<bool, Error>
     requires { conn.old.in_transaction ≡ false }
-    ensures idle { conn.new.in_transaction ≡ false }
-    ensures seen { (d : Database) → Begins R.base d.schema → Sees d (state S.Store conn.old) (state S.Store conn.new) result (λ good. TellsGood R.descr.table d.trees good) }
+    ensures { LooksAt (Begins R.base) S.Store conn.old conn.new result
+        (λ d good. TellsGood R.descr.table d.trees good) }
 {
     match rows::<R, S>(conn) {
         Ok(rows) => Ok(are_read::<R>(&rows)),

@@ -1,11 +1,8 @@
 //! What is asked of a record that a table holds. What the table is `acd_columns` says, with the evidence that its texts do what they say.
 
-ghost use Rattle.std.specs.Prelude.{◌≡◌, List, ℕ, Ok, IfOk, IfErr, IsTrue};
-ghost use Rattle.sqlite.specs.State.{HasCleanDisk, Executes};
-ghost use Rattle.sqlite.specs.Held.{state};
-ghost use Rattle.acd_columns.specs.Draft.{Works};
+ghost use Rattle.std.specs.Prelude.{◌≡◌, List, ℕ};
 ghost use Rattle.acd_columns.specs.Descriptions.{Description};
-ghost use Rattle.acd_statements.specs.Failing.{FailsToWrite};
+ghost use Rattle.acd_statements.specs.Inside.{CountsRows};
 
 use sqlite::{Alter, Error, Row, Transaction};
 
@@ -29,13 +26,8 @@ pub trait Stored: Described {
     /// Runs a statement whose parameters are the values of the record, and says how many rows it changed.
     fn run<S: Alter>(&self, tx: &mut Transaction<'_, S>, sql: &str) -> Result<usize, Error>
         requires { Self.descr.Fits self.now }
-        ensures same { tx.new.conn.ghost_name ≡ tx.old.conn.ghost_name }
-        ensures works { Works (state S.Store tx.old.conn.now) (state S.Store tx.new.conn.now) }
-        ensures ran { HasCleanDisk (state S.Store tx.new.conn.now) → IfOk result (λ count. Executes sql.now (Self.descr.values self.now) (state S.Store tx.old.conn.now) (state S.Store tx.new.conn.now) (Ok count)) }
-        ensures failed { HasCleanDisk (state S.Store tx.new.conn.now)
-            → IsTrue (state S.Store tx.old.conn.now).in_transaction → IfErr result (FailsToWrite
-            (state S.Store tx.old.conn.now) (state S.Store tx.new.conn.now)
-            sql.now (Self.descr.values self.now)) };
+        ensures { CountsRows S.Store tx.old.conn tx.new.conn result
+            sql.now (Self.descr.values self.now) };
 }
 
 /// A record whose row can be changed.

@@ -1,12 +1,10 @@
 //! The tables that grow with the history, and the queries that look at the rows of each.
 
 ghost use Rattle.std.specs.Prelude.{◌≡◌, false};
-ghost use Rattle.sqlite.specs.Effect.{Database};
-ghost use Rattle.sqlite.specs.Held.{state};
 ghost use Rattle.acd_columns.specs.Draft.{Fits};
 ghost use Rattle.acd_columns.specs.AnyRows.{TellsLow, IsPageRows};
 ghost use Rattle.acd_columns.specs.Schema.{nine, Begins};
-ghost use Rattle.acd_columns.specs.Seeing.{Sees};
+ghost use Rattle.acd_statements.specs.Between.{LooksAt};
 
 use crate::look::{low_event_rows, low_kept_rows};
 use crate::query::{event_rows, kept_rows};
@@ -16,8 +14,8 @@ use sqlite::{Alter, Connection, Error, Row};
 /// A row whose number is below 1.
 pub fn low_rows<S: Alter>(log: Log, conn: &mut Connection<S>) -> Result<Vec<Row>, Error>
     requires { conn.old.in_transaction ≡ false }
-    ensures idle { conn.new.in_transaction ≡ false }
-    ensures seen { (d : Database) → Begins nine d.schema → Sees d (state S.Store conn.old) (state S.Store conn.new) result (λ rows. TellsLow log d.trees rows.items) }
+    ensures { LooksAt (Begins nine) S.Store conn.old conn.new result
+        (λ d rows. TellsLow log d.trees rows.items) }
 {
     match log {
         Log::Events => low_event_rows(conn),
@@ -33,8 +31,8 @@ pub fn rows_above<S: Alter>(
 ) -> Result<Vec<Row>, Error>
     requires idle { conn.old.in_transaction ≡ false }
     requires number { Fits number }
-    ensures idle { conn.new.in_transaction ≡ false }
-    ensures seen { (d : Database) → Begins nine d.schema → Sees d (state S.Store conn.old) (state S.Store conn.new) result (λ rows. IsPageRows log number 1000 d.trees rows.items) }
+    ensures { LooksAt (Begins nine) S.Store conn.old conn.new result
+        (λ d rows. IsPageRows log number 1000 d.trees rows.items) }
 {
     match log {
         Log::Events => event_rows(conn, number, 1000),

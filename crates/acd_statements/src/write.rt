@@ -1,25 +1,24 @@
 //! The statements of the limits and the counters, of kept records and of connections, one a function. Each works inside a
 //! transaction: what it writes is there, and no stop is added. Those of every other table are in `put`.
 
-ghost use Rattle.std.specs.Prelude.{◌≡◌, ◌∷◌, [], Ok, IfSome, IfOk, IfErr, IsTrue, OnOk};
-ghost use Rattle.std.specs.Ordering.{nat_cmp};
-ghost use Rattle.sqlite.specs.State.{HasCleanDisk, Executes};
+ghost use Rattle.std.specs.Prelude.{◌≡◌, ◌∷◌, [], IfSome, IfErr, IsTrue, OnOk};
+ghost use Rattle.sqlite.specs.State.{HasCleanDisk};
 ghost use Rattle.sqlite.specs.Held.{state};
 ghost use Rattle.sqlite.specs.Values.{bound};
-ghost use Rattle.acd_terms.specs.Lists.{put_by, remove_by};
-ghost use Rattle.acd_model.specs.Scans.{at_connection};
 ghost use Rattle.acd_codec.specs.RequestTexts.{request_text};
 ghost use Rattle.acd_book.specs.Content.{empty_content};
 ghost use Rattle.acd_columns.specs.Schema.{book_schema};
 ghost use Rattle.acd_columns.specs.Making.{Builds, no_rows, TellsSecond};
-ghost use Rattle.acd_columns.specs.Relations.{Relations, relations_of};
+ghost use Rattle.acd_columns.specs.Relations.{relations_of};
 ghost use Rattle.acd_columns.specs.Content.{with_part};
-ghost use Rattle.acd_columns.specs.Draft.{Drafts, Works, Ran, Fits, MetaFits};
+ghost use Rattle.acd_columns.specs.Draft.{Drafts, Works, Fits, MetaFits};
 ghost use Rattle.acd_columns.specs.declared.texts.TheConstants.{INSERT_KEPT, UPDATE_META, INSERT_CONNECTION, DELETE_CONNECTION};
 ghost use Rattle.acd_columns.specs.Rows.{kept_values, meta_shown, connection_values};
 ghost use Rattle.acd_columns.specs.Values.{id_value};
-ghost use Rattle.acd_statements.specs.Failing.{FailsToWrite, FailsToStart};
-ghost use Rattle.acd_statements.specs.Refusing.{RefusesOn, RefusesPutConnection, IsBlamed};
+ghost use Rattle.acd_statements.specs.Failing.{FailsToStart};
+ghost use Rattle.acd_statements.specs.Refusing.{RefusesOn, RefusesPutConnection};
+ghost use Rattle.acd_statements.specs.Inside.{RunsText, CountsRows, WritesRow};
+ghost use Rattle.acd_statements.specs.Writing.{with_kept_row, with_connection_row, without_connection_row};
 
 use crate::bind;
 use acd_book::Kept;
@@ -40,13 +39,7 @@ pub fn write<S: Alter>(
     sql: &str,
     params: &[ValueRef<'_>],
 ) -> Result<(), Error>
-    ensures same { tx.new.conn.ghost_name ≡ tx.old.conn.ghost_name }
-    ensures works { Works (state S.Store tx.old.conn.now) (state S.Store tx.new.conn.now) }
-    ensures ran { HasCleanDisk (state S.Store tx.new.conn.now) → OnOk result (Ran sql.now (bound params.now) (state S.Store tx.old.conn.now) (state S.Store tx.new.conn.now)) }
-    ensures failed { HasCleanDisk (state S.Store tx.new.conn.now)
-        → IsTrue (state S.Store tx.old.conn.now).in_transaction → IfErr result (FailsToWrite
-        (state S.Store tx.old.conn.now) (state S.Store tx.new.conn.now)
-        sql.now (bound params.now)) }
+    ensures { RunsText S.Store tx.old.conn tx.new.conn result sql.now (bound params.now) }
 {
     tx.execute(sql, params)?;
     Ok(())
@@ -58,13 +51,7 @@ pub fn changed_rows<S: Alter>(
     sql: &str,
     params: &[ValueRef<'_>],
 ) -> Result<usize, Error>
-    ensures same { tx.new.conn.ghost_name ≡ tx.old.conn.ghost_name }
-    ensures works { Works (state S.Store tx.old.conn.now) (state S.Store tx.new.conn.now) }
-    ensures ran { HasCleanDisk (state S.Store tx.new.conn.now) → IfOk result (λ count. Executes sql.now (bound params.now) (state S.Store tx.old.conn.now) (state S.Store tx.new.conn.now) (Ok count)) }
-    ensures failed { HasCleanDisk (state S.Store tx.new.conn.now)
-        → IsTrue (state S.Store tx.old.conn.now).in_transaction → IfErr result (FailsToWrite
-        (state S.Store tx.old.conn.now) (state S.Store tx.new.conn.now)
-        sql.now (bound params.now)) }
+    ensures { CountsRows S.Store tx.old.conn tx.new.conn result sql.now (bound params.now) }
 {
     tx.execute(sql, params)
 }
@@ -77,12 +64,8 @@ pub fn insert_kept<S: Alter>(
 ) -> Result<(), Error>
     requires stamp { Fits kept.now.stamp }
     requires request { request.now ≡ request_text kept.now.request }
-    ensures same { tx.new.conn.ghost_name ≡ tx.old.conn.ghost_name }
-    ensures works { Works (state S.Store tx.old.conn.now) (state S.Store tx.new.conn.now) }
-    ensures put { HasCleanDisk (state S.Store tx.new.conn.now) → OnOk result ((r : Relations) → Drafts (state S.Store tx.old.conn.now) r
-        → Drafts (state S.Store tx.new.conn.now) (with_part Table.Kept (put_by (λ x. nat_cmp kept.now.stamp x.stamp) r.kept kept.now) r)) }
-    ensures failed { IsBlamed (RefusesOn INSERT_KEPT.now (kept_values kept.now))
-        (state S.Store tx.old.conn.now) (state S.Store tx.new.conn.now) result }
+    ensures { WritesRow S.Store tx.old.conn tx.new.conn result
+        (with_kept_row kept.now) (RefusesOn INSERT_KEPT.now (kept_values kept.now)) }
 {
     reads_back(&kept.request);
     write(
@@ -105,8 +88,10 @@ pub fn insert_meta<S: Alter>(tx: &mut Transaction<'_, S>, meta: &Meta) -> Result
     requires { MetaFits meta.now }
     ensures same { tx.new.conn.ghost_name ≡ tx.old.conn.ghost_name }
     ensures works { Works (state S.Store tx.old.conn.now) (state S.Store tx.new.conn.now) }
-    ensures start { HasCleanDisk (state S.Store tx.new.conn.now) → OnOk result (Builds (state S.Store tx.old.conn.now) book_schema (no_rows 11)
-        → Drafts (state S.Store tx.new.conn.now) (with_part Table.Meta meta.now (relations_of (empty_content meta.now.limits)))) }
+    ensures start { HasCleanDisk (state S.Store tx.new.conn.now) → OnOk result
+        (Builds (state S.Store tx.old.conn.now) book_schema (no_rows 11)
+        → Drafts (state S.Store tx.new.conn.now)
+        (with_part Table.Meta meta.now (relations_of (empty_content meta.now.limits)))) }
     ensures failed { HasCleanDisk (state S.Store tx.new.conn.now)
         → IsTrue (state S.Store tx.old.conn.now).in_transaction → IfErr result (FailsToStart
         (state S.Store tx.old.conn.now) (state S.Store tx.new.conn.now) meta.now) }
@@ -135,12 +120,8 @@ pub fn insert_meta<S: Alter>(tx: &mut Transaction<'_, S>, meta: &Meta) -> Result
 /// Writes the limits and the counters over those that are there.
 pub fn set_meta<S: Alter>(tx: &mut Transaction<'_, S>, meta: &Meta) -> Result<(), Error>
     requires { MetaFits meta.now }
-    ensures same { tx.new.conn.ghost_name ≡ tx.old.conn.ghost_name }
-    ensures works { Works (state S.Store tx.old.conn.now) (state S.Store tx.new.conn.now) }
-    ensures put { HasCleanDisk (state S.Store tx.new.conn.now) → OnOk result ((r : Relations) → Drafts (state S.Store tx.old.conn.now) r
-        → Drafts (state S.Store tx.new.conn.now) (with_part Table.Meta meta.now r)) }
-    ensures failed { IsBlamed (RefusesOn UPDATE_META.now (meta_shown meta.now))
-        (state S.Store tx.old.conn.now) (state S.Store tx.new.conn.now) result }
+    ensures { WritesRow S.Store tx.old.conn tx.new.conn result
+        (with_part Table.Meta meta.now) (RefusesOn UPDATE_META.now (meta_shown meta.now)) }
 {
     write(
         tx,
@@ -165,7 +146,8 @@ pub fn set_meta<S: Alter>(tx: &mut Transaction<'_, S>, meta: &Meta) -> Result<()
 pub fn tell_second<S: Alter>(tx: &mut Transaction<'_, S>) -> Result<(), Error>
     ensures same { tx.new.conn.ghost_name ≡ tx.old.conn.ghost_name }
     ensures works { Works (state S.Store tx.old.conn.now) (state S.Store tx.new.conn.now) }
-    ensures told { HasCleanDisk (state S.Store tx.new.conn.now) → OnOk result ((state S.Store tx.old.conn.now).now.schema ≡ book_schema
+    ensures told { HasCleanDisk (state S.Store tx.new.conn.now) → OnOk result
+        ((state S.Store tx.old.conn.now).now.schema ≡ book_schema
         → TellsSecond (state S.Store tx.old.conn.now) (state S.Store tx.new.conn.now)) }
 {
     write(tx, UPDATE_VERSION, &[])
@@ -178,12 +160,8 @@ pub fn put_connection<S: Alter>(
 ) -> Result<(), Error>
     requires call { Fits connection.now.call }
     requires place { IfSome connection.now.place Fits }
-    ensures same { tx.new.conn.ghost_name ≡ tx.old.conn.ghost_name }
-    ensures works { Works (state S.Store tx.old.conn.now) (state S.Store tx.new.conn.now) }
-    ensures put { HasCleanDisk (state S.Store tx.new.conn.now) → OnOk result ((r : Relations) → Drafts (state S.Store tx.old.conn.now) r
-        → Drafts (state S.Store tx.new.conn.now) (with_part Table.Connections (put_by (at_connection connection.now.call connection.now.device) r.connections connection.now) r)) }
-    ensures failed { IsBlamed (RefusesPutConnection connection.now)
-        (state S.Store tx.old.conn.now) (state S.Store tx.new.conn.now) result }
+    ensures { WritesRow S.Store tx.old.conn tx.new.conn result
+        (with_connection_row connection.now) (RefusesPutConnection connection.now) }
 {
     let changed = changed_rows(
         tx,
@@ -211,12 +189,9 @@ pub fn insert_connection<S: Alter>(
 ) -> Result<(), Error>
     requires call { Fits connection.now.call }
     requires place { IfSome connection.now.place Fits }
-    ensures same { tx.new.conn.ghost_name ≡ tx.old.conn.ghost_name }
-    ensures works { Works (state S.Store tx.old.conn.now) (state S.Store tx.new.conn.now) }
-    ensures put { HasCleanDisk (state S.Store tx.new.conn.now) → OnOk result ((r : Relations) → Drafts (state S.Store tx.old.conn.now) r
-        → Drafts (state S.Store tx.new.conn.now) (with_part Table.Connections (put_by (at_connection connection.now.call connection.now.device) r.connections connection.now) r)) }
-    ensures failed { IsBlamed (RefusesOn INSERT_CONNECTION.now (connection_values connection.now))
-        (state S.Store tx.old.conn.now) (state S.Store tx.new.conn.now) result }
+    ensures { WritesRow S.Store tx.old.conn tx.new.conn result
+        (with_connection_row connection.now)
+        (RefusesOn INSERT_CONNECTION.now (connection_values connection.now)) }
 {
     write(
         tx,
@@ -239,13 +214,9 @@ pub fn drop_connection<S: Alter>(
     device: DeviceId,
 ) -> Result<(), Error>
     requires { Fits call }
-    ensures same { tx.new.conn.ghost_name ≡ tx.old.conn.ghost_name }
-    ensures works { Works (state S.Store tx.old.conn.now) (state S.Store tx.new.conn.now) }
-    ensures put { HasCleanDisk (state S.Store tx.new.conn.now) → OnOk result ((r : Relations) → Drafts (state S.Store tx.old.conn.now) r
-        → Drafts (state S.Store tx.new.conn.now) (with_part Table.Connections (remove_by (at_connection call device) r.connections) r)) }
-    ensures failed { IsBlamed
-        (RefusesOn DELETE_CONNECTION.now (id_value call ∷ id_value device ∷ []))
-        (state S.Store tx.old.conn.now) (state S.Store tx.new.conn.now) result }
+    ensures { WritesRow S.Store tx.old.conn tx.new.conn result
+        (without_connection_row call device)
+        (RefusesOn DELETE_CONNECTION.now (id_value call ∷ id_value device ∷ [])) }
 {
     write(
         tx,

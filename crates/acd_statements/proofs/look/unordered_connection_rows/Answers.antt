@@ -1,3 +1,4 @@
+use Rattle.std.proofs.Common.{rules}
 use Rattle.sqlite.specs.Held.{state}
 use Rattle.acd_columns.specs.declared.tables.Table.TheVariants as table
 use Rattle.acd_columns.proofs.Seeing.{sees_all}
@@ -7,7 +8,10 @@ use Rattle.acd_columns.proofs.Listings.{plain_of}
 use Rattle.acd_columns.specs.declared.texts.TheConstants.{SELECT_STANDING_CONNECTIONS}
 use Rattle.acd_statements.proofs.look.unordered_connection_rows.Goals as goal
 
-pub returns-clause-seen : goal.returns-clause-seen
-returns-clause-seen g c d is =
-    sees_all d (state g.S.Store c.args.conn.now) (state g.S.Store c.read.new.conn) c.read.result table.Connections nine SELECT_STANDING_CONNECTIONS.now unordered_connections asks_unordered_connections is
-    (c.read.ensures.seen d (plain_of nine SELECT_STANDING_CONNECTIONS.now unordered_connections d.schema is))
+pub returns : goal.returns
+returns g c = record {
+  idle = search rules;
+  seen = λ d is.
+      sees_all d (state g.S.Store c.args.conn.now) (state g.S.Store c.read.new.conn) c.read.result table.Connections nine SELECT_STANDING_CONNECTIONS.now unordered_connections asks_unordered_connections is
+      (c.read.ensures.seen d (plain_of nine SELECT_STANDING_CONNECTIONS.now unordered_connections d.schema is));
+}

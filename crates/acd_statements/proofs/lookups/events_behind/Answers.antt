@@ -1,4 +1,5 @@
 use Rattle.sqlite.specs.Held.{state}
+use Rattle.acd_statements.proofs.Chained.{finds_failed}
 use Rattle.acd_book.specs.Content.{Content, events_behind}
 use Rattle.acd_columns.specs.Ranges.{event_in}
 use Rattle.acd_columns.specs.Rows.{event_values}
@@ -11,17 +12,22 @@ use Rattle.acd_statements.proofs.Blamed.{blames_as}
 use Rattle.acd_statements.proofs.BlamedRows.{blames_records, rows_has, page_has}
 use Rattle.acd_statements.proofs.lookups.events_behind.Goals as goal
 
-pub returns-clause-found : goal.returns-clause-found
-returns-clause-found g c =
-    recorded event_in event_values event_exact (state g.S.Store c.args.conn.now) (state g.S.Store c.event_page.new.conn) c.in_ok-rows.rows c.records.result (λ (x : Content). events_behind x.events c.args.number c.args.limit) c.in_ok-rows.ensures.found
-    (rw c.deref.ensures.value at c.records.ensures.records)
+pub returns : goal.returns
+returns g c = record {
+  idle = search rules;
+  found =
+      recorded event_in event_values event_exact (state g.S.Store c.args.conn.now) (state g.S.Store c.event_page.new.conn) c.in_ok-rows.rows c.records.result (λ (x : Content). events_behind x.events c.args.number c.args.limit) c.in_ok-rows.ensures.found
+      (rw c.deref.ensures.value at c.records.ensures.records);
+  blamed =
+      blames_records event_in table.Events (λ row. refl) (state g.S.Store c.args.conn.now) (state g.S.Store c.event_page.new.conn) c.in_ok-rows.rows c.records.result (λ (x : Content). map event_values (events_behind x.events c.args.number c.args.limit))
+      (λ x row. rows_has event_values (events_behind x.events c.args.number c.args.limit) x.events row (page_has c.args.limit (λ (e : Event). nat_lt c.args.number e.number) x.events))
+      c.in_ok-rows.ensures.blamed c.in_ok-rows.ensures.found (rw c.deref.ensures.value at c.records.ensures.bad);
+}
 
-pub returns-in_err-rows-clause-blamed : goal.returns-in_err-rows-clause-blamed
-returns-in_err-rows-clause-blamed g c =
-    blames_as (state g.S.Store c.args.conn.now) (state g.S.Store c.event_page.new.conn) c.in_err-rows.field-0.0 c.from_residual.result (search rules) c.in_err-rows.ensures.blamed
-
-pub returns-clause-blamed : goal.returns-clause-blamed
-returns-clause-blamed g c =
-    blames_records event_in table.Events (λ row. refl) (state g.S.Store c.args.conn.now) (state g.S.Store c.event_page.new.conn) c.in_ok-rows.rows c.records.result (λ (x : Content). map event_values (events_behind x.events c.args.number c.args.limit))
-    (λ x row. rows_has event_values (events_behind x.events c.args.number c.args.limit) x.events row (page_has c.args.limit (λ (e : Event). nat_lt c.args.number e.number) x.events))
-    c.in_ok-rows.ensures.blamed c.in_ok-rows.ensures.found (rw c.deref.ensures.value at c.records.ensures.bad)
+pub returns-in_err-rows : goal.returns-in_err-rows
+returns-in_err-rows g c = record {
+  idle = search rules;
+  found = finds_failed c.in_err-rows.ensures.found (search rules);
+  blamed =
+      blames_as (state g.S.Store c.args.conn.now) (state g.S.Store c.event_page.new.conn) c.in_err-rows.field-0.0 c.from_residual.result (search rules) c.in_err-rows.ensures.blamed;
+}

@@ -1,4 +1,5 @@
 use Rattle.sqlite.specs.Held.{state}
+use Rattle.acd_statements.proofs.Chained.{finds_failed}
 use Rattle.acd_statements.proofs.FirstFound.{monitor_listed, monitor_first}
 use Rattle.std.proofs.Common.{map, refl, rules}
 use Rattle.std.specs.Prelude.{option_to_list}
@@ -12,26 +13,36 @@ use Rattle.acd_statements.proofs.Blamed.{blames_as, blames_done}
 use Rattle.acd_statements.proofs.BlamedRows.{blames_records, rows_has, monitor_has}
 use Rattle.acd_statements.proofs.lookups.monitor_at.Goals as goal
 
-pub returns-then-not-fits-clause-found : goal.returns-then-not-fits-clause-found
-returns-then-not-fits-clause-found g c =
-    monitor_listed (state g.S.Store c.args.conn.now) (state g.S.Store c.records.new.conn) c.args.number c.in_ok-monitors.monitors c.find.result c.in_ok-monitors.ensures.found (rw c.deref.ensures.value at c.find.ensures)
+pub returns-then-not-fits : goal.returns-then-not-fits
+returns-then-not-fits g c = record {
+  idle = search rules;
+  found =
+      monitor_listed (state g.S.Store c.args.conn.now) (state g.S.Store c.records.new.conn) c.args.number c.in_ok-monitors.monitors c.find.result c.in_ok-monitors.ensures.found (rw c.deref.ensures.value at c.find.ensures);
+  blamed = blames_done (state g.S.Store c.args.conn.now) (state g.S.Store c.records.new.conn) c.in_ok-monitors.monitors c.find.result (c.in_ok-monitors.ensures.blamed monitors_answered (λ x. refl));
+}
 
-pub returns-clause-found : goal.returns-clause-found
-returns-clause-found g c =
-    monitor_first (state g.S.Store c.args.conn.now) (state g.S.Store c.monitor_row.new.conn) c.args.number c.in_ok-rows.rows c.first.result c.in_ok-rows.ensures.found (rw c.deref-2.ensures.value at c.first.ensures.found)
+pub returns : goal.returns
+returns g c = record {
+  idle = search rules;
+  found =
+      monitor_first (state g.S.Store c.args.conn.now) (state g.S.Store c.monitor_row.new.conn) c.args.number c.in_ok-rows.rows c.first.result c.in_ok-rows.ensures.found (rw c.deref-2.ensures.value at c.first.ensures.found);
+  blamed =
+      blames_records monitor_in table.Monitors (λ row. refl) (state g.S.Store c.args.conn.now) (state g.S.Store c.monitor_row.new.conn) c.in_ok-rows.rows c.first.result (λ (x : Content). map monitor_values (option_to_list (monitor_of x.rows c.args.number)))
+      (λ x row. rows_has monitor_values (option_to_list (monitor_of x.rows c.args.number)) x.rows.monitors row (monitor_has x c.args.number))
+      c.in_ok-rows.ensures.blamed c.in_ok-rows.ensures.found (rw c.deref-2.ensures.value at c.first.ensures.bad);
+}
 
-pub returns-in_err-monitors-clause-blamed : goal.returns-in_err-monitors-clause-blamed
-returns-in_err-monitors-clause-blamed g c =
-    blames_as (state g.S.Store c.args.conn.now) (state g.S.Store c.records.new.conn) c.in_err-monitors.field-0.0 c.from_residual.result (search rules) (c.in_err-monitors.ensures.blamed monitors_answered (λ x. refl))
+pub returns-in_err-monitors : goal.returns-in_err-monitors
+returns-in_err-monitors g c = record {
+  idle = search rules;
+  found = finds_failed c.in_err-monitors.ensures.found (search rules);
+  blamed =
+      blames_as (state g.S.Store c.args.conn.now) (state g.S.Store c.records.new.conn) c.in_err-monitors.field-0.0 c.from_residual.result (search rules) (c.in_err-monitors.ensures.blamed monitors_answered (λ x. refl));
+}
 
-pub returns-then-not-fits-clause-blamed : goal.returns-then-not-fits-clause-blamed
-returns-then-not-fits-clause-blamed g c = blames_done (state g.S.Store c.args.conn.now) (state g.S.Store c.records.new.conn) c.in_ok-monitors.monitors c.find.result (c.in_ok-monitors.ensures.blamed monitors_answered (λ x. refl))
-
-pub returns-in_err-rows-clause-blamed : goal.returns-in_err-rows-clause-blamed
-returns-in_err-rows-clause-blamed g c = blames_as (state g.S.Store c.args.conn.now) (state g.S.Store c.monitor_row.new.conn) c.in_err-rows.field-0.0 c.from_residual-in_err-rows.result (search rules) c.in_err-rows.ensures.blamed
-
-pub returns-clause-blamed : goal.returns-clause-blamed
-returns-clause-blamed g c =
-    blames_records monitor_in table.Monitors (λ row. refl) (state g.S.Store c.args.conn.now) (state g.S.Store c.monitor_row.new.conn) c.in_ok-rows.rows c.first.result (λ (x : Content). map monitor_values (option_to_list (monitor_of x.rows c.args.number)))
-    (λ x row. rows_has monitor_values (option_to_list (monitor_of x.rows c.args.number)) x.rows.monitors row (monitor_has x c.args.number))
-    c.in_ok-rows.ensures.blamed c.in_ok-rows.ensures.found (rw c.deref-2.ensures.value at c.first.ensures.bad)
+pub returns-in_err-rows : goal.returns-in_err-rows
+returns-in_err-rows g c = record {
+  idle = search rules;
+  found = finds_failed c.in_err-rows.ensures.found (search rules);
+  blamed = blames_as (state g.S.Store c.args.conn.now) (state g.S.Store c.monitor_row.new.conn) c.in_err-rows.field-0.0 c.from_residual-in_err-rows.result (search rules) c.in_err-rows.ensures.blamed;
+}

@@ -1,3 +1,4 @@
+use Rattle.std.proofs.Common.{rules}
 use Rattle.sqlite.specs.Held.{state}
 use Rattle.acd_columns.specs.Rows.{further_values}
 use Rattle.acd_columns.specs.declared.texts.TheConstants.{INSERT_AGENT_GROUP}
@@ -6,14 +7,16 @@ use Rattle.acd_columns.proofs.Common.{drafts}
 use Rattle.acd_statements.proofs.Refused.{by_one}
 use Rattle.acd_statements.proofs.parts.insert_further.Goals as goal
 
-pub returns-clause-put : goal.returns-clause-put
-returns-clause-put g c clean =
-    let old = state g.S.Store c.args.tx.now.conn.now in
-    let new = state g.S.Store c.write.new.tx.conn.now in
-    drafts INSERT_AGENT_GROUP.now (further_values (c.args.agent, c.args.group)) _ old new c.write.result (λ x count. inserts_group (c.args.agent, c.args.group) x old new count)
-    (rw (c.agent.ensures, c.device.ensures) at (c.write.ensures.ran clean))
-
-pub returns-clause-failed : goal.returns-clause-failed
-returns-clause-failed g c =
-    by_one (state g.S.Store c.args.tx.now.conn.now) (state g.S.Store c.write.new.tx.conn.now) INSERT_AGENT_GROUP.now (further_values (c.args.agent, c.args.group)) c.write.result
-    (λ clean inside. rw (c.agent.ensures, c.device.ensures) at (c.write.ensures.failed clean inside))
+pub returns : goal.returns
+returns g c = record {
+  same = c.write.ensures.same;
+  works = c.write.ensures.works;
+  put = λ clean.
+      let old = state g.S.Store c.args.tx.now.conn.now in
+      let new = state g.S.Store c.write.new.tx.conn.now in
+      drafts INSERT_AGENT_GROUP.now (further_values (c.args.agent, c.args.group)) _ old new c.write.result (λ x count. inserts_group (c.args.agent, c.args.group) x old new count)
+      (rw (c.agent.ensures, c.device.ensures) at (c.write.ensures.ran clean));
+  failed =
+      by_one (state g.S.Store c.args.tx.now.conn.now) (state g.S.Store c.write.new.tx.conn.now) INSERT_AGENT_GROUP.now (further_values (c.args.agent, c.args.group)) c.write.result
+      (λ clean inside. rw (c.agent.ensures, c.device.ensures) at (c.write.ensures.failed clean inside));
+}

@@ -1,4 +1,4 @@
-use Rattle.std.proofs.Common.{◌≡◌, true, false, cond, ◌==◌, ap, sym, ◌∙◌, arith}
+use Rattle.std.proofs.Common.{◌≡◌, true, false, cond, ◌==◌, ap, sym, ◌∙◌, arith, rules}
 use Rattle.std.specs.Ordering.{nat_cmp}
 use Rattle.sqlite.specs.Held.{state}
 use Rattle.acd_terms.specs.Lists.{put_by, remove_by}
@@ -18,33 +18,37 @@ use Rattle.acd_statements.proofs.parts.put_priority.Goals as goal
 pub remove-requires : goal.remove-requires
 remove-requires g c = rw c.number.ensures.value (id_fits 15 _ (omega arith) c.number.ensures.formed)
 
-pub returns-then-eq-clause-put : goal.returns-then-eq-clause-put
-returns-then-eq-clause-put g c clean =
-    let z = c.args.group.now in
-    let none : (z.priority == 0) ≡ true = ap (λ n. z.priority == n) (sym c.lowest.ensures) ∙ sym c.eq.ensures ∙ c.if-eq.true in
-    leaves_as (state g.S.Store c.args.tx.now.conn.now) (state g.S.Store c.remove.new.tx.conn.now) c.remove.result (without group_priority c.number.result) (λ r. record r { priorities = with_priority_of z r.priorities }) (c.remove.ensures.put clean)
-    (λ (r : Relations). ap (λ n. without group_priority n r) c.number.ensures.value
-    ∙ ap (λ b. record r { priorities = cond b (remove_by (λ (p : GroupPriority). nat_cmp z.device p.device) r.priorities) (put_by (λ (p : GroupPriority). nat_cmp z.device p.device) r.priorities (priority_part z)) }) (sym none))
+pub returns-then-eq : goal.returns-then-eq
+returns-then-eq g c = record {
+  same = c.remove.ensures.same;
+  works = c.remove.ensures.works;
+  put = λ clean.
+      let z = c.args.group.now in
+      let none : (z.priority == 0) ≡ true = ap (λ n. z.priority == n) (sym c.lowest.ensures) ∙ sym c.eq.ensures ∙ c.if-eq.true in
+      leaves_as (state g.S.Store c.args.tx.now.conn.now) (state g.S.Store c.remove.new.tx.conn.now) c.remove.result (without group_priority c.number.result) (λ r. record r { priorities = with_priority_of z r.priorities }) (c.remove.ensures.put clean)
+      (λ (r : Relations). ap (λ n. without group_priority n r) c.number.ensures.value
+      ∙ ap (λ b. record r { priorities = cond b (remove_by (λ (p : GroupPriority). nat_cmp z.device p.device) r.priorities) (put_by (λ (p : GroupPriority). nat_cmp z.device p.device) r.priorities (priority_part z)) }) (sym none));
+  failed =
+      let old = state g.S.Store c.args.tx.now.conn.now in
+      let new = state g.S.Store c.remove.new.tx.conn.now in
+      let z = c.args.group.now in
+      by_more old new (RefusesOn DELETE_GROUP_PRIORITY.now (id_value c.number.result ∷ [])) (RefusesPriority z) c.remove.result
+      (λ limit r h. inl (subst (λ n. RefusesOn DELETE_GROUP_PRIORITY.now (id_value n ∷ []) limit r) c.number.ensures.value h)) c.remove.ensures.failed;
+}
 
-pub returns-else-eq-clause-put : goal.returns-else-eq-clause-put
-returns-else-eq-clause-put g c clean =
-    let z = c.args.group.now in
-    let some : (z.priority == 0) ≡ false = ap (λ n. z.priority == n) (sym c.lowest.ensures) ∙ sym c.eq.ensures ∙ c.if-eq.false in
-    leaves_as (state g.S.Store c.args.tx.now.conn.now) (state g.S.Store c.put.new.tx.conn.now) c.put.result (with_put group_priority (priority_part z)) (λ r. record r { priorities = with_priority_of z r.priorities }) (c.put.ensures.put clean)
-    (λ (r : Relations).
-    ap (λ b. record r { priorities = cond b (remove_by (λ (p : GroupPriority). nat_cmp z.device p.device) r.priorities) (put_by (λ (p : GroupPriority). nat_cmp z.device p.device) r.priorities (priority_part z)) }) (sym some))
-
-pub returns-then-eq-clause-failed : goal.returns-then-eq-clause-failed
-returns-then-eq-clause-failed g c =
-    let old = state g.S.Store c.args.tx.now.conn.now in
-    let new = state g.S.Store c.remove.new.tx.conn.now in
-    let z = c.args.group.now in
-    by_more old new (RefusesOn DELETE_GROUP_PRIORITY.now (id_value c.number.result ∷ [])) (RefusesPriority z) c.remove.result
-    (λ limit r h. inl (subst (λ n. RefusesOn DELETE_GROUP_PRIORITY.now (id_value n ∷ []) limit r) c.number.ensures.value h)) c.remove.ensures.failed
-
-pub returns-else-eq-clause-failed : goal.returns-else-eq-clause-failed
-returns-else-eq-clause-failed g c =
-    let old = state g.S.Store c.args.tx.now.conn.now in
-    let new = state g.S.Store c.put.new.tx.conn.now in
-    let z = c.args.group.now in
-    by_more old new (RefusesPut group_priority UPDATE_GROUP_PRIORITY.now (priority_part z)) (RefusesPriority z) c.put.result (λ limit r h. inr h) c.put.ensures.failed
+pub returns-else-eq : goal.returns-else-eq
+returns-else-eq g c = record {
+  same = c.put.ensures.same;
+  works = c.put.ensures.works;
+  put = λ clean.
+      let z = c.args.group.now in
+      let some : (z.priority == 0) ≡ false = ap (λ n. z.priority == n) (sym c.lowest.ensures) ∙ sym c.eq.ensures ∙ c.if-eq.false in
+      leaves_as (state g.S.Store c.args.tx.now.conn.now) (state g.S.Store c.put.new.tx.conn.now) c.put.result (with_put group_priority (priority_part z)) (λ r. record r { priorities = with_priority_of z r.priorities }) (c.put.ensures.put clean)
+      (λ (r : Relations).
+      ap (λ b. record r { priorities = cond b (remove_by (λ (p : GroupPriority). nat_cmp z.device p.device) r.priorities) (put_by (λ (p : GroupPriority). nat_cmp z.device p.device) r.priorities (priority_part z)) }) (sym some));
+  failed =
+      let old = state g.S.Store c.args.tx.now.conn.now in
+      let new = state g.S.Store c.put.new.tx.conn.now in
+      let z = c.args.group.now in
+      by_more old new (RefusesPut group_priority UPDATE_GROUP_PRIORITY.now (priority_part z)) (RefusesPriority z) c.put.result (λ limit r h. inr h) c.put.ensures.failed;
+}

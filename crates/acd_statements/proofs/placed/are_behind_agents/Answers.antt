@@ -1,4 +1,4 @@
-use Rattle.std.proofs.Common.{◌≡◌, Bool, map}
+use Rattle.std.proofs.Common.{◌≡◌, Bool, map, rules}
 use Rattle.acd_columns.proofs.Seen.{sees_fail}
 use Rattle.acd_columns.specs.AnyRows.{rows_in}
 use Rattle.acd_columns.specs.declared.tables.Table.TheVariants as table
@@ -8,9 +8,15 @@ use Rattle.sqlite.specs.Held.{state}
 use Rattle.acd_statements.proofs.Beside.{agents_seen}
 use Rattle.acd_statements.proofs.placed.are_behind_agents.Goals as goal
 
-pub returns-in-Ok-clause-seen : goal.returns-in-Ok-clause-seen
-returns-in-Ok-clause-seen g c d is =
-    agents_seen d (state g.S.Store c.args.conn.now) (state g.S.Store c.records.new.conn) c.in-Ok.agents c.args.pairs.now c.are_behind.result (rw c.deref.ensures.value at c.are_behind.ensures) (c.in-Ok.ensures.seen d is)
+pub returns-in-Ok : goal.returns-in-Ok
+returns-in-Ok g c = record {
+  idle = search rules;
+  seen = λ d is.
+      agents_seen d (state g.S.Store c.args.conn.now) (state g.S.Store c.records.new.conn) c.in-Ok.agents c.args.pairs.now c.are_behind.result (rw c.deref.ensures.value at c.are_behind.ensures) (c.in-Ok.ensures.seen d is);
+}
 
-pub returns-in-Err-clause-seen : goal.returns-in-Err-clause-seen
-returns-in-Err-clause-seen g c d is = sees_fail d (state g.S.Store c.args.conn.now) (state g.S.Store c.records.new.conn) c.in-Err.error _ (λ (placed : Bool). placed ≡ are_behind (map as_agent (rows_in table.Agents d.trees)) c.args.pairs.now) (c.in-Err.ensures.seen d is)
+pub returns-in-Err : goal.returns-in-Err
+returns-in-Err g c = record {
+  idle = search rules;
+  seen = λ d is. sees_fail d (state g.S.Store c.args.conn.now) (state g.S.Store c.records.new.conn) c.in-Err.error _ (λ (placed : Bool). placed ≡ are_behind (map as_agent (rows_in table.Agents d.trees)) c.args.pairs.now) (c.in-Err.ensures.seen d is);
+}

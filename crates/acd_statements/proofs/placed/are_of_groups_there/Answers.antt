@@ -1,4 +1,4 @@
-use Rattle.std.proofs.Common.{◌≡◌, Bool, map}
+use Rattle.std.proofs.Common.{◌≡◌, Bool, map, rules}
 use Rattle.acd_columns.proofs.Seen.{sees_fail}
 use Rattle.acd_columns.specs.AnyRows.{rows_in}
 use Rattle.acd_columns.specs.declared.tables.Table.TheVariants as table
@@ -8,9 +8,15 @@ use Rattle.sqlite.specs.Held.{state}
 use Rattle.acd_statements.proofs.Beside.{groups_seen}
 use Rattle.acd_statements.proofs.placed.are_of_groups_there.Goals as goal
 
-pub returns-in-Ok-clause-seen : goal.returns-in-Ok-clause-seen
-returns-in-Ok-clause-seen g c d is =
-    groups_seen d (state g.S.Store c.args.conn.now) (state g.S.Store c.records.new.conn) c.in-Ok.groups c.args.priorities.now c.are_of_groups.result (rw c.deref.ensures.value at c.are_of_groups.ensures) (c.in-Ok.ensures.seen d is)
+pub returns-in-Ok : goal.returns-in-Ok
+returns-in-Ok g c = record {
+  idle = search rules;
+  seen = λ d is.
+      groups_seen d (state g.S.Store c.args.conn.now) (state g.S.Store c.records.new.conn) c.in-Ok.groups c.args.priorities.now c.are_of_groups.result (rw c.deref.ensures.value at c.are_of_groups.ensures) (c.in-Ok.ensures.seen d is);
+}
 
-pub returns-in-Err-clause-seen : goal.returns-in-Err-clause-seen
-returns-in-Err-clause-seen g c d is = sees_fail d (state g.S.Store c.args.conn.now) (state g.S.Store c.records.new.conn) c.in-Err.error _ (λ (placed : Bool). placed ≡ are_of_groups (map as_group (rows_in table.Groups d.trees)) c.args.priorities.now) (c.in-Err.ensures.seen d is)
+pub returns-in-Err : goal.returns-in-Err
+returns-in-Err g c = record {
+  idle = search rules;
+  seen = λ d is. sees_fail d (state g.S.Store c.args.conn.now) (state g.S.Store c.records.new.conn) c.in-Err.error _ (λ (placed : Bool). placed ≡ are_of_groups (map as_group (rows_in table.Groups d.trees)) c.args.priorities.now) (c.in-Err.ensures.seen d is);
+}

@@ -1,4 +1,4 @@
-use Rattle.std.proofs.Common.{[], ◌∷◌}
+use Rattle.std.proofs.Common.{[], ◌∷◌, rules}
 use Rattle.sqlite.specs.Held.{state}
 use Rattle.acd_columns.specs.Values.{id_value}
 use Rattle.acd_columns.proofs.Common.{drafts}
@@ -6,14 +6,16 @@ use Rattle.acd_columns.proofs.Filed.{removed_in}
 use Rattle.acd_statements.proofs.Refused.{by_one}
 use Rattle.acd_statements.proofs.put.remove.Goals as goal
 
-pub returns-clause-put : goal.returns-clause-put
-returns-clause-put g c clean =
-    let old = state g.S.Store c.args.tx.now.conn.now in
-    let new = state g.S.Store c.write.new.tx.conn.now in
-    drafts g.R.Removed.delete (id_value c.args.key ∷ []) _ old new c.write.result (λ x count. removed_in g.R.Described.descr g.R.Described.filed g.R.Removed.delete g.met.R.Removed.deletes c.args.key x old new count)
-    (rw (c.integer.ensures, c.delete_text.ensures) at (c.write.ensures.ran clean))
-
-pub returns-clause-failed : goal.returns-clause-failed
-returns-clause-failed g c =
-    by_one (state g.S.Store c.args.tx.now.conn.now) (state g.S.Store c.write.new.tx.conn.now) g.R.Removed.delete (id_value c.args.key ∷ []) c.write.result
-    (λ clean inside. rw (c.integer.ensures, c.delete_text.ensures) at (c.write.ensures.failed clean inside))
+pub returns : goal.returns
+returns g c = record {
+  same = c.write.ensures.same;
+  works = c.write.ensures.works;
+  put = λ clean.
+      let old = state g.S.Store c.args.tx.now.conn.now in
+      let new = state g.S.Store c.write.new.tx.conn.now in
+      drafts g.R.Removed.delete (id_value c.args.key ∷ []) _ old new c.write.result (λ x count. removed_in g.R.Described.descr g.R.Described.filed g.R.Removed.delete g.met.R.Removed.deletes c.args.key x old new count)
+      (rw (c.integer.ensures, c.delete_text.ensures) at (c.write.ensures.ran clean));
+  failed =
+      by_one (state g.S.Store c.args.tx.now.conn.now) (state g.S.Store c.write.new.tx.conn.now) g.R.Removed.delete (id_value c.args.key ∷ []) c.write.result
+      (λ clean inside. rw (c.integer.ensures, c.delete_text.ensures) at (c.write.ensures.failed clean inside));
+}

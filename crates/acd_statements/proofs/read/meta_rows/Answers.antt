@@ -7,14 +7,16 @@ use Rattle.acd_columns.proofs.Listings.{book_begins}
 use Rattle.acd_statements.proofs.Answered.{counters_answered}
 use Rattle.acd_statements.proofs.read.meta_rows.Goals as goal
 
-pub returns-clause-quiet : goal.returns-clause-quiet
-returns-clause-quiet g c = c.read.ensures.quiet (meta_plain book_schema (book_begins book_schema refl))
-
-pub returns-clause-stops : goal.returns-clause-stops
-returns-clause-stops g c clean x held = c.read.ensures.stops clean (meta_plain book_schema (book_begins book_schema refl)) x held
-
-pub returns-clause-rows : goal.returns-clause-rows
-returns-clause-rows g c clean = reads_meta_if (state g.S.Store c.args.conn.now) (state g.S.Store c.read.new.conn) c.read.result (c.read.ensures.shown clean)
+pub returns-clause-found : goal.returns-clause-found
+returns-clause-found g c =
+    let e = c.read.ensures in
+    let plain = meta_plain book_schema (book_begins book_schema refl) in
+    record {
+      up = e.up;
+      quiet = e.quiet plain;
+      stops = λ clean x held. e.stops clean plain x held;
+      answer = λ clean. reads_meta_if (state g.S.Store c.args.conn.now) (state g.S.Store c.read.new.conn) c.read.result (e.shown clean);
+    }
 
 pub returns-clause-seen : goal.returns-clause-seen
 returns-clause-seen g c d is = sees_meta d (state g.S.Store c.args.conn.now) (state g.S.Store c.read.new.conn) c.read.result is (c.read.ensures.seen d (meta_plain d.schema is))

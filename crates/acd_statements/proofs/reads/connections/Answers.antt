@@ -14,21 +14,23 @@ use Rattle.acd_statements.proofs.Blamed.{blames_as}
 use Rattle.acd_statements.proofs.BlamedRows.{blames_records}
 use Rattle.acd_statements.proofs.reads.connections.Goals as goal
 
-pub returns-in_err-rows-clause-found : goal.returns-in_err-rows-clause-found
-returns-in_err-rows-clause-found g c =
-    let is : c.from_residual.result ≡ Err c.in_err-rows.field-0.0 = search rules in
-    subst (λ r. Finds (state g.S.Store c.args.conn.now) (state g.S.Store c.connection_rows.new.conn) r (λ (x : Content) (found : Vec ConnectionRecord Global). found.items ≡ x.rows.connections)) (sym is)
-    (found_none (state g.S.Store c.args.conn.now) (state g.S.Store c.connection_rows.new.conn) c.in_err-rows.field-0.0 _ (λ (x : Content) (found : Vec ConnectionRecord Global). found.items ≡ x.rows.connections) c.in_err-rows.ensures.found)
+pub returns-in_err-rows : goal.returns-in_err-rows
+returns-in_err-rows g c = record {
+  idle = search rules;
+  found =
+      let is : c.from_residual.result ≡ Err c.in_err-rows.field-0.0 = search rules in
+      subst (λ r. Finds (state g.S.Store c.args.conn.now) (state g.S.Store c.connection_rows.new.conn) r (λ (x : Content) (found : Vec ConnectionRecord Global). found.items ≡ x.rows.connections)) (sym is)
+      (found_none (state g.S.Store c.args.conn.now) (state g.S.Store c.connection_rows.new.conn) c.in_err-rows.field-0.0 _ (λ (x : Content) (found : Vec ConnectionRecord Global). found.items ≡ x.rows.connections) c.in_err-rows.ensures.found);
+  blamed = blames_as (state g.S.Store c.args.conn.now) (state g.S.Store c.connection_rows.new.conn) c.in_err-rows.field-0.0 c.from_residual.result (search rules) c.in_err-rows.ensures.blamed;
+}
 
-pub returns-clause-found : goal.returns-clause-found
-returns-clause-found g c =
-    recorded connection_in connection_values connection_exact (state g.S.Store c.args.conn.now) (state g.S.Store c.connection_rows.new.conn) c.in_ok-rows.rows c.records.result (λ (x : Content). x.rows.connections) c.in_ok-rows.ensures.found
-    (rw c.deref.ensures.value at c.records.ensures.records)
-
-pub returns-in_err-rows-clause-blamed : goal.returns-in_err-rows-clause-blamed
-returns-in_err-rows-clause-blamed g c = blames_as (state g.S.Store c.args.conn.now) (state g.S.Store c.connection_rows.new.conn) c.in_err-rows.field-0.0 c.from_residual.result (search rules) c.in_err-rows.ensures.blamed
-
-pub returns-clause-blamed : goal.returns-clause-blamed
-returns-clause-blamed g c =
-    blames_records connection_in table.Connections (λ row. refl) (state g.S.Store c.args.conn.now) (state g.S.Store c.connection_rows.new.conn) c.in_ok-rows.rows c.records.result (λ (x : Content). map connection_values x.rows.connections) (λ x row has. has)
-    c.in_ok-rows.ensures.blamed c.in_ok-rows.ensures.found (rw c.deref.ensures.value at c.records.ensures.bad)
+pub returns : goal.returns
+returns g c = record {
+  idle = search rules;
+  found =
+      recorded connection_in connection_values connection_exact (state g.S.Store c.args.conn.now) (state g.S.Store c.connection_rows.new.conn) c.in_ok-rows.rows c.records.result (λ (x : Content). x.rows.connections) c.in_ok-rows.ensures.found
+      (rw c.deref.ensures.value at c.records.ensures.records);
+  blamed =
+      blames_records connection_in table.Connections (λ row. refl) (state g.S.Store c.args.conn.now) (state g.S.Store c.connection_rows.new.conn) c.in_ok-rows.rows c.records.result (λ (x : Content). map connection_values x.rows.connections) (λ x row has. has)
+      c.in_ok-rows.ensures.blamed c.in_ok-rows.ensures.found (rw c.deref.ensures.value at c.records.ensures.bad);
+}

@@ -4,25 +4,30 @@ use Rattle.sqlite.specs.Values.{bound}
 use Rattle.acd_columns.proofs.Statements.{ran_inside, works_inside}
 use Rattle.acd_statements.specs.Failing.{FailsToWrite}
 use Rattle.acd_statements.proofs.Failures.{written}
+use Rattle.acd_statements.proofs.Refused.{unless_ok}
 use Rattle.acd_statements.proofs.write.write.Goals as goal
 
-pub returns-clause-ran : goal.returns-clause-ran
-returns-clause-ran g c clean =
-    ran_inside c.args.sql.now (bound c.args.params.now) (state g.S.Store c.args.tx.now.conn.now) (state g.S.Store c.execute.new.self.conn.now) _ c.in_ok-execute.field-0
-    (λ out. (c.in_ok-execute.ensures.ended out).0) (λ inside. c.in_ok-execute.ensures.runs clean inside)
+pub returns : goal.returns
+returns g c = record {
+  same = c.execute.ensures.same_reference;
+  works =
+      works_inside c.args.sql.now (bound c.args.params.now) (state g.S.Store c.args.tx.now.conn.now) (state g.S.Store c.execute.new.self.conn.now) c.execute.result
+      c.execute.ensures.survives (λ clean inside. c.execute.ensures.runs clean inside) (λ out. ap (state g.S.Store) (c.execute.ensures.ended out).1);
+  ran = λ clean.
+      ran_inside c.args.sql.now (bound c.args.params.now) (state g.S.Store c.args.tx.now.conn.now) (state g.S.Store c.execute.new.self.conn.now) _ c.in_ok-execute.field-0
+      (λ out. (c.in_ok-execute.ensures.ended out).0) (λ inside. c.in_ok-execute.ensures.runs clean inside);
+  failed = λ clean inside. tt;
+}
 
-pub returns-clause-works : goal.returns-clause-works
-returns-clause-works g c =
-    works_inside c.args.sql.now (bound c.args.params.now) (state g.S.Store c.args.tx.now.conn.now) (state g.S.Store c.execute.new.self.conn.now) c.execute.result
-    c.execute.ensures.survives (λ clean inside. c.execute.ensures.runs clean inside) (λ out. ap (state g.S.Store) (c.execute.ensures.ended out).1)
-
-pub returns-in_err-execute-clause-works : goal.returns-in_err-execute-clause-works
-returns-in_err-execute-clause-works g c =
-    works_inside c.args.sql.now (bound c.args.params.now) (state g.S.Store c.args.tx.now.conn.now) (state g.S.Store c.execute.new.self.conn.now) c.execute.result
-    c.execute.ensures.survives (λ clean inside. c.execute.ensures.runs clean inside) (λ out. ap (state g.S.Store) (c.execute.ensures.ended out).1)
-
-pub returns-in_err-execute-clause-failed : goal.returns-in_err-execute-clause-failed
-returns-in_err-execute-clause-failed g c clean inside =
-    let is : c.from_residual.result ≡ Err c.in_err-execute.field-0.0 = search rules in
-    subst (λ r. IfErr r (FailsToWrite (state g.S.Store c.args.tx.now.conn.now) (state g.S.Store c.execute.new.self.conn.now) c.args.sql.now (bound c.args.params.now))) (sym is)
-    (written (state g.S.Store c.args.tx.now.conn.now) (state g.S.Store c.execute.new.self.conn.now) c.args.sql.now (bound c.args.params.now) c.in_err-execute.field-0.0 (c.in_err-execute.ensures.runs clean inside))
+pub returns-in_err-execute : goal.returns-in_err-execute
+returns-in_err-execute g c = record {
+  same = c.execute.ensures.same_reference;
+  works =
+      works_inside c.args.sql.now (bound c.args.params.now) (state g.S.Store c.args.tx.now.conn.now) (state g.S.Store c.execute.new.self.conn.now) c.execute.result
+      c.execute.ensures.survives (λ clean inside. c.execute.ensures.runs clean inside) (λ out. ap (state g.S.Store) (c.execute.ensures.ended out).1);
+  ran = λ clean. unless_ok c.in_err-execute.field-0.0 c.from_residual.result (search rules);
+  failed = λ clean inside.
+      let is : c.from_residual.result ≡ Err c.in_err-execute.field-0.0 = search rules in
+      subst (λ r. IfErr r (FailsToWrite (state g.S.Store c.args.tx.now.conn.now) (state g.S.Store c.execute.new.self.conn.now) c.args.sql.now (bound c.args.params.now))) (sym is)
+      (written (state g.S.Store c.args.tx.now.conn.now) (state g.S.Store c.execute.new.self.conn.now) c.args.sql.now (bound c.args.params.now) c.in_err-execute.field-0.0 (c.in_err-execute.ensures.runs clean inside));
+}
