@@ -30,3 +30,5 @@ pub mod OldRuns
 pub mod Recast
 pub mod Following
 pub mod GroupLines
+pub mod Ahead
+pub mod ReadsAhead

@@ -24,3 +24,4 @@ pub mod OldStep
 pub mod OldSound
 pub mod Following
 pub mod GroupStates
+pub mod Pages

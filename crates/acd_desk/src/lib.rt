@@ -23,6 +23,7 @@ mod fault;
 mod group_states;
 pub mod laws;
 mod open_fault;
+mod page;
 mod reads;
 mod replay;
 mod requests;
