@@ -1,12 +1,11 @@
 -- What a desk commits for an arrival is what the abstract desk makes of it.
-use Rattle.std.proofs.Common.{◌≡◌, ◌+◌, ◌<◌, List, Bool, true, false, Option, Some, None, refl, sym, ap, ◌∙◌, subst, length, nat_le, leb-false}
+use Rattle.std.proofs.Common.{◌≡◌, ◌+◌, ◌<◌, List, true, false, Some, None, sym, ap, ◌∙◌, subst, length, nat_le, leb-false}
 use Rattle.acd_terms.specs.declared.rows.Rows.{Rows}
-use Rattle.acd_terms.specs.declared.rows.Rule.{Rule}
 use Rattle.acd_terms.specs.declared.answer.Outcome.{Outcome}
 use Rattle.acd_terms.specs.declared.event.Event.{Event}
 use Rattle.acd_terms.specs.declared.command.Arrival.{Arrival}
 use Rattle.acd_model.specs.Rules.Plan.{keeps_limits, keeps_order}
-use Rattle.acd_model.specs.Rules.First.{or_broken, first_broken, BreaksNoRule}
+use Rattle.acd_model.specs.Rules.First.{first_broken, BreaksNoRule}
 use Rattle.acd_model.specs.Step.{next_stamp, executed_moment}
 use Rattle.acd_book.specs.declared.kept.Kept.{Kept}
 use Rattle.acd_model.specs.Changes.{rows_made}

@@ -32,3 +32,6 @@ pub mod Following
 pub mod GroupLines
 pub mod Ahead
 pub mod ReadsAhead
+pub mod PlaceLemmas
+pub mod Courses
+pub mod Comparing

@@ -1,15 +1,13 @@
 -- The events up to a state, recast: of a call that neither waits in a group nor rings from it they tell no entry there. All else they tell as before.
-use Rattle.std.proofs.Common.{◌≡◌, ℕ, ◌≤◌, Bool, true, false, ◌&&◌, ◌||◌, cond, not, List, [], ◌∷◌, map, Option, Some, None, inl, inr, refl, ap, sym, ◌∙◌, arith, eq-eqb}
-use Rattle.std.specs.Prelude.{◌==◌, find, is_some}
+use Rattle.std.proofs.Common.{◌≡◌, ℕ, ◌≤◌, Bool, true, false, ◌&&◌, cond, not, List, [], ◌∷◌, map, Option, None, inl, inr, refl, ap, sym, ◌∙◌, arith, eq-eqb}
+use Rattle.std.specs.Prelude.{◌==◌, find}
 use Rattle.std.specs.List.{list_any}
 use Rattle.std.proofs.lemmas.Bool.{and_right, and_from, and_parts, eqb-true}
 use Rattle.acd_terms.specs.Columns.{columns_of}
 use Rattle.acd_terms.specs.Lists.{Among}
-use Rattle.acd_terms.specs.States.{is_queued, is_alerting}
 use Rattle.acd_terms.specs.declared.rows.Rows.{Rows}
 use Rattle.acd_terms.specs.declared.record.ConnectionRecord.{ConnectionRecord}
 use Rattle.acd_terms.specs.declared.state.ConnectionState.{ConnectionState}
-use Rattle.acd_terms.specs.declared.state.ConnectionState.TheVariants as S
 use Rattle.acd_terms.specs.declared.event.Cause.{Cause}
 use Rattle.acd_terms.specs.declared.event.Cause.TheVariants.{NoAnswer}
 use Rattle.acd_terms.specs.declared.event.Columns.{Columns}
@@ -21,9 +19,9 @@ use Rattle.acd_model.specs.Figures.{is_no_answer, is_entry}
 use Rattle.acd_model.specs.Told.{after, connection_told, Seat, no_seat, seat_told, enters, last_entry}
 use Rattle.acd_model.specs.Watched.{waits_or_rings, HasPlace, HasEntered, IsWatched}
 use Rattle.acd_laws.specs.WatchedLaws.{TellsNoMore}
-use Rattle.acd_lemmas.proofs.Facts.{Rules, AlertingColumns, HasColumns, ConnectionRule}
+use Rattle.acd_lemmas.proofs.Facts.{Rules, ConnectionRule}
 use Rattle.acd_lemmas.proofs.Lists.{any_some, any_found, find_among, find_passes, every_among, some_from}
-use Rattle.acd_laws.proofs.Watched.WatchedRuns.{alerting_place, place_in}
+use Rattle.acd_laws.proofs.Watched.WatchedRuns.{place_in}
 
 -- the call waits in the group, or rings from it
 abbrev pub holds_call : ℕ → ℕ → ConnectionRecord → Bool

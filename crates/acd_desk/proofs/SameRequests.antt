@@ -1,7 +1,6 @@
 -- Requests that compare equal are equal.
-use Rattle.std.proofs.Common.{◌≡◌, ℕ, Bool, true, false, List, [], ◌∷◌, true≢false, sym, refl, ap, ap₂, ◌∙◌, ◌&&◌, ◌==◌, eqb-true, nat_eq}
-use Rattle.std.specs.Str.{bytes_eq}
-use Rattle.std.specs.Cmp.Lexicographic.{same_text, pointwise}
+use Rattle.std.proofs.Common.{◌≡◌, ℕ, true, List, sym, ap, ◌∙◌, eqb-true}
+use Rattle.std.specs.Cmp.Lexicographic.{same_text}
 use Rattle.acd_terms.specs.declared.command.Command.{Command}
 use Rattle.acd_terms.specs.declared.command.Request.{Request}
 use Rattle.acd_desk.specs.Replies.{same_request}

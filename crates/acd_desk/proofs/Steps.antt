@@ -4,12 +4,10 @@ use Rattle.acd_terms.specs.declared.rows.Rows.{Rows}
 use Rattle.acd_terms.specs.declared.command.Command.{Command}
 use Rattle.acd_terms.specs.declared.event.Event.{Event}
 use Rattle.acd_model.specs.Moves.{changed, moved, events_of}
-use Rattle.acd_model.specs.Writes.{with_group, with_station, with_agent, with_call, with_connection, with_monitor, without_call, without_connection, without_monitor, with_last}
+use Rattle.acd_model.specs.Writes.{with_last}
 use Rattle.acd_model.specs.Figures.{with_figures}
 use Rattle.acd_model.specs.Services.Serve.{serve}
 use Rattle.acd_model.specs.Step.{step, step_at, step_moves, numbered, executed_moment, next_stamp}
-use Rattle.acd_model.specs.declared.moves.Change.{Change}
-use Rattle.acd_model.specs.declared.moves.Change.TheVariants.{Nothing, PutGroup, PutStation, PutAgent, PutCall, PutConnection, PutMonitor, RemoveCall, RemoveConnection, RemoveMonitor}
 use Rattle.acd_model.specs.declared.moves.Move.{Move}
 use Rattle.acd_book.specs.Content.{GoOn}
 use Rattle.acd_lemmas.proofs.Changes.{limits-changed}

@@ -25,3 +25,4 @@ pub mod OldSound
 pub mod Following
 pub mod GroupStates
 pub mod Pages
+pub mod Noting

@@ -1,5 +1,5 @@
 -- Events that were read ahead.
-use Rattle.std.specs.Prelude.{◌≡◌, ◌⊎◌, ℕ, ◌≤◌, ◌<◌, length, Result, Ok, IfOk, OnOk, IsErrOf}
+use Rattle.std.specs.Prelude.{◌≡◌, ◌⊎◌, ℕ, ◌≤◌, ◌<◌, length, Result, IfOk, OnOk, IsErrOf}
 use Rattle.acd_book.specs.Content.{Content, events_behind, Within, HasRisen}
 use Rattle.acd_book.specs.State.{BookState, IfHonest}
 use Rattle.acd_book.specs.declared.fault.BookFault.{BookFault}
@@ -15,11 +15,11 @@ IsPage c p = p.events.items ≡ events_behind c.events p.above p.limit
 abbrev pub Reaches : Page → ℕ → ℕ → Type 0
 Reaches p number count = (p.above ≤ number) × ((length p.events.items < p.limit) ⊎ (count ≤ length (above p.events.items number)))
 
--- what is found on a page, or by a read, of an open book whose content the page is of
-pub record ReadsOn {A : Type 0} (page : Page) (old new : BookState) (result : Result A BookFault) (IsAnswer : Content → A → Type 0) : Type 0 where
+-- a read of an open book, or none where what was read before tells it: then nothing tells whether the book is open
+pub record ReadsIfOpen {A : Type 0} (old new : BookState) (result : Result A BookFault) (IsAnswer : Content → A → Type 0) : Type 0 where
   pub clean : new.is_clean → old.is_clean
   pub sound : IfHonest old new new.is_sound
-  pub value : IfHonest old new (old.is_open → IsPage old.content page → IfOk result (IsAnswer old.content))
+  pub value : IfHonest old new (old.is_open → IfOk result (IsAnswer old.content))
   pub same : IfHonest old new (new.is_open → old.is_open × (new.content ≡ old.content))
   pub stays : OnOk result (IfHonest old new (old.is_open → new.is_open))
   pub stops : IfHonest old new (Within new.stops old.stops)

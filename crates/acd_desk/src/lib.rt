@@ -22,6 +22,7 @@ mod export;
 mod fault;
 mod group_states;
 pub mod laws;
+mod noted;
 mod open_fault;
 mod page;
 mod reads;

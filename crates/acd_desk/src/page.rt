@@ -3,7 +3,7 @@
 ghost use Rattle.std.specs.Prelude.{◌≡◌, ◌≤◌, length, true, IfOk};
 ghost use Rattle.acd_book.specs.Content.{Content, events_behind};
 ghost use Rattle.acd_book.specs.State.{Reads};
-ghost use Rattle.acd_desk.specs.Pages.{Has, IsPage, Reaches, ReadsOn};
+ghost use Rattle.acd_desk.specs.Pages.{Has, IsPage, Reaches, ReadsIfOpen};
 ghost use Rattle.acd_desk.specs.Tells.{above};
 
 use acd_book::{Book, BookFault};
@@ -11,7 +11,7 @@ use acd_terms::Event;
 use std::alloc::{AllocError, Global};
 
 // How many events a page has, where more are left.
-const PAGE: usize = 1000;
+const PAGE: usize = 100;
 
 /// The first events above a number, so many at most.
 #[derive(Drop)]
@@ -43,7 +43,8 @@ impl Page {
 
     // Reads the next page, where this one doesn't reach so far.
     fn reach<B: Book>(&mut self, book: &mut B, number: u64, count: usize) -> Result<(), BookFault>
-        ensures { ReadsOn self.old (B.state book.old) (B.state book.new) result (λ c u. Has c self.new number count) }
+        ensures { ReadsIfOpen (B.state book.old) (B.state book.new) result
+            (λ c _. IsPage c self.old → Has c self.new number count) }
     {
         if self.reaches(number, count) {
             return Ok(());
@@ -60,7 +61,9 @@ impl Page {
         number: u64,
         count: usize,
     ) -> Result<Vec<Event>, BookFault>
-        ensures { ReadsOn self.old (B.state book.old) (B.state book.new) result (λ c found. (found.items ≡ events_behind c.events number count) × IsPage c self.new) }
+        ensures { ReadsIfOpen (B.state book.old) (B.state book.new) result
+            (λ c found. IsPage c self.old
+            → (found.items ≡ events_behind c.events number count) × IsPage c self.new) }
     {
         self.reach(book, number, count)?;
         Ok(first_behind(alloc, &self.events, number, count)?)
