@@ -58,7 +58,8 @@ fn has_stamp(found: Option<Kept>, stamp: u64) -> bool
 
 // Whether no earlier record has its key.
 fn is_first_of_key<B: Book>(book: &mut B, kept: &Kept) -> Result<bool, BookFault>
-    ensures { Reads (B.state book.old) (B.state book.new) result (λ c found. Decides found (IsFirstOfKey c kept.now)) }
+    ensures { Reads (B.state book.old) (B.state book.new) result
+        (λ c found. Decides found (IsFirstOfKey c kept.now)) }
 {
     let first = book.kept(&kept.request.requester, kept.request.invoke)?;
     Ok(has_stamp(first, kept.stamp))
@@ -170,7 +171,8 @@ fn replayed<B: Book>(
 
 // Whether no event is left behind a number.
 fn has_ended<B: Book>(book: &mut B, last: u64) -> Result<bool, BookFault>
-    ensures { Reads (B.state book.old) (B.state book.new) result (λ c found. Decides found (events_behind c.events last 1 ≡ [])) }
+    ensures { Reads (B.state book.old) (B.state book.new) result
+        (λ c found. Decides found (events_behind c.events last 1 ≡ [])) }
 {
     let surplus = book.events_after(last, 1)?;
     Ok(surplus.is_empty())
@@ -178,7 +180,8 @@ fn has_ended<B: Book>(book: &mut B, last: u64) -> Result<bool, BookFault>
 
 // Whether the tables are those of the replay.
 fn has_tables<B: Book>(book: &mut B, switch: &Switch) -> Result<bool, BookFault>
-    ensures { Reads (B.state book.old) (B.state book.new) result (λ c found. Decides found (c.rows ≡ switch.now)) }
+    ensures { Reads (B.state book.old) (B.state book.new) result
+        (λ c found. Decides found (c.rows ≡ switch.now)) }
 {
     let rows = book.rows()?;
     let replayed = switch.rows()?;
@@ -187,7 +190,8 @@ fn has_tables<B: Book>(book: &mut B, switch: &Switch) -> Result<bool, BookFault>
 
 // Whether no event is left behind a replay, and the tables are those of the replay.
 fn is_whole<B: Book>(book: &mut B, switch: &Switch) -> Result<bool, BookFault>
-    ensures { Reads (B.state book.old) (B.state book.new) result (λ c found. Decides found (IsEnd c switch.now)) }
+    ensures { Reads (B.state book.old) (B.state book.new) result
+        (λ c found. Decides found (IsEnd c switch.now)) }
 {
     if has_ended(book, switch.tables().last_event())? {
         has_tables(book, switch)
@@ -206,7 +210,8 @@ fn last_step(is_whole: bool) -> Step
 // Replays the next record, where one is left.
 fn next_step<B: Book>(alloc: Global, book: &mut B, course: Course) -> Result<Step, BookFault>
     requires { course.loaded.switch.value.last_stamp < course.loaded.switch.value.limits.requests }
-    ensures told { Reads (B.state book.old) (B.state book.new) result (λ c found. IsStep c course found) }
+    ensures told { Reads (B.state book.old) (B.state book.new) result
+        (λ c found. IsStep c course found) }
     ensures counts { IfOk result (CountsOne course.loaded.switch.value) }
 {
     let Some(kept) = book.kept_after(course.loaded.switch.last_stamp())? else {
@@ -221,7 +226,8 @@ fn next_step<B: Book>(alloc: Global, book: &mut B, course: Course) -> Result<Ste
 // Whether a replay that has come to the limit of executed requests has replayed all that is kept.
 fn is_all<B: Book>(book: &mut B, switch: &Switch) -> Result<bool, BookFault>
     requires { switch.now.limits.requests ≤ switch.now.last_stamp }
-    ensures { Reads (B.state book.old) (B.state book.new) result (λ c found. Ends c switch.now found) }
+    ensures { Reads (B.state book.old) (B.state book.new) result
+        (λ c found. Ends c switch.now found) }
 {
     let Some(_) = book.kept_after(switch.last_stamp())? else {
         return is_whole(book, switch);
@@ -269,7 +275,8 @@ fn begun<B: Book>(alloc: Global, book: &mut B) -> Result<Option<Course>, BookFau
 /// kept. Beside the tables it has one record and a page of events in memory at a time, and notes of keys that
 /// take no more where there are more of them.
 pub(crate) fn audited<B: Book>(alloc: Global, book: &mut B) -> Result<Audit, BookFault>
-    ensures { Reads (B.state book.old) (B.state book.new) result (λ c found. IsOrdered c → IsAudit c found) }
+    ensures { Reads (B.state book.old) (B.state book.new) result
+        (λ c found. IsOrdered c → IsAudit c found) }
 {
     let Some(first) = begun(alloc, book)? else {
         return Ok(Audit::Differs(1));
