@@ -1,7 +1,8 @@
 -- The reads of an audit, and what they tell of the replay.
-use Rattle.std.proofs.Common.{◌≡◌, ℕ, ◌<◌, ◌≤◌, Bool, true, false, ◌&&◌, cond, Option, Some, None, Result, Ok, IfSome, refl, sym, ap, subst, ◌∙◌, true≢false}
+use Rattle.std.proofs.Common.{◌≡◌, ℕ, ◌<◌, ◌≤◌, Bool, true, false, ◌&&◌, cond, Option, Some, None, Result, Ok, IfSome, refl, sym, ap, subst, ◌∙◌, true≢false, take}
 use Rattle.std.specs.Bool.{Decides}
 use Rattle.acd_terms.specs.Limits.{limits_fit}
+use Rattle.acd_terms.specs.Lists.{Every}
 use Rattle.acd_terms.specs.Rows.{empty_rows}
 use Rattle.acd_terms.specs.declared.rows.Limits.{Limits}
 use Rattle.acd_terms.specs.declared.rows.Rows.{Rows}
@@ -10,19 +11,23 @@ use Rattle.acd_book.specs.declared.fault.BookFault.{BookFault}
 use Rattle.acd_book.specs.Content.{Content, IsKeptAfter}
 use Rattle.acd_book.specs.Order.{IsOrdered}
 use Rattle.acd_book.specs.State.{BookState, Reads}
-use Rattle.acd_desk.specs.declared.working.LoadedSwitch.{LoadedSwitch}
+use Rattle.acd_desk.specs.declared.replay.Course.{Course}
 use Rattle.acd_desk.specs.declared.replay.Step.{Step}
 use Rattle.acd_desk.specs.declared.replay.Step.TheVariants as step
 use Rattle.acd_desk.specs.Firsts.{stepped}
-use Rattle.acd_desk.specs.Replay.{again, Replays, IsEnd, Begins, IsReplayed, IsStep, CountsOne, Ends}
-use Rattle.acd_desk.proofs.Audits.{starts_replay, replay_goes_on, replay_unlike, replay_full, replay_sound, replay_rest}
+use Rattle.acd_desk.specs.Noting.{IsNoted}
+use Rattle.acd_desk.specs.Pages.{IsPage, ReadsIfOpen}
+use Rattle.acd_desk.specs.Replay.{again, rows_of, Replays, Knows, Goes, IsEnd, Begins, IsReplayed, IsStep, CountsOne, Ends}
+use Rattle.acd_desk.proofs.Audits.{starts_replay, replay_unlike, replay_full, replay_sound, replay_rest}
+use Rattle.acd_desk.proofs.Courses.{knows_next, goes_next}
 use Rattle.acd_desk.proofs.Steps.{step_stamp, step_limits}
 use Rattle.acd_desk.proofs.Reading.{then_read, then_ok, then_told}
+use Rattle.acd_desk.proofs.ReadsAhead.{read_then}
 use Rattle.acd_lemmas.proofs.Changes.{requests_few}
 
--- a switch has replayed so much of what stands in order
-abbrev pub Seen : Rows → Content → Unit {0} → Type 0
-Seen s c u = IsOrdered c → Replays c s
+-- a replay has come so far in what stands in order
+abbrev pub Seen : Course → Content → Unit {0} → Type 0
+Seen r c u = IsOrdered c → Goes c r
 
 -- ---- a step ----
 
@@ -34,42 +39,56 @@ next_at : (c : Content) (n m : ℕ) (found known : Option Kept) → n ≡ m → 
 next_at c n m found known behind is next = subst (λ (o : Option Kept). IsNext m c o) is (subst (λ (x : ℕ). IsNext x c found) behind next)
 
 -- the switch behind a replayed record
-abbrev GoesOn : Rows → Kept → Option LoadedSwitch → Type 0
-GoesOn s k played = IfSome played (λ (l : LoadedSwitch). l.switch.value ≡ (stepped s (again k)).rows)
+abbrev StepsOn : Rows → Kept → Option Course → Type 0
+StepsOn s k played = IfSome played (λ (next : Course). rows_of next ≡ (stepped s (again k)).rows)
 
-pub step_replayed : (a b d : BookState) (s : Rows) (n : ℕ) (found : Option Kept) (k : Kept) (played : Option LoadedSwitch) (next : LoadedSwitch) → n ≡ s.last_stamp → found ≡ Some k → played ≡ Some next
-    → Reads a b (Ok found) (IsNext n) → Reads b d (Ok played) (λ (c : Content) (found : Option LoadedSwitch). IsReplayed c s k found) → GoesOn s k played → s.last_stamp < s.limits.requests
-    → Reads a d (Ok (step.Replayed next)) (λ (c : Content) (found : Step). IsStep c s found)
-step_replayed a b d s n found k played next behind is_next is_played one two goes room =
-    then_told (λ (c : Content) (found : Step). IsStep c s found) a b d found played (step.Replayed next) one two
-    (λ c told m p. subst (Replays c) (sym (subst (GoesOn s k) is_played goes))
-    (replay_goes_on c s k p (next_at c n s.last_stamp found (Some k) behind is_next told) (subst (IsReplayed c s k) is_played m) room))
+-- what it comes to, where so much is known
+abbrev Plays : Course → Kept → Content → Option Course → Type 0
+Plays r k c found = Knows c r.keys r.page k → IsReplayed c r k found
 
-pub step_differs : (a b d : BookState) (s : Rows) (n : ℕ) (found : Option Kept) (k : Kept) (played : Option LoadedSwitch) → n ≡ s.last_stamp → found ≡ Some k → played ≡ None
-    → Reads a b (Ok found) (IsNext n) → Reads b d (Ok played) (λ (c : Content) (found : Option LoadedSwitch). IsReplayed c s k found)
-    → Reads a d (Ok step.Differs) (λ (c : Content) (found : Step). IsStep c s found)
-step_differs a b d s n found k played behind is_next is_played one two =
-    then_told (λ (c : Content) (found : Step). IsStep c s found) a b d found played step.Differs one two
-    (λ c told none p. replay_unlike c s k p (next_at c n s.last_stamp found (Some k) behind is_next told) (subst (IsReplayed c s k) is_played none))
+-- a read and what was known tell what follows from both
+read_told : {A C D : Type 0} {P : Content → A → Type 0} {Q : Content → C → Type 0} (R : Content → D → Type 0) (a b d : BookState) (x : A) (y : C) (z : D)
+    → Reads a b (Ok x) P → ReadsIfOpen b d (Ok y) Q → ((c : Content) → P c x → Q c y → R c z) → Reads a d (Ok z) R
+read_told {C = C} {P = P} {Q = Q} R a b d x y z one two tells =
+    then_ok R a d y z (read_then (λ (c : Content) (found : C). P c x × Q c found) a b d x (Ok y) one two (λ c p found q. (p, q))) (λ c both. tells c both.0 both.1)
+
+pub step_replayed : (a b d : BookState) (r : Course) (n : ℕ) (found : Option Kept) (k : Kept) (played : Option Course) (next : Course) → n ≡ (rows_of r).last_stamp → found ≡ Some k → played ≡ Some next
+    → Reads a b (Ok found) (IsNext n) → ReadsIfOpen b d (Ok played) (Plays r k) → StepsOn (rows_of r) k played → (rows_of r).last_stamp < (rows_of r).limits.requests
+    → Reads a d (Ok (step.Replayed next)) (λ (c : Content) (found : Step). IsStep c r found)
+step_replayed a b d r n found k played next behind is_next is_played one two goes room =
+    read_told (λ (c : Content) (found : Step). IsStep c r found) a b d found played (step.Replayed next) one two
+    (λ c told plays g.
+    let at = next_at c n (rows_of r).last_stamp found (Some k) behind is_next told in
+    let both = subst (IsReplayed c r k) is_played (plays (knows_next c r k g at)) in
+    goes_next c r next k g at both.0 both.1 (subst (StepsOn (rows_of r) k) is_played goes) room)
+
+pub step_differs : (a b d : BookState) (r : Course) (n : ℕ) (found : Option Kept) (k : Kept) (played : Option Course) → n ≡ (rows_of r).last_stamp → found ≡ Some k → played ≡ None
+    → Reads a b (Ok found) (IsNext n) → ReadsIfOpen b d (Ok played) (Plays r k)
+    → Reads a d (Ok step.Differs) (λ (c : Content) (found : Step). IsStep c r found)
+step_differs a b d r n found k played behind is_next is_played one two =
+    read_told (λ (c : Content) (found : Step). IsStep c r found) a b d found played step.Differs one two
+    (λ c told plays g.
+    let at = next_at c n (rows_of r).last_stamp found (Some k) behind is_next told in
+    replay_unlike c (rows_of r) k g.replays at (subst (IsReplayed c r k) is_played (plays (knows_next c r k g at))))
 
 ends : (c : Content) (s : Rows) → IsNext s.last_stamp c None → (w : Bool) → Decides w (IsEnd c s) → Ends c s w
 ends c s found true told = λ p. replay_sound c s p found (told.0 refl)
 ends c s found false told = λ p. replay_rest c s p found (λ ended. true≢false (sym (told.1 ended)))
 
-last_is : (c : Content) (s : Rows) (w : Bool) → Ends c s w → IsStep c s (cond w step.Ended step.Differs)
-last_is c s true ends = ends
-last_is c s false ends = ends
+last_is : (c : Content) (r : Course) (w : Bool) → Ends c (rows_of r) w → IsStep c r (cond w step.Ended step.Differs)
+last_is c r true ends = λ g. ends g.replays
+last_is c r false ends = λ g. ends g.replays
 
-pub step_last : (a b d : BookState) (s : Rows) (n : ℕ) (found : Option Kept) (whole : Bool) (last : Step) → n ≡ s.last_stamp → found ≡ None → Reads a b (Ok found) (IsNext n)
-    → Reads b d (Ok whole) (λ (c : Content) (found : Bool). Decides found (IsEnd c s)) → last ≡ cond whole step.Ended step.Differs
-    → Reads a d (Ok last) (λ (c : Content) (found : Step). IsStep c s found)
-step_last a b d s n found whole last behind is_next one two is =
-    then_told (λ (c : Content) (found : Step). IsStep c s found) a b d found whole last one two
-    (λ c told whole_told. subst (IsStep c s) (sym is) (last_is c s whole (ends c s (next_at c n s.last_stamp found None behind is_next told) whole whole_told)))
+pub step_last : (a b d : BookState) (r : Course) (n : ℕ) (found : Option Kept) (whole : Bool) (last : Step) → n ≡ (rows_of r).last_stamp → found ≡ None → Reads a b (Ok found) (IsNext n)
+    → Reads b d (Ok whole) (λ (c : Content) (found : Bool). Decides found (IsEnd c (rows_of r))) → last ≡ cond whole step.Ended step.Differs
+    → Reads a d (Ok last) (λ (c : Content) (found : Step). IsStep c r found)
+step_last a b d r n found whole last behind is_next one two is =
+    then_told (λ (c : Content) (found : Step). IsStep c r found) a b d found whole last one two
+    (λ c told whole_told. subst (IsStep c r) (sym is) (last_is c r whole (ends c (rows_of r) (next_at c n (rows_of r).last_stamp found None behind is_next told) whole whole_told)))
 
-pub counts_one : (s : Rows) (k : Kept) (played : Option LoadedSwitch) (next : LoadedSwitch) → played ≡ Some next → GoesOn s k played → CountsOne s (step.Replayed next)
+pub counts_one : (s : Rows) (k : Kept) (played : Option Course) (next : Course) → played ≡ Some next → StepsOn s k played → CountsOne s (step.Replayed next)
 counts_one s k played next is_played goes =
-    let is : next.switch.value ≡ (stepped s (again k)).rows = subst (GoesOn s k) is_played goes in (
+    let is : rows_of next ≡ (stepped s (again k)).rows = subst (StepsOn s k) is_played goes in (
       ap (λ (r : Rows). r.limits) is ∙ step_limits s (again k).moment (again k).request.command,
       ap (λ (r : Rows). r.last_stamp) is ∙ step_stamp s (again k).moment (again k).request.command,
     )
@@ -89,11 +108,15 @@ all_whole a b d s n found whole behind is_next one two =
 
 -- ---- the beginning ----
 
-pub begins_fitting : (a b : BookState) (limits : Limits) (first : LoadedSwitch) → Reads a b (Ok limits) (λ (c : Content) (found : Limits). found ≡ c.rows.limits) → limits_fit limits ≡ true → first.switch.value ≡ empty_rows limits
-    → Reads a b (Ok (Some first)) (λ (c : Content) (found : Option LoadedSwitch). Begins c found)
-begins_fitting a b limits first r fits is =
-    then_ok (λ (c : Content) (found : Option LoadedSwitch). Begins c found) a b limits (Some first) r
-    (λ c same ordered. subst (Replays c) (ap empty_rows (sym same) ∙ sym is) (starts_replay c (ap limits_fit (sym same) ∙ fits) ordered))
+pub begins_fitting : (a b : BookState) (limits : Limits) (first : Course) → Reads a b (Ok limits) (λ (c : Content) (found : Limits). found ≡ c.rows.limits) → limits_fit limits ≡ true
+    → rows_of first ≡ empty_rows limits → ((c : Content) → IsPage c first.page) → Reads a b (Ok (Some first)) (λ (c : Content) (found : Option Course). Begins c found)
+begins_fitting a b limits first r fits is page =
+    then_ok (λ (c : Content) (found : Option Course). Begins c found) a b limits (Some first) r
+    (λ c same ordered. record {
+      replays = subst (Replays c) (ap empty_rows (sym same) ∙ sym is) (starts_replay c (ap limits_fit (sym same) ∙ fits) ordered);
+      noted = subst (λ (s : Rows). Every (λ (k : Kept). IsNoted first.keys k.request) (take s.last_stamp c.kept)) (sym is) tt;
+      page = page c;
+    })
 
 first_fits : (a b c d e f : Bool) → (a && b && c && d && e && f) ≡ true → a ≡ true
 first_fits true b c d e f h = refl
@@ -104,6 +127,6 @@ begins_empty limits s fits is = subst (λ (r : Rows). (r.last_stamp ≡ 0) × (r
 
 -- ---- step by step ----
 
-pub seen_more : (a b d : BookState) (s : Rows) (taken : Step) (next : LoadedSwitch) → taken ≡ step.Replayed next → Reads a b (Ok tt) (Seen s) → Reads b d (Ok taken) (λ (c : Content) (found : Step). IsStep c s found)
-    → Reads a d (Ok tt) (Seen next.switch.value)
-seen_more a b d s taken next is seen r = then_told (Seen next.switch.value) a b d tt taken tt seen r (λ c before goes_on ordered. subst (IsStep c s) is goes_on (before ordered))
+pub seen_more : (a b d : BookState) (r : Course) (taken : Step) (next : Course) → taken ≡ step.Replayed next → Reads a b (Ok tt) (Seen r) → Reads b d (Ok taken) (λ (c : Content) (found : Step). IsStep c r found)
+    → Reads a d (Ok tt) (Seen next)
+seen_more a b d r taken next is seen read = then_told (Seen next) a b d tt taken tt seen read (λ c before goes_on ordered. subst (IsStep c r) is goes_on (before ordered))

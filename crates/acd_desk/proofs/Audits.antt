@@ -169,7 +169,7 @@ agrees_to c r kl el n fits s size =
     }
 
 -- the run of one request more
-replayed_next : (c r : Content) (k : Kept) (tail : List Kept) (el : List Event) → Splits c r (k ∷ tail) el
+pub replayed_next : (c r : Content) (k : Kept) (tail : List Kept) (el : List Event) → Splits c r (k ∷ tail) el
     → (take (r.rows.last_stamp + 1) c.kept ≡ r.kept ++ k ∷ []) × (replayed c (r.rows.last_stamp + 1) ≡ after r (again k))
 replayed_next c r k tail el s =
     let whole : c.kept ≡ (r.kept ++ k ∷ []) ++ tail = s.kept ∙ sym (append_assoc r.kept (k ∷ []) tail) in
@@ -313,7 +313,7 @@ starts_replay c fits ordered = record {
 }
 
 -- the record that is left first is the next
-left_is : (c : Content) (s : Rows) (k : Kept) (p : Replays c s) → IsKeptAfter c.kept s.last_stamp (Some k) → (tail : List Kept) × (p.kept_left ≡ k ∷ tail)
+pub left_is : (c : Content) (s : Rows) (k : Kept) (p : Replays c s) → IsKeptAfter c.kept s.last_stamp (Some k) → (tail : List Kept) × (p.kept_left ≡ k ∷ tail)
 left_is c s k p found =
     let same : s.last_stamp ≡ p.ran.rows.last_stamp = ap (λ (x : Rows). x.last_stamp) p.rows in
     let at : IsKeptAfter (p.ran.kept ++ p.kept_left) p.ran.rows.last_stamp (Some k)

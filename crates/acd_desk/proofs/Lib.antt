@@ -30,3 +30,8 @@ pub mod OldRuns
 pub mod Recast
 pub mod Following
 pub mod GroupLines
+pub mod Ahead
+pub mod ReadsAhead
+pub mod PlaceLemmas
+pub mod Courses
+pub mod Comparing

@@ -62,7 +62,7 @@ behind_last m (e ∷ es) more h =
     ap (λ b. cond b (e ∷ above (es ++ more) (last_of e.number es)) (above (es ++ more) (last_of e.number es))) (not_above (last_of e.number es) e (last-up e.number es more h.1))
     ∙ behind_last e.number es more h.1
 
-above-again : (m n : ℕ) (es : List Event) → m ≤ n → above (above es m) n ≡ above es n
+pub above-again : (m n : ℕ) (es : List Event) → m ≤ n → above (above es m) n ≡ above es n
 above-again m n [] le = refl
 above-again m n (e ∷ es) le = by (nat_lt m e.number) refl (nat_lt n e.number) refl (above-again m n es le)
   where
@@ -71,7 +71,7 @@ above-again m n (e ∷ es) le = by (nat_lt m e.number) refl (nat_lt n e.number) 
     by false p true q more = absurd (let up = above_is n e q in let low = is_above m e (omega (arith, up, le)) in cc (low, p))
     by false p false q more = more
 
-split : {T : Type 0} (n : ℕ) (xs : List T) → take n xs ++ drop n xs ≡ xs
+pub split : {T : Type 0} (n : ℕ) (xs : List T) → take n xs ++ drop n xs ≡ xs
 split zero xs = refl
 split (suc n) [] = refl
 split (suc n) (x ∷ xs) = ap (λ l. x ∷ l) (split n xs)

@@ -25,3 +25,5 @@ pub mod OldStep
 pub mod OldSound
 pub mod Following
 pub mod GroupStates
+pub mod Pages
+pub mod Noting

@@ -1,19 +1,29 @@
 -- How far the replay of a content has come.
-use Rattle.std.specs.Prelude.{◌≡◌, ◌+◌, Bool, true, false, List, [], ◌++◌, length, Option, Some, None, option_map}
+use Rattle.std.specs.Prelude.{◌≡◌, ◌+◌, take, Bool, true, false, List, [], ◌++◌, length, Option, Some, None, option_map}
 use Rattle.acd_terms.specs.Limits.{limits_fit}
 use Rattle.acd_terms.specs.declared.rows.Rows.{Rows}
 use Rattle.acd_terms.specs.declared.event.Event.{Event}
+use Rattle.acd_terms.specs.Lists.{Every}
 use Rattle.acd_terms.specs.declared.command.Arrival.{Arrival}
+use Rattle.acd_terms.specs.declared.command.Request.{Request}
 use Rattle.acd_book.specs.declared.kept.Kept.{Kept}
 use Rattle.acd_book.specs.Content.{Content, kept_of, events_behind}
 use Rattle.acd_book.specs.Memory.{stamp_of, number_of}
 use Rattle.acd_book.specs.Order.{Rises, IsOrdered}
 use Rattle.acd_desk.specs.Firsts.{stepped, record_of, run}
 use Rattle.acd_desk.specs.Stands.{arrivals_of, IsSound}
+use Rattle.acd_desk.specs.declared.noted.Noted.{Noted}
+use Rattle.acd_desk.specs.declared.page.Page.{Page}
+use Rattle.acd_desk.specs.declared.replay.Course.{Course}
 use Rattle.acd_desk.specs.declared.replay.Step.{Step}
 use Rattle.acd_desk.specs.declared.replay.Step.TheVariants.{Replayed, Differs, Ended}
-use Rattle.acd_desk.specs.declared.working.LoadedSwitch.{LoadedSwitch}
 use Rattle.acd_desk.specs.Audit.{AgreesBefore, IsFirstDifference}
+use Rattle.acd_desk.specs.Noting.{IsNoted}
+use Rattle.acd_desk.specs.Pages.{IsPage}
+
+-- the rows of its switch
+abbrev pub rows_of : Course → Rows
+rows_of r = r.loaded.switch.value
 
 -- a kept request, at the moment that its record holds
 abbrev pub again : Kept → Arrival
@@ -56,25 +66,46 @@ pub record Matches (c : Content) (s : Rows) (k : Kept) : Type 0 where
 abbrev pub IsEnd : Content → Rows → Type 0
 IsEnd c s = (events_behind c.events s.last_event 1 ≡ []) × (c.rows ≡ s)
 
+-- the notes tell that no earlier record has the key of this one, where it isn't noted
+abbrev pub Tells : Content → Noted → Kept → Type 0
+Tells c keys k = ¬ IsNoted keys k.request → IsFirstOfKey c k
+
+-- so much is known of the content before a record is compared with what its request gives
+pub record Knows (c : Content) (keys : Noted) (p : Page) (k : Kept) : Type 0 where
+  pub tells : Tells c keys k
+  pub page : IsPage c p
+
+-- its switch replays the first records, their keys are noted, and its page is of the content
+pub record Goes (c : Content) (r : Course) : Type 0 where
+  pub replays : Replays c (rows_of r)
+  pub noted : Every (λ (k : Kept). IsNoted r.keys k.request) (take (rows_of r).last_stamp c.kept)
+  pub page : IsPage c r.page
+
 -- a replay begins with no record, or at limits that don't fit
-abbrev pub Begins : Content → Option LoadedSwitch → Type 0
+abbrev pub Begins : Content → Option Course → Type 0
 Begins c None = IsFirstDifference c 1
-Begins c (Some first) = IsOrdered c → Replays c first.switch.value
+Begins c (Some first) = IsOrdered c → Goes c first
+
+-- the key of a record more is noted, and the page is of the content
+pub record GoesOn (c : Content) (r : Course) (k : Kept) (next : Course) : Type 0 where
+  pub own : IsNoted next.keys k.request
+  pub others : (other : Request) → IsNoted r.keys other → IsNoted next.keys other
+  pub page : IsPage c next.page
 
 -- a record is replayed, or it isn't what its request gives
-abbrev pub IsReplayed : Content → Rows → Kept → Option LoadedSwitch → Type 0
-IsReplayed c s k None = ¬ Matches c s k
-IsReplayed c s k (Some next) = Matches c s k
+abbrev pub IsReplayed : Content → Course → Kept → Option Course → Type 0
+IsReplayed c r k None = ¬ Matches c (rows_of r) k
+IsReplayed c r k (Some next) = Matches c (rows_of r) k × GoesOn c r k next
 
--- what a step of the replay from these rows comes to
-abbrev pub IsStep : Content → Rows → Step → Type 0
-IsStep c s (Replayed next) = Replays c s → Replays c next.switch.value
-IsStep c s Differs = Replays c s → IsFirstDifference c (s.last_stamp + 1)
-IsStep c s Ended = Replays c s → IsSound c
+-- what a step of the replay from there comes to
+abbrev pub IsStep : Content → Course → Step → Type 0
+IsStep c r (Replayed next) = Goes c r → Goes c next
+IsStep c r Differs = Goes c r → IsFirstDifference c ((rows_of r).last_stamp + 1)
+IsStep c r Ended = Goes c r → IsSound c
 
 -- it replays one record
 abbrev pub CountsOne : Rows → Step → Type 0
-CountsOne s (Replayed next) = (next.switch.value.limits ≡ s.limits) × (next.switch.value.last_stamp ≡ s.last_stamp + 1)
+CountsOne s (Replayed next) = ((rows_of next).limits ≡ s.limits) × ((rows_of next).last_stamp ≡ s.last_stamp + 1)
 CountsOne s Differs = Unit {0}
 CountsOne s Ended = Unit {0}
 

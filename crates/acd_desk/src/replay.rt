@@ -2,7 +2,7 @@
 
 ghost use Rattle.std.specs.Prelude.{◌≡◌, ◌<◌, ◌≤◌, cond, true, [], Some, length, option_map, IfOk, IfSome, OnOk};
 ghost use Rattle.std.specs.Bool.{Decides};
-ghost use Rattle.acd_book.specs.Content.{events_behind};
+ghost use Rattle.acd_book.specs.Content.{Content, events_behind};
 ghost use Rattle.acd_book.specs.Memory.{stamp_of};
 ghost use Rattle.acd_book.specs.Order.{IsOrdered};
 ghost use Rattle.acd_book.specs.State.{Reads};
@@ -11,10 +11,14 @@ ghost use Rattle.acd_terms.specs.Rows.{empty_rows};
 ghost use Rattle.acd_model.specs.Rules.First.{BreaksNoRule};
 ghost use Rattle.acd_desk.specs.Firsts.{stepped};
 ghost use Rattle.acd_desk.specs.Audit.{IsAudit};
-ghost use Rattle.acd_desk.specs.Replay.{again, IsFirstOfKey, Matches, IsEnd, Begins, IsReplayed, IsStep, CountsOne, Ends};
+ghost use Rattle.acd_desk.specs.Noting.{IsNoted};
+ghost use Rattle.acd_desk.specs.Pages.{IsPage, ReadsIfOpen};
+ghost use Rattle.acd_desk.specs.Replay.{again, IsFirstOfKey, Matches, IsEnd, Begins, IsReplayed, IsStep, CountsOne, Ends, Knows, Tells};
 
 use crate::audit::Audit;
 use crate::executing::executed;
+use crate::noted::Noted;
+use crate::page::Page;
 use crate::same::{are_same_events, are_same_rows, is_same_kept};
 use crate::working::LoadedSwitch;
 use acd_book::{Book, BookFault, Kept};
@@ -22,11 +26,20 @@ use acd_switch::Switch;
 use acd_terms::{Event, Limits};
 use std::alloc::{AllocError, Global};
 
+/// How far a replay has come: the switch behind what it came past, the keys of that, and events that were
+/// read ahead.
+#[derive(Drop)]
+pub(crate) struct Course {
+    pub(crate) loaded: LoadedSwitch,
+    pub(crate) keys: Noted,
+    pub(crate) page: Page,
+}
+
 /// What a step of a replay comes to.
 #[derive(Drop)]
 pub(crate) enum Step {
     /// The next record and its events are what its request gives.
-    Replayed(LoadedSwitch),
+    Replayed(Course),
     /// They aren't; or no record is left, but some event is, or the tables differ.
     Differs,
     /// No record and no event is left, and the tables are the same.
@@ -45,37 +58,64 @@ fn has_stamp(found: Option<Kept>, stamp: u64) -> bool
 
 // Whether no earlier record has its key.
 fn is_first_of_key<B: Book>(book: &mut B, kept: &Kept) -> Result<bool, BookFault>
-    ensures { Reads (B.state book.old) (B.state book.new) result (λ c found. Decides found (IsFirstOfKey c kept.now)) }
+    ensures { Reads (B.state book.old) (B.state book.new) result
+        (λ c found. Decides found (IsFirstOfKey c kept.now)) }
 {
     let first = book.kept(&kept.request.requester, kept.request.invoke)?;
     Ok(has_stamp(first, kept.stamp))
 }
 
-// Whether these events come first above a number.
-fn has_events<B: Book>(book: &mut B, last: u64, events: &[Event]) -> Result<bool, BookFault>
-    ensures { Reads (B.state book.old) (B.state book.new) result (λ c found. Decides found (events_behind c.events last (length events.now) ≡ events.now)) }
+// The same. The book is asked where the key may be noted.
+fn is_new_key<B: Book>(book: &mut B, keys: &Noted, kept: &Kept) -> Result<bool, BookFault>
+    ensures { ReadsIfOpen (B.state book.old) (B.state book.new) result
+        (λ c found. Tells c keys.now kept.now → Decides found (IsFirstOfKey c kept.now)) }
 {
-    let found = book.events_after(last, events.len())?;
+    if !keys.has(&kept.request) {
+        return Ok(true);
+    }
+    is_first_of_key(book, kept)
+}
+
+// Whether these events come first above a number.
+fn has_events<B: Book>(
+    alloc: Global,
+    book: &mut B,
+    page: &mut Page,
+    last: u64,
+    events: &[Event],
+) -> Result<bool, BookFault>
+    ensures { ReadsIfOpen (B.state book.old) (B.state book.new) result
+        (λ c found. IsPage c page.old → IsPage c page.new
+        × Decides found (events_behind c.events last (length events.now) ≡ events.now)) }
+{
+    let found = page.events_after(alloc, book, last, events.len())?;
     Ok(are_same_events(&found, events))
 }
 
 // Whether a record and its events, above a number, are these, and no earlier record has its key.
 fn is_as_kept<B: Book>(
+    alloc: Global,
     book: &mut B,
+    keys: &Noted,
+    page: &mut Page,
     kept: &Kept,
     last: u64,
     expected: &Kept,
     events: &[Event],
 ) -> Result<bool, BookFault>
-    ensures { Reads (B.state book.old) (B.state book.new) result (λ c found. Decides found ((kept.now ≡ expected.now) × IsFirstOfKey c kept.now × (events_behind c.events last (length events.now) ≡ events.now))) }
+    ensures { ReadsIfOpen (B.state book.old) (B.state book.new) result
+        (λ c found. Knows c keys.now page.old kept.now → IsPage c page.new
+        × Decides found ((kept.now ≡ expected.now) × IsFirstOfKey c kept.now
+        × (events_behind c.events last (length events.now) ≡ events.now))) }
 {
-    if !is_first_of_key(book, kept)? {
-        return Ok(false);
-    }
     if !is_same_kept(kept, expected) {
         return Ok(false);
     }
-    has_events(book, last, events)
+    let is_new = is_new_key(book, keys, kept)?;
+    if !is_new {
+        return Ok(false);
+    }
+    has_events(alloc, book, page, last, events)
 }
 
 // Executes a kept request again, and tells whether its record and events are what it gives.
@@ -83,41 +123,56 @@ fn replays_as_kept<B: Book>(
     alloc: Global,
     book: &mut B,
     switch: &mut Switch,
+    keys: &Noted,
+    page: &mut Page,
     kept: &Kept,
 ) -> Result<bool, BookFault>
     requires rules { BreaksNoRule switch.old }
     requires room { switch.old.last_stamp < switch.old.limits.requests }
-    ensures told { Reads (B.state book.old) (B.state book.new) result (λ c found. Decides found (Matches c switch.old kept.now)) }
+    ensures told { ReadsIfOpen (B.state book.old) (B.state book.new) result
+        (λ c found. Knows c keys.now page.old kept.now
+        → IsPage c page.new × Decides found (Matches c switch.old kept.now)) }
     ensures stepped { OnOk result (switch.new ≡ (stepped switch.old (again kept.now)).rows) }
     ensures rules { OnOk result (BreaksNoRule switch.new) }
 {
     let last = switch.tables().last_event();
-    let (done, expected) = executed(alloc, switch, kept.moment, &kept.request)?;
-    is_as_kept(book, kept, last, &expected, &done.events)
+    let prepared = executed(alloc, switch, kept.moment, &kept.request)?;
+    let (done, expected) = prepared;
+    is_as_kept(alloc, book, keys, page, kept, last, &expected, &done.events)
 }
 
-// Replays a record: the switch behind it, where the record and its events are what its request gives.
+// Replays a record: the course behind it, where the record and its events are what its request gives.
 fn replayed<B: Book>(
     alloc: Global,
     book: &mut B,
-    replay: LoadedSwitch,
+    course: Course,
     kept: &Kept,
-) -> Result<Option<LoadedSwitch>, BookFault>
-    requires { replay.switch.value.last_stamp < replay.switch.value.limits.requests }
-    ensures told { Reads (B.state book.old) (B.state book.new) result (λ c found. IsReplayed c replay.switch.value kept.now found) }
-    ensures stepped { IfOk result (λ found. IfSome found (λ next. next.switch.value ≡ (stepped replay.switch.value (again kept.now)).rows)) }
+) -> Result<Option<Course>, BookFault>
+    requires { course.loaded.switch.value.last_stamp < course.loaded.switch.value.limits.requests }
+    ensures told { ReadsIfOpen (B.state book.old) (B.state book.new) result
+        (λ c found. Knows c course.keys course.page kept.now → IsReplayed c course kept.now found) }
+    ensures stepped { IfOk result (λ found. IfSome found (λ next.
+        next.loaded.switch.value ≡ (stepped course.loaded.switch.value (again kept.now)).rows)) }
 {
-    let LoadedSwitch { mut switch } = replay;
-    if replays_as_kept(alloc, book, &mut *switch, kept)? {
-        Ok(Some(LoadedSwitch { switch }))
-    } else {
-        Ok(None)
+    let Course {
+        loaded,
+        mut keys,
+        mut page,
+    } = course;
+    let LoadedSwitch { mut switch } = loaded;
+    let matches = replays_as_kept(alloc, book, &mut *switch, &keys, &mut page, kept)?;
+    if !matches {
+        return Ok(None);
     }
+    keys.note(&kept.request);
+    let loaded = LoadedSwitch { switch };
+    Ok(Some(Course { loaded, keys, page }))
 }
 
 // Whether no event is left behind a number.
 fn has_ended<B: Book>(book: &mut B, last: u64) -> Result<bool, BookFault>
-    ensures { Reads (B.state book.old) (B.state book.new) result (λ c found. Decides found (events_behind c.events last 1 ≡ [])) }
+    ensures { Reads (B.state book.old) (B.state book.new) result
+        (λ c found. Decides found (events_behind c.events last 1 ≡ [])) }
 {
     let surplus = book.events_after(last, 1)?;
     Ok(surplus.is_empty())
@@ -125,7 +180,8 @@ fn has_ended<B: Book>(book: &mut B, last: u64) -> Result<bool, BookFault>
 
 // Whether the tables are those of the replay.
 fn has_tables<B: Book>(book: &mut B, switch: &Switch) -> Result<bool, BookFault>
-    ensures { Reads (B.state book.old) (B.state book.new) result (λ c found. Decides found (c.rows ≡ switch.now)) }
+    ensures { Reads (B.state book.old) (B.state book.new) result
+        (λ c found. Decides found (c.rows ≡ switch.now)) }
 {
     let rows = book.rows()?;
     let replayed = switch.rows()?;
@@ -134,7 +190,8 @@ fn has_tables<B: Book>(book: &mut B, switch: &Switch) -> Result<bool, BookFault>
 
 // Whether no event is left behind a replay, and the tables are those of the replay.
 fn is_whole<B: Book>(book: &mut B, switch: &Switch) -> Result<bool, BookFault>
-    ensures { Reads (B.state book.old) (B.state book.new) result (λ c found. Decides found (IsEnd c switch.now)) }
+    ensures { Reads (B.state book.old) (B.state book.new) result
+        (λ c found. Decides found (IsEnd c switch.now)) }
 {
     if has_ended(book, switch.tables().last_event())? {
         has_tables(book, switch)
@@ -151,15 +208,16 @@ fn last_step(is_whole: bool) -> Step
 }
 
 // Replays the next record, where one is left.
-fn next_step<B: Book>(alloc: Global, book: &mut B, replay: LoadedSwitch) -> Result<Step, BookFault>
-    requires { replay.switch.value.last_stamp < replay.switch.value.limits.requests }
-    ensures told { Reads (B.state book.old) (B.state book.new) result (λ c found. IsStep c replay.switch.value found) }
-    ensures counts { IfOk result (CountsOne replay.switch.value) }
+fn next_step<B: Book>(alloc: Global, book: &mut B, course: Course) -> Result<Step, BookFault>
+    requires { course.loaded.switch.value.last_stamp < course.loaded.switch.value.limits.requests }
+    ensures told { Reads (B.state book.old) (B.state book.new) result
+        (λ c found. IsStep c course found) }
+    ensures counts { IfOk result (CountsOne course.loaded.switch.value) }
 {
-    let Some(kept) = book.kept_after(replay.switch.last_stamp())? else {
-        return Ok(last_step(is_whole(book, &replay.switch)?));
+    let Some(kept) = book.kept_after(course.loaded.switch.last_stamp())? else {
+        return Ok(last_step(is_whole(book, &course.loaded.switch)?));
     };
-    match replayed(alloc, book, replay, &kept)? {
+    match replayed(alloc, book, course, &kept)? {
         Some(next) => Ok(Step::Replayed(next)),
         None => Ok(Step::Differs),
     }
@@ -168,7 +226,8 @@ fn next_step<B: Book>(alloc: Global, book: &mut B, replay: LoadedSwitch) -> Resu
 // Whether a replay that has come to the limit of executed requests has replayed all that is kept.
 fn is_all<B: Book>(book: &mut B, switch: &Switch) -> Result<bool, BookFault>
     requires { switch.now.limits.requests ≤ switch.now.last_stamp }
-    ensures { Reads (B.state book.old) (B.state book.new) result (λ c found. Ends c switch.now found) }
+    ensures { Reads (B.state book.old) (B.state book.new) result
+        (λ c found. Ends c switch.now found) }
 {
     let Some(_) = book.kept_after(switch.last_stamp())? else {
         return is_whole(book, switch);
@@ -185,37 +244,53 @@ fn unplayed(alloc: Global, limits: Limits) -> Result<LoadedSwitch, AllocError>
     Ok(LoadedSwitch { switch })
 }
 
-// A switch under the limits of the book, where they fit.
-fn begun<B: Book>(alloc: Global, book: &mut B) -> Result<Option<LoadedSwitch>, BookFault>
+// A course that has come past nothing yet.
+fn uncoursed(alloc: Global, limits: Limits) -> Result<Course, AllocError>
+    requires { limits_fit limits ≡ true }
+    ensures rows { IfOk result (λ first. first.loaded.switch.value ≡ empty_rows limits) }
+    ensures page { IfOk result (λ first. (c : Content) → IsPage c first.page) }
+{
+    let loaded = unplayed(alloc, limits)?;
+    let keys = Noted::none(alloc)?;
+    let page = Page::empty(alloc);
+    Ok(Course { loaded, keys, page })
+}
+
+// A course under the limits of the book, where they fit.
+fn begun<B: Book>(alloc: Global, book: &mut B) -> Result<Option<Course>, BookFault>
     ensures told { Reads (B.state book.old) (B.state book.new) result (λ c found. Begins c found) }
-    ensures empty { IfOk result (λ found. IfSome found (λ first. (first.switch.value.last_stamp ≡ 0) × (first.switch.value.limits.requests ≤ 1000000000))) }
+    ensures empty { IfOk result (λ found. IfSome found (λ first.
+        (first.loaded.switch.value.last_stamp ≡ 0)
+        × (first.loaded.switch.value.limits.requests ≤ 1000000000))) }
 {
     let limits = book.limits()?;
     if limits.fits() {
-        Ok(Some(unplayed(alloc, limits)?))
+        Ok(Some(uncoursed(alloc, limits)?))
     } else {
         Ok(None)
     }
 }
 
 /// Replays the kept requests from an empty switch, record by record, and compares what they give with what is
-/// kept. It has one record and its events in memory at a time, beside the tables.
+/// kept. Beside the tables it has one record and a page of events in memory at a time, and notes of keys that
+/// take no more where there are more of them.
 pub(crate) fn audited<B: Book>(alloc: Global, book: &mut B) -> Result<Audit, BookFault>
-    ensures { Reads (B.state book.old) (B.state book.new) result (λ c found. IsOrdered c → IsAudit c found) }
+    ensures { Reads (B.state book.old) (B.state book.new) result
+        (λ c found. IsOrdered c → IsAudit c found) }
 {
     let Some(first) = begun(alloc, book)? else {
         return Ok(Audit::Differs(1));
     };
-    let most = first.switch.tables().limits().requests;
-    let mut replay = first;
+    let most = first.loaded.switch.tables().limits().requests;
+    let mut course = first;
     for count in 0..most {
-        match next_step(alloc, book, replay)? {
-            Step::Replayed(next) => replay = next,
+        match next_step(alloc, book, course)? {
+            Step::Replayed(next) => course = next,
             Step::Differs => return Ok(Audit::Differs(count + 1)),
             Step::Ended => return Ok(Audit::Sound),
         }
     }
-    if is_all(book, &replay.switch)? {
+    if is_all(book, &course.loaded.switch)? {
         Ok(Audit::Sound)
     } else {
         Ok(Audit::Differs(most + 1))
