@@ -2,13 +2,14 @@
 use Rattle.std.proofs.Common.{◌≡◌, Bool, true, false, Option, Some, None, refl, ℕ, ◌⊎◌, inl, inr, not, ◌&&◌, ◌||◌, cond, List, [], ◌∷◌, length, ◌∙◌, ap, subst, Err}
 use Rattle.std.specs.Option.{ok_or}
 use Rattle.acd_lemmas.proofs.Words.{Rows, AgentRecord, CallRecord, ConnectionRecord, Pending, Command, Move, Offer, Refusal, Requested, Served, is_null, is_working_after_call, state_wanted, is_in, is_initiated, is_alerting, is_connected, is_hold, is_queued, agent_of, call_of, connection_of, is_group, is_station, is_planned, agent_at, other_of, is_live_at, is_occupied, silent, group_of, Every, GroupRecord}
-use Rattle.acd_model.specs.Scans.{is_used}
+use Rattle.acd_model.specs.Scans.{is_used, monitor_of}
+use Rattle.acd_terms.specs.declared.record.MonitorRecord.{MonitorRecord}
 use Rattle.acd_terms.specs.Results.{◌>>=◌, ◌>>◌}
 use Rattle.acd_model.specs.Served.{refuse_if, moves_of, gives}
 use Rattle.std.specs.Prelude.{◌==◌, is_some, nat_le, min, Result, Ok}
 use Rattle.acd_terms.specs.Limits.{greatest_priority}
 use Rattle.acd_terms.specs.Groups.{is_choice}
-use Rattle.acd_terms.specs.declared.answer.Refusal.TheVariants.{UnknownDevice, NotGroup}
+use Rattle.acd_terms.specs.declared.answer.Refusal.TheVariants.{UnknownDevice, NotGroup, UnknownMonitor}
 use Rattle.acd_terms.specs.declared.answer.Answer.TheVariants.{Nothing}
 use Rattle.acd_lemmas.proofs.Facts.{ArePlannedGroups}
 use Rattle.std.proofs.lemmas.Bool.{not-false, and_parts}
@@ -225,7 +226,8 @@ deed_monitor_start s turn device = unless _ _ (λ known. unless _ _ (λ room. wa
 
 deed_monitor_stop : (s : Rows) (turn : Turn) (monitor : ℕ) → DeedBy s turn (monitor_stop s monitor)
 unfolding monitor_stop
-deed_monitor_stop s turn monitor = with _ _ (λ w _. unwatches monitor)
+deed_monitor_stop s turn monitor =
+    with {T = MonitorRecord} {o = monitor_of s monitor} UnknownMonitor (λ _. gives Nothing (silent (RemoveMonitor monitor) ∷ [])) (λ w _. unwatches monitor)
 
 ranks_of : (s : Rows) (device priority : ℕ) → Ranks s (SetGroupPriority device priority) (moves_of (set_group_priority s device priority))
 unfolding set_group_priority refuse_if
