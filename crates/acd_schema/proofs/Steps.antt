@@ -76,11 +76,6 @@ module _ {S : Type 0} {g : Ghosts S} where
   renamed {old} {new} {r} {a} {b} {c} {p} {q} is h = subst (λ (s : Schema). MakesTables g old new r a p s q) is h
 
   -- of whatever rows, and so of these
-  pub any_made : (old new : MutBor (Held S)) (a b : Schema) (r : Result (Unit {0}) Error) → ((rows : List (List Row)) → MakesTables g old new r a rows b ((rows ++ [] ∷ []) ++ [] ∷ [])) → HasCleanDisk (state g new.now)
-      → OnOk r ((rows : List (List Row)) → Builds (state g old.now) a rows → Builds (state g new.now) b ((rows ++ [] ∷ []) ++ [] ∷ []))
-  any_made old new a b (Err e) all clean = tt
-  any_made old new a b (Ok x) all clean = λ (rows : List (List Row)) (start : Builds (state g old.now) a rows). (all rows).made clean start
-
   pub these_made : {old new : MutBor (Held S)} {r : Result (Unit {0}) Error} {a b : Schema} (rows : List (List Row)) → new.ghost_name ≡ old.ghost_name → Works (state g old.now) (state g new.now)
       → (HasCleanDisk (state g new.now) → OnOk r ((rows : List (List Row)) → Builds (state g old.now) a rows → Builds (state g new.now) b ((rows ++ [] ∷ []) ++ [] ∷ [])))
       → (HasCleanDisk (state g new.now) → (rows : List (List Row)) → Builds (state g old.now) a rows → IfErr r (FailsToMake (state g old.now) (state g new.now)))
@@ -91,3 +86,10 @@ module _ {S : Type 0} {g : Ghosts S} where
     made = λ clean. any_built (state g old.now) (state g new.now) r a b rows (made clean);
     failed = λ clean start. failed clean rows start;
   }
+
+-- of these rows, whichever they are, and so of all
+module _ {S : Type 0} (g : Ghosts S) where
+  pub any_made : (old new : MutBor (Held S)) (a b : Schema) (r : Result (Unit {0}) Error) → ((rows : List (List Row)) → MakesTables g old new r a rows b ((rows ++ [] ∷ []) ++ [] ∷ [])) → HasCleanDisk (state g new.now)
+      → OnOk r ((rows : List (List Row)) → Builds (state g old.now) a rows → Builds (state g new.now) b ((rows ++ [] ∷ []) ++ [] ∷ []))
+  any_made old new a b (Err e) all clean = tt
+  any_made old new a b (Ok x) all clean = λ (rows : List (List Row)) (start : Builds (state g old.now) a rows). (all rows).made clean start

@@ -22,8 +22,8 @@ use Rattle.acd_statements.specs.Refusing.{RefusesOn, FailsToLeave, IsBlamed}
 use Rattle.acd_statements.proofs.Failures.{failed_after}
 
 -- nothing is said of a success where there was none
-pub unless_ok : {A P : Type 0} (e : Error) (r : Result A Error) → r ≡ Err e → OnOk r P
-unless_ok {A} {P} e r is = subst (λ (r : Result A Error). OnOk r P) (sym is) tt
+pub unless_ok : {A : Type 0} (P : Type 0) (e : Error) (r : Result A Error) → r ≡ Err e → OnOk r P
+unless_ok {A} P e r is = subst (λ (r : Result A Error). OnOk r P) (sym is) tt
 
 -- ---- one statement
 

@@ -43,7 +43,7 @@ pub returns-in_err-insert_further : goal.returns-in_err-insert_further
 returns-in_err-insert_further g c = record {
   same = c.insert_further.ensures.same ∙ c.loop-group.invariant.same;
   works = works_on _ _ _ c.loop-group.invariant.works c.insert_further.ensures.works;
-  put = λ clean. unless_ok c.in_err-insert_further.field-0.0 c.from_residual.result (search rules);
+  put = λ clean. unless_ok _ c.in_err-insert_further.field-0.0 c.from_residual.result (search rules);
   failed =
       let old = state g.S.Store c.args.tx.now.conn.now in
       let mid = state g.S.Store c.loop-group.tx.conn.now in

@@ -1,4 +1,3 @@
-use Rattle.std.proofs.Common.{rules}
 use Rattle.sqlite.specs.Held.{state}
 use Rattle.acd_columns.specs.Rows.{further_values}
 use Rattle.acd_columns.specs.declared.texts.TheConstants.{INSERT_AGENT_GROUP}

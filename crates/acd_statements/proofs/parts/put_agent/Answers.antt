@@ -55,7 +55,7 @@ pub returns-in_err-put : goal.returns-in_err-put
 returns-in_err-put g c = record {
   same = c.put.ensures.same;
   works = c.put.ensures.works;
-  put = λ clean. unless_ok c.in_err-put.field-0.0 c.from_residual.result (search rules);
+  put = λ clean. unless_ok _ c.in_err-put.field-0.0 c.from_residual.result (search rules);
   failed =
       let old = state g.S.Store c.args.tx.now.conn.now in
       let mid = state g.S.Store c.put.new.tx.conn.now in
@@ -68,7 +68,7 @@ pub returns-in_err-drop_further : goal.returns-in_err-drop_further
 returns-in_err-drop_further g c = record {
   same = c.drop_further.ensures.same ∙ c.put.ensures.same;
   works = works_on _ _ _ c.put.ensures.works c.drop_further.ensures.works;
-  put = λ clean. unless_ok c.in_err-drop_further.field-0.0 c.from_residual-in_err-drop_further.result (search rules);
+  put = λ clean. unless_ok _ c.in_err-drop_further.field-0.0 c.from_residual-in_err-drop_further.result (search rules);
   failed =
       let old = state g.S.Store c.args.tx.now.conn.now in
       let mid = state g.S.Store c.put.new.tx.conn.now in

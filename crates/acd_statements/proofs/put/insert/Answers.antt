@@ -19,7 +19,7 @@ pub returns-in_err-run : goal.returns-in_err-run
 returns-in_err-run g c = record {
   same = c.run.ensures.same;
   works = c.run.ensures.works;
-  put = λ clean. unless_ok c.in_err-run.field-0.0 c.from_residual.result (search rules);
+  put = λ clean. unless_ok _ c.in_err-run.field-0.0 c.from_residual.result (search rules);
   failed =
       let old = state g.S.Store c.args.tx.now.conn.now in
       let new = state g.S.Store c.run.new.tx.conn.now in

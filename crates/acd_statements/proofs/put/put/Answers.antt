@@ -36,7 +36,7 @@ pub returns-in_err-changed : goal.returns-in_err-changed
 returns-in_err-changed g c = record {
   same = c.run.ensures.same;
   works = c.run.ensures.works;
-  put = λ clean. unless_ok c.in_err-changed.field-0.0 c.from_residual.result (search rules);
+  put = λ clean. unless_ok _ c.in_err-changed.field-0.0 c.from_residual.result (search rules);
   failed =
       let old = state g.S.Store c.args.tx.now.conn.now in
       let mid = state g.S.Store c.run.new.tx.conn.now in
@@ -51,7 +51,7 @@ pub returns-in_err-run : goal.returns-in_err-run
 returns-in_err-run g c = record {
   same = c.run-2.ensures.same ∙ c.run.ensures.same;
   works = works_on _ _ _ c.run.ensures.works c.run-2.ensures.works;
-  put = λ clean. unless_ok c.in_err-run.field-0.0 c.from_residual-in_err-run.result (search rules);
+  put = λ clean. unless_ok _ c.in_err-run.field-0.0 c.from_residual-in_err-run.result (search rules);
   failed =
       let old = state g.S.Store c.args.tx.now.conn.now in
       let mid = state g.S.Store c.run.new.tx.conn.now in

@@ -58,7 +58,7 @@ pub returns-in_err-changed : goal.returns-in_err-changed
 returns-in_err-changed g c = record {
   same = c.changed_rows.ensures.same;
   works = c.changed_rows.ensures.works;
-  put = λ clean. unless_ok c.in_err-changed.field-0.0 c.from_residual.result (search rules);
+  put = λ clean. unless_ok _ c.in_err-changed.field-0.0 c.from_residual.result (search rules);
   failed =
       let old = state g.S.Store c.args.tx.now.conn.now in
       let mid = state g.S.Store c.changed_rows.new.tx.conn.now in

@@ -1,4 +1,3 @@
-use Rattle.std.proofs.Common.{rules}
 use Rattle.sqlite.specs.Held.{state}
 use Rattle.acd_columns.specs.declared.texts.TheConstants.{UPDATE_META}
 use Rattle.acd_columns.proofs.Counters.{set_values, sets_meta}

@@ -25,7 +25,7 @@ returns-in_err-execute g c = record {
   works =
       works_inside c.args.sql.now (bound c.args.params.now) (state g.S.Store c.args.tx.now.conn.now) (state g.S.Store c.execute.new.self.conn.now) c.execute.result
       c.execute.ensures.survives (λ clean inside. c.execute.ensures.runs clean inside) (λ out. ap (state g.S.Store) (c.execute.ensures.ended out).1);
-  ran = λ clean. unless_ok c.in_err-execute.field-0.0 c.from_residual.result (search rules);
+  ran = λ clean. unless_ok _ c.in_err-execute.field-0.0 c.from_residual.result (search rules);
   failed = λ clean inside.
       let is : c.from_residual.result ≡ Err c.in_err-execute.field-0.0 = search rules in
       subst (λ r. IfErr r (FailsToWrite (state g.S.Store c.args.tx.now.conn.now) (state g.S.Store c.execute.new.self.conn.now) c.args.sql.now (bound c.args.params.now))) (sym is)
