@@ -13,6 +13,7 @@ use Rattle.acd_http.specs.Received.{Found, BodyFound, IsRead}
 use Rattle.acd_http.specs.declared.asked.Asked.{Asked}
 use Rattle.acd_http.specs.declared.asked.Asked.TheVariants.{Truncated, Refused}
 use Rattle.acd_http.specs.declared.refused.Refused.TheVariants as refused
+use Rattle.acd_http.specs.Wanting.{IsSmall}
 use Rattle.acd_http.specs.Asking.{HeadAsks, AsksBy, Asks, IsAsked, IsHeadOf, IsWanted, IsHeadAsked, IsUnknown, asked_by, headless, is_bodiless, body_in, body_asks}
 use Rattle.acd_http.specs.declared.asked.Unknown.{Unknown}
 use Rattle.acd_http.specs.declared.asked.Unknown.TheVariants as unknown
@@ -85,37 +86,43 @@ head_stays was more now n e h =
     let is = head_is 8192 n was more h.0 in
     (ap (λ (l : List ℕ). head_len (take 8192 l)) e ∙ is.0, is.1 ∙ ap (take n) (sym e), omega (arith, h.2, ap length e, length-append was more))
 
+no_head : (first left : Option (List ℕ)) (seen : List ℕ) → Found None seen first left → IsAsked first (headless (length seen))
+no_head first left seen h = elim (cases_lt (length seen) 8192) [
+  | inl few ↦
+      let less : nat_le 8192 (length seen) ≡ false = grind (arith, nat_tests) in
+      let is : headless (length seen) ≡ Truncated = rw less refl in
+      subst (λ (x : Asked). IsAsked first x) (sym is) (too_short first left seen h.read h.head.0 few (h.head.1 few))
+  | inr full ↦
+      let enough : nat_le 8192 (length seen) ≡ true = grind (arith, nat_tests) in
+      let is : headless (length seen) ≡ Refused refused.HeadTooLarge false = rw enough refl in
+      subst (λ (x : Asked). IsAsked first x) (sym is) (too_large first left seen h.read h.head.0 full)
+]
+
 -- no head has ended; s is the slice of which the length was taken
-pub no_head_tells : (first left : Option (List ℕ)) (seen s : List ℕ) (a : Asked) → s ≡ seen → Found None seen first left → a ≡ headless (length s) → IsAsked first a
-no_head_tells first left seen s a same h is = subst (λ (x : Asked). IsAsked first x) (sym (is ∙ ap (λ (l : List ℕ). headless (length l)) same))
-    (elim (cases_lt (length seen) 8192) [
-      | inl few ↦
-          let less : nat_le 8192 (length seen) ≡ false = grind (arith, nat_tests) in
-          let is : headless (length seen) ≡ Truncated = rw less refl in
-          subst (λ (x : Asked). IsAsked first x) (sym is) (too_short first left seen h.read h.head.0 few (h.head.1 few))
-      | inr full ↦
-          let enough : nat_le 8192 (length seen) ≡ true = grind (arith, nat_tests) in
-          let is : headless (length seen) ≡ Refused refused.HeadTooLarge false = rw enough refl in
-          subst (λ (x : Asked). IsAsked first x) (sym is) (too_large first left seen h.read h.head.0 full)
-    ])
+pub no_head_tells : (first left : Option (List ℕ)) (seen s : List ℕ) (found : Option ℕ) (a : Asked) → found ≡ None → s ≡ seen → Found found seen first left → a ≡ headless (length s) → IsAsked first a
+no_head_tells first left seen s found a none same h is =
+    subst (λ (x : Asked). IsAsked first x) (sym (is ∙ ap (λ (l : List ℕ). headless (length l)) same)) (no_head first left seen (subst (λ (o : Option ℕ). Found o seen first left) none h))
 
 -- ---- what is known behind a head; s is the slice that was looked at
 
-pub known_tells : (first left : Option (List ℕ)) (seen s : List ℕ) (n : ℕ) (bodiless : Bool) (r : Result Wanted AllocError) (w : Wanted) (a : Asked) → s ≡ seen → IsHeadOf n seen → IsHeadAsked (take n s) bodiless r → r ≡ Ok w
+wants_so : (head : List ℕ) (bodiless : Bool) (r : Result Wanted AllocError) (v w : Wanted) → IsHeadAsked head bodiless r → r ≡ Ok v → v ≡ w → IsSmall w × IsWanted head bodiless w
+wants_so head bodiless r v w h is same = subst (λ (x : Result Wanted AllocError). IsHeadAsked head bodiless x) (is ∙ ap Ok same) h
+
+pub known_tells : (first left : Option (List ℕ)) (seen s : List ℕ) (n : ℕ) (bodiless : Bool) (r : Result Wanted AllocError) (v w : Wanted) (a : Asked) → s ≡ seen → IsHeadOf n seen → IsHeadAsked (take n s) bodiless r → r ≡ Ok v → v ≡ w
     → ((behind : List ℕ) → asked_by w bodiless behind ≡ a) → Consumes first left seen → IsAsked first a
-known_tells first left seen s n bodiless r w a same h is e asks read =
-    let told : IsHeadAsked (take n s) bodiless (Ok w) = subst (λ (x : Result Wanted AllocError). IsHeadAsked (take n s) bodiless x) e is in
-    head_tells first left seen n a read h.0 (λ behind. subst (λ (l : List ℕ). HeadAsks (take n l) behind a) same (subst (λ (x : Asked). HeadAsks (take n s) behind x) (asks behind) (told.1 behind)))
+known_tells first left seen s n bodiless r v w a same h told is e asks read =
+    let wants = (wants_so (take n s) bodiless r v w told is e).1 in
+    head_tells first left seen n a read h.0 (λ behind. subst (λ (l : List ℕ). HeadAsks (take n l) behind a) same (subst (λ (x : Asked). HeadAsks (take n s) behind x) (asks behind) (wants behind)))
 
 pub unknown_tells : (first left : Option (List ℕ)) (seen s : List ℕ) (n : ℕ) (bodiless : Bool) (r : Result Wanted AllocError) (f : AllocError) → s ≡ seen → IsHeadOf n seen → IsHeadAsked (take n s) bodiless r → r ≡ Err f → Consumes first left seen
     → IsUnknown first (unknown.NoMemory bodiless)
-unknown_tells first left seen s n bodiless r f same h is e read =
-    let told : IsHeadAsked (take n s) bodiless (Err f) = subst (λ (x : Result Wanted AllocError). IsHeadAsked (take n s) bodiless x) e is in
-    let a = asked_by told.0 bodiless [] in (
+unknown_tells first left seen s n bodiless r f same h told is read =
+    let unseen : IsHeadAsked (take n s) bodiless (Err f) = subst (λ (x : Result Wanted AllocError). IsHeadAsked (take n s) bodiless x) is told in
+    let a = asked_by unseen.0 bodiless [] in (
       a,
-      not_truncated told.0 bodiless told.1,
-      bodiless_is told.0 bodiless told.1,
-      head_tells first left seen n a read h.0 (λ behind. subst (λ (l : List ℕ). HeadAsks (take n l) behind a) same (subst (λ (x : Asked). HeadAsks (take n s) behind x) (sym (any_behind told.0 bodiless behind told.1)) (told.2 behind))),
+      not_truncated unseen.0 bodiless unseen.1,
+      bodiless_is unseen.0 bodiless unseen.1,
+      head_tells first left seen n a read h.0 (λ behind. subst (λ (l : List ℕ). HeadAsks (take n l) behind a) same (subst (λ (x : Asked). HeadAsks (take n s) behind x) (sym (any_behind unseen.0 bodiless behind unseen.1)) (unseen.2 behind))),
     )
 
 body_whole : (r : Result Request Member) → (body_asks r ≡ Truncated → ⊥)
@@ -139,10 +146,11 @@ pub read_tells : (first left : Option (List ℕ)) (seen : List ℕ) (n len : ℕ
 read_tells first left seen n len body (Ok a) read e whole h is told = body_tells first left seen n len body a read e whole h is told
 read_tells first left seen n len body (Err u) read e whole h is told = subst (λ (v : Unknown). IsUnknown first v) (sym told) (no_memory first left seen n len body read e whole h is)
 
-pub whole_tells : (first left later : Option (List ℕ)) (was s now s' : List ℕ) (n len : ℕ) (bodiless whole : Bool) (r : Result Asked Unknown) → s ≡ was → IsHeadOf n was → IsWanted (take n s) bodiless (want.Body len) → Consumes first left was
+pub whole_tells : (first left later : Option (List ℕ)) (was s now s' : List ℕ) (n len : ℕ) (bodiless whole : Bool) (head : Result Wanted AllocError) (v : Wanted) (r : Result Asked Unknown) → s ≡ was → IsHeadOf n was → IsHeadAsked (take n s) bodiless head → head ≡ Ok v → v ≡ want.Body len → Consumes first left was
     → whole ≡ true → BodyFound whole (n + len) was now left later → s' ≡ now
     → MatchResult r (λ (a : Asked). a ≡ body_asks (reads_as (take (n + len - n) (drop n s')))) (λ (u : Unknown). u ≡ unknown.NoMemory false) → MatchResult r (IsAsked first) (IsUnknown first)
-whole_tells first left later was s now s' n len bodiless whole r same h is read here found same' told =
+whole_tells first left later was s now s' n len bodiless whole head v r same h asked so body read here found same' told =
+    let is = (wants_so (take n s) bodiless head v (want.Body len) asked so body).1 in
     let stays = head_stays was found.more now n found.grown h in
     let ends : IsRead true (n + len) now later = subst (λ (b : Bool). IsRead b (n + len) now later) here found.end in
     let all = subst (λ (l : List ℕ). Consumes first later l) (sym found.grown) (Consumes-trans first left later was found.more read found.read) in
@@ -150,9 +158,10 @@ whole_tells first left later was s now s' n len bodiless whole r same h is read 
     read_tells first later now n len (take (n + len - n) (drop n s')) r all stays.0 ends
     (λ behind. subst (λ (l : List ℕ). HeadAsks l behind (body_in len behind)) (ap (take n) same ∙ stays.1) (is behind)) slice told
 
-pub part_tells : (first left later : Option (List ℕ)) (was s now : List ℕ) (n len : ℕ) (bodiless whole : Bool) → s ≡ was → IsHeadOf n was → IsWanted (take n s) bodiless (want.Body len) → Consumes first left was
+pub part_tells : (first left later : Option (List ℕ)) (was s now : List ℕ) (n len : ℕ) (bodiless whole : Bool) (head : Result Wanted AllocError) (v : Wanted) → s ≡ was → IsHeadOf n was → IsHeadAsked (take n s) bodiless head → head ≡ Ok v → v ≡ want.Body len → Consumes first left was
     → whole ≡ false → BodyFound whole (n + len) was now left later → IsAsked first Truncated
-part_tells first left later was s now n len bodiless whole same h is read here found =
+part_tells first left later was s now n len bodiless whole head v same h asked so body read here found =
+    let is = (wants_so (take n s) bodiless head v (want.Body len) asked so body).1 in
     let stays = head_stays was found.more now n found.grown h in
     let ends : IsRead false (n + len) now later = subst (λ (b : Bool). IsRead b (n + len) now later) here found.end in
     let all = subst (λ (l : List ℕ). Consumes first later l) (sym found.grown) (Consumes-trans first left later was found.more read found.read) in

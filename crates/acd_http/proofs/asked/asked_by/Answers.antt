@@ -2,4 +2,6 @@ use Rattle.acd_http.proofs.Asks.{no_head_tells}
 use Rattle.acd_http.proofs.asked.asked_by.Goals as goal
 
 pub returns-in-Ok-None : goal.returns-in-Ok-None
-returns-in-Ok-None g c = no_head_tells (g.R.Read.remaining c.args.reader.now) (g.R.Read.remaining c.read_head.new.reader) c.read_head.new.input c.as_slice.result.now c.headless.result c.as_slice.ensures c.in-Ok-None.ensures c.headless.ensures
+returns-in-Ok-None g c =
+    no_head_tells (g.R.Read.remaining c.args.reader.now) (g.R.Read.remaining c.read_head.new.reader) c.read_head.new.input c.as_slice.result.now c.in-Ok-None.field-0 c.headless.result
+    c.in-Ok-None.field-0-is c.as_slice.ensures c.in-Ok-None.ensures c.headless.ensures
