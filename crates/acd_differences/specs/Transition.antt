@@ -7,7 +7,7 @@ use Rattle.acd_model.specs.Changes.{changed_by}
 use Rattle.acd_model.specs.declared.moves.Change.{Change}
 use Rattle.acd_model.specs.declared.moves.Change.TheVariants.{Nothing}
 use Rattle.acd_lemmas.specs.Orders.{Orders}
-use Rattle.acd_differences.specs.Differing.{LeadTo}
+use Rattle.acd_differences.specs.Differing.{LeadTo, differences}
 
 -- the lists of one are those of the other; the limits and the counters are not asked for
 pub record HasTables (s t : Rows) : Type 0 where
@@ -30,6 +30,6 @@ Lead held new changes = (s : Rows) → HasTables s held → Orders held → Orde
 abbrev pub with_plan : Rows → Rows → Rows
 with_plan held new = record held { groups = new.groups; stations = new.stations; agents = new.agents }
 
--- changes that lead from one list to another are added
+-- the differences of two lists are added
 abbrev pub AddsSteps : {T : Type 0} → (T → T → Ordering) → (T → T → Bool) → (T → Change) → (T → Change) → List T → List T → List Change → List Change → Type 0
-AddsSteps cmp same off on held new old now = (more : List Change) × (now ≡ old ++ more) × LeadTo cmp same off on held new more
+AddsSteps cmp same off on held new old now = (now ≡ old ++ differences cmp same off on held new) × LeadTo cmp same off on held new (differences cmp same off on held new)
