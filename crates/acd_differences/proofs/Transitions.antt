@@ -2,7 +2,6 @@
 use Rattle.std.proofs.Common.{◌≡◌, ◌+◌, ◌<◌, ℕ, length, drop, get_or, append_assoc, filter, arith, List, [], ◌∷◌, ◌++◌, map, Bool, true, refl, sym, ap, ap₂, subst, ◌∙◌}
 use Rattle.std.specs.Ordering.{nat_cmp}
 use Rattle.std.specs.declared.cmp.Ordering.{Ordering}
-use Rattle.std.proofs.lemmas.List.{map-append}
 use Rattle.std.proofs.lemmas.Grind.{common_steps}
 use Rattle.acd_terms.specs.Lists.{AllAfter, IsAscending, put_by, remove_by}
 use Rattle.acd_terms.specs.declared.rows.Rows.{Rows}
@@ -158,11 +157,11 @@ monitors_kind = record {
 
 -- ---- all of them, one after the other
 
-whole_front : (front back : List Change) → AreWhole (front ++ back) → AreWhole front
+pub whole_front : (front back : List Change) → AreWhole (front ++ back) → AreWhole front
 whole_front [] back h = tt
 whole_front (c ∷ front) back h = (h.0, whole_front front back h.1)
 
-whole_back : (front back : List Change) → AreWhole (front ++ back) → AreWhole back
+pub whole_back : (front back : List Change) → AreWhole (front ++ back) → AreWhole back
 whole_back [] back h = h
 whole_back (c ∷ front) back h = whole_back front back h.1
 

@@ -3,7 +3,8 @@
 
 ghost use Rattle.std.specs.Prelude.{◌≡◌, ◌↔◌, ◌++◌, filter, map, IfOk, OnOk, IsTrue};
 ghost use Rattle.acd_differences.specs.Leading.{shared_station, station_in, unseated, stays, plan_differences, traffic_differences, rows_differences};
-ghost use Rattle.acd_differences.specs.Transition.{AreWhole, Lead, AddsSteps, with_plan};
+ghost use Rattle.acd_differences.specs.Transition.{AreWhole, KeepsPlan, Lead, AddsSteps, with_plan};
+ghost use Rattle.acd_lemmas.specs.Orders.{Orders};
 
 use crate::difference::{Filed, row_changes};
 use acd_model::Change;
@@ -172,6 +173,8 @@ fn traffic_changes(alloc: Global, held: &Rows, new: &Rows) -> Result<Vec<Change>
 pub fn rows_changes(alloc: Global, held: &Rows, new: &Rows) -> Result<Vec<Change>, AllocError>
     ensures lead { IfOk result (λ changes. Lead held.now new.now changes.items) }
     ensures exact { IfOk result (λ changes. changes.items ≡ rows_differences held.now new.now) }
+    ensures whole { IfOk result (λ changes. Orders held.now → Orders new.now
+        → (AreWhole changes.items ↔ KeepsPlan held.now new.now)) }
 {
     let mut changes = plan_changes(alloc, held, new)?;
     let more = traffic_changes(alloc, held, new)?;

@@ -1,7 +1,6 @@
 use Rattle.std.proofs.Common.{map, ap, ◌∙◌}
 use Rattle.acd_terms.specs.declared.record.AgentRecord.{AgentRecord}
 use Rattle.acd_differences.proofs.Transitions.{plan_leads, plan_exact, ascending_same, unseated_numbers}
-use Rattle.acd_differences.specs.Leading.{unseated}
 use Rattle.acd_differences.proofs.transition.plan_changes.Goals as goal
 
 pub returns-clause-lead : goal.returns-clause-lead
