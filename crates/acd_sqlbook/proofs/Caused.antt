@@ -60,7 +60,7 @@ reads_caused old new (Err e) answer is h clean sound store =
 
 -- a call that reads first fails as a read does, or stops
 module _ (asked : Asked) (old new : State) (Stops : Option ℕ → Content → Type 0) (steps : IsSome old.step_limit → IsLimited asked old) (bad : ¬ (IsInRange (content_of old.committed.trees)) → IsUnreadable asked old)
-  (stopped : (c : Content) → content_of old.committed.trees ≡ c → Stops old.step_limit c → StoreCause asked old new) where
+    (stopped : (c : Content) → content_of old.committed.trees ≡ c → Stops old.step_limit c → StoreCause asked old new) where
   each_cause : (c : Content) → content_of old.committed.trees ≡ c → (e : Error) → fault_of e ≡ Store → FailsToRead c old new e ⊎ Stops old.step_limit c → StoreCause asked old new
   each_cause c is e store (inl (inl memory)) = absurd (not_memory e (fault_of e) refl store memory)
   each_cause c is e store (inl (inr (inl more))) = failed more
