@@ -1,2 +1,3 @@
 mod Differences
 mod Transitions
+mod Wholeness

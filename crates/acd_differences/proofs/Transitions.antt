@@ -1,5 +1,5 @@
 -- Changes of one table after the other lead from the tables of one state to those of another.
-use Rattle.std.proofs.Common.{◌≡◌, ◌+◌, ◌<◌, ℕ, length, drop, get_or, append_assoc, arith, List, [], ◌∷◌, ◌++◌, map, Bool, true, refl, sym, ap, ap₂, subst, ◌∙◌}
+use Rattle.std.proofs.Common.{◌≡◌, ◌+◌, ◌<◌, ℕ, length, drop, get_or, append_assoc, filter, arith, List, [], ◌∷◌, ◌++◌, map, Bool, true, refl, sym, ap, ap₂, subst, ◌∙◌}
 use Rattle.std.specs.Ordering.{nat_cmp}
 use Rattle.std.specs.declared.cmp.Ordering.{Ordering}
 use Rattle.std.proofs.lemmas.Grind.{common_steps}
@@ -11,12 +11,6 @@ use Rattle.acd_terms.specs.declared.record.AgentRecord.{AgentRecord}
 use Rattle.acd_terms.specs.declared.record.CallRecord.{CallRecord}
 use Rattle.acd_terms.specs.declared.record.ConnectionRecord.{ConnectionRecord}
 use Rattle.acd_terms.specs.declared.record.MonitorRecord.{MonitorRecord}
-use Rattle.acd_terms.specs.contracts.record.GroupRecordPartialEq.TheImpl as groups_eq
-use Rattle.acd_terms.specs.contracts.record.StationRecordPartialEq.TheImpl as stations_eq
-use Rattle.acd_terms.specs.contracts.record.AgentRecordPartialEq.TheImpl as agents_eq
-use Rattle.acd_terms.specs.contracts.record.CallRecordPartialEq.TheImpl as calls_eq
-use Rattle.acd_terms.specs.contracts.record.ConnectionRecordPartialEq.TheImpl as connections_eq
-use Rattle.acd_terms.specs.contracts.record.MonitorRecordPartialEq.TheImpl as monitors_eq
 use Rattle.acd_model.specs.Moves.{changed}
 use Rattle.acd_model.specs.Changes.{changed_by}
 use Rattle.acd_model.specs.Writes.{with_group, with_station, with_agent, with_call, with_connection, with_monitor, without_call, without_connection, without_monitor}
@@ -26,7 +20,8 @@ use Rattle.acd_model.specs.declared.moves.Change.TheVariants.{Nothing, PutGroup,
 use Rattle.acd_model.proofs.ChangeLemmas.{changed_by_append}
 use Rattle.acd_lemmas.specs.Orders.{Orders}
 use Rattle.acd_lemmas.proofs.SameRecords.{same_group, same_station, same_agent, same_call, same_connection, same_monitor}
-use Rattle.acd_differences.specs.Differing.{Step, gone, put, change_by, stepped, LeadTo}
+use Rattle.acd_differences.specs.Differing.{Step, gone, put, change_by, stepped, LeadTo, differences}
+use Rattle.acd_differences.specs.Leading.{group_eq, station_eq, agent_eq, call_eq, connection_eq, monitor_eq, none_gone, call_gone, connection_gone, monitor_gone, unseated, stays, plan_differences, traffic_differences, rows_differences}
 use Rattle.acd_differences.specs.Transition.{HasTables, AreWhole, Lead, AddsSteps, with_plan}
 
 tables_on : (a b c : Rows) → HasTables a b → HasTables b c → HasTables a c
@@ -162,29 +157,11 @@ monitors_kind = record {
 
 -- ---- all of them, one after the other
 
-abbrev group_eq : GroupRecord → GroupRecord → Bool
-group_eq = (groups_eq.eq-value).it
-
-abbrev station_eq : StationRecord → StationRecord → Bool
-station_eq = (stations_eq.eq-value).it
-
-abbrev agent_eq : AgentRecord → AgentRecord → Bool
-agent_eq = (agents_eq.eq-value).it
-
-abbrev call_eq : CallRecord → CallRecord → Bool
-call_eq = (calls_eq.eq-value).it
-
-abbrev connection_eq : ConnectionRecord → ConnectionRecord → Bool
-connection_eq = (connections_eq.eq-value).it
-
-abbrev monitor_eq : MonitorRecord → MonitorRecord → Bool
-monitor_eq = (monitors_eq.eq-value).it
-
-whole_front : (front back : List Change) → AreWhole (front ++ back) → AreWhole front
+pub whole_front : (front back : List Change) → AreWhole (front ++ back) → AreWhole front
 whole_front [] back h = tt
 whole_front (c ∷ front) back h = (h.0, whole_front front back h.1)
 
-whole_back : (front back : List Change) → AreWhole (front ++ back) → AreWhole back
+pub whole_back : (front back : List Change) → AreWhole (front ++ back) → AreWhole back
 whole_back [] back h = h
 whole_back (c ∷ front) back h = whole_back front back h.1
 
@@ -192,23 +169,12 @@ whole_back (c ∷ front) back h = whole_back front back h.1
 next : {T : Type 0} (cmp : T → T → Ordering) (off on : T → Change) (k : Kind cmp off on) (same : T → T → Bool) → ((x y : T) → same x y ≡ true → x ≡ y) → (s t : Rows) (new : List T) (old now : List Change)
     → AddsSteps cmp same off on (k.get t) new old now → IsAscending cmp (k.get t) → IsAscending cmp new → AreWhole now → (AreWhole old → HasTables (changed_by s old) t) → HasTables (changed_by s now) (k.set t new)
 next cmp off on k same exact s t new old now adds up later whole so_far =
-    let parts = subst AreWhole adds.1 whole in
-    let here = so_far (whole_front old adds.0 parts) in
-    subst (λ l. HasTables (changed_by s l) (k.set t new)) (sym adds.1)
-    (subst (λ r. HasTables r (k.set t new)) (sym (changed_by_append s old adds.0))
-    (leads cmp off on k same exact (changed_by s old) t new adds.0 here up later adds.2 (whole_back old adds.0 parts)))
-
-abbrev none_gone : {T : Type 0} → T → Change
-none_gone x = Nothing
-
-abbrev call_gone : CallRecord → Change
-call_gone x = RemoveCall x.call
-
-abbrev connection_gone : ConnectionRecord → Change
-connection_gone x = RemoveConnection x.call x.device
-
-abbrev monitor_gone : MonitorRecord → Change
-monitor_gone x = RemoveMonitor x.monitor
+    let more = differences cmp same off on (k.get t) new in
+    let parts = subst AreWhole adds.0 whole in
+    let here = so_far (whole_front old more parts) in
+    subst (λ l. HasTables (changed_by s l) (k.set t new)) (sym adds.0)
+    (subst (λ r. HasTables r (k.set t new)) (sym (changed_by_append s old more))
+    (leads cmp off on k same exact (changed_by s old) t new more here up later adds.1 (whole_back old more parts)))
 
 -- the groups, the stations and the agents, who first stand without the stations that they give up
 pub plan_leads : (held new : Rows) (agents : List AgentRecord) (c0 c1 c2 c3 c4 : List Change) → c0 ≡ []
@@ -277,32 +243,48 @@ ascending_same (a ∷ xs) (b ∷ ys) same up =
     let later : map (λ (z : AgentRecord). z.agent) xs ≡ map (λ (z : AgentRecord). z.agent) ys = let k = same in cc in
     (after_same a b xs ys here later up.0, ascending_same xs ys later up.1)
 
--- ---- a list that loses some of its members
+-- the agents that give their stations up are those that are held
+pub unseated_numbers : (new xs : List AgentRecord) → map (λ (a : AgentRecord). a.agent) (map (unseated new) xs) ≡ map (λ (a : AgentRecord). a.agent) xs
+unfolding unseated
+unseated_numbers new [] = refl
+unseated_numbers new (a ∷ xs) = ap (λ l. a.agent ∷ l) (unseated_numbers new xs)
 
-module _ {T : Type 0} (cmp : T → T → Ordering) (x : T) (ys : List T) where
-  after_less : (z : T) (xs : List T) → AllAfter cmp z (xs ++ x ∷ ys) → AllAfter cmp z (xs ++ ys)
-  after_less z [] h = h.1
-  after_less z (y ∷ xs) h = (h.0, after_less z xs h.1)
+-- ---- the changes themselves
 
-  pub ascending_less : (xs : List T) → IsAscending cmp (xs ++ x ∷ ys) → IsAscending cmp (xs ++ ys)
-  ascending_less [] up = up.1
-  ascending_less (y ∷ xs) up = (after_less y xs up.0, ascending_less xs up.1)
+four_added : (c0 c1 c2 c3 c4 d1 d2 d3 d4 : List Change) → c0 ≡ [] → c1 ≡ c0 ++ d1 → c2 ≡ c1 ++ d2 → c3 ≡ c2 ++ d3 → c4 ≡ c3 ++ d4 → c4 ≡ d1 ++ (d2 ++ (d3 ++ d4))
+four_added c0 c1 c2 c3 c4 d1 d2 d3 d4 e0 e1 e2 e3 e4 =
+    e4 ∙ ap (λ l. l ++ d4) (e3 ∙ ap (λ l. l ++ d3) (e2 ∙ ap (λ l. l ++ d2) (e1 ∙ ap (λ l. l ++ d1) e0)))
+    ∙ append_assoc (d1 ++ d2) d3 d4 ∙ append_assoc d1 d2 (d3 ++ d4)
 
-module _ {T : Type 0} where
-  next_dropped : (i : ℕ) (xs : List T) (d : T) → i < length xs → drop i xs ≡ get_or xs i d ∷ drop (i + 1) xs
-  next_dropped i xs d h = grind (arith, common_steps)
+pub plan_exact : (held new : Rows) (agents : List AgentRecord) (c0 c1 c2 c3 c4 : List Change) → agents ≡ map (unseated new.agents) held.agents → c0 ≡ []
+    → AddsSteps group_order group_eq none_gone PutGroup held.groups new.groups c0 c1 → AddsSteps station_order station_eq none_gone PutStation held.stations new.stations c1 c2
+    → AddsSteps agent_order agent_eq none_gone PutAgent held.agents agents c2 c3 → AddsSteps agent_order agent_eq none_gone PutAgent agents new.agents c3 c4
+    → c4 ≡ plan_differences held new
+unfolding plan_differences
+plan_exact held new agents c0 c1 c2 c3 c4 are none a1 a2 a3 a4 =
+    let agent_steps : List AgentRecord → List AgentRecord → List Change = differences agent_order agent_eq none_gone PutAgent in
+    four_added c0 c1 c2 c3 c4 _ _ _ _ none a1.0 a2.0 (a3.0 ∙ ap (λ l. c2 ++ agent_steps held.agents l) are) (a4.0 ∙ ap (λ l. c3 ++ agent_steps l new.agents) are)
 
-  kept_on : (P : List T → Type 0) (kept held : List T) (i : ℕ) (x d : T) → i < length held → x ≡ get_or held i d → P (kept ++ drop i held) → P ((kept ++ x ∷ []) ++ drop (i + 1) held)
-  kept_on P kept held i x d low is h =
-      subst P (sym (append_assoc kept (x ∷ []) (drop (i + 1) held)))
-      (subst (λ v. P (kept ++ v ∷ drop (i + 1) held)) (sym is) (subst (λ l. P (kept ++ l)) (next_dropped i held d low) h))
+pub traffic_exact : (held new : Rows) (connections : List ConnectionRecord) (c0 c1 c2 c3 c4 : List Change) → connections ≡ filter (stays new.connections) held.connections → c0 ≡ []
+    → AddsSteps connection_order connection_eq connection_gone PutConnection held.connections connections c0 c1
+    → AddsSteps call_order call_eq call_gone PutCall held.calls new.calls c1 c2
+    → AddsSteps connection_order connection_eq connection_gone PutConnection connections new.connections c2 c3
+    → AddsSteps monitor_order monitor_eq monitor_gone PutMonitor held.monitors new.monitors c3 c4
+    → c4 ≡ traffic_differences held new
+unfolding traffic_differences
+traffic_exact held new connections c0 c1 c2 c3 c4 are none a1 a2 a3 a4 =
+    let steps : List ConnectionRecord → List ConnectionRecord → List Change = differences connection_order connection_eq connection_gone PutConnection in
+    four_added c0 c1 c2 c3 c4 _ _ _ _ none (a1.0 ∙ ap (λ l. c0 ++ steps held.connections l) are) a2.0 (a3.0 ∙ ap (λ l. c2 ++ steps l new.connections) are) a4.0
 
-  -- the next one is kept, or is left out
-  pub next_kept : (cmp : T → T → Ordering) (kept next held : List T) (i : ℕ) (x d : T) → i < length held → x ≡ get_or held i d → next ≡ kept ++ x ∷ []
-      → (IsAscending cmp held → IsAscending cmp (kept ++ drop i held)) → IsAscending cmp held → IsAscending cmp (next ++ drop (i + 1) held)
-  next_kept cmp kept next held i x d low is pushed h up = subst (λ l. IsAscending cmp (l ++ drop (i + 1) held)) (sym pushed) (kept_on (IsAscending cmp) kept held i x d low is (h up))
+pub both_exact : (held new : Rows) (plan traffic all : List Change) → all ≡ plan ++ traffic → plan ≡ plan_differences held new → traffic ≡ traffic_differences held new → all ≡ rows_differences held new
+unfolding rows_differences
+both_exact held new plan traffic all is first second = is ∙ ap₂ (λ a b. a ++ b) first second
 
-  pub next_left : (cmp : T → T → Ordering) (kept next held : List T) (i : ℕ) (d : T) → i < length held → next ≡ kept
-      → (IsAscending cmp held → IsAscending cmp (kept ++ drop i held)) → IsAscending cmp held → IsAscending cmp (next ++ drop (i + 1) held)
-  next_left cmp kept next held i d low same h up =
-      subst (λ l. IsAscending cmp (l ++ drop (i + 1) held)) (sym same) (ascending_less cmp (get_or held i d) (drop (i + 1) held) kept (subst (λ l. IsAscending cmp (kept ++ l)) (next_dropped i held d low) (h up)))
+-- ---- what is left of a list
+
+next_dropped : {T : Type 0} (i : ℕ) (xs : List T) (d : T) → i < length xs → drop i xs ≡ get_or xs i d ∷ drop (i + 1) xs
+next_dropped i xs d h = grind (arith, common_steps)
+
+-- what is left is whole, and the next one is: so is what was left before
+pub whole_on : (changes : List Change) (i : ℕ) (d : Change) → i < length changes → (get_or changes i d ≡ Nothing → ⊥) → AreWhole (drop (i + 1) changes) → AreWhole (drop i changes)
+whole_on changes i d low one rest = subst AreWhole (sym (next_dropped i changes d low)) (one, rest)

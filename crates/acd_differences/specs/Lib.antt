@@ -1,2 +1,3 @@
 pub mod Differing
 pub mod Transition
+pub mod Leading

@@ -149,8 +149,11 @@ pub fn row_changes<R: Filed>(
     held: &[R],
     new: &[R],
 ) -> Result<Vec<Change>, AllocError>
-    ensures { IfOk result (λ changes. LeadTo (λ x y. R.Key.cmp (R.key_of x) (R.key_of y))
-        R.eq R.gone_of R.put_of held.now new.now changes.items) }
+    ensures lead { IfOk result (λ changes. LeadTo (λ x y. R.Key.cmp (R.key_of x) (R.key_of y)) R.eq
+        R.gone_of R.put_of held.now new.now changes.items) }
+    ensures exact { IfOk result (λ changes.
+        changes.items ≡ differences (λ x y. R.Key.cmp (R.key_of x) (R.key_of y)) R.eq
+        R.gone_of R.put_of held.now new.now) }
 {
     let mut changes = Vec::new(alloc);
     let mut left = held;

@@ -1,15 +1,14 @@
 //! What leads from the tables of one state to those of another, in an order in which each change leaves
 //! all references and keys as the schema wants them.
 
-ghost use Rattle.std.specs.Prelude.{◌≡◌, ◌↔◌, ◌++◌, map, IfOk, OnOk, IsTrue};
-ghost use Rattle.acd_terms.specs.Lists.{IsAscending};
-ghost use Rattle.acd_terms.specs.declared.record.AgentRecord.{AgentRecord as Agent};
-ghost use Rattle.acd_model.specs.Rules.Plan.{connection_order};
-ghost use Rattle.acd_differences.specs.Transition.{AreWhole, Lead, AddsSteps, with_plan};
+ghost use Rattle.std.specs.Prelude.{◌≡◌, ◌↔◌, ◌++◌, filter, map, IfOk, OnOk, IsTrue};
+ghost use Rattle.acd_differences.specs.Leading.{shared_station, station_in, unseated, stays, plan_differences, traffic_differences, rows_differences};
+ghost use Rattle.acd_differences.specs.Transition.{AreWhole, KeepsPlan, Lead, AddsSteps, with_plan};
+ghost use Rattle.acd_lemmas.specs.Orders.{Orders};
 
 use crate::difference::{Filed, row_changes};
 use acd_model::Change;
-use acd_terms::{AgentRecord, ConnectionRecord, Rows, find};
+use acd_terms::{AgentRecord, ConnectionRecord, DeviceId, Rows, find};
 use std::alloc::{AllocError, Global};
 
 // Adds them all, for any type: the goals of a function of its own are short.
@@ -32,16 +31,34 @@ fn add_changes<R: Filed>(
     extend(changes, &more)
 }
 
-// The agent as it is held, but without a station that is to be another's, or nobody's.
-fn unseated(agent: &AgentRecord, next: Option<AgentRecord>) -> AgentRecord
-    ensures { result.agent ≡ agent.now.agent }
+// The station that both have.
+fn shared_station(one: Option<DeviceId>, other: Option<DeviceId>) -> Option<DeviceId>
+    ensures { result ≡ shared_station one other }
 {
-    match next {
-        Some(next) if next.station == agent.station => *agent,
-        _ => AgentRecord {
-            station: None,
-            ..*agent
-        },
+    match (one, other) {
+        (Some(one), Some(other)) => { if one == other { Some(one) } else { None } }
+        _ => None,
+    }
+}
+
+fn station_in(agent: Option<AgentRecord>) -> Option<DeviceId>
+    ensures { result ≡ station_in agent }
+{
+    match agent {
+        Some(agent) => agent.station,
+        None => None,
+    }
+}
+
+// The agent as it is held, but without a station that is to be another's, or nobody's.
+#[tactic(auto, unfolding(crate::specs::Leading::unseated))]
+fn unseated(agent: &AgentRecord, new: &[AgentRecord]) -> AgentRecord
+    ensures { result ≡ unseated new.now agent.now }
+{
+    let next = station_in(find(new, agent.agent));
+    AgentRecord {
+        station: shared_station(agent.station, next),
+        ..*agent
     }
 }
 
@@ -51,14 +68,21 @@ fn all_unseated(
     held: &[AgentRecord],
     new: &[AgentRecord],
 ) -> Result<Vec<AgentRecord>, AllocError>
-    ensures { IfOk result (λ agents. map (λ (a : Agent). a.agent) agents.items ≡ map (λ (a : Agent). a.agent) held.now) }
+    ensures { IfOk result (λ agents. agents.items ≡ map (unseated new.now) held.now) }
 {
     let mut agents = Vec::new(alloc);
     for agent in held {
-        let next = find(new, agent.agent);
-        extend(&mut agents, &[unseated(agent, next)])?;
+        extend(&mut agents, &[unseated(agent, new)])?;
     }
     Ok(agents)
+}
+
+// Whether a connection of its key is among these.
+#[tactic(auto, unfolding(crate::specs::Leading::stays))]
+fn stays(new: &[ConnectionRecord], connection: &ConnectionRecord) -> bool
+    ensures { result ≡ stays new.now connection.now }
+{
+    find(new, (connection.call, connection.device)).is_some()
 }
 
 // The connections that are held and whose keys stay.
@@ -67,11 +91,11 @@ fn staying(
     held: &[ConnectionRecord],
     new: &[ConnectionRecord],
 ) -> Result<Vec<ConnectionRecord>, AllocError>
-    ensures { IfOk result (λ connections. IsAscending connection_order held.now → IsAscending connection_order connections.items) }
+    ensures { IfOk result (λ connections. connections.items ≡ filter (stays new.now) held.now) }
 {
     let mut connections = Vec::new(alloc);
     for connection in held {
-        if find(new, (connection.call, connection.device)).is_some() {
+        if stays(new, connection) {
             extend(&mut connections, &[*connection])?;
         }
     }
@@ -80,7 +104,8 @@ fn staying(
 
 // Groups and stations before agents, who give their stations up before others take them.
 fn plan_changes(alloc: Global, held: &Rows, new: &Rows) -> Result<Vec<Change>, AllocError>
-    ensures { IfOk result (λ changes. Lead held.now (with_plan held.now new.now) changes.items) }
+    ensures lead { IfOk result (λ changes. Lead held.now (with_plan held.now new.now) changes.items) }
+    ensures exact { IfOk result (λ changes. changes.items ≡ plan_differences held.now new.now) }
 {
     let agents = all_unseated(alloc, held.agents.as_slice(), new.agents.as_slice())?;
     let mut changes = Vec::new(alloc);
@@ -103,7 +128,8 @@ fn plan_changes(alloc: Global, held: &Rows, new: &Rows) -> Result<Vec<Change>, A
 
 // Connections go before their calls, and calls are put before their connections.
 fn traffic_changes(alloc: Global, held: &Rows, new: &Rows) -> Result<Vec<Change>, AllocError>
-    ensures { IfOk result (λ changes. Lead (with_plan held.now new.now) new.now changes.items) }
+    ensures lead { IfOk result (λ changes. Lead (with_plan held.now new.now) new.now changes.items) }
+    ensures exact { IfOk result (λ changes. changes.items ≡ traffic_differences held.now new.now) }
 {
     let connections = staying(
         alloc,
@@ -145,7 +171,10 @@ fn traffic_changes(alloc: Global, held: &Rows, new: &Rows) -> Result<Vec<Change>
 /// Connections go before their calls, and calls come before their connections. A group, a station or an
 /// agent that is gone is named by [`Change::Nothing`].
 pub fn rows_changes(alloc: Global, held: &Rows, new: &Rows) -> Result<Vec<Change>, AllocError>
-    ensures { IfOk result (λ changes. Lead held.now new.now changes.items) }
+    ensures lead { IfOk result (λ changes. Lead held.now new.now changes.items) }
+    ensures exact { IfOk result (λ changes. changes.items ≡ rows_differences held.now new.now) }
+    ensures whole { IfOk result (λ changes. Orders held.now → Orders new.now
+        → (AreWhole changes.items ↔ KeepsPlan held.now new.now)) }
 {
     let mut changes = plan_changes(alloc, held, new)?;
     let more = traffic_changes(alloc, held, new)?;

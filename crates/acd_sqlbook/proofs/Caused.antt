@@ -1,26 +1,30 @@
 -- Why a book answers that its store has failed.
-use Rattle.std.proofs.Common.{◌≡◌, ◌⊎◌, inl, inr, List, length, Result, Ok, Err, refl, sym, ap, subst, ◌∙◌}
+use Rattle.std.proofs.Common.{◌≡◌, ◌⊎◌, inl, inr, ℕ, ◌<◌, List, length, Option, Result, Ok, Err, refl, sym, ap, subst, ◌∙◌, arith}
+use Rattle.std.specs.Prelude.{IsSome}
 use Rattle.std.proofs.lemmas.Bool.{cases_Bool}
 use Rattle.sqlite.specs.declared.error.Error.{Error}
 use Rattle.sqlite.specs.State.{State, HasCleanDisk}
 use Rattle.acd_terms.specs.declared.event.Event.{Event}
 use Rattle.acd_terms.specs.declared.rows.Limits.{Limits}
+use Rattle.acd_terms.specs.declared.rows.Rows.{Rows}
 use Rattle.acd_model.specs.declared.moves.Change.{Change}
 use Rattle.acd_book.specs.declared.kept.Kept.{Kept}
 use Rattle.acd_columns.specs.Relations.{meta_of}
 use Rattle.acd_book.specs.Content.{Content}
 use Rattle.acd_book.specs.declared.fault.BookFault.{BookFault}
-use Rattle.acd_book.specs.declared.fault.BookFault.TheVariants.{Store}
+use Rattle.acd_book.specs.declared.fault.BookFault.TheVariants.{NoMemory, Store}
 use Rattle.acd_columns.specs.InTables.{content_of}
+use Rattle.acd_differences.specs.Leading.{rows_differences}
 use Rattle.acd_statements.specs.Failing.{IsMemory, HasFailed}
 use Rattle.acd_statements.specs.InRange.{IsInRange}
 use Rattle.acd_statements.specs.Reading.{FailsToRead, Blames}
 use Rattle.acd_schema.specs.SettingUp.{FailsToSetUp}
 use Rattle.acd_sqlbook.specs.Commit.{counted}
-use Rattle.acd_sqlbook.specs.Stopping.{IsBlamedOr, IsUncounted, StopsInAll, StopsCommit}
-use Rattle.acd_sqlbook.specs.State.{IsSound, fault_of, answered}
-use Rattle.acd_sqlbook.specs.Causes.{Asked, StoreCause, create, read, failed, change, shut, limited, unfit, unreadable, refused}
+use Rattle.acd_sqlbook.specs.Stopping.{AllFit, Drops, IsBlamedOr, IsUncounted, RefusesInAll, StopsCommit, StopsReplace}
+use Rattle.acd_sqlbook.specs.State.{IsSound, fault_of, answered, failures_after}
+use Rattle.acd_sqlbook.specs.Causes.{Asked, StoreCause, IsCaused, IsLimited, IsUnreadable, create, read, failed, change, replace, shut, limited, unfit, unreadable, drops, refused}
 use Rattle.acd_sqlbook.proofs.BookStates.{held_is}
+use Rattle.acd_sqlbook.proofs.Counting.{parted}
 
 -- want of memory is no failure of the store
 pub not_memory : (e : Error) (f : BookFault) → f ≡ fault_of e → f ≡ Store → IsMemory e → ⊥
@@ -52,24 +56,61 @@ reads_caused old new (Err e) answer is h clean sound store =
       | inr down ↦ shut down
     ]
 
--- ---- a commit of changes
+-- ---- commits
 
-module _ (changes : List Change) (events : List Event) (kept : Kept) where
-  change_cause : (old new : State) (c : Content) → content_of old.committed.trees ≡ c → (e : Error) → fault_of e ≡ Store → FailsToRead c old new e ⊎ StopsCommit changes events kept old.step_limit c → StoreCause (change changes events kept) old new
-  change_cause old new c is e store (inl (inl memory)) = absurd (not_memory e (fault_of e) refl store memory)
-  change_cause old new c is e store (inl (inr (inl more))) = failed more
-  change_cause old new c is e store (inl (inr (inr (inl steps)))) = limited steps
-  change_cause old new c is e store (inl (inr (inr (inr bad)))) = unreadable (λ range. bad (subst IsInRange is range))
-  change_cause old new c is e store (inr (inl large)) = unfit (subst (IsUncounted changes (length events) kept old.step_limit) (sym is) large)
-  change_cause old new c is e store (inr (inr stops)) =
-      refused (subst (λ (x : Content). StopsInAll changes events kept (counted (meta_of x.rows) changes (length events) kept) old.step_limit x) (sym is) stops)
+-- a call that reads first fails as a read does, or stops
+module _ (asked : Asked) (old new : State) (Stops : Option ℕ → Content → Type 0) (steps : IsSome old.step_limit → IsLimited asked old) (bad : ¬ (IsInRange (content_of old.committed.trees)) → IsUnreadable asked old)
+    (stopped : (c : Content) → content_of old.committed.trees ≡ c → Stops old.step_limit c → StoreCause asked old new) where
+  each_cause : (c : Content) → content_of old.committed.trees ≡ c → (e : Error) → fault_of e ≡ Store → FailsToRead c old new e ⊎ Stops old.step_limit c → StoreCause asked old new
+  each_cause c is e store (inl (inl memory)) = absurd (not_memory e (fault_of e) refl store memory)
+  each_cause c is e store (inl (inr (inl more))) = failed more
+  each_cause c is e store (inl (inr (inr (inl limit)))) = limited (steps limit)
+  each_cause c is e store (inl (inr (inr (inr out)))) = unreadable (bad (λ range. out (subst IsInRange is range)))
+  each_cause c is e store (inr stops) = stopped c is stops
 
-  pub changes_caused : (old new : State) (r : Result (Unit {0}) Error) (answer : Result (Unit {0}) BookFault) → answer ≡ answered r → IsBlamedOr (StopsCommit changes events kept) old new r → HasCleanDisk new → IsSound old → answer ≡ Err Store
-      → StoreCause (change changes events kept) old new
-  changes_caused old new (Ok a) answer is h clean sound store = absurd (let apart = sym store ∙ is in cc)
-  changes_caused old new (Err e) answer is h clean sound store =
+  commit_caused : (r : Result (Unit {0}) Error) (answer : Result (Unit {0}) BookFault) → answer ≡ answered r → IsBlamedOr Stops old new r → HasCleanDisk new → IsSound old → answer ≡ Err Store → StoreCause asked old new
+  commit_caused (Ok a) answer is h clean sound store = absurd (let apart = sym store ∙ is in cc)
+  commit_caused (Err e) answer is h clean sound store =
       let fault : fault_of e ≡ Store = cc in
       elim (cases_Bool old.is_open) [
-        | inl up ↦ let held = sound.stands up in change_cause old new held.0 (held_is old held.0 held.1) e fault (h clean held.0 held.1)
+        | inl up ↦ let held = sound.stands up in each_cause held.0 (held_is old held.0 held.1) e fault (h clean held.0 held.1)
         | inr down ↦ shut down
       ]
+
+module _ (changes : List Change) (events : List Event) (kept : Kept) (old new : State) where
+  change_stops : (c : Content) → content_of old.committed.trees ≡ c → StopsCommit changes events kept old.step_limit c → StoreCause (change changes events kept) old new
+  change_stops c is (inl large) = unfit (inl (subst (IsUncounted changes (length events) kept old.step_limit) (sym is) large))
+  change_stops c is (inr stops) =
+      elim (parted changes events kept (counted (meta_of c.rows) changes (length events) kept) old.step_limit c stops) [
+        | inl large ↦ unfit (inr large)
+        | inr refuses ↦ refused (subst (λ (x : Content). RefusesInAll changes events kept (counted (meta_of x.rows) changes (length events) kept) old.step_limit x) (sym is) refuses)
+      ]
+
+  pub changes_caused : (r : Result (Unit {0}) Error) (answer : Result (Unit {0}) BookFault) → answer ≡ answered r → IsBlamedOr (StopsCommit changes events kept) old new r → HasCleanDisk new → IsSound old → answer ≡ Err Store
+      → StoreCause (change changes events kept) old new
+  changes_caused = commit_caused (change changes events kept) old new (StopsCommit changes events kept) (λ limit. limit) (λ out. out) change_stops
+
+module _ (rows : Rows) (events : List Event) (kept : Kept) (old new : State) where
+  replace_stops : (c : Content) → content_of old.committed.trees ≡ c → StopsReplace rows events kept old.step_limit c → StoreCause (replace rows events kept) old new
+  replace_stops c is (inl large) = unfit (inl large)
+  replace_stops c is (inr (inl gone)) = drops (subst (Drops rows old.step_limit) (sym is) gone)
+  replace_stops c is (inr (inr stops)) =
+      elim (parted (rows_differences c.rows rows) events kept (meta_of rows) old.step_limit c stops) [
+        | inl large ↦ unfit (inr (subst (λ (x : Content). ¬ (AllFit (rows_differences x.rows rows) events)) (sym is) large))
+        | inr refuses ↦ refused (subst (λ (x : Content). RefusesInAll (rows_differences x.rows rows) events kept (meta_of rows) old.step_limit x) (sym is) refuses)
+      ]
+
+  pub replace_caused : (r : Result (Unit {0}) Error) (answer : Result (Unit {0}) BookFault) → answer ≡ answered r → IsBlamedOr (StopsReplace rows events kept) old new r → HasCleanDisk new → IsSound old → answer ≡ Err Store
+      → StoreCause (replace rows events kept) old new
+  replace_caused = commit_caused (replace rows events kept) old new (StopsReplace rows events kept) (λ limit. limit) (λ out. out) replace_stops
+
+-- ---- with the count as it is noted
+
+only_store : {A : Type 0} (answer : Result A BookFault) (failures next : ℕ) → next ≡ failures_after answer failures → failures < next → answer ≡ Err Store
+only_store (Ok a) failures next is more = absurd (let same : next ≡ failures = is in omega (arith, same, more))
+only_store (Err NoMemory) failures next is more = absurd (let same : next ≡ failures = is in omega (arith, same, more))
+only_store (Err Store) failures next is more = refl
+
+pub noted_cause : {A : Type 0} (asked : Asked) (old new : State) (failures next : ℕ) (answer : Result A BookFault) → next ≡ failures_after answer failures
+    → (HasCleanDisk new → IsSound old → answer ≡ Err Store → StoreCause asked old new) → IsCaused asked old new failures next answer
+noted_cause asked old new failures next answer is cause = record { answer = cause; count = λ clean sound more. cause clean sound (only_store answer failures next is more) }

@@ -17,7 +17,7 @@ use Rattle.acd_columns.specs.declared.meta.Meta.{Meta}
 use Rattle.acd_columns.specs.Relations.{meta_of}
 use Rattle.acd_sqlbook.specs.Commit.{with_meta, filed, all_filed, with_event, with_events, with_kept, made_by, top_call, top_monitor, last_call, last_monitor, counted}
 use Rattle.acd_sqlbook.proofs.Filing.{next}
-use Rattle.acd_lemmas.proofs.Changes.{limits-changed, limits-changed_by}
+use Rattle.acd_lemmas.proofs.Changes.{limits-changed_by}
 
 -- ---- the counters stand apart
 

@@ -1,5 +1,5 @@
 -- A commit of tables makes them of the content that they follow.
-use Rattle.std.proofs.Common.{◌≡◌, List, Result, Ok, Err, IsTrue, IfOk, OnOk, OnErr, refl, sym, ap₂, subst, ◌∙◌}
+use Rattle.std.proofs.Common.{◌≡◌, List, Result, Ok, Err, IsTrue, IfOk, OnOk, OnErr, refl, sym, ap, ap₂, subst, ◌∙◌}
 use Rattle.std.specs.Prelude.{Vec}
 use Rattle.std.specs.declared.alloc.Global.{Global}
 use Rattle.sqlite.specs.declared.error.Error.{Error}
@@ -14,11 +14,12 @@ use Rattle.acd_lemmas.specs.Orders.{Orders}
 use Rattle.acd_lemmas.proofs.Decided.{orders_decided}
 use Rattle.acd_columns.specs.declared.meta.Meta.{Meta}
 use Rattle.acd_columns.specs.declared.tables.Table.TheVariants as table
-use Rattle.acd_sqlbook.specs.Calls.{HasRead, HasReplaced}
+use Rattle.acd_sqlbook.specs.Calls.{HasRead, HasReplaced, LeadsTo}
 use Rattle.acd_sqlbook.specs.Commit.{made_by}
 use Rattle.acd_columns.specs.Relations.{meta_of}
 use Rattle.acd_columns.specs.Draft.{Holds, AddsStop}
 use Rattle.acd_columns.proofs.Decoded.{groups_rise, agents_rise}
+use Rattle.acd_differences.specs.Leading.{rows_differences}
 use Rattle.acd_differences.specs.Transition.{HasTables}
 use Rattle.acd_sqlbook.proofs.Committing.{rows_made}
 use Rattle.acd_sqlbook.proofs.Standing.{quiet_still, reads_not, reads_on, commits_not, commits_behind}
@@ -34,22 +35,25 @@ held_in_order s c held = record {
   monitors = (held.encodes table.Monitors).ascending;
 }
 
-abbrev pub LeadsTo : Rows → Content → Vec Change Global → Type 0
-LeadsTo rows c changes = Orders rows → HasTables (changed_by c.rows changes.items) rows
+abbrev pub Leading : Rows → Content → Vec Change Global → Type 0
+Leading rows c changes = LeadsTo rows c changes.items
 
 reads_ordered : (old new : State) (held : Rows) → HasRead old new (Ok held) (λ c (found : Rows). found ≡ c.rows) → HasRead old new (Ok held) (λ c (found : Rows). (found ≡ c.rows) × Orders c.rows)
 reads_ordered old new held h = record { quiet = h.quiet; up = h.up; stops = h.stops; value = λ k c holds. (h.value k c holds, held_in_order old c holds) }
 
 -- what leads on from the tables that were read leads on from those that are held
 pub reads_leading : (old new : State) (held rows : Rows) (r : Result (Vec Change Global) Error) → HasRead old new (Ok held) (λ c (found : Rows). found ≡ c.rows)
-    → IfOk r (λ changes. Orders held → Orders rows → HasTables (changed_by held changes.items) rows) → HasRead old new r (LeadsTo rows)
-reads_leading old new held rows r read leads =
-    reads_on old new held r (λ c (found : Rows). (found ≡ c.rows) × Orders c.rows) (LeadsTo rows) (reads_ordered old new held read) (on r leads)
+    → IfOk r (λ changes. changes.items ≡ rows_differences held rows) → IfOk r (λ changes. Orders held → Orders rows → HasTables (changed_by held changes.items) rows) → HasRead old new r (Leading rows)
+reads_leading old new held rows r read is leads =
+    reads_on old new held r (λ c (found : Rows). (found ≡ c.rows) × Orders c.rows) (Leading rows) (reads_ordered old new held read) (on r is leads)
   where
-    on : (r : Result (Vec Change Global) Error) → IfOk r (λ changes. Orders held → Orders rows → HasTables (changed_by held changes.items) rows)
-        → IfOk r (λ changes. (c : Content) → (held ≡ c.rows) × Orders c.rows → LeadsTo rows c changes)
-    on (Ok changes) h = λ c p up. subst (λ s. HasTables (changed_by s changes.items) rows) p.0 (h (subst Orders (sym p.0) p.1) up)
-    on (Err e) h = tt
+    on : (r : Result (Vec Change Global) Error) → IfOk r (λ changes. changes.items ≡ rows_differences held rows) → IfOk r (λ changes. Orders held → Orders rows → HasTables (changed_by held changes.items) rows)
+        → IfOk r (λ changes. (c : Content) → (held ≡ c.rows) × Orders c.rows → Leading rows c changes)
+    on (Ok changes) e h = λ c p. record {
+      exact = e ∙ ap (λ s. rows_differences s rows) p.0;
+      leads = λ up. subst (λ s. HasTables (changed_by s changes.items) rows) p.0 (h (subst Orders (sym p.0) p.1) up);
+    }
+    on (Err e) is h = tt
 
 -- nothing was written
 pub replaces_not : {A : Type 0} (old new : State) (e : Error) (P : Content → A → Type 0) (rows : Rows) (events : List Event) (kept : Kept) → HasRead old new (Err e) P
@@ -67,7 +71,7 @@ replaces_still s e rows events kept =
 
 -- a commit of changes that lead to the tables
 pub replaces : (old mid new : State) (r : Result (Unit {0}) Error) (changes : Vec Change Global) (all : List Change) (meta : Meta) (rows : Rows) (events : List Event) (kept : Kept)
-    → all ≡ changes.items → meta ≡ meta_of rows → HasRead old mid (Ok changes) (LeadsTo rows)
+    → all ≡ changes.items → meta ≡ meta_of rows → HasRead old mid (Ok changes) (Leading rows)
     → (HasCleanDisk new → HasCleanDisk mid) → (HasCleanDisk new → OnOk r (IsTrue mid.is_open × IsTrue new.is_open)) → (HasCleanDisk new → IsTrue new.is_open → IsTrue mid.is_open)
     → (HasCleanDisk new → OnOk r ((c : Content) → Holds mid c → Holds new (made_by all events kept meta c)))
     → (HasCleanDisk new → OnErr r ((c : Content) → Holds mid c → IsTrue new.is_open → Holds new c))
@@ -76,9 +80,9 @@ replaces old mid new r changes all meta rows events kept same counters read clea
     let written : Content → Content = made_by all events kept meta in
     record {
       written = written;
-      commits = commits_behind old mid new r written written changes (LeadsTo rows) read (λ c leads. refl) clean up was done undone stops;
+      commits = commits_behind old mid new r written written changes (Leading rows) read (λ c leads. refl) clean up was done undone stops;
       same = λ k c held follows.
-          let t = read.value (clean k) c held ((orders_decided rows).0 follows.ordered) in
+          let t = (read.value (clean k) c held).leads ((orders_decided rows).0 follows.ordered) in
           ap₂ (λ l m. made_by l events kept m c) same counters
           ∙ rows_made changes.items events kept rows c follows t.groups t.stations t.agents t.calls t.connections t.monitors;
     }

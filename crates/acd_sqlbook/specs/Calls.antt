@@ -1,9 +1,15 @@
 -- What a call over a connection between transactions leaves, where the connection may have failed before.
-use Rattle.std.specs.Prelude.{◌≡◌, Result, IsTrue, IfOk, OnOk, OnErr}
+use Rattle.std.specs.Prelude.{◌≡◌, List, Result, IsTrue, IfOk, OnOk, OnErr}
 use Rattle.sqlite.specs.State.{State, HasCleanDisk}
 use Rattle.sqlite.specs.declared.error.Error.{Error}
+use Rattle.acd_terms.specs.declared.rows.Rows.{Rows}
+use Rattle.acd_model.specs.Changes.{changed_by}
+use Rattle.acd_model.specs.declared.moves.Change.{Change}
+use Rattle.acd_lemmas.specs.Orders.{Orders}
 use Rattle.acd_book.specs.Content.{Content}
 use Rattle.acd_columns.specs.Draft.{Holds, Quiet, NoStop, MayAdd}
+use Rattle.acd_differences.specs.Leading.{rows_differences}
+use Rattle.acd_differences.specs.Transition.{HasTables}
 
 -- while it is open it has a content
 abbrev pub Stands : State → Type 0
@@ -31,3 +37,10 @@ pub record HasReplaced (old new : State) (result : Result (Unit {0}) Error) (Fol
   pub written : Content → Content
   pub commits : HasCommitted old new result written
   pub same : HasCleanDisk new → (c : Content) → Holds old c → Follows c → written c ≡ after c
+
+-- ---- the changes of a commit of tables
+
+-- they lead from the tables of a content to those of the rows, and are the differences of both
+pub record LeadsTo (rows : Rows) (c : Content) (changes : List Change) : Type 0 where
+  pub exact : changes ≡ rows_differences c.rows rows
+  pub leads : Orders rows → HasTables (changed_by c.rows changes) rows

@@ -2,18 +2,22 @@
 use Rattle.std.specs.Prelude.{◌≡◌, ◌⊎◌, ℕ, ◌≤◌, ◌∷◌, [], List, length, Option, Result, IfErr, OnOk}
 use Rattle.sqlite.specs.declared.error.Error.{Error}
 use Rattle.sqlite.specs.State.{State, HasCleanDisk}
+use Rattle.acd_terms.specs.Lists.{Every}
 use Rattle.acd_terms.specs.declared.event.Event.{Event}
+use Rattle.acd_terms.specs.declared.rows.Rows.{Rows}
 use Rattle.acd_model.specs.declared.moves.Change.{Change}
 use Rattle.acd_model.specs.declared.moves.Change.TheVariants.{Nothing, PutGroup, PutStation, PutAgent, PutCall, PutConnection, PutMonitor, RemoveCall, RemoveConnection, RemoveMonitor}
 use Rattle.acd_book.specs.Content.{Content}
 use Rattle.acd_book.specs.declared.kept.Kept.{Kept}
-use Rattle.acd_columns.specs.Draft.{Drafts, Holds, MetaFits}
+use Rattle.acd_columns.specs.Draft.{Drafts, Fits, Holds, MetaFits}
 use Rattle.acd_columns.specs.Relations.{Relations, meta_of, relations_of}
 use Rattle.acd_columns.specs.Rows.{kept_values, meta_shown}
 use Rattle.acd_columns.specs.Tables.{stations, calls, monitors, events}
 use Rattle.acd_columns.specs.Values.{id_value}
 use Rattle.acd_columns.specs.declared.meta.Meta.{Meta}
 use Rattle.acd_columns.specs.declared.texts.TheConstants.{DELETE_CALL, DELETE_CONNECTION, DELETE_MONITOR, INSERT_KEPT, UPDATE_CALL, UPDATE_META, UPDATE_MONITOR}
+use Rattle.acd_differences.specs.Leading.{rows_differences}
+use Rattle.acd_differences.specs.Transition.{AreWhole}
 use Rattle.acd_statements.specs.Failing.{IsMemory, HasFailed}
 use Rattle.acd_statements.specs.Reading.{FailsToRead}
 use Rattle.acd_statements.specs.Refusing.{RefusesOn, RefusesPut, RefusesPutConnection, RefusesGroup, RefusesAgent}
@@ -61,6 +65,31 @@ StopsInAll changes events kept meta limit c =
     StopsInChanges changes limit c
     ⊎ (StopsInEvents events limit (all_filed c changes) ⊎ StopsAtLast kept meta limit (with_events (all_filed c changes) events))
 
+-- ---- what of it doesn't fit, and what the store refuses
+
+-- each number of the changes and of the events fits its column
+abbrev pub AllFit : List Change → List Event → Type 0
+AllFit changes events = Every ChangeFits changes × Every EventFits events
+
+-- the store refuses one of them, where some of those before it are made
+abbrev pub RefusesInChanges : List Change → Option ℕ → Content → Type 0
+RefusesInChanges [] limit c = ⊥
+RefusesInChanges (change ∷ changes) limit c =
+    RefusesChange change limit (relations_of c) ⊎ (RefusesInChanges changes limit c ⊎ RefusesInChanges changes limit (filed c change))
+
+-- one of them, behind those before it
+abbrev pub RefusesInEvents : List Event → Option ℕ → Content → Type 0
+RefusesInEvents [] limit c = ⊥
+RefusesInEvents (e ∷ es) limit c = RefusesOn events.insert (events.values e) limit (relations_of c) ⊎ RefusesInEvents es limit (with_event c e)
+
+-- a statement of a change, of an event behind them, or of what is last
+abbrev pub RefusesInAll : List Change → List Event → Kept → Meta → Option ℕ → Content → Type 0
+RefusesInAll changes events kept meta limit c =
+    RefusesInChanges changes limit c
+    ⊎ (RefusesInEvents events limit (all_filed c changes) ⊎ StopsAtLast kept meta limit (with_events (all_filed c changes) events))
+
+-- ---- failures
+
 -- why it fails, where `Stops limit c` says at what it stops
 abbrev pub FailsToFile : (Option ℕ → Content → Type 0) → Content → State → State → Error → Type 0
 FailsToFile Stops c old new e = IsMemory e ⊎ (HasFailed old new ⊎ Stops old.step_limit c)
@@ -83,6 +112,23 @@ IsUncounted changes events kept limit c = ¬ (MetaFits (counted (meta_of c.rows)
 abbrev pub StopsCommit : List Change → List Event → Kept → Option ℕ → Content → Type 0
 StopsCommit changes events kept limit c =
     IsUncounted changes (length events) kept limit c ⊎ StopsInAll changes events kept (counted (meta_of c.rows) changes (length events) kept) limit c
+
+-- ---- a commit of tables
+
+-- the limits and the counters of the rows fit their columns, and so does the stamp
+abbrev pub AreCounted : Rows → Kept → Type 0
+AreCounted rows kept = MetaFits (meta_of rows) × Fits kept.stamp
+
+-- a group, a station or an agent that is held isn't among the rows
+abbrev pub Drops : Rows → Option ℕ → Content → Type 0
+Drops rows limit c = ¬ (AreWhole (rows_differences c.rows rows))
+
+-- those don't fit, it would drop one of these, or it stops at something that it writes
+abbrev pub StopsReplace : Rows → List Event → Kept → Option ℕ → Content → Type 0
+StopsReplace rows events kept limit c =
+    (¬ (AreCounted rows kept)) ⊎ (Drops rows limit c ⊎ StopsInAll (rows_differences c.rows rows) events kept (meta_of rows) limit c)
+
+-- ---- either
 
 -- why a call that reads first fails: as a read does, or at this
 abbrev pub IsBlamedOr : {A : Type 0} → (Option ℕ → Content → Type 0) → State → State → Result A Error → Type 0

@@ -7,8 +7,8 @@ ghost use Rattle.acd_columns.specs.Schema.{no_schema};
 ghost use Rattle.acd_columns.specs.Draft.{LimitsFit};
 ghost use Rattle.acd_sqlbook.specs.State.{book_state, IsNew, fault_of, answered, failures_after};
 ghost use Rattle.acd_schema.specs.SettingUp.{MayMake};
-ghost use Rattle.acd_sqlbook.specs.Causes.{StoreCause, IsCaused, create as creating, read as reading, change as changing};
-ghost use Rattle.acd_book.specs.Content.{IsKeptAfter, events_behind, events_of_monitor, kept_of, FollowsBy, committed_by};
+ghost use Rattle.acd_sqlbook.specs.Causes.{StoreCause, IsCaused, create as creating, read as reading, change as changing, replace as replacing};
+ghost use Rattle.acd_book.specs.Content.{IsKeptAfter, events_behind, events_of_monitor, kept_of, Follows, committed, FollowsBy, committed_by};
 ghost use Rattle.acd_book.specs.State.{Reads, Commits};
 
 use crate::ready::{
@@ -145,7 +145,8 @@ impl<S: Alter> Book for SqlBook<S> {
             (book_state (state S.Store self.new.conn) self.new.failures) result
             (λ c found. found ≡ c.rows.limits) }
         ensures caused { IsCaused reading
-            (state S.Store self.old.conn) (state S.Store self.new.conn) result }
+            (state S.Store self.old.conn) (state S.Store self.new.conn)
+            self.old.failures self.new.failures result }
     {
         let found = limits_ready(&mut self.conn, self.fresh);
         noted(found, &mut self.fresh, &mut self.failures)
@@ -156,7 +157,8 @@ impl<S: Alter> Book for SqlBook<S> {
             (book_state (state S.Store self.new.conn) self.new.failures) result
             (λ c found. found ≡ c.rows) }
         ensures caused { IsCaused reading
-            (state S.Store self.old.conn) (state S.Store self.new.conn) result }
+            (state S.Store self.old.conn) (state S.Store self.new.conn)
+            self.old.failures self.new.failures result }
     {
         let found = rows_ready(self.alloc, &mut self.conn, self.fresh);
         noted(found, &mut self.fresh, &mut self.failures)
@@ -167,7 +169,8 @@ impl<S: Alter> Book for SqlBook<S> {
             (book_state (state S.Store self.new.conn) self.new.failures) result
             (λ c found. found ≡ kept_of c.kept requester.now invoke) }
         ensures caused { IsCaused reading
-            (state S.Store self.old.conn) (state S.Store self.new.conn) result }
+            (state S.Store self.old.conn) (state S.Store self.new.conn)
+            self.old.failures self.new.failures result }
     {
         let found = kept_ready(self.alloc, &mut self.conn, self.fresh, requester, invoke);
         noted(found, &mut self.fresh, &mut self.failures)
@@ -178,7 +181,8 @@ impl<S: Alter> Book for SqlBook<S> {
             (book_state (state S.Store self.new.conn) self.new.failures) result
             (λ c found. IsKeptAfter c.kept stamp found) }
         ensures caused { IsCaused reading
-            (state S.Store self.old.conn) (state S.Store self.new.conn) result }
+            (state S.Store self.old.conn) (state S.Store self.new.conn)
+            self.old.failures self.new.failures result }
     {
         let found = kept_after_ready(self.alloc, &mut self.conn, self.fresh, stamp);
         noted(found, &mut self.fresh, &mut self.failures)
@@ -189,7 +193,8 @@ impl<S: Alter> Book for SqlBook<S> {
             (book_state (state S.Store self.new.conn) self.new.failures) result
             (λ c found. found.items ≡ events_behind c.events number limit) }
         ensures caused { IsCaused reading
-            (state S.Store self.old.conn) (state S.Store self.new.conn) result }
+            (state S.Store self.old.conn) (state S.Store self.new.conn)
+            self.old.failures self.new.failures result }
     {
         let found = events_ready(self.alloc, &mut self.conn, self.fresh, number, limit);
         noted(found, &mut self.fresh, &mut self.failures)
@@ -205,7 +210,8 @@ impl<S: Alter> Book for SqlBook<S> {
             (book_state (state S.Store self.new.conn) self.new.failures) result
             (λ c found. found.items ≡ events_of_monitor c monitor number limit) }
         ensures caused { IsCaused reading
-            (state S.Store self.old.conn) (state S.Store self.new.conn) result }
+            (state S.Store self.old.conn) (state S.Store self.new.conn)
+            self.old.failures self.new.failures result }
     {
         let found = watched_ready(
             self.alloc,
@@ -218,7 +224,15 @@ impl<S: Alter> Book for SqlBook<S> {
         noted(found, &mut self.fresh, &mut self.failures)
     }
 
-    fn commit(&mut self, rows: &Rows, events: &[Event], kept: &Kept) -> Result<(), BookFault> {
+    fn commit(&mut self, rows: &Rows, events: &[Event], kept: &Kept) -> Result<(), BookFault>
+        ensures commits { Commits (book_state (state S.Store self.old.conn) self.old.failures)
+            (book_state (state S.Store self.new.conn) self.new.failures) result
+            (Follows rows.now events.now kept.now)
+            (committed rows.now events.now kept.now) }
+        ensures caused { IsCaused (replacing rows.now events.now kept.now)
+            (state S.Store self.old.conn) (state S.Store self.new.conn)
+            self.old.failures self.new.failures result }
+    {
         let done = commit_rows_ready(self.alloc, &mut self.conn, self.fresh, rows, events, kept);
         noted(done, &mut self.fresh, &mut self.failures)
     }
@@ -234,7 +248,8 @@ impl<S: Alter> Book for SqlBook<S> {
             (FollowsBy changes.now events.now kept.now)
             (committed_by changes.now events.now kept.now) }
         ensures caused { IsCaused (changing changes.now events.now kept.now)
-            (state S.Store self.old.conn) (state S.Store self.new.conn) result }
+            (state S.Store self.old.conn) (state S.Store self.new.conn)
+            self.old.failures self.new.failures result }
     {
         let done = commit_ready(
             self.alloc,

@@ -1,15 +1,18 @@
 //! A commit of whole tables, by the changes that lead to them.
 
-ghost use Rattle.std.specs.Prelude.{◌≡◌, false, IfOk, OnOk, IsTrue};
+ghost use Rattle.std.specs.Prelude.{◌≡◌, ◌⊎◌, false, IfErr, IfOk, OnOk, IsTrue};
 ghost use Rattle.sqlite.specs.State.{HasCleanDisk};
 ghost use Rattle.sqlite.specs.Held.{state};
 ghost use Rattle.acd_model.specs.Changes.{changed_by};
 ghost use Rattle.acd_book.specs.Content.{Follows, committed};
 ghost use Rattle.acd_lemmas.specs.Orders.{Orders};
-ghost use Rattle.acd_sqlbook.specs.Calls.{HasRead, HasReplaced};
+ghost use Rattle.acd_sqlbook.specs.Calls.{HasRead, HasReplaced, LeadsTo};
+ghost use Rattle.acd_sqlbook.specs.Stopping.{AreCounted, BlamesOr, Drops, IsBlamedOr, StopsReplace};
 ghost use Rattle.acd_columns.specs.Relations.{meta_of};
 ghost use Rattle.acd_columns.specs.Draft.{Fits, MetaFits};
-ghost use Rattle.acd_differences.specs.Transition.{HasTables};
+ghost use Rattle.acd_differences.specs.Leading.{rows_differences};
+ghost use Rattle.acd_differences.specs.Transition.{AreWhole, HasTables};
+ghost use Rattle.acd_statements.specs.Failing.{IsMemory};
 
 use crate::commit::commit_all;
 use crate::ready::{meta_fits, rows_ready};
@@ -30,7 +33,11 @@ fn missing() -> Error {
 
 // The changes, where they can be made.
 fn whole_changes(alloc: Global, held: &Rows, new: &Rows) -> Result<Vec<Change>, Error>
-    ensures { IfOk result (λ changes. Orders held.now → Orders new.now → HasTables (changed_by held.now changes.items) new.now) }
+    ensures exact { IfOk result (λ changes. changes.items ≡ rows_differences held.now new.now) }
+    ensures leads { IfOk result (λ changes. Orders held.now → Orders new.now
+        → HasTables (changed_by held.now changes.items) new.now) }
+    ensures failed { IfErr result (λ e. IsMemory e
+        ⊎ (¬ (AreWhole (rows_differences held.now new.now)))) }
 {
     let changes = rows_changes(alloc, held, new)?;
     if !are_whole(&changes) {
@@ -49,7 +56,10 @@ fn changes_to<S: Alter>(
     requires idle { conn.old.in_transaction ≡ false }
     requires fresh { IsTrue fresh → HasCleanDisk (state S.Store conn.old) → IsTrue (state S.Store conn.old).is_open }
     ensures idle { conn.new.in_transaction ≡ false }
-    ensures read { HasRead (state S.Store conn.old) (state S.Store conn.new) result (λ c changes. Orders rows.now → HasTables (changed_by c.rows changes.items) rows.now) }
+    ensures read { HasRead (state S.Store conn.old) (state S.Store conn.new) result
+        (λ c changes. LeadsTo rows.now c changes.items) }
+    ensures blamed { BlamesOr (Drops rows.now)
+        (state S.Store conn.old) (state S.Store conn.new) result }
 {
     match rows_ready(alloc, conn, fresh) {
         Ok(held) => whole_changes(alloc, &held, rows),
@@ -62,6 +72,7 @@ fn meta_of(rows: &Rows, kept: &Kept) -> Result<Meta, Error>
     ensures is { IfOk result (λ meta. meta ≡ meta_of rows.now) }
     ensures fits { IfOk result (λ meta. MetaFits meta) }
     ensures stamp { OnOk result (Fits kept.now.stamp) }
+    ensures unfit { IfErr result (λ _. ¬ (AreCounted rows.now kept.now)) }
 {
     let meta = Meta {
         limits: rows.limits,
@@ -94,6 +105,8 @@ pub(crate) fn commit_rows_ready<S: Alter>(
     requires fresh { IsTrue fresh → HasCleanDisk (state S.Store conn.old) → IsTrue (state S.Store conn.old).is_open }
     ensures idle { conn.new.in_transaction ≡ false }
     ensures commits { HasReplaced (state S.Store conn.old) (state S.Store conn.new) result (Follows rows.now events.now kept.now) (committed rows.now events.now kept.now) }
+    ensures blamed { IsBlamedOr (StopsReplace rows.now events.now kept.now)
+        (state S.Store conn.old) (state S.Store conn.new) result }
 {
     let request = request_text(alloc, &kept.request)?;
     let meta = meta_of(rows, kept)?;

@@ -1,8 +1,17 @@
 use Rattle.sqlite.specs.Held.{state}
+use Rattle.acd_sqlbook.specs.Causes.{replace}
 use Rattle.acd_sqlbook.proofs.BookStates.{rows_noted}
+use Rattle.acd_sqlbook.proofs.Caused.{replace_caused, noted_cause}
 use Rattle.acd_sqlbook.proofs.book.SqlBookBook.commit.Goals as goal
 
-pub returns : goal.returns
-returns g c =
+pub returns-clause-commits : goal.returns-clause-commits
+returns-clause-commits g c =
     rows_noted (state g.S.Store c.args.self.now.conn) (state g.S.Store c.commit_rows_ready-done.new.conn) c.args.self.now.failures c.noted.new.failures c.commit_rows_ready-done.result c.noted.result
     c.args.rows.now c.args.events.now c.args.kept.now c.noted.ensures.answer c.noted.ensures.failures c.noted.ensures.counts c.commit_rows_ready-done.ensures.commits
+
+pub returns-clause-caused : goal.returns-clause-caused
+returns-clause-caused g c =
+    let old = state g.S.Store c.args.self.now.conn in
+    let new = state g.S.Store c.commit_rows_ready-done.new.conn in
+    noted_cause (replace c.args.rows.now c.args.events.now c.args.kept.now) old new c.args.self.now.failures c.noted.new.failures c.noted.result c.noted.ensures.failures
+    (replace_caused c.args.rows.now c.args.events.now c.args.kept.now old new c.commit_rows_ready-done.result c.noted.result c.noted.ensures.answer c.commit_rows_ready-done.ensures.blamed)

@@ -1,7 +1,8 @@
 use Rattle.std.proofs.Common.{◌≡◌}
 use Rattle.sqlite.specs.Held.{state}
+use Rattle.acd_sqlbook.specs.Causes.{read}
 use Rattle.acd_sqlbook.proofs.BookStates.{reads_noted}
-use Rattle.acd_sqlbook.proofs.Caused.{reads_caused}
+use Rattle.acd_sqlbook.proofs.Caused.{reads_caused, noted_cause}
 use Rattle.acd_sqlbook.proofs.book.SqlBookBook.limits.Goals as goal
 
 pub returns-clause-reads : goal.returns-clause-reads
@@ -11,5 +12,6 @@ returns-clause-reads g c =
     c.noted.ensures.answer c.noted.ensures.failures c.noted.ensures.counts c.limits_ready-found.ensures.read
 
 pub returns-clause-caused : goal.returns-clause-caused
-returns-clause-caused g c clean sound store =
-    reads_caused (state g.S.Store c.args.self.now.conn) (state g.S.Store c.limits_ready-found.new.conn) c.limits_ready-found.result c.noted.result c.noted.ensures.answer c.limits_ready-found.ensures.blamed clean sound store
+returns-clause-caused g c =
+    noted_cause read (state g.S.Store c.args.self.now.conn) (state g.S.Store c.limits_ready-found.new.conn) c.args.self.now.failures c.noted.new.failures c.noted.result c.noted.ensures.failures
+    (reads_caused (state g.S.Store c.args.self.now.conn) (state g.S.Store c.limits_ready-found.new.conn) c.limits_ready-found.result c.noted.result c.noted.ensures.answer c.limits_ready-found.ensures.blamed)
