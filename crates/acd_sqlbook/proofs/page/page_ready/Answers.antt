@@ -1,0 +1,21 @@
+use Rattle.std.proofs.Common.{◌≡◌, rules}
+use Rattle.sqlite.specs.Held.{state}
+use Rattle.acd_book.specs.Content.{events_of_monitor}
+use Rattle.acd_sqlbook.specs.Indexing.{Indexes}
+use Rattle.acd_sqlbook.proofs.Standing.{reads_behind}
+use Rattle.acd_statements.proofs.Blamed.{blames_as, blames_behind}
+use Rattle.acd_sqlbook.proofs.page.page_ready.Goals as goal
+
+pub returns-clause-read : goal.returns-clause-read
+returns-clause-read g c =
+    reads_behind (state g.S.Store c.args.conn.now) (state g.S.Store c.serve.new.conn) (state g.S.Store c.page.new.conn) c.page.result (λ x found. Indexes c.args.index.now x.events → found.items ≡ events_of_monitor x c.args.monitor c.args.number c.args.limit)
+    c.serve.ensures.quiet c.in_ok-serve.ensures.up c.serve.ensures.stops c.page.ensures.found
+
+pub returns-in_err-serve-clause-blamed : goal.returns-in_err-serve-clause-blamed
+returns-in_err-serve-clause-blamed g c =
+    blames_as (state g.S.Store c.args.conn.now) (state g.S.Store c.serve.new.conn) c.in_err-serve.field-0.0 c.from_residual.result (search rules) c.in_err-serve.ensures.blamed
+
+pub returns-clause-blamed : goal.returns-clause-blamed
+returns-clause-blamed g c =
+    blames_behind (state g.S.Store c.args.conn.now) (state g.S.Store c.serve.new.conn) (state g.S.Store c.page.new.conn) tt c.page.result
+    c.in_ok-serve.ensures.blamed c.serve.ensures.quiet c.in_ok-serve.ensures.up c.page.ensures.found.quiet.clean c.page.ensures.blamed

@@ -1,0 +1,62 @@
+//! Which events are at the devices of the running monitors, as far as that is noted.
+
+ghost use Rattle.std.specs.Prelude.{◌≤◌, IfSome};
+ghost use Rattle.acd_terms.specs.Lists.{Every};
+ghost use Rattle.acd_terms.specs.declared.event.Event.{Event};
+ghost use Rattle.acd_book.specs.Memory.{number_of};
+ghost use Rattle.acd_book.specs.Order.{Rises};
+ghost use Rattle.acd_sqlbook.specs.Indexing.{GoesOn, IsNotedBehind};
+
+use acd_book::Watched;
+use acd_model::Change;
+use acd_terms::Event;
+use sqlite::Error;
+
+/// For the device of each running monitor the numbers of its events, and the greatest of all numbers.
+#[derive(Drop)]
+pub(crate) struct Index {
+    pub(crate) watched: Watched,
+    pub(crate) last: u64,
+}
+
+// The last number, where each of the events has one above all before.
+fn rises(last: u64, events: &[Event]) -> Option<u64>
+    ensures { IfSome result (λ top. Rises number_of last events.now
+        × (last ≤ top) × Every (λ (e : Event). e.number ≤ top) events.now) }
+{
+    let mut top = last;
+    for event in events {
+        if event.number <= top {
+            return None;
+        }
+        top = event.number;
+    }
+    Some(top)
+}
+
+/// What a commit leaves of it: nothing, where an event doesn't go on above all before.
+pub(crate) fn noted_on(index: Index, changes: &[Change], events: &[Event]) -> Option<Index>
+    ensures { IfSome result (λ next. GoesOn index events.now next) }
+{
+    let top = rises(index.last, events)?;
+    let Index { mut watched, last } = index;
+    watched.change(changes, last);
+    watched.note_all(events);
+    Some(Index { watched, last: top })
+}
+
+/// What is noted behind a commit. A failure takes it away, and it begins anew at the next page.
+pub(crate) fn noted_behind(
+    before: Option<Index>,
+    done: &Result<(), Error>,
+    changes: &[Change],
+    events: &[Event],
+) -> Option<Index>
+    ensures { IsNotedBehind before done.now events.now result }
+{
+    let index = before?;
+    if done.is_err() {
+        return None;
+    }
+    noted_on(index, changes, events)
+}
