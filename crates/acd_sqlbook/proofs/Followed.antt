@@ -9,6 +9,7 @@ use Rattle.sqlite.specs.declared.error.Error.{Error}
 use Rattle.sqlite.specs.State.{State, HasCleanDisk}
 use Rattle.acd_model.specs.declared.moves.Change.{Change}
 use Rattle.acd_book.specs.declared.kept.Kept.{Kept}
+use Rattle.acd_columns.specs.Draft.{Holds}
 use Rattle.acd_columns.specs.InTables.{content_of}
 use Rattle.acd_sqlbook.specs.Calls.{HasCommitted}
 use Rattle.acd_sqlbook.specs.Commit.{written_by}
@@ -21,7 +22,7 @@ use Rattle.acd_sqlbook.specs.declared.index.Index.{Index}
 here : (noted : Option Index) (c d : Content) → c ≡ d → IsNoted noted d.events → IsNoted noted c.events
 here noted c d same = subst (λ (x : Content). IsNoted noted x.events) (sym same)
 
-apart : (noted : Option Index) (b : BookState) → SoundWith noted b → b.is_sound × (b.is_open → IsNoted noted b.content.events)
+pub apart : (noted : Option Index) (b : BookState) → SoundWith noted b → b.is_sound × (b.is_open → IsNoted noted b.content.events)
 apart None b s = (s, λ up. tt)
 apart (Some i) b s = s
 
@@ -58,6 +59,14 @@ module _ {A : Type 0} (before behind : Option Index) (old new : BookState) (r : 
     counts = h.counts;
   }
 
+-- what is noted behind a page is of the events that are held, where what was noted before is
+pub page_goes : (before behind : Option Index) (old new : State) → (HasCleanDisk new → (c : Content) → Holds old c → IsNoted before c.events → IsNoted behind c.events)
+    → HasCleanDisk new → IsSound old → IsTrue old.is_open → IsNoted before (content_of old.committed.trees).events → IsNoted behind (content_of old.committed.trees).events
+page_goes before behind old new goes k sound up noted =
+    let held = sound.stands up in
+    let same = held_is old held.0 held.1 in
+    here behind (content_of old.committed.trees) held.0 same (goes k held.0 held.1 (here before held.0 (content_of old.committed.trees) (sym same) noted))
+
 -- a read that leaves what was noted as it was
 pub reads_kept : {A : Type 0} (noted : Option Index) (old new : BookState) (r : Result A BookFault) (IsAnswer : Content → A → Type 0) → Reads old new r IsAnswer → Reads (followed noted old) (followed noted new) r IsAnswer
 reads_kept noted old new r IsAnswer = reads_followed noted noted old new r IsAnswer IsAnswer (λ k s up n. n) (λ c a n p. p)
@@ -92,5 +101,5 @@ changes_goes before (Some next) old new (Ok a) changes events kept on h k sound 
     let of_old = subst (λ (o : Option Index). IsNoted o (content_of old.committed.trees).events) on.1.1 (noted was) in
     let of_held = subst (λ (c : Content). IsNoted (Some i) c.events) (held_is old held.0 held.1) of_old in
     let made = held_is new (written_by changes events kept held.0) (h.made k held.0 held.1) in
-    subst (λ (l : List Event). IsNoted (Some next) l) (sym (ap (λ (c : Content). c.events) made ∙ written_events changes events kept held.0 i.last goes.0 of_held.last))
-    (goes.1 held.0.events of_held)
+    subst (λ (l : List Event). IsNoted (Some next) l) (sym (ap (λ (c : Content). c.events) made ∙ written_events changes events kept held.0 i.last goes.rise of_held.last))
+    (goes.of_both held.0.events of_held)

@@ -1,7 +1,6 @@
 -- Events that are read by the numbers that an index has of them.
 use Rattle.std.proofs.Common.{◌≡◌, inl, inr, ℕ, ◌+◌, ◌-◌, ◌<◌, ◌≤◌, zero, suc, Bool, true, false, cond, ◌&&◌, nat_lt, List, [], ◌∷◌, ◌++◌, length, take, drop, filter, map, get_or, Some, refl, sym, ap, ap₂, subst, ◌∙◌, true≢false, arith}
 use Rattle.std.specs.Ordering.{nat_cmp}
-use Rattle.std.specs.declared.cmp.Ordering.TheVariants.{Less}
 use Rattle.std.proofs.lemmas.Bool.Decides.{nat_tests}
 use Rattle.std.proofs.lemmas.Grind.{common_steps}
 use Rattle.sqlite.specs.State.{State}
@@ -13,6 +12,8 @@ use Rattle.acd_book.specs.Order.{Rises}
 use Rattle.acd_columns.specs.Draft.{Holds}
 use Rattle.acd_columns.specs.declared.tables.Table.TheVariants as table
 use Rattle.acd_statements.specs.Picking.{picked}
+use Rattle.acd_lemmas.proofs.Numbers.{less_is}
+use Rattle.acd_sqlbook.specs.Indexing.{last_of}
 
 -- ---- a page of the numbers
 
@@ -23,9 +24,6 @@ Ascends events = IsAscending (λ (a b : Event). nat_cmp a.number b.number) event
 pub ascending : (s : State) (c : Content) → Holds s c → Ascends c.events
 ascending s c held = (held.encodes table.Events).ascending
 
-below : (m n : ℕ) → nat_cmp m n ≡ Less → m < n
-below m n h = grind (arith, nat_tests)
-
 is_above : (n : ℕ) → 0 < n → nat_lt (n - 1) n ≡ true
 is_above n h = grind (arith, nat_tests)
 
@@ -34,7 +32,7 @@ not_above m n h = grind (arith, nat_tests)
 
 among_after : (x e : Event) (events : List Event) → AllAfter (λ (a b : Event). nat_cmp a.number b.number) x events → Among e events → x.number < e.number
 among_after x e [] after a = absurd a
-among_after x e (y ∷ events) after (inl is) = below x.number e.number (ap (λ (z : Event). nat_cmp x.number z.number) is ∙ after.0)
+among_after x e (y ∷ events) after (inl is) = less_is x.number e.number (ap (λ (z : Event). nat_cmp x.number z.number) is ∙ after.0)
 among_after x e (y ∷ events) after (inr a) = among_after x e events after.1 a
 
 -- the first that isn't below the number of an event is the event
@@ -114,6 +112,9 @@ all_taken i xs h = grind (arith, common_steps)
 -- an event more, which goes on
 pub rises_on : (top i : ℕ) (events : List Event) (e : Event) → i < length events → e ≡ get_or events i e → top < e.number → Rises number_of e.number (drop (i + 1) events) → Rises number_of top (drop i events)
 rises_on top i events e low is up rest = subst (Rises number_of top) (sym (drop_next i events e low ∙ ap (λ (x : Event). x ∷ drop (i + 1) events) (sym is))) (up, rest)
+
+pub ends_on : (top i : ℕ) (events : List Event) (e : Event) → i < length events → e ≡ get_or events i e → last_of top (drop i events) ≡ last_of e.number (drop (i + 1) events)
+ends_on top i events e low is = ap (last_of top) (drop_next i events e low ∙ ap (λ (x : Event). x ∷ drop (i + 1) events) (sym is))
 
 pub below_on : (top i : ℕ) (events : List Event) (e : Event) → i < length events → e ≡ get_or events i e → top < e.number → Every (λ (x : Event). x.number ≤ top) (take i events)
     → Every (λ (x : Event). x.number ≤ e.number) (take (i + 1) events)

@@ -1,5 +1,5 @@
 -- A book that has noted which events are at the devices that are watched.
-use Rattle.std.specs.Prelude.{◌≡◌, ◌≤◌, List, ◌++◌, Option, None, Some, Result, is_ok, true, ⊤}
+use Rattle.std.specs.Prelude.{◌≡◌, ℕ, ◌≤◌, List, [], ◌∷◌, ◌++◌, Option, None, Some, Result, is_ok, true, ⊤}
 use Rattle.sqlite.specs.declared.error.Error.{Error}
 use Rattle.acd_terms.specs.Lists.{Every}
 use Rattle.acd_terms.specs.declared.event.Event.{Event}
@@ -19,9 +19,24 @@ abbrev pub IsNoted : Option Index → List Event → Type 0
 IsNoted None events = ⊤
 IsNoted (Some i) events = Indexes i events
 
+-- the number of the last of these events or, where there is none, the one before them
+abbrev pub last_of : ℕ → List Event → ℕ
+last_of last [] = last
+last_of last (e ∷ events) = last_of e.number events
+
 -- the next index is of more events, which go on above all before
-abbrev pub GoesOn : Index → List Event → Index → Type 0
-GoesOn old more new = Rises number_of old.last more × ((events : List Event) → Indexes old events → Indexes new (events ++ more))
+pub record GoesOn (old : Index) (more : List Event) (new : Index) : Type 0 where
+  pub rise : Rises number_of old.last more
+  pub end : new.last ≡ last_of old.last more
+  pub of_both : (events : List Event) → Indexes old events → Indexes new (events ++ more)
+
+-- it is of the first of these events, and the others go on above all of those
+pub record Begins (i : Index) (events : List Event) : Type 0 where
+  pub seen : List Event
+  pub rest : List Event
+  pub all : events ≡ seen ++ rest
+  pub indexes : Indexes i seen
+  pub above : Rises number_of i.last rest
 
 -- its tables are as they were made and, where anything was noted, that is of the events that it holds
 abbrev pub SoundWith : Option Index → BookState → Type 0

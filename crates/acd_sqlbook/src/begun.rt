@@ -1,37 +1,63 @@
 //! The index of a book that holds some events already.
 
-ghost use Rattle.std.specs.Prelude.{◌≡◌, List, false, IsTrue};
+ghost use Rattle.std.specs.Prelude.{◌≡◌, false, IsTrue};
 ghost use Rattle.sqlite.specs.State.{HasCleanDisk};
 ghost use Rattle.sqlite.specs.Held.{state};
-ghost use Rattle.acd_terms.specs.declared.event.Event.{Event};
-ghost use Rattle.acd_book.specs.Content.{events_behind};
 ghost use Rattle.acd_columns.specs.Finding.{Finds};
+ghost use Rattle.acd_statements.specs.Picking.{Serves};
 ghost use Rattle.acd_statements.specs.Reading.{Blames};
 ghost use Rattle.acd_sqlbook.specs.Calls.{HasRead};
-ghost use Rattle.acd_sqlbook.specs.Indexing.{IsNoted};
+ghost use Rattle.acd_sqlbook.specs.Indexing.{Begins, IsNoted};
 
-use crate::index::Index;
+use crate::index::{Index, noted_on};
 use crate::ready::serve;
 use acd_book::Watched;
 use acd_statements::{events_behind, rows};
-use acd_terms::{Event, Rows};
+use acd_terms::Rows;
 use sqlite::{Alter, Connection, Error};
 use std::alloc::Global;
 
-// The index that begins at the last event, where none stands above that.
-fn index_from(alloc: Global, rows: &Rows, above: &[Event]) -> Option<Index>
-    ensures { (events : List Event) → above.now ≡ events_behind events rows.now.last_event 1
-        → IsNoted result events }
-{
-    if !above.is_empty() {
-        return None;
+// So many events are read at once.
+const PAGE: usize = 1000;
+
+// No running monitor tells an event up to this number. Where none is running it is that of the last event.
+fn earliest(rows: &Rows) -> u64 {
+    let mut least = rows.last_event;
+    for monitor in &rows.monitors {
+        least = least.min(monitor.after_event);
     }
-    Some(Index {
-        watched: Watched::of_monitors(alloc, rows.monitors.as_slice(), rows.last_event),
-        last: rows.last_event,
-    })
+    least
 }
 
+// The index that goes on from one that has begun, through all events that are left, page by page.
+fn noted_to_the_end<S: Alter>(
+    alloc: Global,
+    conn: &mut Connection<S>,
+    begun: Index,
+) -> Result<Option<Index>, Error>
+    requires { conn.old.in_transaction ≡ false }
+    ensures idle { conn.new.in_transaction ≡ false }
+    ensures found { Serves (state S.Store conn.old)
+        → Finds (state S.Store conn.old) (state S.Store conn.new) result
+        (λ c noted. Begins begun c.events → IsNoted noted c.events) }
+    ensures blamed { Serves (state S.Store conn.old)
+        → Blames (state S.Store conn.old) (state S.Store conn.new) result }
+{
+    let mut index = begun;
+    for _ in 0..u64::MAX {
+        let page = events_behind(alloc, conn, index.last, PAGE)?;
+        if page.is_empty() {
+            return Ok(Some(index));
+        }
+        match noted_on(index, &[], &page) {
+            Some(next) => index = next,
+            None => return Ok(None),
+        }
+    }
+    Ok(None)
+}
+
+// The index of all events that are held.
 fn begun<S: Alter>(alloc: Global, conn: &mut Connection<S>) -> Result<Option<Index>, Error>
     requires { conn.old.in_transaction ≡ false }
     ensures idle { conn.new.in_transaction ≡ false }
@@ -40,26 +66,9 @@ fn begun<S: Alter>(alloc: Global, conn: &mut Connection<S>) -> Result<Option<Ind
     ensures blamed { Blames (state S.Store conn.old) (state S.Store conn.new) result }
 {
     let rows = rows(alloc, conn)?;
-    let above = events_behind(alloc, conn, rows.last_event, 1)?;
-    Ok(index_from(alloc, &rows, &above))
-}
-
-/// What is noted of a book from now on: of the running monitors the events behind the last one.
-pub(crate) fn begun_ready<S: Alter>(
-    alloc: Global,
-    conn: &mut Connection<S>,
-    fresh: bool,
-) -> Result<Option<Index>, Error>
-    requires idle { conn.old.in_transaction ≡ false }
-    requires fresh { IsTrue fresh → HasCleanDisk (state S.Store conn.old)
-        → IsTrue (state S.Store conn.old).is_open }
-    ensures idle { conn.new.in_transaction ≡ false }
-    ensures read { HasRead (state S.Store conn.old) (state S.Store conn.new) result
-        (λ c noted. IsNoted noted c.events) }
-    ensures blamed { Blames (state S.Store conn.old) (state S.Store conn.new) result }
-{
-    serve(conn, fresh)?;
-    begun(alloc, conn)
+    let last = earliest(&rows);
+    let watched = Watched::of_monitors(alloc, rows.monitors.as_slice(), last);
+    noted_to_the_end(alloc, conn, Index { watched, last })
 }
 
 /// What is noted of a book, which begins here where nothing is noted yet.

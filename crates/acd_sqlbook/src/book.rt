@@ -13,7 +13,7 @@ ghost use Rattle.acd_book.specs.Content.{IsKeptAfter, events_behind, events_of_m
 ghost use Rattle.acd_book.specs.State.{Reads, Commits};
 
 use crate::index::{Index, noted_behind};
-use crate::page::noted_page;
+use crate::page::page_followed;
 use crate::ready::{
     commit_ready, events_ready, kept_after_ready, kept_ready, limits_fit, limits_ready, rows_ready,
 };
@@ -227,11 +227,11 @@ impl<S: Alter> Book for SqlBook<S> {
         ensures caused { IsCaused reading
             (state S.Store self.old.conn) (state S.Store self.new.conn) result }
     {
-        let found = noted_page(
+        let found = page_followed(
             self.alloc,
             &mut self.conn,
             self.fresh,
-            &self.noted,
+            &mut self.noted,
             monitor,
             number,
             limit,

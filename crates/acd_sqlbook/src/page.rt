@@ -3,22 +3,24 @@
 ghost use Rattle.std.specs.Prelude.{◌≡◌, Some, false, filter, take, IsTrue};
 ghost use Rattle.sqlite.specs.State.{HasCleanDisk};
 ghost use Rattle.sqlite.specs.Held.{state};
-ghost use Rattle.acd_book.specs.Content.{events_of_monitor, is_told};
+ghost use Rattle.acd_book.specs.Content.{Content, events_of_monitor, is_told};
+ghost use Rattle.acd_columns.specs.Draft.{Holds};
 ghost use Rattle.acd_columns.specs.Finding.{Finds};
 ghost use Rattle.acd_statements.specs.Picking.{Serves};
 ghost use Rattle.acd_statements.specs.Reading.{Blames};
 ghost use Rattle.acd_sqlbook.specs.Calls.{HasRead};
 ghost use Rattle.acd_sqlbook.specs.Indexing.{Indexes, IsNoted};
 
+use crate::begun::noted_first;
 use crate::index::Index;
-use crate::ready::{serve, watched_ready};
-use acd_statements::{events_at, events_numbered, monitor_at};
+use acd_statements::{events_at, events_numbered, events_watched, monitor_at};
 use acd_terms::{DeviceId, Event};
 use sqlite::{Alter, Connection, Error};
 use std::alloc::Global;
+use std::mem;
 
-// The first events at a device above a number: those that the index has or, where it has none from there on, by a look
-// at all.
+// The first events at a device above a number: one by one, by the numbers that the index has of them, or by a look
+// through all from there on.
 fn page_at<S: Alter>(
     alloc: Global,
     conn: &mut Connection<S>,
@@ -36,7 +38,7 @@ fn page_at<S: Alter>(
     ensures blamed { Serves (state S.Store conn.old)
         → Blames (state S.Store conn.old) (state S.Store conn.new) result }
 {
-    match index.watched.numbers(device, number, limit) {
+    match index.numbers(device, number, limit) {
         Some(numbers) => events_numbered(alloc, conn, numbers),
         None => events_at(alloc, conn, device, number, limit),
     }
@@ -67,50 +69,52 @@ fn page<S: Alter>(
     }
 }
 
-/// The first events of a running monitor above a number, where the index is of the events that are held.
-pub(crate) fn page_ready<S: Alter>(
+// The same by what is noted or, where nothing is, by a look at all.
+fn noted_page<S: Alter>(
     alloc: Global,
     conn: &mut Connection<S>,
-    fresh: bool,
-    index: &Index,
-    monitor: u64,
-    number: u64,
-    limit: usize,
-) -> Result<Vec<Event>, Error>
-    requires idle { conn.old.in_transaction ≡ false }
-    requires fresh { IsTrue fresh → HasCleanDisk (state S.Store conn.old)
-        → IsTrue (state S.Store conn.old).is_open }
-    ensures idle { conn.new.in_transaction ≡ false }
-    ensures read { HasRead (state S.Store conn.old) (state S.Store conn.new) result
-        (λ c events. Indexes index.now c.events
-        → events.items ≡ events_of_monitor c monitor number limit) }
-    ensures blamed { Blames (state S.Store conn.old) (state S.Store conn.new) result }
-{
-    serve(conn, fresh)?;
-    page(alloc, conn, index, monitor, number, limit)
-}
-
-/// The first events of a running monitor above a number, by what is noted or, where nothing is, by a look at all.
-pub(crate) fn noted_page<S: Alter>(
-    alloc: Global,
-    conn: &mut Connection<S>,
-    fresh: bool,
     noted: &Option<Index>,
     monitor: u64,
     number: u64,
     limit: usize,
 ) -> Result<Vec<Event>, Error>
-    requires idle { conn.old.in_transaction ≡ false }
-    requires fresh { IsTrue fresh → HasCleanDisk (state S.Store conn.old)
-        → IsTrue (state S.Store conn.old).is_open }
+    requires { conn.old.in_transaction ≡ false }
     ensures idle { conn.new.in_transaction ≡ false }
-    ensures read { HasRead (state S.Store conn.old) (state S.Store conn.new) result
+    ensures found { Finds (state S.Store conn.old) (state S.Store conn.new) result
         (λ c events. IsNoted noted.now c.events
         → events.items ≡ events_of_monitor c monitor number limit) }
     ensures blamed { Blames (state S.Store conn.old) (state S.Store conn.new) result }
 {
     match noted {
-        Some(index) => page_ready(alloc, conn, fresh, index, monitor, number, limit),
-        None => watched_ready(alloc, conn, fresh, monitor, number, limit),
+        Some(index) => page(alloc, conn, index, monitor, number, limit),
+        None => events_watched(alloc, conn, monitor, number, limit),
     }
+}
+
+/// The first events of a running monitor above a number, by what is noted, which begins here where nothing is.
+pub(crate) fn page_followed<S: Alter>(
+    alloc: Global,
+    conn: &mut Connection<S>,
+    fresh: bool,
+    noted: &mut Option<Index>,
+    monitor: u64,
+    number: u64,
+    limit: usize,
+) -> Result<Vec<Event>, Error>
+    requires idle { conn.old.in_transaction ≡ false }
+    requires fresh { IsTrue fresh → HasCleanDisk (state S.Store conn.old)
+        → IsTrue (state S.Store conn.old).is_open }
+    ensures idle { conn.new.in_transaction ≡ false }
+    ensures noted { HasCleanDisk (state S.Store conn.new) → (c : Content)
+        → Holds (state S.Store conn.old) c
+        → IsNoted noted.old c.events → IsNoted noted.new c.events }
+    ensures read { HasRead (state S.Store conn.old) (state S.Store conn.new) result
+        (λ c events. IsNoted noted.old c.events
+        → events.items ≡ events_of_monitor c monitor number limit) }
+    ensures blamed { Blames (state S.Store conn.old) (state S.Store conn.new) result }
+{
+    let next = noted_first(alloc, conn, fresh, mem::take(noted))?;
+    let found = noted_page(alloc, conn, &next, monitor, number, limit);
+    *noted = next;
+    found
 }
