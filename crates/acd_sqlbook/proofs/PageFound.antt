@@ -59,20 +59,21 @@ page_unnoted old new noted monitor number limit r =
     (λ (c : Content) (events : Vec Event Global). IsNoted noted c.events → events.items ≡ events_of_monitor c monitor number limit) (λ c held events is n. is)
 
 -- what was noted before, what is noted next, and a page by that
-module _ (old mid new : State) (before next : Option Index) (monitor number limit : ℕ) (first : HasRead {A = Option Index} old mid (Ok next) (λ c n. IsNoted before c.events → IsNoted n c.events)) where
+module _ (old mid new : State) (before took next : Option Index) (monitor number limit : ℕ) (taken : took ≡ before) (first : HasRead {A = Option Index} old mid (Ok next) (λ c n. IsNoted took c.events → IsNoted n c.events)) where
   pub page_next : (r : Result (Vec Event Global) Error) → Finds mid new r (λ c events. IsNoted next c.events → events.items ≡ events_of_monitor c monitor number limit)
       → HasRead old new r (λ c events. IsNoted before c.events → events.items ≡ events_of_monitor c monitor number limit)
   page_next r second =
-      reads_two old mid new next r (λ (c : Content) (n : Option Index). IsNoted before c.events → IsNoted n c.events)
+      reads_two old mid new next r (λ (c : Content) (n : Option Index). IsNoted took c.events → IsNoted n c.events)
       (λ (c : Content) (events : Vec Event Global). IsNoted next c.events → events.items ≡ events_of_monitor c monitor number limit)
-      (λ (c : Content) (events : Vec Event Global). IsNoted before c.events → events.items ≡ events_of_monitor c monitor number limit) first (λ c events p q n. q (p n))
+      (λ (c : Content) (events : Vec Event Global). IsNoted before c.events → events.items ≡ events_of_monitor c monitor number limit) first
+      (λ c events p q n. q (p (subst (λ (o : Option Index). IsNoted o c.events) (sym taken) n)))
       (reads_behind mid mid new r (λ (c : Content) (events : Vec Event Global). IsNoted next c.events → events.items ≡ events_of_monitor c monitor number limit) (quiet_still mid) first.up (λ k db left. left) second)
 
   pub next_noted : (HasCleanDisk new → HasCleanDisk mid) → HasCleanDisk new → (c : Content) → Holds old c → IsNoted before c.events → IsNoted next c.events
-  next_noted clean k c held = first.value (clean k) c held
+  next_noted clean k c held n = first.value (clean k) c held (subst (λ (o : Option Index). IsNoted o c.events) (sym taken) n)
 
-pub page_never : (old new : State) (before : Option Index) (monitor number limit : ℕ) (e : Error) (r : Result (Vec Event Global) Error) → r ≡ Err e → HasRead {A = Option Index} old new (Err e) (λ c n. IsNoted before c.events → IsNoted n c.events)
+pub page_never : (old new : State) (before took : Option Index) (monitor number limit : ℕ) (e : Error) (r : Result (Vec Event Global) Error) → r ≡ Err e → HasRead {A = Option Index} old new (Err e) (λ c n. IsNoted took c.events → IsNoted n c.events)
     → HasRead old new r (λ c events. IsNoted before c.events → events.items ≡ events_of_monitor c monitor number limit)
-page_never old new before monitor number limit e r is h =
+page_never old new before took monitor number limit e r is h =
     subst (λ (r : Result (Vec Event Global) Error). HasRead old new r (λ c events. IsNoted before c.events → events.items ≡ events_of_monitor c monitor number limit)) (sym is)
-    (reads_fail old new e (λ (c : Content) (n : Option Index). IsNoted before c.events → IsNoted n c.events) (λ (c : Content) (events : Vec Event Global). IsNoted before c.events → events.items ≡ events_of_monitor c monitor number limit) h)
+    (reads_fail old new e (λ (c : Content) (n : Option Index). IsNoted took c.events → IsNoted n c.events) (λ (c : Content) (events : Vec Event Global). IsNoted before c.events → events.items ≡ events_of_monitor c monitor number limit) h)

@@ -13,17 +13,18 @@ use crate::index::{Index, noted_on};
 use crate::ready::serve;
 use acd_book::Watched;
 use acd_statements::{events_behind, rows};
-use acd_terms::Rows;
+use acd_terms::MonitorRecord;
 use sqlite::{Alter, Connection, Error};
 use std::alloc::Global;
 
 // So many events are read at once.
 const PAGE: usize = 1000;
 
-// No running monitor tells an event up to this number. Where none is running it is that of the last event.
-fn earliest(rows: &Rows) -> u64 {
-    let mut least = rows.last_event;
-    for monitor in &rows.monitors {
+// No monitor tells an event up to this number, so that a pass may begin there; any other number would do. Where there is
+// none it is the last event's.
+fn earliest(monitors: &[MonitorRecord], last: u64) -> u64 {
+    let mut least = last;
+    for monitor in monitors {
         least = least.min(monitor.after_event);
     }
     least
@@ -66,8 +67,9 @@ fn begun<S: Alter>(alloc: Global, conn: &mut Connection<S>) -> Result<Option<Ind
     ensures blamed { Blames (state S.Store conn.old) (state S.Store conn.new) result }
 {
     let rows = rows(alloc, conn)?;
-    let last = earliest(&rows);
-    let watched = Watched::of_monitors(alloc, rows.monitors.as_slice(), last);
+    let monitors = rows.monitors.as_slice();
+    let last = earliest(monitors, rows.last_event);
+    let watched = Watched::of_monitors(alloc, monitors, last);
     noted_to_the_end(alloc, conn, Index { watched, last })
 }
 

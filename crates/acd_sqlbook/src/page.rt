@@ -17,7 +17,6 @@ use acd_statements::{events_at, events_numbered, events_watched, monitor_at};
 use acd_terms::{DeviceId, Event};
 use sqlite::{Alter, Connection, Error};
 use std::alloc::Global;
-use std::mem;
 
 // The first events at a device above a number: one by one, by the numbers that the index has of them, or by a look
 // through all from there on.
@@ -113,7 +112,7 @@ pub(crate) fn page_followed<S: Alter>(
         → events.items ≡ events_of_monitor c monitor number limit) }
     ensures blamed { Blames (state S.Store conn.old) (state S.Store conn.new) result }
 {
-    let next = noted_first(alloc, conn, fresh, mem::take(noted))?;
+    let next = noted_first(alloc, conn, fresh, noted.take())?;
     let found = noted_page(alloc, conn, &next, monitor, number, limit);
     *noted = next;
     found
