@@ -1,5 +1,5 @@
 -- The book over a connection, by what making it or taking it left.
-use Rattle.std.proofs.Common.{◌≡◌, ℕ, Bool, true, Result, Ok, Err, IfOk, IfErr, IsTrue, inl, inr, refl, sym, ap, subst, ◌∙◌}
+use Rattle.std.proofs.Common.{◌≡◌, ℕ, Bool, true, Option, None, Result, Ok, Err, IfOk, IfErr, IsTrue, inl, inr, refl, sym, ap, subst, ◌∙◌}
 use Rattle.sqlite.specs.State.{State, HasCleanDisk}
 use Rattle.acd_terms.specs.Limits.{greatest_limits}
 use Rattle.acd_book.specs.State.{BookState}
@@ -15,12 +15,16 @@ use Rattle.acd_desk.specs.declared.open_fault.OpenFault.{OpenFault}
 use Rattle.acd_desk.specs.Opening.{Refused}
 use Rattle.acd_program.specs.Answered.{nothing}
 use Rattle.acd_columns.specs.Schema.{no_schema}
+use Rattle.acd_sqlbook.specs.declared.index.Index.{Index}
+use Rattle.acd_sqlbook.specs.Indexing.{SoundWith, followed}
 use Rattle.acd_sqlbook.specs.State.{book_state, IsNew}
+use Rattle.acd_sqlbook.proofs.Followed.{apart}
 use Rattle.acd_program.specs.Over.{held, unmade, Unserved}
 use Rattle.acd_program.specs.Taking.{IsOf, IsTaken}
 
-pub of_held : (s t : State) (failures : ℕ) → (HasCleanDisk t → IsAdopted s.now (book_state s 0) (book_state t failures)) → failures ≡ 0 → (HasCleanDisk t → HasCleanDisk s) → IsOf (held s) (book_state t failures)
-of_held s t failures adopted counted clean = record {
+pub of_held : (s t : State) (noted : Option Index) (failures : ℕ) → (HasCleanDisk t → IsAdopted s.now (book_state s 0) (book_state t failures)) → noted ≡ None → failures ≡ 0 → (HasCleanDisk t → HasCleanDisk s)
+    → IsOf (held s) (followed noted (book_state t failures))
+of_held s t noted failures adopted none counted clean = subst (λ (o : Option Index). IsOf (held s) (followed o (book_state t failures))) (sym none) (record {
   clean = clean;
   sound = λ here filed. (adopted here).sound filed;
   content = λ here filed. (adopted here).content filed;
@@ -28,10 +32,11 @@ of_held s t failures adopted counted clean = record {
   opened = λ here filed. (adopted here).was_open;
   failures = counted;
   ordered = λ here filed. (adopted here).ordered filed;
-}
+})
 
-pub of_unmade : (s t : State) (failures : ℕ) → (HasCleanDisk t → IsNew (book_state t failures) greatest_limits) → failures ≡ 0 → (HasCleanDisk t → HasCleanDisk s) → IsOf (unmade s) (book_state t failures)
-of_unmade s t failures made counted clean = record {
+pub of_unmade : (s t : State) (noted : Option Index) (failures : ℕ) → (HasCleanDisk t → IsNew (book_state t failures) greatest_limits) → noted ≡ None → failures ≡ 0 → (HasCleanDisk t → HasCleanDisk s)
+    → IsOf (unmade s) (followed noted (book_state t failures))
+of_unmade s t noted failures made none counted clean = subst (λ (o : Option Index). IsOf (unmade s) (followed o (book_state t failures))) (sym none) (record {
   clean = clean;
   sound = λ here _. (made here).sound;
   content = λ here _. (made here).content;
@@ -39,7 +44,7 @@ of_unmade s t failures made counted clean = record {
   opened = λ here _. tt;
   failures = counted;
   ordered = λ here _. subst IsOrdered (sym (made here).content) (record { kept = tt; events = tt });
-}
+})
 
 pub made_taken : {A E : Type 0} (r : Result A E) (stand : A → BookState) (makes : Bool) (s : State) → makes ≡ true → s.now.schema ≡ no_schema → IfOk r (λ (b : A). IsOf (unmade s) (stand b))
     → IfOk r (λ (b : A). IsTaken makes s (stand b))
@@ -62,20 +67,20 @@ none_made (Ok b) behind makes s asked empty h = tt
 none_made (Err e) behind makes s asked empty h = unserved_unmade makes s (behind e) asked empty h
 
 -- what a sound book may leave are tables of its contents
-left_as : (t : State) (failures : ℕ) (db : Trees) (c : Content) → (book_state t failures).is_sound → t.may_leave db → content_of db ≡ c → Encodes db c
-left_as t failures db c sound left is = let own = sound.left db left in subst (Encodes db) (sym (decoded db own.0 own.1) ∙ is) own.1
+left_as : (t : State) (noted : Option Index) (failures : ℕ) (db : Trees) (c : Content) → SoundWith noted (book_state t failures) → t.may_leave db → content_of db ≡ c → Encodes db c
+left_as t noted failures db c sound left is = let own = (apart noted (book_state t failures) sound).0.left db left in subst (Encodes db) (sym (decoded db own.0 own.1) ∙ is) own.1
 
 -- what a book that makes no desk may leave
-pub unserved_refused : (makes : Bool) (s t : State) (mid : BookState) (failures : ℕ) (why : OpenFault) → ((db : Trees) → IsTrue s.is_open → s.may_leave db → db ≡ s.committed.trees) → IsTaken makes s mid → Refused mid why (book_state t failures) → Unserved makes s t
-unserved_refused makes s t mid failures why settles (inl had) refused = λ clean filed db left.
+pub unserved_refused : (makes : Bool) (s t : State) (mid : BookState) (noted : Option Index) (failures : ℕ) (why : OpenFault) → ((db : Trees) → IsTrue s.is_open → s.may_leave db → db ≡ s.committed.trees) → IsTaken makes s mid → Refused mid why (followed noted (book_state t failures)) → Unserved makes s t
+unserved_refused makes s t mid noted failures why settles (inl had) refused = λ clean filed db left.
     let here = refused.clean clean in
     let sound = had.sound here filed in
     let before = had.stops here filed (content_of db) (refused.stops clean sound (content_of db) (db, left, refl)) in
     let same : content_of db ≡ content_of s.committed.trees = before.2 ∙ ap content_of (settles before.0 (had.opened here filed) before.1) in
-    inr (inl (left_as t failures db (content_of s.committed.trees) (refused.sound clean sound) left same))
-unserved_refused makes s t mid failures why settles (inr made) refused = λ clean filed db left.
+    inr (inl (left_as t noted failures db (content_of s.committed.trees) (refused.sound clean sound) left same))
+unserved_refused makes s t mid noted failures why settles (inr made) refused = λ clean filed db left.
     let here = refused.clean clean in
     let new = made.2 in
     let sound = new.sound here tt in
     let same = new.stops here tt (content_of db) (refused.stops clean sound (content_of db) (db, left, refl)) in
-    inr (inr (made.0, made.1, left_as t failures db nothing (refused.sound clean sound) left same))
+    inr (inr (made.0, made.1, left_as t noted failures db nothing (refused.sound clean sound) left same))

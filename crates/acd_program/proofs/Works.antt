@@ -7,6 +7,8 @@ use Rattle.acd_terms.specs.declared.command.Request.{Request}
 use Rattle.acd_terms.specs.declared.command.Arrival.{Arrival}
 use Rattle.acd_book.specs.Content.{Content}
 use Rattle.acd_book.specs.State.{BookState}
+use Rattle.acd_sqlbook.specs.declared.index.Index.{Index}
+use Rattle.acd_sqlbook.specs.Indexing.{followed}
 use Rattle.acd_sqlbook.specs.State.{book_state}
 use Rattle.sqlite.specs.State.{State}
 use Rattle.acd_desk.specs.declared.taken.Taken.{Taken}
@@ -87,15 +89,16 @@ ok_and (Err e) P Q p q = tt
 -- ---- over a connection
 
 -- the work over the book that the database held, or over a new one
-pub database_done : {E : Type 0} (r : Result Done E) (work : BookWork) (makes : Bool) (s t : State) (mid : BookState) (failures : ℕ) (before behind : Option (List ℕ)) → IsTaken makes s mid
-    → IfOk r (λ (d : Done). BookDone IsFindingIfOrdered work mid before behind d (book_state t failures))
+pub database_done : {E : Type 0} (r : Result Done E) (work : BookWork) (makes : Bool) (s t : State) (mid : BookState) (noted : Option Index) (failures : ℕ) (before behind : Option (List ℕ)) → IsTaken makes s mid
+    → IfOk r (λ (d : Done). BookDone IsFindingIfOrdered work mid before behind d (followed noted (book_state t failures)))
     → IfOk r (λ (d : Done). OverConnection (λ (old new : BookState). BookDone IsFindingOf work old before behind d new) makes s t)
-database_done (Err e) work makes s t mid failures before behind taken h = tt
-database_done (Ok d) work makes s t mid failures before behind taken h = (
+database_done (Err e) work makes s t mid noted failures before behind taken h = tt
+database_done (Ok d) work makes s t mid noted failures before behind taken h = (
   failures,
+  noted,
   elim taken [
-    | inl had ↦ inl (work_of work (held s) mid (book_state t failures) before behind d had h)
-    | inr made ↦ inr (made.0, made.1, work_of work (unmade s) mid (book_state t failures) before behind d made.2 h)
+    | inl had ↦ inl (work_of work (held s) mid (followed noted (book_state t failures)) before behind d had h)
+    | inr made ↦ inr (made.0, made.1, work_of work (unmade s) mid (followed noted (book_state t failures)) before behind d made.2 h)
   ],
 )
 

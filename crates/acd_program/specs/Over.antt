@@ -10,6 +10,8 @@ use Rattle.acd_columns.specs.AnyRows.{IsFiled}
 use Rattle.acd_columns.specs.Content.{Encodes}
 use Rattle.acd_columns.specs.InTables.{content_of}
 use Rattle.acd_columns.specs.Schema.{no_schema}
+use Rattle.acd_sqlbook.specs.declared.index.Index.{Index}
+use Rattle.acd_sqlbook.specs.Indexing.{followed}
 use Rattle.acd_sqlbook.specs.State.{book_state}
 use Rattle.acd_desk.specs.declared.open_fault.OpenFault.{OpenFault}
 use Rattle.acd_desk.specs.declared.taken.Taken.{Taken}
@@ -66,6 +68,10 @@ unmade s = record { content = nothing; stops = λ c. c ≡ nothing; is_sound = �
 abbrev pub Unserved : Bool → State → State → Type 0
 Unserved makes old new = HasCleanDisk new → IsFiled old.now → (db : Trees) → new.may_leave db → old.may_leave db ⊎ Encodes db (content_of old.committed.trees) ⊎ ((makes ≡ true) × (old.now.schema ≡ no_schema) × Encodes db nothing)
 
--- what is said of the book that the database held or, where it had no tables and one was to be made, of the new one
+-- what is said of the book that the database held or, where it had no tables and one was to be made, of the new one; behind it the book has counted so many failures, and noted this
+-- of its events
 abbrev pub OverConnection : (BookState → BookState → Type 0) → Bool → State → State → Type 0
-OverConnection P makes old new = (failures : ℕ) × (P (held old) (book_state new failures) ⊎ ((makes ≡ true) × (old.now.schema ≡ no_schema) × P (unmade old) (book_state new failures)))
+OverConnection P makes old new =
+    (failures : ℕ) × (noted : Option Index)
+    × (P (held old) (followed noted (book_state new failures))
+    ⊎ ((makes ≡ true) × (old.now.schema ≡ no_schema) × P (unmade old) (followed noted (book_state new failures))))

@@ -8,6 +8,7 @@ use Rattle.acd_book.specs.Content.{Within}
 use Rattle.acd_book.specs.State.{BookState, IfHonest}
 use Rattle.acd_columns.specs.Schema.{no_schema}
 use Rattle.acd_sqlbook.specs.declared.book.SqlBook.{SqlBook}
+use Rattle.acd_sqlbook.specs.Indexing.{followed}
 use Rattle.acd_sqlbook.specs.State.{book_state}
 use Rattle.acd_desk.specs.declared.desk.Desk.{Desk}
 use Rattle.acd_desk.specs.Stands.{IsSound}
@@ -36,7 +37,7 @@ pub record ServesOver {B : Type 0} (says : book.Ghosts B) (old : BookState) (spa
 module _ {S : Type 0} (store : Ghosts S) where
   -- what a book in a database says of itself
   abbrev pub in_database : book.Ghosts (SqlBook S store)
-  in_database = record { state = λ b. book_state (state store b.conn) b.failures }
+  in_database = record { state = λ b. followed b.noted (book_state (state store b.conn) b.failures) }
 
   -- so it was over the book that the database held or, where it had no tables and one was to be made, over a new one
   pub record ServesDatabase (makes : Bool) (span : Option ℕ) (old : State) (before behind : Option (List ℕ)) (last : Held S) : Type 0 where

@@ -11,11 +11,14 @@ use Rattle.acd_model.specs.Moves.{changed}
 use Rattle.acd_model.specs.Writes.{with_group, with_station, with_agent, with_call, with_connection, with_monitor, without_call, without_connection, without_monitor, with_last}
 use Rattle.acd_model.specs.declared.moves.Change.{Change}
 use Rattle.acd_model.specs.declared.moves.Change.TheVariants.{Nothing, PutGroup, PutStation, PutAgent, PutCall, PutConnection, PutMonitor, RemoveCall, RemoveConnection, RemoveMonitor}
+use Rattle.acd_book.specs.Memory.{number_of}
+use Rattle.acd_book.specs.Order.{Rises}
+use Rattle.acd_sqlbook.proofs.Indexed.{all_more}
 use Rattle.acd_book.specs.Content.{Content, GoOn, Follows, committed, FollowsBy, committed_by, rows_by}
 use Rattle.acd_book.specs.declared.kept.Kept.{Kept}
 use Rattle.acd_columns.specs.declared.meta.Meta.{Meta}
 use Rattle.acd_columns.specs.Relations.{meta_of}
-use Rattle.acd_sqlbook.specs.Commit.{with_meta, filed, all_filed, with_event, with_events, with_kept, made_by, top_call, top_monitor, last_call, last_monitor, counted}
+use Rattle.acd_sqlbook.specs.Commit.{with_meta, filed, all_filed, with_event, with_events, with_kept, made_by, written_by, top_call, top_monitor, last_call, last_monitor, counted}
 use Rattle.acd_sqlbook.proofs.Filing.{next}
 use Rattle.acd_lemmas.proofs.Changes.{limits-changed_by}
 
@@ -83,6 +86,24 @@ events_are last c (e ∷ es) go low =
 
 kept_is : (c : Content) (k : Kept) (last : ℕ) → last < k.stamp → Every (λ (x : Kept). x.stamp ≤ last) c.kept → with_kept c k ≡ record c { kept = c.kept ++ k ∷ [] }
 kept_is c k last low h = ap (λ l. record c { kept = l }) (put_last (λ (x : Kept). x.stamp) k c.kept (every_less (λ (x : Kept). x.stamp) last k.stamp c.kept low h))
+
+-- events whose numbers rise
+rises_are : (last : ℕ) (c : Content) (es : List Event) → Rises number_of last es → Every (λ (x : Event). x.number ≤ last) c.events → with_events c es ≡ record c { events = c.events ++ es }
+rises_are last c [] up low = ap (λ l. record c { events = l }) (sym (append-nil c.events))
+rises_are last c (e ∷ es) up low =
+    let put = put_last (λ (x : Event). x.number) e c.events (every_less (λ (x : Event). x.number) last e.number c.events up.0 low) in
+    let next : Every (λ (x : Event). x.number ≤ e.number) (with_event c e).events =
+    subst (Every (λ (x : Event). x.number ≤ e.number)) (sym put) (every_push (λ (x : Event). x.number ≤ e.number) c.events e (all_more last e.number c.events (let k = up.0 in omega arith) low) (omega arith)) in
+    rises_are e.number (with_event c e) es up.1 next
+    ∙ ap (λ l. record c { events = l }) (ap (λ l. l ++ es) put ∙ append_assoc c.events (e ∷ []) es)
+
+-- a commit of such events puts them behind the others
+pub written_events : (changes : List Change) (events : List Event) (kept : Kept) (c : Content) (last : ℕ) → Rises number_of last events → Every (λ (x : Event). x.number ≤ last) c.events
+    → (written_by changes events kept c).events ≡ c.events ++ events
+written_events changes events kept c last up low =
+    let tables = at (changed_by c.rows changes) c.rows.last_call c.rows.last_monitor in
+    let d : Content = record c { rows = tables } in
+    ap (λ (x : Content). (with_events x events).events) (filed_is c changes) ∙ ap (λ (x : Content). x.events) (rises_are last d events up low)
 
 -- the writes add the events and the kept record behind the others, and make the changes
 written_are : (changes : List Change) (events : List Event) (kept : Kept) (m : Meta) (rows : Rows) (c : Content) → Follows rows events kept c

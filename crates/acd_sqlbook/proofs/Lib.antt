@@ -9,3 +9,7 @@ mod Adopted
 mod Stopped
 mod Counting
 mod Caused
+mod Indexed
+mod PageFound
+mod Beginning
+pub mod Followed

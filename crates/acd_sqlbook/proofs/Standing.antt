@@ -124,3 +124,17 @@ pub commits_counted : (old mid new : State) (r : Result (Unit {0}) Error) (last 
 commits_counted old mid new r last next changes events kept read =
     commits_behind old mid new r (made_by changes events kept next) (written_by changes events kept) (last, next) (λ c found. found.1 ≡ counted (meta_of c.rows) changes (length events) kept) read
     (λ c is. ap (λ m. made_by changes events kept m c) is)
+
+-- two reads, one behind the other, where the first one's answer is of use to what the second asks
+pub reads_two : {A B : Type 0} (old mid new : State) (a : A) (r : Result B Error) (P : Content → A → Type 0) (Q W : Content → B → Type 0) → HasRead old mid (Ok a) P
+    → ((c : Content) (b : B) → P c a → Q c b → W c b) → HasRead mid new r Q → HasRead old new r W
+reads_two old mid new a r P Q W first both second = record {
+  quiet = quiet_on old mid new first.quiet second.quiet;
+  up = second.up;
+  stops = λ k stands db left.
+      let m = second.quiet.clean k in
+      first.stops m stands db (second.stops k (λ up. let held = stands (first.quiet.was_open m up) in (held.0, first.quiet.same m held.0 held.1 up)) db left);
+  value = λ k.
+      let m = second.quiet.clean k in
+      ok_map (λ b. (c : Content) → Holds mid c → Q c b) (λ b. (c : Content) → Holds old c → W c b) r (λ b h c held. both c b (first.value m c held) (h c (first.quiet.same m c held (first.up m)))) (second.value k);
+}

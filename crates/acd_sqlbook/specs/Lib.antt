@@ -6,3 +6,4 @@ pub mod StoreLaws
 pub mod Adopting
 pub mod Stopping
 pub mod Causes
+pub mod Indexing

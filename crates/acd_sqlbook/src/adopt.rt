@@ -1,6 +1,6 @@
 //! Takes a connection over a book where each value is in its range, and makes version 2 of one of version 1.
 
-ghost use Rattle.std.specs.Prelude.{◌≡◌, ◌≢◌, ◌⊎◌, false, IfOk, IfErr};
+ghost use Rattle.std.specs.Prelude.{◌≡◌, ◌≢◌, ◌⊎◌, false, None, IfOk, IfErr};
 ghost use Rattle.sqlite.specs.State.{HasCleanDisk};
 ghost use Rattle.sqlite.specs.Held.{state};
 ghost use Rattle.acd_columns.specs.AnyRows.{IsFiled};
@@ -32,6 +32,7 @@ impl<S: Alter> SqlBook<S> {
         ensures leaves { IfOk result (λ b. HasCleanDisk (state S.Store b.conn) → MayMigrate (state S.Store conn) (state S.Store b.conn)) }
         ensures filed { IfOk result (λ b. HasCleanDisk (state S.Store b.conn) → (S.Store.view conn.store).is_broken ≡ false → HasAllColumns (state S.Store conn).now → IsFiled (state S.Store conn).now) }
         ensures counted { IfOk result (λ b. b.failures ≡ 0) }
+        ensures unnoted { IfOk result (λ b. b.noted ≡ None) }
         ensures clean { IfOk result (λ b. HasCleanDisk (state S.Store b.conn) → HasCleanDisk (state S.Store conn)) }
         ensures idle { IfErr result (λ e. e.1.in_transaction ≡ false) }
         ensures doubted { IfErr result (λ e. HasCleanDisk (state S.Store e.1) → HasCleanDisk (state S.Store conn)) }
@@ -45,6 +46,7 @@ impl<S: Alter> SqlBook<S> {
                 conn,
                 fresh: true,
                 failures: 0,
+                noted: None,
             }),
             Ok(Found::Book(Version::First)) => match migrate(&mut conn) {
                 Ok(()) => Ok(SqlBook {
@@ -52,6 +54,7 @@ impl<S: Alter> SqlBook<S> {
                     conn,
                     fresh: true,
                     failures: 0,
+                    noted: None,
                 }),
                 Err(error) => Err((fault_of(error), conn)),
             },

@@ -1,19 +1,21 @@
 //! A book over a connection.
 
-ghost use Rattle.std.specs.Prelude.{◌≡◌, ◌≢◌, ◌≤◌, false, Err, is_ok, IsTrue, IfOk, IfErr};
+ghost use Rattle.std.specs.Prelude.{◌≡◌, ◌≢◌, ◌≤◌, false, Err, None, is_ok, IsTrue, IfOk, IfErr};
 ghost use Rattle.sqlite.specs.State.{HasCleanDisk};
 ghost use Rattle.sqlite.specs.Held.{state};
 ghost use Rattle.acd_columns.specs.Schema.{no_schema};
 ghost use Rattle.acd_columns.specs.Draft.{LimitsFit};
+ghost use Rattle.acd_sqlbook.specs.Indexing.{followed};
 ghost use Rattle.acd_sqlbook.specs.State.{book_state, IsNew, fault_of, answered, failures_after};
 ghost use Rattle.acd_schema.specs.SettingUp.{MayMake};
 ghost use Rattle.acd_sqlbook.specs.Causes.{StoreCause, IsCaused, create as creating, read as reading, change as changing, replace as replacing};
 ghost use Rattle.acd_book.specs.Content.{IsKeptAfter, events_behind, events_of_monitor, kept_of, Follows, committed, FollowsBy, committed_by};
 ghost use Rattle.acd_book.specs.State.{Reads, Commits};
 
+use crate::index::{Index, noted_behind};
+use crate::page::page_followed;
 use crate::ready::{
     commit_ready, events_ready, kept_after_ready, kept_ready, limits_fit, limits_ready, rows_ready,
-    watched_ready,
 };
 use crate::transition::commit_rows_ready;
 use acd_book::{Book, BookFault, Kept};
@@ -22,6 +24,7 @@ use acd_schema::{has_no_tables, set_up};
 use acd_terms::{Event, Invoke, Limits, Requester, Rows};
 use sqlite::{Alter, Connection, Error, ErrorCode};
 use std::alloc::Global;
+use std::mem;
 
 /// A book in a database. Its tables are those of version 2.
 #[derive(Drop)]
@@ -31,6 +34,8 @@ pub struct SqlBook<S: Alter> {
     // Whether the last call succeeded, so that the store still serves.
     pub(crate) fresh: bool,
     pub(crate) failures: u64,
+    // Which events are at the devices of the running monitors, where that is noted.
+    pub(crate) noted: Option<Index>,
     ghost idle: { conn.in_transaction ≡ false },
     ghost serves: { IsTrue fresh → HasCleanDisk (state S.Store conn) → IsTrue (state S.Store conn).is_open },
 }
@@ -81,6 +86,7 @@ impl<S: Alter> SqlBook<S> {
         requires { conn.in_transaction ≡ false }
         ensures made { IfOk result (λ b. HasCleanDisk (state S.Store b.conn) → IsNew (book_state (state S.Store b.conn) b.failures) limits) }
         ensures counted { IfOk result (λ b. b.failures ≡ 0) }
+        ensures unnoted { IfOk result (λ b. b.noted ≡ None) }
         ensures clean { IfOk result (λ b. HasCleanDisk (state S.Store b.conn) → HasCleanDisk (state S.Store conn)) }
         ensures refused { ¬ (LimitsFit limits) → result ≡ Err (BookFault.Store, conn) }
         ensures occupied { (state S.Store conn).now.schema ≢ no_schema → result ≡ Err (BookFault.Store, conn) }
@@ -102,6 +108,7 @@ impl<S: Alter> SqlBook<S> {
                 conn,
                 fresh: true,
                 failures: 0,
+                noted: None,
             }),
             Err(error) => Err((fault_of(error), conn)),
         }
@@ -117,6 +124,7 @@ impl<S: Alter> SqlBook<S> {
             conn,
             fresh: _,
             failures: _,
+            noted: _,
         } = self;
         conn
     }
@@ -128,7 +136,7 @@ impl<S: Alter> Book for SqlBook<S> {
     ghost use Rattle.std.proofs.Math.Logic.{∥∥₁_map};
     ghost use Rattle.acd_columns.specs.InTables.{content_of};
 
-    ghost state = { λ b. book_state (state S.Store b.conn) b.failures };
+    ghost state = { λ b. followed b.noted (book_state (state S.Store b.conn) b.failures) };
 
     ghost settled = { λ b c clean sound up stop. stop.2 ∙ ap content_of (S.settled b.conn.store stop.0 up stop.1) };
 
@@ -141,8 +149,10 @@ impl<S: Alter> Book for SqlBook<S> {
     }
 
     fn limits(&mut self) -> Result<Limits, BookFault>
-        ensures reads { Reads (book_state (state S.Store self.old.conn) self.old.failures)
-            (book_state (state S.Store self.new.conn) self.new.failures) result
+        ensures reads { Reads
+            (followed self.old.noted (book_state (state S.Store self.old.conn) self.old.failures))
+            (followed self.new.noted (book_state (state S.Store self.new.conn) self.new.failures))
+            result
             (λ c found. found ≡ c.rows.limits) }
         ensures caused { IsCaused reading
             (state S.Store self.old.conn) (state S.Store self.new.conn)
@@ -153,8 +163,10 @@ impl<S: Alter> Book for SqlBook<S> {
     }
 
     fn rows(&mut self) -> Result<Rows, BookFault>
-        ensures reads { Reads (book_state (state S.Store self.old.conn) self.old.failures)
-            (book_state (state S.Store self.new.conn) self.new.failures) result
+        ensures reads { Reads
+            (followed self.old.noted (book_state (state S.Store self.old.conn) self.old.failures))
+            (followed self.new.noted (book_state (state S.Store self.new.conn) self.new.failures))
+            result
             (λ c found. found ≡ c.rows) }
         ensures caused { IsCaused reading
             (state S.Store self.old.conn) (state S.Store self.new.conn)
@@ -165,8 +177,10 @@ impl<S: Alter> Book for SqlBook<S> {
     }
 
     fn kept(&mut self, requester: &Requester, invoke: Invoke) -> Result<Option<Kept>, BookFault>
-        ensures reads { Reads (book_state (state S.Store self.old.conn) self.old.failures)
-            (book_state (state S.Store self.new.conn) self.new.failures) result
+        ensures reads { Reads
+            (followed self.old.noted (book_state (state S.Store self.old.conn) self.old.failures))
+            (followed self.new.noted (book_state (state S.Store self.new.conn) self.new.failures))
+            result
             (λ c found. found ≡ kept_of c.kept requester.now invoke) }
         ensures caused { IsCaused reading
             (state S.Store self.old.conn) (state S.Store self.new.conn)
@@ -177,8 +191,10 @@ impl<S: Alter> Book for SqlBook<S> {
     }
 
     fn kept_after(&mut self, stamp: u64) -> Result<Option<Kept>, BookFault>
-        ensures reads { Reads (book_state (state S.Store self.old.conn) self.old.failures)
-            (book_state (state S.Store self.new.conn) self.new.failures) result
+        ensures reads { Reads
+            (followed self.old.noted (book_state (state S.Store self.old.conn) self.old.failures))
+            (followed self.new.noted (book_state (state S.Store self.new.conn) self.new.failures))
+            result
             (λ c found. IsKeptAfter c.kept stamp found) }
         ensures caused { IsCaused reading
             (state S.Store self.old.conn) (state S.Store self.new.conn)
@@ -189,8 +205,10 @@ impl<S: Alter> Book for SqlBook<S> {
     }
 
     fn events_after(&mut self, number: u64, limit: usize) -> Result<Vec<Event>, BookFault>
-        ensures reads { Reads (book_state (state S.Store self.old.conn) self.old.failures)
-            (book_state (state S.Store self.new.conn) self.new.failures) result
+        ensures reads { Reads
+            (followed self.old.noted (book_state (state S.Store self.old.conn) self.old.failures))
+            (followed self.new.noted (book_state (state S.Store self.new.conn) self.new.failures))
+            result
             (λ c found. found.items ≡ events_behind c.events number limit) }
         ensures caused { IsCaused reading
             (state S.Store self.old.conn) (state S.Store self.new.conn)
@@ -206,17 +224,20 @@ impl<S: Alter> Book for SqlBook<S> {
         number: u64,
         limit: usize,
     ) -> Result<Vec<Event>, BookFault>
-        ensures reads { Reads (book_state (state S.Store self.old.conn) self.old.failures)
-            (book_state (state S.Store self.new.conn) self.new.failures) result
+        ensures reads { Reads
+            (followed self.old.noted (book_state (state S.Store self.old.conn) self.old.failures))
+            (followed self.new.noted (book_state (state S.Store self.new.conn) self.new.failures))
+            result
             (λ c found. found.items ≡ events_of_monitor c monitor number limit) }
         ensures caused { IsCaused reading
             (state S.Store self.old.conn) (state S.Store self.new.conn)
             self.old.failures self.new.failures result }
     {
-        let found = watched_ready(
+        let found = page_followed(
             self.alloc,
             &mut self.conn,
             self.fresh,
+            &mut self.noted,
             monitor,
             number,
             limit,
@@ -225,14 +246,17 @@ impl<S: Alter> Book for SqlBook<S> {
     }
 
     fn commit(&mut self, rows: &Rows, events: &[Event], kept: &Kept) -> Result<(), BookFault>
-        ensures commits { Commits (book_state (state S.Store self.old.conn) self.old.failures)
-            (book_state (state S.Store self.new.conn) self.new.failures) result
+        ensures commits { Commits
+            (followed self.old.noted (book_state (state S.Store self.old.conn) self.old.failures))
+            (followed self.new.noted (book_state (state S.Store self.new.conn) self.new.failures))
+            result
             (Follows rows.now events.now kept.now)
             (committed rows.now events.now kept.now) }
         ensures caused { IsCaused (replacing rows.now events.now kept.now)
             (state S.Store self.old.conn) (state S.Store self.new.conn)
             self.old.failures self.new.failures result }
     {
+        self.noted = None;
         let done = commit_rows_ready(self.alloc, &mut self.conn, self.fresh, rows, events, kept);
         noted(done, &mut self.fresh, &mut self.failures)
     }
@@ -259,6 +283,7 @@ impl<S: Alter> Book for SqlBook<S> {
             events,
             kept,
         );
+        self.noted = noted_behind(mem::take(&mut self.noted), &done, changes, events);
         noted(done, &mut self.fresh, &mut self.failures)
     }
 }

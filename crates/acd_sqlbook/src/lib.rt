@@ -16,9 +16,12 @@
 #![tactic(auto)]
 
 mod adopt;
+mod begun;
 mod book;
 mod commit;
+mod index;
 pub mod laws;
+mod page;
 mod ready;
 mod transition;
 

@@ -4,7 +4,7 @@
 ghost use Rattle.std.specs.Prelude.{◌≡◌, ◌↔◌, false, IsTrue, IfOk, IfErr, OnOk};
 ghost use Rattle.sqlite.specs.State.{HasCleanDisk};
 ghost use Rattle.sqlite.specs.Held.{state};
-ghost use Rattle.acd_book.specs.Content.{IsKeptAfter, events_behind, events_of_monitor, kept_of};
+ghost use Rattle.acd_book.specs.Content.{IsKeptAfter, events_behind, kept_of};
 ghost use Rattle.acd_sqlbook.specs.Calls.{HasRead, HasCommitted};
 ghost use Rattle.acd_sqlbook.specs.Commit.{counted, written_by};
 ghost use Rattle.acd_columns.specs.Relations.{meta_of};
@@ -19,7 +19,7 @@ use acd_columns::Meta;
 use acd_model::Change;
 use acd_statements::fitting::{fits, too_large};
 use acd_statements::read::probe;
-use acd_statements::{events_behind, events_watched, kept_behind, kept_under, read_meta, rows};
+use acd_statements::{events_behind, kept_behind, kept_under, read_meta, rows};
 use acd_terms::{Event, Invoke, Limits, Requester, Rows};
 use sqlite::{Alter, Connection, Error};
 use std::alloc::Global;
@@ -155,25 +155,6 @@ pub(crate) fn events_ready<S: Alter>(
 {
     serve(conn, fresh)?;
     events_behind(alloc, conn, number, limit)
-}
-
-/// The first events of a running monitor above a number.
-pub(crate) fn watched_ready<S: Alter>(
-    alloc: Global,
-    conn: &mut Connection<S>,
-    fresh: bool,
-    monitor: u64,
-    number: u64,
-    limit: usize,
-) -> Result<Vec<Event>, Error>
-    requires idle { conn.old.in_transaction ≡ false }
-    requires fresh { IsTrue fresh → HasCleanDisk (state S.Store conn.old) → IsTrue (state S.Store conn.old).is_open }
-    ensures idle { conn.new.in_transaction ≡ false }
-    ensures read { HasRead (state S.Store conn.old) (state S.Store conn.new) result (λ c found. found.items ≡ events_of_monitor c monitor number limit) }
-    ensures blamed { Blames (state S.Store conn.old) (state S.Store conn.new) result }
-{
-    serve(conn, fresh)?;
-    events_watched(alloc, conn, monitor, number, limit)
 }
 
 // The counters after a commit of so many events, where their columns can hold them.

@@ -12,3 +12,4 @@ pub mod Blamed
 mod BlamedRows
 mod BlamedPlan
 mod Grouped
+mod Picked

@@ -15,6 +15,7 @@ mod bind;
 pub mod fitting;
 pub mod look;
 mod lookups;
+mod numbered;
 pub mod parts;
 pub mod placed;
 mod plan;
@@ -29,5 +30,6 @@ pub mod stored;
 pub mod tables;
 pub mod write;
 
-pub use lookups::{events_behind, events_watched, kept_behind, kept_under};
+pub use lookups::{events_at, events_behind, events_watched, kept_behind, kept_under, monitor_at};
+pub use numbered::events_numbered;
 pub use reads::{read_meta, rows};

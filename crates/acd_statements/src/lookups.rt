@@ -139,8 +139,8 @@ pub fn events_behind<S: Alter>(
     records(alloc, &rows)
 }
 
-// The first events at a device above a number.
-fn events_at<S: Alter>(
+/// The first events at a device above a number.
+pub fn events_at<S: Alter>(
     alloc: Global,
     conn: &mut Connection<S>,
     device: DeviceId,
@@ -155,8 +155,8 @@ fn events_at<S: Alter>(
     records(alloc, &rows)
 }
 
-// A running monitor.
-fn monitor_at<S: Alter>(
+/// A running monitor.
+pub fn monitor_at<S: Alter>(
     alloc: Global,
     conn: &mut Connection<S>,
     number: u64,

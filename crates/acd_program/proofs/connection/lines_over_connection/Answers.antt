@@ -2,6 +2,7 @@ use Rattle.std.proofs.Common.{◌≡◌, true, OnOk, IfErr, refl, sym, subst}
 use Rattle.std.specs.Io.KnownBytes.{Appends}
 use Rattle.sqlite.specs.Held.{state}
 use Rattle.acd_book.specs.State.{BookState}
+use Rattle.acd_sqlbook.specs.Indexing.{followed}
 use Rattle.acd_sqlbook.specs.State.{book_state}
 use Rattle.acd_desk.specs.declared.open_fault.OpenFault.{OpenFault}
 use Rattle.acd_desk.specs.Opening.{Refused}
@@ -22,12 +23,12 @@ returns-in-Ok-done-clause-ok g c =
     let before : _ = g.W.Write.contents c.args.writer.now in
     let behind : _ = g.W.Write.contents c.lines_over_book-done.new.writer in
     let P : BookState → BookState → Type 0 = λ old new. LinesAnswered (AllLines had) (ArrivalsAnswered (IsSession old new)) (Appends before behind) in
-    let mid : BookState = book_state (state g.S.Store c.in-Ok.book.conn) c.in-Ok.book.failures in
+    let mid : BookState = followed c.in-Ok.book.noted (book_state (state g.S.Store c.in-Ok.book.conn) c.in-Ok.book.failures) in
     let last : _ = c.lines_over_book-done.result.1 in
-    let new : BookState = book_state (state g.S.Store last.conn) last.failures in
+    let new : BookState = followed last.noted (book_state (state g.S.Store last.conn) last.failures) in
     let said : P mid new = subst (λ (r : _). OnOk r (P mid new)) c.in-Ok-done.is c.lines_over_book-done.ensures.ok in
     subst (λ (x : _). OverConnection P c.args.makes (state g.S.Store c.args.conn) (state g.S.Store x)) (sym c.into_connection.ensures.same)
-    (over_connection P c.args.makes (state g.S.Store c.args.conn) (state g.S.Store last.conn) mid last.failures (λ old of h. lines_since (AllLines had) (Appends before behind) old mid new of h) c.in-Ok.ensures.taken said)
+    (over_connection P c.args.makes (state g.S.Store c.args.conn) (state g.S.Store last.conn) mid last.noted last.failures (λ old of h. lines_since (AllLines had) (Appends before behind) old mid new of h) c.in-Ok.ensures.taken said)
 
 pub returns-in-Err-done-clause-stopped : goal.returns-in-Err-done-clause-stopped
 returns-in-Err-done-clause-stopped g c is =
@@ -35,12 +36,12 @@ returns-in-Err-done-clause-stopped g c is =
     let before : _ = g.W.Write.contents c.args.writer.now in
     let behind : _ = g.W.Write.contents c.lines_over_book-done.new.writer in
     let P : BookState → BookState → Type 0 = λ old new. LinesAnswered (FirstLines had) (ArrivalsAnswered (IsSession old new)) (Begins before behind) in
-    let mid : BookState = book_state (state g.S.Store c.in-Ok.book.conn) c.in-Ok.book.failures in
+    let mid : BookState = followed c.in-Ok.book.noted (book_state (state g.S.Store c.in-Ok.book.conn) c.in-Ok.book.failures) in
     let last : _ = c.lines_over_book-done.result.1 in
-    let new : BookState = book_state (state g.S.Store last.conn) last.failures in
+    let new : BookState = followed last.noted (book_state (state g.S.Store last.conn) last.failures) in
     let said : P mid new = (subst (λ (r : _). IfErr r (λ (fault : SessionFault). IsLinesFault fault → P mid new)) c.in-Err-done.is c.lines_over_book-done.ensures.stopped) is in
     subst (λ (x : _). OverConnection P c.args.makes (state g.S.Store c.args.conn) (state g.S.Store x)) (sym c.into_connection-in-Err-done.ensures.same)
-    (over_connection P c.args.makes (state g.S.Store c.args.conn) (state g.S.Store last.conn) mid last.failures (λ old of h. lines_since (FirstLines had) (Begins before behind) old mid new of h) c.in-Ok.ensures.taken said)
+    (over_connection P c.args.makes (state g.S.Store c.args.conn) (state g.S.Store last.conn) mid last.noted last.failures (λ old of h. lines_since (FirstLines had) (Begins before behind) old mid new of h) c.in-Ok.ensures.taken said)
 
 pub returns-in-Err-done-clause-failed : goal.returns-in-Err-done-clause-failed
 returns-in-Err-done-clause-failed g c is =
@@ -48,13 +49,13 @@ returns-in-Err-done-clause-failed g c is =
     let before : _ = g.W.Write.contents c.args.writer.now in
     let behind : _ = g.W.Write.contents c.lines_over_book-done.new.writer in
     let P : BookState → BookState → Type 0 = λ old new. LinesAnswered (FirstLines had) (ArrivalsAnswered (IsFailedSession old new)) (Appends before behind) in
-    let mid : BookState = book_state (state g.S.Store c.in-Ok.book.conn) c.in-Ok.book.failures in
+    let mid : BookState = followed c.in-Ok.book.noted (book_state (state g.S.Store c.in-Ok.book.conn) c.in-Ok.book.failures) in
     let last : _ = c.lines_over_book-done.result.1 in
-    let new : BookState = book_state (state g.S.Store last.conn) last.failures in
+    let new : BookState = followed last.noted (book_state (state g.S.Store last.conn) last.failures) in
     let said : (c.args.ends_on_store_fault ≡ true) × P mid new = (subst (λ (r : _). IfErr r (λ (fault : SessionFault). IsStoreFailed fault → (c.args.ends_on_store_fault ≡ true) × P mid new)) c.in-Err-done.is c.lines_over_book-done.ensures.failed) is in (
       said.0,
       subst (λ (x : _). OverConnection P c.args.makes (state g.S.Store c.args.conn) (state g.S.Store x)) (sym c.into_connection-in-Err-done.ensures.same)
-          (over_connection P c.args.makes (state g.S.Store c.args.conn) (state g.S.Store last.conn) mid last.failures (λ old of h. failed_lines_since (FirstLines had) (Appends before behind) old mid new of h) c.in-Ok.ensures.taken said.1),
+          (over_connection P c.args.makes (state g.S.Store c.args.conn) (state g.S.Store last.conn) mid last.noted last.failures (λ old of h. failed_lines_since (FirstLines had) (Appends before behind) old mid new of h) c.in-Ok.ensures.taken said.1),
     )
 
 unread : (fault : SessionFault) (P : Type 0) → EndsUnread (Session fault) → ((why : OpenFault) → IsOpenFault why fault → P) → P
@@ -64,9 +65,9 @@ unread StoreFailed P is h = absurd is
 
 pub returns-in-Err-done-clause-unread : goal.returns-in-Err-done-clause-unread
 returns-in-Err-done-clause-unread g c is =
-    let mid : BookState = book_state (state g.S.Store c.in-Ok.book.conn) c.in-Ok.book.failures in
+    let mid : BookState = followed c.in-Ok.book.noted (book_state (state g.S.Store c.in-Ok.book.conn) c.in-Ok.book.failures) in
     let last : _ = c.lines_over_book-done.result.1 in
-    let new : BookState = book_state (state g.S.Store last.conn) last.failures in
+    let new : BookState = followed last.noted (book_state (state g.S.Store last.conn) last.failures) in
     let Q : Type 0 = (c.lines_over_book-done.new.reader ≡ c.args.reader.now) × (c.lines_over_book-done.new.writer ≡ c.args.writer.now) in
     let said : (why : OpenFault) → IsOpenFault why c.in-Err-done.fault → Refused mid why new × (c.lines_over_book-done.new.reader ≡ c.args.reader.now) × (c.lines_over_book-done.new.writer ≡ c.args.writer.now)
     = subst (λ (r : _). IfErr r (λ (fault : SessionFault). (why : OpenFault) → IsOpenFault why fault → Refused mid why new × (c.lines_over_book-done.new.reader ≡ c.args.reader.now) × (c.lines_over_book-done.new.writer ≡ c.args.writer.now)))
@@ -75,13 +76,13 @@ returns-in-Err-done-clause-unread g c is =
 
 pub returns-in-Err-done-clause-unserved : goal.returns-in-Err-done-clause-unserved
 returns-in-Err-done-clause-unserved g c is =
-    let mid : BookState = book_state (state g.S.Store c.in-Ok.book.conn) c.in-Ok.book.failures in
+    let mid : BookState = followed c.in-Ok.book.noted (book_state (state g.S.Store c.in-Ok.book.conn) c.in-Ok.book.failures) in
     let last : _ = c.lines_over_book-done.result.1 in
-    let new : BookState = book_state (state g.S.Store last.conn) last.failures in
+    let new : BookState = followed last.noted (book_state (state g.S.Store last.conn) last.failures) in
     let Q : Type 0 = Unserved c.args.makes (state g.S.Store c.args.conn) (state g.S.Store last.conn) in
     let said : (why : OpenFault) → IsOpenFault why c.in-Err-done.fault → Refused mid why new × (c.lines_over_book-done.new.reader ≡ c.args.reader.now) × (c.lines_over_book-done.new.writer ≡ c.args.writer.now)
     = subst (λ (r : _). IfErr r (λ (fault : SessionFault). (why : OpenFault) → IsOpenFault why fault → Refused mid why new × (c.lines_over_book-done.new.reader ≡ c.args.reader.now) × (c.lines_over_book-done.new.writer ≡ c.args.writer.now)))
     c.in-Err-done.is c.lines_over_book-done.ensures.refused in
     subst (λ (x : _). Unserved c.args.makes (state g.S.Store c.args.conn) (state g.S.Store x)) (sym c.into_connection-in-Err-done.ensures.same)
     (unread c.in-Err-done.fault Q is
-    (λ why no_desk. unserved_refused c.args.makes (state g.S.Store c.args.conn) (state g.S.Store last.conn) mid last.failures why (g.met.S.Store.settled c.args.conn.store) c.in-Ok.ensures.taken (said why no_desk).0))
+    (λ why no_desk. unserved_refused c.args.makes (state g.S.Store c.args.conn) (state g.S.Store last.conn) mid last.noted last.failures why (g.met.S.Store.settled c.args.conn.store) c.in-Ok.ensures.taken (said why no_desk).0))

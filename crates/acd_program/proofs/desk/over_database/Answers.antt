@@ -1,6 +1,7 @@
 use Rattle.std.proofs.Common.{IfOk, sym, subst}
 use Rattle.sqlite.specs.Held.{state}
 use Rattle.acd_book.specs.State.{BookState}
+use Rattle.acd_sqlbook.specs.Indexing.{followed}
 use Rattle.acd_sqlbook.specs.State.{book_state}
 use Rattle.acd_program.specs.Over.{AnswersOver, OverConnection}
 use Rattle.acd_program.specs.Work.{WorkDone}
@@ -22,7 +23,7 @@ returns g c =
     let behind : _ = g.W.Write.contents c.over_book-done.new.writer in
     let done : _ = c.over_book-done.result.0 in
     let last : _ = c.over_book-done.result.1 in
-    let mid : BookState = book_state (state g.S.Store c.in-Ok.book.conn) c.in-Ok.book.failures in
+    let mid : BookState = followed c.in-Ok.book.noted (book_state (state g.S.Store c.in-Ok.book.conn) c.in-Ok.book.failures) in
     subst (λ (x : _). IfOk done (λ (left : _). OverConnection (λ (old new : BookState). WorkDone c.args.work old had before behind left new) c.args.makes (state g.S.Store c.args.conn) (state g.S.Store x))) (sym c.into_connection.ensures.same)
     (subst (λ (w : _). IfOk done (λ (left : _). OverConnection (λ (old new : BookState). WorkDone w old had before behind left new) c.args.makes (state g.S.Store c.args.conn) (state g.S.Store last.conn))) (sym c.in-Book.is)
-    (database_done done c.in-Book.work c.args.makes (state g.S.Store c.args.conn) (state g.S.Store last.conn) mid last.failures before behind c.in-Ok.ensures.taken c.over_book-done.ensures))
+    (database_done done c.in-Book.work c.args.makes (state g.S.Store c.args.conn) (state g.S.Store last.conn) mid last.noted last.failures before behind c.in-Ok.ensures.taken c.over_book-done.ensures))

@@ -1,13 +1,20 @@
+use Rattle.std.proofs.Common.{◌≡◌, Option, rules, subst}
+use Rattle.acd_sqlbook.specs.Indexing.{IsNotedBehind}
+use Rattle.acd_sqlbook.specs.declared.index.Index.{Index}
 use Rattle.sqlite.specs.Held.{state}
 use Rattle.acd_sqlbook.specs.Causes.{change}
+use Rattle.acd_sqlbook.proofs.Followed.{commits_followed, changes_goes}
 use Rattle.acd_sqlbook.proofs.BookStates.{changes_noted}
 use Rattle.acd_sqlbook.proofs.Caused.{changes_caused, noted_cause}
 use Rattle.acd_sqlbook.proofs.book.SqlBookBook.commit_changes.Goals as goal
 
 pub returns-clause-commits : goal.returns-clause-commits
 returns-clause-commits g c =
-    changes_noted (state g.S.Store c.args.self.now.conn) (state g.S.Store c.commit_ready-done.new.conn) c.args.self.now.failures c.noted.new.failures c.commit_ready-done.result c.noted.result
-    c.args.changes.now c.args.events.now c.args.kept.now c.noted.ensures.answer c.noted.ensures.failures c.noted.ensures.counts c.commit_ready-done.ensures.commits
+    let taken : c.take.result ≡ c.args.self.now.noted = search rules in
+    commits_followed c.args.self.now.noted c.noted_behind.result _ _ _ _ _
+    (changes_goes c.args.self.now.noted c.noted_behind.result (state g.S.Store c.args.self.now.conn) (state g.S.Store c.commit_ready-done.new.conn) c.commit_ready-done.result c.args.changes.now c.args.events.now c.args.kept.now (subst (λ (o : Option Index). IsNotedBehind o c.commit_ready-done.result c.args.events.now c.noted_behind.result) taken c.noted_behind.ensures) c.commit_ready-done.ensures.commits)
+    (changes_noted (state g.S.Store c.args.self.now.conn) (state g.S.Store c.commit_ready-done.new.conn) c.args.self.now.failures c.noted.new.failures c.commit_ready-done.result c.noted.result
+    c.args.changes.now c.args.events.now c.args.kept.now c.noted.ensures.answer c.noted.ensures.failures c.noted.ensures.counts c.commit_ready-done.ensures.commits)
 
 pub returns-clause-caused : goal.returns-clause-caused
 returns-clause-caused g c =

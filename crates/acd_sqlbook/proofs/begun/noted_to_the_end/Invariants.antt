@@ -1,0 +1,15 @@
+use Rattle.std.proofs.Common.{◌≡◌, false, Ok}
+use Rattle.sqlite.specs.Held.{state}
+use Rattle.sqlite.specs.declared.error.Error.{Error}
+use Rattle.acd_columns.specs.Finding.{Finds}
+use Rattle.acd_statements.specs.Picking.{Serves}
+use Rattle.acd_statements.specs.Reading.{Blames}
+use Rattle.acd_sqlbook.proofs.Beginning.{HasPassed}
+use Rattle.acd_sqlbook.proofs.begun.noted_to_the_end.Given as goal
+
+abbrev pub invariant-loop : goal.invariant-loop
+invariant-loop g l = record {
+  idle : l.conn.in_transaction ≡ false;
+  found : Serves (state g.S.Store l.fn.conn) → Finds {E = Error} (state g.S.Store l.fn.conn) (state g.S.Store l.conn) (Ok l.index) (HasPassed l.fn.begun);
+  blamed : Serves (state g.S.Store l.fn.conn) → Blames (state g.S.Store l.fn.conn) (state g.S.Store l.conn) (Ok l.index);
+}

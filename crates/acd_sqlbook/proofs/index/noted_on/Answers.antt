@@ -1,0 +1,19 @@
+use Rattle.std.proofs.Common.{◌≤◌}
+use Rattle.acd_terms.specs.declared.event.Event.{Event}
+use Rattle.acd_sqlbook.proofs.Indexed.{all_more, all_both}
+use Rattle.acd_sqlbook.proofs.index.noted_on.Goals as goal
+
+pub returns : goal.returns
+returns c =
+    let i = c.args.index in
+    let top = c.in_ok-top.top in
+    let more = c.args.events.now in
+    let e = c.in_ok-top.ensures in
+    record {
+      rise = e.0;
+      end = e.3;
+      of_both = λ events indexes. record {
+        lists = c.note_all.ensures events (c.change.ensures events indexes.last indexes.lists);
+        last = all_both (λ (x : Event). x.number ≤ top) events more (all_more i.last top events e.1 indexes.last) e.2;
+      };
+    }

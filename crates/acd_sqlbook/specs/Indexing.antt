@@ -1,0 +1,53 @@
+-- A book that has noted which events are at the devices that are watched.
+use Rattle.std.specs.Prelude.{◌≡◌, ℕ, ◌≤◌, List, [], ◌∷◌, ◌++◌, Option, None, Some, Result, is_ok, true, ⊤}
+use Rattle.sqlite.specs.declared.error.Error.{Error}
+use Rattle.acd_terms.specs.Lists.{Every}
+use Rattle.acd_terms.specs.declared.event.Event.{Event}
+use Rattle.acd_book.specs.Memory.{number_of}
+use Rattle.acd_book.specs.Order.{Rises}
+use Rattle.acd_book.specs.State.{BookState}
+use Rattle.acd_book.specs.Watched.{IsWatched}
+use Rattle.acd_sqlbook.specs.declared.index.Index.{Index}
+
+-- each list is of these events, and none of them has a greater number than the last one that was noted
+pub record Indexes (i : Index) (events : List Event) : Type 0 where
+  pub lists : IsWatched events i.watched
+  pub last : Every (λ (e : Event). e.number ≤ i.last) events
+
+-- the same, where anything was noted
+abbrev pub IsNoted : Option Index → List Event → Type 0
+IsNoted None events = ⊤
+IsNoted (Some i) events = Indexes i events
+
+-- the number of the last of these events or, where there is none, the one before them
+abbrev pub last_of : ℕ → List Event → ℕ
+last_of last [] = last
+last_of last (e ∷ events) = last_of e.number events
+
+-- the next index is of more events, which go on above all before
+pub record GoesOn (old : Index) (more : List Event) (new : Index) : Type 0 where
+  pub rise : Rises number_of old.last more
+  pub end : new.last ≡ last_of old.last more
+  pub of_both : (events : List Event) → Indexes old events → Indexes new (events ++ more)
+
+-- it is of the first of these events, and the others go on above all of those
+pub record Begins (i : Index) (events : List Event) : Type 0 where
+  pub seen : List Event
+  pub rest : List Event
+  pub all : events ≡ seen ++ rest
+  pub indexes : Indexes i seen
+  pub above : Rises number_of i.last rest
+
+-- its tables are as they were made and, where anything was noted, that is of the events that it holds
+abbrev pub SoundWith : Option Index → BookState → Type 0
+SoundWith None b = b.is_sound
+SoundWith (Some i) b = b.is_sound × (b.is_open → Indexes i b.content.events)
+
+-- a book with what was noted of its events; where nothing was, it is the book
+abbrev pub followed : Option Index → BookState → BookState
+followed noted b = record b { is_sound = SoundWith noted b }
+
+-- what is noted behind a commit: nothing or, where it succeeded, an index that goes on
+abbrev pub IsNotedBehind : Option Index → Result (Unit {0}) Error → List Event → Option Index → Type 0
+IsNotedBehind before done more None = ⊤
+IsNotedBehind before done more (Some next) = (is_ok done ≡ true) × ((old : Index) × (before ≡ Some old) × GoesOn old more next)

@@ -1,0 +1,96 @@
+//! The index of a book that holds some events already.
+
+ghost use Rattle.std.specs.Prelude.{◌≡◌, false, IsTrue};
+ghost use Rattle.sqlite.specs.State.{HasCleanDisk};
+ghost use Rattle.sqlite.specs.Held.{state};
+ghost use Rattle.acd_columns.specs.Finding.{Finds};
+ghost use Rattle.acd_statements.specs.Picking.{Serves};
+ghost use Rattle.acd_statements.specs.Reading.{Blames};
+ghost use Rattle.acd_sqlbook.specs.Calls.{HasRead};
+ghost use Rattle.acd_sqlbook.specs.Indexing.{Begins, IsNoted};
+
+use crate::index::{Index, noted_on};
+use crate::ready::serve;
+use acd_book::Watched;
+use acd_statements::{events_behind, rows};
+use acd_terms::MonitorRecord;
+use sqlite::{Alter, Connection, Error};
+use std::alloc::Global;
+
+// So many events are read at once.
+const PAGE: usize = 1000;
+
+// No monitor tells an event up to this number, so that a pass may begin there; any other number would do. Where there is
+// none it is the last event's.
+fn earliest(monitors: &[MonitorRecord], last: u64) -> u64 {
+    let mut least = last;
+    for monitor in monitors {
+        least = least.min(monitor.after_event);
+    }
+    least
+}
+
+// The index that goes on from one that has begun, through all events that are left, page by page.
+fn noted_to_the_end<S: Alter>(
+    alloc: Global,
+    conn: &mut Connection<S>,
+    begun: Index,
+) -> Result<Option<Index>, Error>
+    requires { conn.old.in_transaction ≡ false }
+    ensures idle { conn.new.in_transaction ≡ false }
+    ensures found { Serves (state S.Store conn.old)
+        → Finds (state S.Store conn.old) (state S.Store conn.new) result
+        (λ c noted. Begins begun c.events → IsNoted noted c.events) }
+    ensures blamed { Serves (state S.Store conn.old)
+        → Blames (state S.Store conn.old) (state S.Store conn.new) result }
+{
+    let mut index = begun;
+    for _ in 0..u64::MAX {
+        let page = events_behind(alloc, conn, index.last, PAGE)?;
+        if page.is_empty() {
+            return Ok(Some(index));
+        }
+        match noted_on(index, &[], &page) {
+            Some(next) => index = next,
+            None => return Ok(None),
+        }
+    }
+    Ok(None)
+}
+
+// The index of all events that are held.
+fn begun<S: Alter>(alloc: Global, conn: &mut Connection<S>) -> Result<Option<Index>, Error>
+    requires { conn.old.in_transaction ≡ false }
+    ensures idle { conn.new.in_transaction ≡ false }
+    ensures found { Finds (state S.Store conn.old) (state S.Store conn.new) result
+        (λ c noted. IsNoted noted c.events) }
+    ensures blamed { Blames (state S.Store conn.old) (state S.Store conn.new) result }
+{
+    let rows = rows(alloc, conn)?;
+    let monitors = rows.monitors.as_slice();
+    let last = earliest(monitors, rows.last_event);
+    let watched = Watched::of_monitors(alloc, monitors, last);
+    noted_to_the_end(alloc, conn, Index { watched, last })
+}
+
+/// What is noted of a book, which begins here where nothing is noted yet.
+pub(crate) fn noted_first<S: Alter>(
+    alloc: Global,
+    conn: &mut Connection<S>,
+    fresh: bool,
+    noted: Option<Index>,
+) -> Result<Option<Index>, Error>
+    requires idle { conn.old.in_transaction ≡ false }
+    requires fresh { IsTrue fresh → HasCleanDisk (state S.Store conn.old)
+        → IsTrue (state S.Store conn.old).is_open }
+    ensures idle { conn.new.in_transaction ≡ false }
+    ensures read { HasRead (state S.Store conn.old) (state S.Store conn.new) result
+        (λ c next. IsNoted noted c.events → IsNoted next c.events) }
+    ensures blamed { Blames (state S.Store conn.old) (state S.Store conn.new) result }
+{
+    serve(conn, fresh)?;
+    match noted {
+        Some(index) => Ok(Some(index)),
+        None => begun(alloc, conn),
+    }
+}

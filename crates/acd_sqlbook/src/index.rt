@@ -1,0 +1,89 @@
+//! Which events are at the devices of the running monitors, as far as that is noted.
+
+ghost use Rattle.std.specs.Prelude.{◌≡◌, ◌≤◌, IfSome};
+ghost use Rattle.acd_terms.specs.Lists.{Every};
+ghost use Rattle.acd_terms.specs.declared.event.Event.{Event};
+ghost use Rattle.acd_book.specs.Memory.{number_of};
+ghost use Rattle.acd_book.specs.Order.{Rises};
+ghost use Rattle.acd_book.specs.Watched.{IsPage};
+ghost use Rattle.acd_sqlbook.specs.Indexing.{GoesOn, IsNotedBehind, last_of};
+
+use acd_book::Watched;
+use acd_model::Change;
+use acd_terms::{DeviceId, Event};
+use sqlite::Error;
+
+/// For the device of each running monitor the numbers of its events, and the greatest of all numbers.
+#[derive(Drop)]
+pub(crate) struct Index {
+    pub(crate) watched: Watched,
+    pub(crate) last: u64,
+}
+
+// A look for one event costs about as much as going on through so many.
+const EVENTS_A_LOOK: u64 = 100;
+
+impl Index {
+    // Whether a look for each of a page's numbers costs more than going on from a number to the last of them.
+    fn is_near(&self, numbers: &[u64], number: u64, limit: usize) -> bool {
+        let end = match numbers.last() {
+            Some(last) if numbers.len() >= limit => *last,
+            _ => self.last,
+        };
+        end.saturating_sub(number) / EVENTS_A_LOOK < numbers.len() as u64
+    }
+
+    /// The numbers of the first events at a device above a number, where that is known and they lie far apart.
+    pub(crate) fn numbers(&self, device: DeviceId, number: u64, limit: usize) -> Option<&[u64]>
+        ensures { IfSome result (λ found.
+            IsPage self.now.watched device number limit found.now) }
+    {
+        let numbers = self.watched.numbers(device, number, limit)?;
+        if self.is_near(numbers, number, limit) {
+            return None;
+        }
+        Some(numbers)
+    }
+}
+
+// The last number, where each of the events has one above all before.
+fn rises(last: u64, events: &[Event]) -> Option<u64>
+    ensures { IfSome result (λ top. Rises number_of last events.now × (last ≤ top)
+        × Every (λ (e : Event). e.number ≤ top) events.now × (top ≡ last_of last events.now)) }
+{
+    let mut top = last;
+    for event in events {
+        if event.number <= top {
+            return None;
+        }
+        top = event.number;
+    }
+    Some(top)
+}
+
+/// What a commit leaves of it: nothing, where an event doesn't go on above all before.
+pub(crate) fn noted_on(index: Index, changes: &[Change], events: &[Event]) -> Option<Index>
+    ensures { IfSome result (λ next. GoesOn index events.now next) }
+{
+    let top = rises(index.last, events)?;
+    let Index { mut watched, last } = index;
+    watched.change(changes, last);
+    watched.note_all(events);
+    Some(Index { watched, last: top })
+}
+
+/// What is noted behind a commit. A failure takes it away, and it begins anew at the next page.
+pub(crate) fn noted_behind(
+    before: Option<Index>,
+    done: &Result<(), Error>,
+    changes: &[Change],
+    events: &[Event],
+) -> Option<Index>
+    ensures { IsNotedBehind before done.now events.now result }
+{
+    let index = before?;
+    if done.is_err() {
+        return None;
+    }
+    noted_on(index, changes, events)
+}

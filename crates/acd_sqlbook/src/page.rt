@@ -1,0 +1,119 @@
+//! Pages of a monitor by the numbers that an index has of its events.
+
+ghost use Rattle.std.specs.Prelude.{◌≡◌, Some, false, filter, take, IsTrue};
+ghost use Rattle.sqlite.specs.State.{HasCleanDisk};
+ghost use Rattle.sqlite.specs.Held.{state};
+ghost use Rattle.acd_book.specs.Content.{Content, events_of_monitor, is_told};
+ghost use Rattle.acd_columns.specs.Draft.{Holds};
+ghost use Rattle.acd_columns.specs.Finding.{Finds};
+ghost use Rattle.acd_statements.specs.Picking.{Serves};
+ghost use Rattle.acd_statements.specs.Reading.{Blames};
+ghost use Rattle.acd_sqlbook.specs.Calls.{HasRead};
+ghost use Rattle.acd_sqlbook.specs.Indexing.{Indexes, IsNoted};
+
+use crate::begun::noted_first;
+use crate::index::Index;
+use acd_statements::{events_at, events_numbered, events_watched, monitor_at};
+use acd_terms::{DeviceId, Event};
+use sqlite::{Alter, Connection, Error};
+use std::alloc::Global;
+
+// The first events at a device above a number: one by one, by the numbers that the index has of them, or by a look
+// through all from there on.
+fn page_at<S: Alter>(
+    alloc: Global,
+    conn: &mut Connection<S>,
+    index: &Index,
+    device: DeviceId,
+    number: u64,
+    limit: usize,
+) -> Result<Vec<Event>, Error>
+    requires { conn.old.in_transaction ≡ false }
+    ensures idle { conn.new.in_transaction ≡ false }
+    ensures found { Serves (state S.Store conn.old)
+        → Finds (state S.Store conn.old) (state S.Store conn.new) result
+        (λ c events. Indexes index.now c.events
+        → events.items ≡ take limit (filter (is_told (Some device) number) c.events)) }
+    ensures blamed { Serves (state S.Store conn.old)
+        → Blames (state S.Store conn.old) (state S.Store conn.new) result }
+{
+    match index.numbers(device, number, limit) {
+        Some(numbers) => events_numbered(alloc, conn, numbers),
+        None => events_at(alloc, conn, device, number, limit),
+    }
+}
+
+// The first events of a running monitor above a number.
+fn page<S: Alter>(
+    alloc: Global,
+    conn: &mut Connection<S>,
+    index: &Index,
+    monitor: u64,
+    number: u64,
+    limit: usize,
+) -> Result<Vec<Event>, Error>
+    requires { conn.old.in_transaction ≡ false }
+    ensures idle { conn.new.in_transaction ≡ false }
+    ensures found { Finds (state S.Store conn.old) (state S.Store conn.new) result
+        (λ c events. Indexes index.now c.events
+        → events.items ≡ events_of_monitor c monitor number limit) }
+    ensures blamed { Blames (state S.Store conn.old) (state S.Store conn.new) result }
+{
+    match monitor_at(alloc, conn, monitor)? {
+        Some(watch) => {
+            let above = number.max(watch.after_event);
+            page_at(alloc, conn, index, watch.device, above, limit)
+        }
+        None => Ok(Vec::new(alloc)),
+    }
+}
+
+// The same by what is noted or, where nothing is, by a look at all.
+fn noted_page<S: Alter>(
+    alloc: Global,
+    conn: &mut Connection<S>,
+    noted: &Option<Index>,
+    monitor: u64,
+    number: u64,
+    limit: usize,
+) -> Result<Vec<Event>, Error>
+    requires { conn.old.in_transaction ≡ false }
+    ensures idle { conn.new.in_transaction ≡ false }
+    ensures found { Finds (state S.Store conn.old) (state S.Store conn.new) result
+        (λ c events. IsNoted noted.now c.events
+        → events.items ≡ events_of_monitor c monitor number limit) }
+    ensures blamed { Blames (state S.Store conn.old) (state S.Store conn.new) result }
+{
+    match noted {
+        Some(index) => page(alloc, conn, index, monitor, number, limit),
+        None => events_watched(alloc, conn, monitor, number, limit),
+    }
+}
+
+/// The first events of a running monitor above a number, by what is noted, which begins here where nothing is.
+pub(crate) fn page_followed<S: Alter>(
+    alloc: Global,
+    conn: &mut Connection<S>,
+    fresh: bool,
+    noted: &mut Option<Index>,
+    monitor: u64,
+    number: u64,
+    limit: usize,
+) -> Result<Vec<Event>, Error>
+    requires idle { conn.old.in_transaction ≡ false }
+    requires fresh { IsTrue fresh → HasCleanDisk (state S.Store conn.old)
+        → IsTrue (state S.Store conn.old).is_open }
+    ensures idle { conn.new.in_transaction ≡ false }
+    ensures noted { HasCleanDisk (state S.Store conn.new) → (c : Content)
+        → Holds (state S.Store conn.old) c
+        → IsNoted noted.old c.events → IsNoted noted.new c.events }
+    ensures read { HasRead (state S.Store conn.old) (state S.Store conn.new) result
+        (λ c events. IsNoted noted.old c.events
+        → events.items ≡ events_of_monitor c monitor number limit) }
+    ensures blamed { Blames (state S.Store conn.old) (state S.Store conn.new) result }
+{
+    let next = noted_first(alloc, conn, fresh, noted.take())?;
+    let found = noted_page(alloc, conn, &next, monitor, number, limit);
+    *noted = next;
+    found
+}
