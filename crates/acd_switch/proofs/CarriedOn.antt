@@ -28,6 +28,9 @@ pub record IsLeft (m : ℕ) (left : List Move) (s : Rows) (j : Journal) (all : L
 pub all_left : (m : ℕ) (all : List Move) (s : Rows) (j : Journal) → IsLeft m all s j all s j
 all_left m all s j = record { rows = refl; events = refl; changes = refl }
 
+pub offers_left : {m : ℕ} {s : Rows} {j : Journal} (n most : ℕ) → n ≡ most → IsLeft m (offers n s m) s j (offers most s m) s j
+offers_left {m} {s} {j} n most e = rw e (all_left m (offers most s m) s j)
+
 -- one part is carried out on top of another
 pub both_carried : {m : ℕ} {ms ns : List Move} {s t u : Rows} {j k l : Journal} → CarriesOut m ms s j t k → CarriesOut m ns t k u l → CarriesOut m (ms ++ ns) s j u l
 both_carried {m} {ms} {ns} {s} {t} {u} {j} {k} {l} first next = record {

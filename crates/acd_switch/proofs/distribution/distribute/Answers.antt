@@ -1,6 +1,6 @@
 use Rattle.std.proofs.Common.{rules, arith, ◌≡◌, ◌-◌, ◌+◌, suc, Some, None}
 use Rattle.acd_model.specs.Choice.{offer_of}
-use Rattle.acd_switch.proofs.CarriedOn.{offer_carried, without_offer, after_most}
+use Rattle.acd_switch.proofs.CarriedOn.{offers_left, offer_carried, without_offer, after_most}
 use Rattle.acd_switch.proofs.distribution.distribute.Goals as goal
 
 pub returns-in_default : goal.returns-in_default
@@ -14,6 +14,12 @@ returns c =
     let most = c.queued_count-most.result in
     let none : most - c.loop-round.round ≡ 0 = omega arith in
     after_most (most - c.loop-round.round) most none c.loop-round.invariant.most_is c.loop-round.invariant.left
+
+pub loop-round-init : goal.loop-round-init
+loop-round-init c =
+    let most = c.queued_count-most.result in
+    let whole : most - 0 ≡ most = omega arith in
+    record { left = offers_left (most - 0) most whole; most_is = c.queued_count-most.ensures }
 
 pub loop-round-preserved : goal.loop-round-preserved
 loop-round-preserved c =
