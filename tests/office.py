@@ -8,7 +8,7 @@ up. 12 groups of three priorities, 40 stations, 40 agents of one to eight groups
 requesters; then 300 repeats, other requests under keys that are used, and a last call. try has PROGRAM (release/acd) answer
 the day over memory and over a file, and export the file's event reports: it counts the lines that weren't foreseen.
 limits tries PROGRAM with as many of everything as there may be (tests/limits.py), over memory, files and HTTP.
-scene prints the morning as crates/acd_scenes has it in src/scenes/morning.rt: each request with its answer and its event
+scene prints the morning as crates/acd_test_scenes has it in src/scenes/morning.rt: each request with its answer and its event
 reports, and what the rows then hold.
 What has to come is foreseen by tests/switch.py, which knows nothing of the verified program. The same lines come at each run."""
 import csv

@@ -16,8 +16,8 @@ use Rattle.acd_desk.specs.declared.replay.Step.{Step}
 use Rattle.acd_desk.specs.declared.replay.Step.TheVariants as step
 use Rattle.acd_desk.specs.Firsts.{stepped}
 use Rattle.acd_desk.specs.Noting.{IsNoted}
-use Rattle.acd_desk.specs.Pages.{IsPage, ReadsIfOpen}
-use Rattle.acd_desk.specs.Replay.{again, rows_of, Replays, Knows, Goes, IsEnd, Begins, IsReplayed, IsStep, CountsOne, Ends}
+use Rattle.acd_desk.specs.Pages.{IsPageOf, ReadsIfOpen}
+use Rattle.acd_desk.specs.Replay.{again, rows_of, Replays, Knows, Goes, IsEnd, BeginsReplay, IsReplayed, IsStep, CountsOne, Ends}
 use Rattle.acd_desk.proofs.Audits.{starts_replay, replay_unlike, replay_full, replay_sound, replay_rest}
 use Rattle.acd_desk.proofs.Courses.{knows_next, goes_next}
 use Rattle.acd_desk.proofs.Steps.{step_stamp, step_limits}
@@ -109,9 +109,9 @@ all_whole a b d s n found whole behind is_next one two =
 -- ---- the beginning ----
 
 pub begins_fitting : (a b : BookState) (limits : Limits) (first : Course) → Reads a b (Ok limits) (λ (c : Content) (found : Limits). found ≡ c.rows.limits) → limits_fit limits ≡ true
-    → rows_of first ≡ empty_rows limits → ((c : Content) → IsPage c first.page) → Reads a b (Ok (Some first)) (λ (c : Content) (found : Option Course). Begins c found)
+    → rows_of first ≡ empty_rows limits → ((c : Content) → IsPageOf c first.page) → Reads a b (Ok (Some first)) (λ (c : Content) (found : Option Course). BeginsReplay c found)
 begins_fitting a b limits first r fits is page =
-    then_ok (λ (c : Content) (found : Option Course). Begins c found) a b limits (Some first) r
+    then_ok (λ (c : Content) (found : Option Course). BeginsReplay c found) a b limits (Some first) r
     (λ c same ordered. record {
       replays = subst (Replays c) (ap empty_rows (sym same) ∙ sym is) (starts_replay c (ap limits_fit (sym same) ∙ fits) ordered);
       noted = subst (λ (s : Rows). Every (λ (k : Kept). IsNoted first.keys k.request) (take s.last_stamp c.kept)) (sym is) tt;

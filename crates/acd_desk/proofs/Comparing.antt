@@ -10,11 +10,11 @@ use Rattle.acd_desk.specs.declared.page.Page.{Page}
 use Rattle.acd_desk.specs.declared.replay.Course.{Course}
 use Rattle.acd_desk.specs.Firsts.{stepped, record_of}
 use Rattle.acd_desk.specs.Noting.{IsNoted}
-use Rattle.acd_desk.specs.Pages.{IsPage}
-use Rattle.acd_desk.specs.Replay.{again, rows_of, IsFirstOfKey, Matches, Tells, Knows}
+use Rattle.acd_desk.specs.Pages.{IsPageOf}
+use Rattle.acd_desk.specs.Replay.{again, rows_of, IsFirstOfKey, Matches, TellsKeys, Knows}
 
 -- a key that isn't noted is new
-pub unnoted_new : (c : Content) (keys : Noted) (k : Kept) → ¬ IsNoted keys k.request → Tells c keys k → Decides true (IsFirstOfKey c k)
+pub unnoted_new : (c : Content) (keys : Noted) (k : Kept) → ¬ IsNoted keys k.request → TellsKeys c keys k → Decides true (IsFirstOfKey c k)
 unnoted_new c keys k new tells = (λ told. tells new, λ first. refl)
 
 -- the record, its key and its events are as they should be
@@ -30,20 +30,20 @@ events_decided c last n found lent events b is same decides long =
 
 -- another record
 pub other_record : (c : Content) (keys : Noted) (page : Page) (k expected : Kept) (last : ℕ) (events : List Event) (b : Bool) → b ≡ false → Decides b (k ≡ expected) → Knows c keys page k
-    → IsPage c page × Decides false (IsAsKept c k expected last events)
+    → IsPageOf c page × Decides false (IsAsKept c k expected last events)
 other_record c keys page k expected last events b other decides knows =
     (knows.page, (λ told. absurd (true≢false (sym told)), λ same. absurd (true≢false (sym (decides.1 same.0) ∙ other))))
 
 -- a key that an earlier record has
-pub other_key : (c : Content) (keys : Noted) (page : Page) (k expected : Kept) (last : ℕ) (events : List Event) (b : Bool) → b ≡ false → (Tells c keys k → Decides b (IsFirstOfKey c k)) → Knows c keys page k
-    → IsPage c page × Decides false (IsAsKept c k expected last events)
+pub other_key : (c : Content) (keys : Noted) (page : Page) (k expected : Kept) (last : ℕ) (events : List Event) (b : Bool) → b ≡ false → (TellsKeys c keys k → Decides b (IsFirstOfKey c k)) → Knows c keys page k
+    → IsPageOf c page × Decides false (IsAsKept c k expected last events)
 other_key c keys page k expected last events b other decides knows =
     (knows.page, (λ told. absurd (true≢false (sym told)), λ same. absurd (true≢false (sym ((decides knows.tells).1 same.1) ∙ other))))
 
 -- the record and its key, so all hangs on the events
 pub same_events : (c : Content) (keys : Noted) (old new : Page) (k expected : Kept) (last : ℕ) (events : List Event) (same first b : Bool) → same ≡ true → Decides same (k ≡ expected)
-    → first ≡ true → (Tells c keys k → Decides first (IsFirstOfKey c k)) → (IsPage c old → IsPage c new × Decides b (events_behind c.events last (length events) ≡ events)) → Knows c keys old k
-    → IsPage c new × Decides b (IsAsKept c k expected last events)
+    → first ≡ true → (TellsKeys c keys k → Decides first (IsFirstOfKey c k)) → (IsPageOf c old → IsPageOf c new × Decides b (events_behind c.events last (length events) ≡ events)) → Knows c keys old k
+    → IsPageOf c new × Decides b (IsAsKept c k expected last events)
 same_events c keys old new k expected last events same first b is_same same_decides is_first first_decides told knows =
     let there = told knows.page in
     (there.0, (λ holds. (same_decides.0 is_same, (first_decides knows.tells).0 is_first, there.1.0 holds), λ all. there.1.1 all.2))

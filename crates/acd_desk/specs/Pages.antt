@@ -8,8 +8,8 @@ use Rattle.acd_desk.specs.Tells.{above}
 use Rattle.acd_desk.specs.declared.page.Page.{Page}
 
 -- a page of this content
-abbrev pub IsPage : Content → Page → Type 0
-IsPage c p = p.events.items ≡ events_behind c.events p.above p.limit
+abbrev pub IsPageOf : Content → Page → Type 0
+IsPageOf c p = p.events.items ≡ events_behind c.events p.above p.limit
 
 -- the first events above a number, so many, are on the page, or all that is left is
 abbrev pub Reaches : Page → ℕ → ℕ → Type 0
@@ -30,4 +30,4 @@ pub record ReadsIfOpen {A : Type 0} (old new : BookState) (result : Result A Boo
 
 -- a page of this content that has the first events above a number, so many
 abbrev pub Has : Content → Page → ℕ → ℕ → Type 0
-Has c p number count = IsPage c p × (events_behind p.events.items number count ≡ events_behind c.events number count)
+Has c p number count = IsPageOf c p × (events_behind p.events.items number count ≡ events_behind c.events number count)

@@ -19,7 +19,7 @@ use Rattle.acd_desk.specs.declared.replay.Step.{Step}
 use Rattle.acd_desk.specs.declared.replay.Step.TheVariants.{Replayed, Differs, Ended}
 use Rattle.acd_desk.specs.Audit.{AgreesBefore, IsFirstDifference}
 use Rattle.acd_desk.specs.Noting.{IsNoted}
-use Rattle.acd_desk.specs.Pages.{IsPage}
+use Rattle.acd_desk.specs.Pages.{IsPageOf}
 
 -- the rows of its switch
 abbrev pub rows_of : Course → Rows
@@ -67,30 +67,30 @@ abbrev pub IsEnd : Content → Rows → Type 0
 IsEnd c s = (events_behind c.events s.last_event 1 ≡ []) × (c.rows ≡ s)
 
 -- the notes tell that no earlier record has the key of this one, where it isn't noted
-abbrev pub Tells : Content → Noted → Kept → Type 0
-Tells c keys k = ¬ IsNoted keys k.request → IsFirstOfKey c k
+abbrev pub TellsKeys : Content → Noted → Kept → Type 0
+TellsKeys c keys k = ¬ IsNoted keys k.request → IsFirstOfKey c k
 
 -- so much is known of the content before a record is compared with what its request gives
 pub record Knows (c : Content) (keys : Noted) (p : Page) (k : Kept) : Type 0 where
-  pub tells : Tells c keys k
-  pub page : IsPage c p
+  pub tells : TellsKeys c keys k
+  pub page : IsPageOf c p
 
 -- its switch replays the first records, their keys are noted, and its page is of the content
 pub record Goes (c : Content) (r : Course) : Type 0 where
   pub replays : Replays c (rows_of r)
   pub noted : Every (λ (k : Kept). IsNoted r.keys k.request) (take (rows_of r).last_stamp c.kept)
-  pub page : IsPage c r.page
+  pub page : IsPageOf c r.page
 
 -- a replay begins with no record, or at limits that don't fit
-abbrev pub Begins : Content → Option Course → Type 0
-Begins c None = IsFirstDifference c 1
-Begins c (Some first) = IsOrdered c → Goes c first
+abbrev pub BeginsReplay : Content → Option Course → Type 0
+BeginsReplay c None = IsFirstDifference c 1
+BeginsReplay c (Some first) = IsOrdered c → Goes c first
 
 -- the key of a record more is noted, and the page is of the content
 pub record GoesOn (c : Content) (r : Course) (k : Kept) (next : Course) : Type 0 where
   pub own : IsNoted next.keys k.request
   pub others : (other : Request) → IsNoted r.keys other → IsNoted next.keys other
-  pub page : IsPage c next.page
+  pub page : IsPageOf c next.page
 
 -- a record is replayed, or it isn't what its request gives
 abbrev pub IsReplayed : Content → Course → Kept → Option Course → Type 0

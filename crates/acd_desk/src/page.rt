@@ -3,7 +3,7 @@
 ghost use Rattle.std.specs.Prelude.{◌≡◌, ◌≤◌, length, true, IfOk};
 ghost use Rattle.acd_book.specs.Content.{Content, events_behind};
 ghost use Rattle.acd_book.specs.State.{Reads};
-ghost use Rattle.acd_desk.specs.Pages.{Has, IsPage, Reaches, ReadsIfOpen};
+ghost use Rattle.acd_desk.specs.Pages.{Has, IsPageOf, Reaches, ReadsIfOpen};
 ghost use Rattle.acd_desk.specs.Tells.{above};
 
 use acd_book::{Book, BookFault};
@@ -24,7 +24,7 @@ pub(crate) struct Page {
 impl Page {
     /// A page of no events.
     pub(crate) fn empty(alloc: Global) -> Page
-        ensures { (c : Content) → IsPage c result }
+        ensures { (c : Content) → IsPageOf c result }
     {
         Page {
             above: 0,
@@ -44,7 +44,7 @@ impl Page {
     // Reads the next page, where this one doesn't reach so far.
     fn reach<B: Book>(&mut self, book: &mut B, number: u64, count: usize) -> Result<(), BookFault>
         ensures { ReadsIfOpen (B.state book.old) (B.state book.new) result
-            (λ c _. IsPage c self.old → Has c self.new number count) }
+            (λ c _. IsPageOf c self.old → Has c self.new number count) }
     {
         if self.reaches(number, count) {
             return Ok(());
@@ -62,8 +62,8 @@ impl Page {
         count: usize,
     ) -> Result<Vec<Event>, BookFault>
         ensures { ReadsIfOpen (B.state book.old) (B.state book.new) result
-            (λ c found. IsPage c self.old
-            → (found.items ≡ events_behind c.events number count) × IsPage c self.new) }
+            (λ c found. IsPageOf c self.old
+            → (found.items ≡ events_behind c.events number count) × IsPageOf c self.new) }
     {
         self.reach(book, number, count)?;
         Ok(first_behind(alloc, &self.events, number, count)?)
@@ -71,7 +71,7 @@ impl Page {
 }
 
 fn read_page<B: Book>(book: &mut B, above: u64, limit: usize) -> Result<Page, BookFault>
-    ensures page { Reads (B.state book.old) (B.state book.new) result (λ c found. IsPage c found) }
+    ensures page { Reads (B.state book.old) (B.state book.new) result (λ c found. IsPageOf c found) }
     ensures at { IfOk result (λ found. (found.above ≡ above) × (found.limit ≡ limit)) }
 {
     let events = book.events_after(above, limit)?;

@@ -12,8 +12,8 @@ ghost use Rattle.acd_model.specs.Rules.First.{BreaksNoRule};
 ghost use Rattle.acd_desk.specs.Firsts.{stepped};
 ghost use Rattle.acd_desk.specs.Audit.{IsAudit};
 ghost use Rattle.acd_desk.specs.Noting.{IsNoted};
-ghost use Rattle.acd_desk.specs.Pages.{IsPage, ReadsIfOpen};
-ghost use Rattle.acd_desk.specs.Replay.{again, IsFirstOfKey, Matches, IsEnd, Begins, IsReplayed, IsStep, CountsOne, Ends, Knows, Tells};
+ghost use Rattle.acd_desk.specs.Pages.{IsPageOf, ReadsIfOpen};
+ghost use Rattle.acd_desk.specs.Replay.{again, IsFirstOfKey, Matches, IsEnd, BeginsReplay, IsReplayed, IsStep, CountsOne, Ends, Knows, TellsKeys};
 
 use crate::audit::Audit;
 use crate::executing::executed;
@@ -68,7 +68,7 @@ fn is_first_of_key<B: Book>(book: &mut B, kept: &Kept) -> Result<bool, BookFault
 // The same. The book is asked where the key may be noted.
 fn is_new_key<B: Book>(book: &mut B, keys: &Noted, kept: &Kept) -> Result<bool, BookFault>
     ensures { ReadsIfOpen (B.state book.old) (B.state book.new) result
-        (λ c found. Tells c keys.now kept.now → Decides found (IsFirstOfKey c kept.now)) }
+        (λ c found. TellsKeys c keys.now kept.now → Decides found (IsFirstOfKey c kept.now)) }
 {
     if !keys.has(&kept.request) {
         return Ok(true);
@@ -85,7 +85,7 @@ fn has_events<B: Book>(
     events: &[Event],
 ) -> Result<bool, BookFault>
     ensures { ReadsIfOpen (B.state book.old) (B.state book.new) result
-        (λ c found. IsPage c page.old → IsPage c page.new
+        (λ c found. IsPageOf c page.old → IsPageOf c page.new
         × Decides found (events_behind c.events last (length events.now) ≡ events.now)) }
 {
     let found = page.events_after(alloc, book, last, events.len())?;
@@ -104,7 +104,7 @@ fn is_as_kept<B: Book>(
     events: &[Event],
 ) -> Result<bool, BookFault>
     ensures { ReadsIfOpen (B.state book.old) (B.state book.new) result
-        (λ c found. Knows c keys.now page.old kept.now → IsPage c page.new
+        (λ c found. Knows c keys.now page.old kept.now → IsPageOf c page.new
         × Decides found ((kept.now ≡ expected.now) × IsFirstOfKey c kept.now
         × (events_behind c.events last (length events.now) ≡ events.now))) }
 {
@@ -131,7 +131,7 @@ fn replays_as_kept<B: Book>(
     requires room { switch.old.last_stamp < switch.old.limits.requests }
     ensures told { ReadsIfOpen (B.state book.old) (B.state book.new) result
         (λ c found. Knows c keys.now page.old kept.now
-        → IsPage c page.new × Decides found (Matches c switch.old kept.now)) }
+        → IsPageOf c page.new × Decides found (Matches c switch.old kept.now)) }
     ensures stepped { OnOk result (switch.new ≡ (stepped switch.old (again kept.now)).rows) }
     ensures rules { OnOk result (BreaksNoRule switch.new) }
 {
@@ -248,7 +248,7 @@ fn unplayed(alloc: Global, limits: Limits) -> Result<LoadedSwitch, AllocError>
 fn uncoursed(alloc: Global, limits: Limits) -> Result<Course, AllocError>
     requires { limits_fit limits ≡ true }
     ensures rows { IfOk result (λ first. first.loaded.switch.value ≡ empty_rows limits) }
-    ensures page { IfOk result (λ first. (c : Content) → IsPage c first.page) }
+    ensures page { IfOk result (λ first. (c : Content) → IsPageOf c first.page) }
 {
     let loaded = unplayed(alloc, limits)?;
     let keys = Noted::none(alloc)?;
@@ -258,7 +258,7 @@ fn uncoursed(alloc: Global, limits: Limits) -> Result<Course, AllocError>
 
 // A course under the limits of the book, where they fit.
 fn begun<B: Book>(alloc: Global, book: &mut B) -> Result<Option<Course>, BookFault>
-    ensures told { Reads (B.state book.old) (B.state book.new) result (λ c found. Begins c found) }
+    ensures told { Reads (B.state book.old) (B.state book.new) result (λ c found. BeginsReplay c found) }
     ensures empty { IfOk result (λ found. IfSome found (λ first.
         (first.loaded.switch.value.last_stamp ≡ 0)
         × (first.loaded.switch.value.limits.requests ≤ 1000000000))) }

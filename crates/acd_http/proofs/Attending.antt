@@ -12,8 +12,8 @@ use Rattle.acd_http.specs.declared.asked.Asked.{Asked}
 use Rattle.acd_http.specs.declared.asked.Asked.TheVariants as ask
 use Rattle.acd_http.specs.declared.serving.ExchangeFault.TheVariants.{Truncated, Read, Write, NoMemory}
 use Rattle.acd_desk.specs.Tells.{told_of}
-use Rattle.acd_http.specs.Exchanging.{Answers}
-use Rattle.acd_http.specs.Listening.{Outcome, Served, Serves}
+use Rattle.acd_http.specs.Exchanging.{AnswersAsked}
+use Rattle.acd_http.specs.Listening.{Outcome, ServedOne, ServesEach}
 use Rattle.acd_http.specs.Attending.{posted, posted_by, all_posted, LeadsToTheRun}
 
 abbrev arrived : Arrival × Taken → Arrival
@@ -32,7 +32,7 @@ module _ {D : Type 0} (stands : D → Standing) (settles : (d : D) → Settles (
       subst (λ (x : D). So s l ts [] x) (sym same)
       (subst (λ (y : List Arrival). Attended (stands s) y (ts ++ []) (stands d)) (sym (append-nil l)) (subst (λ (z : List Taken). Attended (stands s) l z (stands d)) (sym (append-nil ts)) h))
 
-  one_more : (s d e : D) (l : List Arrival) (ts : List Taken) (moment : ℕ) (asked : Asked) (out : List ℕ) (a : Answers stands moment d asked out e)
+  one_more : (s d e : D) (l : List Arrival) (ts : List Taken) (moment : ℕ) (asked : Asked) (out : List ℕ) (a : AnswersAsked stands moment d asked out e)
       → Attended (stands s) l ts (stands d) → So s l ts (posted stands moment d asked out e a) e
   one_more s d e l ts moment (ask.Arrival r) out (inl a) h = attended_more (stands s) (stands d) (stands e) l ts (at moment r) a.0 (settles e) h a.2
   one_more s d e l ts moment (ask.Arrival r) out (inr a) h = none_more s d e l ts a.2 h
@@ -44,7 +44,7 @@ module _ {D : Type 0} (stands : D → Standing) (settles : (d : D) → Settles (
   one_more s d e l ts moment ask.Truncated out (inl a) h = absurd a
   one_more s d e l ts moment ask.Truncated out (inr a) h = none_more s d e l ts a.2 h
 
-  one_connection : (s d e : D) (l : List Arrival) (ts : List Taken) (x : Outcome) (v : Served stands d x e) → Attended (stands s) l ts (stands d) → So s l ts (posted_by stands d x e v) e
+  one_connection : (s d e : D) (l : List Arrival) (ts : List Taken) (x : Outcome) (v : ServedOne stands d x e) → Attended (stands s) l ts (stands d) → So s l ts (posted_by stands d x e v) e
   one_connection s d e l ts (Ok u) v h = one_more s d e l ts v.moment v.asked v.reply v.answers h
   one_connection s d e l ts (Err Write) v h = one_more s d e l ts v.moment v.asked v.reply v.answers h
   one_connection s d e l ts (Err Truncated) v h = none_more s d e l ts v h
@@ -54,7 +54,7 @@ module _ {D : Type 0} (stands : D → Standing) (settles : (d : D) → Settles (
   joined : {A : Type 0} (f : Arrival × Taken → A) (l : List A) (p q : List (Arrival × Taken)) → ((l ++ map f p) ++ map f q) ≡ (l ++ map f (p ++ q))
   joined f l p q = append_assoc l (map f p) (map f q) ∙ ap (λ (m : List _). l ++ m) (sym (map-append f p q))
 
-  on_and_on : (s d e : D) (l : List Arrival) (ts : List Taken) (xs : List Outcome) (h : Serves stands d xs e) → Attended (stands s) l ts (stands d) → So s l ts (all_posted stands d xs e h) e
+  on_and_on : (s d e : D) (l : List Arrival) (ts : List Taken) (xs : List Outcome) (h : ServesEach stands d xs e) → Attended (stands s) l ts (stands d) → So s l ts (all_posted stands d xs e h) e
   on_and_on s d e l ts [] h before = none_more s d e l ts h before
   on_and_on s d e l ts (x ∷ xs) h before =
       let p = posted_by stands d x h.0 h.1 in

@@ -5,9 +5,9 @@ use Rattle.std.proofs.KnownBytes.{Appends-nil}
 use Rattle.acd_desk.specs.Ran.{Standing}
 use Rattle.acd_io.specs.declared.sending.Stopped.{Stopped}
 use Rattle.acd_io.specs.Sent.{Begins}
-use Rattle.acd_http.specs.Listening.{Outcome, Served, Serves, ServedAll, EachWell, ServedWell, Noted, outcome_line, outcome_lines}
+use Rattle.acd_http.specs.Listening.{Outcome, ServedOne, ServesEach, ServedAll, EachWell, ServedWell, WasSent, outcome_line, outcome_lines}
 
-pub noted_by : (r : Result (Unit {0}) Stopped) (a b : Option (List ℕ)) (slice text : List ℕ) → slice ≡ text → OnOk r (Appends a b slice) → OnErr r (Begins a b slice) → Noted r a b text
+pub noted_by : (r : Result (Unit {0}) Stopped) (a b : Option (List ℕ)) (slice text : List ℕ) → slice ≡ text → OnOk r (Appends a b slice) → OnErr r (Begins a b slice) → WasSent r a b text
 noted_by (Ok u) a b slice text same ok err = subst (Appends a b) same ok
 noted_by (Err s) a b slice text same ok err = subst (Begins a b) same err
 
@@ -22,16 +22,16 @@ lines_more n (y ∷ ys) x =
     ap (λ (l : List ℕ). outcome_line n y ++ l) (lines_more (suc n) ys x ∙ ap (λ (k : ℕ). outcome_lines (suc n) ys ++ outcome_line k x) e) ∙ sym (append_assoc (outcome_line n y) (outcome_lines (suc n) ys) (outcome_line (n + length (y ∷ ys)) x))
 
 module _ {D : Type 0} (stands : D → Standing) where
-  serves_more : (d e f : D) (xs : List Outcome) (x : Outcome) → Serves stands d xs e → Served stands e x f → Serves stands d (xs ++ x ∷ []) f
-  serves_more d e f [] x h k = (f, subst (λ (a : D). Served stands a x f) h k, refl)
+  serves_more : (d e f : D) (xs : List Outcome) (x : Outcome) → ServesEach stands d xs e → ServedOne stands e x f → ServesEach stands d (xs ++ x ∷ []) f
+  serves_more d e f [] x h k = (f, subst (λ (a : D). ServedOne stands a x f) h k, refl)
   serves_more d e f (y ∷ ys) x h k = (h.0, h.1, serves_more h.0 e f ys x h.2 k)
 
-  pub served_none : (d : D) (a : Option (List ℕ)) → ServedAll stands 0 d d (Noted (Ok tt) a a)
+  pub served_none : (d : D) (a : Option (List ℕ)) → ServedAll stands 0 d d (WasSent (Ok tt) a a)
   unfolding outcome_lines
   served_none d a = record { outcomes = []; count = refl; serves = refl; out = Appends-nil a }
 
-  pub served_more : (many : ℕ) (d e f : D) (noted result : Result (Unit {0}) Stopped) (a b c : Option (List ℕ)) (x : Outcome) → ServedAll stands many d e (Noted noted a b) → Served stands e x f
-      → ((first : Option (List ℕ)) (text : List ℕ) → Noted noted first b text → Noted result first c (text ++ outcome_line (many + 1) x)) → ServedAll stands (many + 1) d f (Noted result a c)
+  pub served_more : (many : ℕ) (d e f : D) (noted result : Result (Unit {0}) Stopped) (a b c : Option (List ℕ)) (x : Outcome) → ServedAll stands many d e (WasSent noted a b) → ServedOne stands e x f
+      → ((first : Option (List ℕ)) (text : List ℕ) → WasSent noted first b text → WasSent result first c (text ++ outcome_line (many + 1) x)) → ServedAll stands (many + 1) d f (WasSent result a c)
   served_more many d e f noted result a b c x h one wrote =
       let number : 1 + length h.outcomes ≡ many + 1 = let is = h.count in omega arith in
       let lines : outcome_lines 1 (h.outcomes ++ x ∷ []) ≡ outcome_lines 1 h.outcomes ++ outcome_line (many + 1) x
@@ -40,25 +40,25 @@ module _ {D : Type 0} (stands : D → Standing) where
         outcomes = h.outcomes ++ x ∷ [];
         count = length-append h.outcomes (x ∷ []) ∙ ap (λ (k : ℕ). k + 1) h.count;
         serves = serves_more d e f h.outcomes x h.serves one;
-        out = subst (Noted result a c) (sym lines) (wrote a (outcome_lines 1 h.outcomes) h.out);
+        out = subst (WasSent result a c) (sym lines) (wrote a (outcome_lines 1 h.outcomes) h.out);
       }
 
   -- the same by a desk that hasn't failed
   abbrev Well : D → List Outcome → D → Type 0
-  Well d xs e = (h : Serves stands d xs e) × EachWell stands d xs e h
+  Well d xs e = (h : ServesEach stands d xs e) × EachWell stands d xs e h
 
-  well_behind : (d e f : D) (xs : List Outcome) (x : Outcome) → Well d xs e → (stands e).failed ≡ false → Served stands e x f → Well d (xs ++ x ∷ []) f
-  well_behind d e f [] x h well k = ((f, subst (λ (a : D). Served stands a x f) h.0 k, refl), (ap (λ (a : D). (stands a).failed) (sym h.0) ∙ well, tt))
+  well_behind : (d e f : D) (xs : List Outcome) (x : Outcome) → Well d xs e → (stands e).failed ≡ false → ServedOne stands e x f → Well d (xs ++ x ∷ []) f
+  well_behind d e f [] x h well k = ((f, subst (λ (a : D). ServedOne stands a x f) h.0 k, refl), (ap (λ (a : D). (stands a).failed) (sym h.0) ∙ well, tt))
   well_behind d e f (y ∷ ys) x h well k =
       let rest = well_behind h.0.0 e f ys x (h.0.2, h.1.1) well k in
       ((h.0.0, h.0.1, rest.0), (h.1.0, rest.1))
 
-  pub well_none : (d : D) (a : Option (List ℕ)) → ServedWell stands 0 d d (Noted (Ok tt) a a)
+  pub well_none : (d : D) (a : Option (List ℕ)) → ServedWell stands 0 d d (WasSent (Ok tt) a a)
   unfolding outcome_lines
   well_none d a = record { outcomes = []; count = refl; serves = refl; well = tt; out = Appends-nil a }
 
-  pub well_more : (many : ℕ) (d e f : D) (noted result : Result (Unit {0}) Stopped) (a b c : Option (List ℕ)) (x : Outcome) → ServedWell stands many d e (Noted noted a b) → (stands e).failed ≡ false → Served stands e x f
-      → ((first : Option (List ℕ)) (text : List ℕ) → Noted noted first b text → Noted result first c (text ++ outcome_line (many + 1) x)) → ServedWell stands (many + 1) d f (Noted result a c)
+  pub well_more : (many : ℕ) (d e f : D) (noted result : Result (Unit {0}) Stopped) (a b c : Option (List ℕ)) (x : Outcome) → ServedWell stands many d e (WasSent noted a b) → (stands e).failed ≡ false → ServedOne stands e x f
+      → ((first : Option (List ℕ)) (text : List ℕ) → WasSent noted first b text → WasSent result first c (text ++ outcome_line (many + 1) x)) → ServedWell stands (many + 1) d f (WasSent result a c)
   well_more many d e f noted result a b c x h well one wrote =
       let number : 1 + length h.outcomes ≡ many + 1 = let is = h.count in omega arith in
       let lines : outcome_lines 1 (h.outcomes ++ x ∷ []) ≡ outcome_lines 1 h.outcomes ++ outcome_line (many + 1) x
@@ -69,5 +69,5 @@ module _ {D : Type 0} (stands : D → Standing) where
         count = length-append h.outcomes (x ∷ []) ∙ ap (λ (k : ℕ). k + 1) h.count;
         serves = behind.0;
         well = behind.1;
-        out = subst (Noted result a c) (sym lines) (wrote a (outcome_lines 1 h.outcomes) h.out);
+        out = subst (WasSent result a c) (sym lines) (wrote a (outcome_lines 1 h.outcomes) h.out);
       }

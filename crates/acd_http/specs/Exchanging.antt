@@ -68,8 +68,8 @@ module _ {D : Type 0} (stands : D → Standing) (moment : ℕ) where
       (t : Taken) × (out ≡ taken_reply r t) × Took (stands d) (at moment r) t (stands e) × Ran (stands d) (at moment r ∷ []) (t ∷ []) (stands e)
 
   -- Before the desk is asked there may be no memory: then it is left as it was.
-  abbrev pub Answers : D → Asked → List ℕ → D → Type 0
-  Answers d asked out e = Replies d asked out e ⊎ ((asked ≢ ask.Truncated) × (out ≡ fixed_reply (is_bodiless asked) fixed.NoMemory) × (e ≡ d))
+  abbrev pub AnswersAsked : D → Asked → List ℕ → D → Type 0
+  AnswersAsked d asked out e = Replies d asked out e ⊎ ((asked ≢ ask.Truncated) × (out ≡ fixed_reply (is_bodiless asked) fixed.NoMemory) × (e ≡ d))
 
   -- Something was asked and answered, and the reply went out as is said.
   pub record Exchanged (known : Option (List ℕ)) (d e : D) (WentOut : List ℕ → Type 0) : Type 0 where
@@ -78,7 +78,7 @@ module _ {D : Type 0} (stands : D → Standing) (moment : ℕ) where
     pub reply : List ℕ
     pub is : IsInput known input
     pub asks : Asks input asked
-    pub answers : Answers d asked reply e
+    pub answers : AnswersAsked d asked reply e
     pub out : WentOut reply
 
   -- for private clauses

@@ -8,7 +8,7 @@ use Rattle.acd_http.specs.declared.asked.Asked.{Asked}
 use Rattle.acd_http.specs.declared.serving.ExchangeFault.{ExchangeFault}
 use Rattle.acd_http.specs.declared.serving.ExchangeFault.TheVariants.{Truncated, Read, Write, NoMemory}
 use Rattle.acd_http.specs.Asking.{Asks}
-use Rattle.acd_http.specs.Exchanging.{Answers}
+use Rattle.acd_http.specs.Exchanging.{AnswersAsked}
 
 -- how a connection ended
 abbrev pub Outcome : Type 0
@@ -38,30 +38,30 @@ module _ {D : Type 0} (stands : D → Standing) where
     pub asked : Asked
     pub reply : List ℕ
     pub asks : Asks input asked
-    pub answers : Answers stands moment d asked reply e
+    pub answers : AnswersAsked stands moment d asked reply e
 
   -- one connection: it was answered, or the desk is as it was
-  abbrev pub Served : D → Outcome → D → Type 0
-  Served d (Ok u) e = Visited d e
-  Served d (Err Write) e = Visited d e
-  Served d (Err Truncated) e = e ≡ d
-  Served d (Err Read) e = e ≡ d
-  Served d (Err NoMemory) e = e ≡ d
+  abbrev pub ServedOne : D → Outcome → D → Type 0
+  ServedOne d (Ok u) e = Visited d e
+  ServedOne d (Err Write) e = Visited d e
+  ServedOne d (Err Truncated) e = e ≡ d
+  ServedOne d (Err Read) e = e ≡ d
+  ServedOne d (Err NoMemory) e = e ≡ d
 
   -- one connection after another
-  abbrev pub Serves : D → List Outcome → D → Type 0
-  Serves d [] e = e ≡ d
-  Serves d (x ∷ xs) e = (f : D) × Served d x f × Serves f xs e
+  abbrev pub ServesEach : D → List Outcome → D → Type 0
+  ServesEach d [] e = e ≡ d
+  ServesEach d (x ∷ xs) e = (f : D) × ServedOne d x f × ServesEach f xs e
 
   -- so many connections were served, and their lines went out as is said
   pub record ServedAll (many : ℕ) (d e : D) (WentOut : List ℕ → Type 0) : Type 0 where
     pub outcomes : List Outcome
     pub count : length outcomes ≡ many
-    pub serves : Serves d outcomes e
+    pub serves : ServesEach d outcomes e
     pub out : WentOut (outcome_lines 1 outcomes)
 
   -- each of them by a desk that hadn't failed
-  abbrev pub EachWell : (d : D) (xs : List Outcome) (e : D) → Serves d xs e → Type 0
+  abbrev pub EachWell : (d : D) (xs : List Outcome) (e : D) → ServesEach d xs e → Type 0
   EachWell d [] e h = Unit {0}
   EachWell d (x ∷ xs) e h = ((stands d).failed ≡ false) × EachWell h.0 xs e h.2
 
@@ -69,7 +69,7 @@ module _ {D : Type 0} (stands : D → Standing) where
   pub record ServedWell (many : ℕ) (d e : D) (WentOut : List ℕ → Type 0) : Type 0 where
     pub outcomes : List Outcome
     pub count : length outcomes ≡ many
-    pub serves : Serves d outcomes e
+    pub serves : ServesEach d outcomes e
     pub well : EachWell d outcomes e serves
     pub out : WentOut (outcome_lines 1 outcomes)
 
@@ -83,6 +83,6 @@ module _ {D : Type 0} (stands : D → Standing) where
   ServedFor None d e WentOut = ServedUntilFailed d e WentOut
 
 -- for private clauses: a text was written, or a beginning of it
-abbrev pub Noted : Result (Unit {0}) Stopped → Option (List ℕ) → Option (List ℕ) → List ℕ → Type 0
-Noted (Ok u) old new text = Appends old new text
-Noted (Err stopped) old new text = Begins old new text
+abbrev pub WasSent : Result (Unit {0}) Stopped → Option (List ℕ) → Option (List ℕ) → List ℕ → Type 0
+WasSent (Ok u) old new text = Appends old new text
+WasSent (Err stopped) old new text = Begins old new text

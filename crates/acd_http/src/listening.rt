@@ -4,12 +4,12 @@ ghost use Rattle.std.specs.Prelude.{◌≡◌, ◌≤◌, ℕ, List, ◌++◌, m
 ghost use Rattle.std.specs.Io.KnownBytes.{Appends};
 ghost use Rattle.acd_io.specs.Sent.{Begins};
 ghost use Rattle.acd_desk.specs.Ran.{standing};
-ghost use Rattle.acd_http.specs.Listening.{Served, ServedAll, ServedUntilFailed, Noted, fault_text, outcome_line};
+ghost use Rattle.acd_http.specs.Listening.{ServedOne, ServedAll, ServedUntilFailed, WasSent, fault_text, outcome_line};
 
+use crate::head_text::HeadText;
 use crate::receive::CALLS;
 use crate::routes::Routes;
 use crate::serving::{ExchangeFault, exchange};
-use crate::short_text::ShortText;
 use acd_book::Book;
 use acd_desk::Desk;
 use acd_io::{Stopped, send};
@@ -75,7 +75,7 @@ fn serve_stream<B: Book, C: Clock>(
     stream: &TcpStream,
     desk: &mut Desk<B>,
 ) -> Result<(), ExchangeFault>
-    ensures { Served (standing B.Book) desk.old result desk.new }
+    ensures { ServedOne (standing B.Book) desk.old result desk.new }
 {
     let moment = moment_now(clock);
     let mut reader = stream;
@@ -91,7 +91,7 @@ fn serve_next<B: Book, C: Clock>(
     listener: &TcpListener,
     desk: &mut Desk<B>,
 ) -> Result<(), ExchangeFault>
-    ensures { Served (standing B.Book) desk.old result desk.new }
+    ensures { ServedOne (standing B.Book) desk.old result desk.new }
 {
     let Ok((stream, _)) = listener.accept() else {
         return Err(ExchangeFault::Read);
@@ -114,11 +114,11 @@ fn fault_text(fault: ExchangeFault) -> &'static [u8]
 }
 
 #[tactic(auto, unfolding(crate::specs::Listening::outcome_line))]
-fn fault_line(number: u64, fault: ExchangeFault) -> ShortText
+fn fault_line(number: u64, fault: ExchangeFault) -> HeadText
     ensures { result ≡ outcome_line number (Err fault) }
 {
     let mut digits = Buffer::new();
-    let mut line = ShortText::new();
+    let mut line = HeadText::new();
     line.push(b"acd: connection ");
     line.push(digits.format(number).as_bytes());
     line.push(b": ");
@@ -134,7 +134,7 @@ fn note<E: Write>(
     number: u64,
     outcome: Result<(), ExchangeFault>,
 ) -> Result<(), Stopped>
-    ensures { Noted result (E.contents errors.old) (E.contents errors.new) (outcome_line number outcome) }
+    ensures { WasSent result (E.contents errors.old) (E.contents errors.new) (outcome_line number outcome) }
 {
     match outcome {
         Ok(()) => Ok(()),
@@ -153,7 +153,7 @@ fn note_behind<E: Write>(
     number: u64,
     outcome: Result<(), ExchangeFault>,
 ) -> Result<(), Stopped>
-    ensures { (first : Option (List ℕ)) (text : List ℕ) → Noted noted first (E.contents errors.old) text → Noted result first (E.contents errors.new) (text ++ outcome_line number outcome) }
+    ensures { (first : Option (List ℕ)) (text : List ℕ) → WasSent noted first (E.contents errors.old) text → WasSent result first (E.contents errors.new) (text ++ outcome_line number outcome) }
 {
     match noted {
         Ok(()) => note(errors, number, outcome),
@@ -204,7 +204,7 @@ fn serve_while_well<B: Book, C: Clock, E: Write>(
     desk: &mut Desk<B>,
     errors: &mut E,
 ) -> Result<(), Stopped>
-    ensures { ServedUntilFailed (standing B.Book) desk.old desk.new (Noted result (E.contents errors.old) (E.contents errors.new)) }
+    ensures { ServedUntilFailed (standing B.Book) desk.old desk.new (WasSent result (E.contents errors.old) (E.contents errors.new)) }
 {
     let mut noted = Ok(());
     for before in 0..u64::MAX {

@@ -3,8 +3,8 @@
 ghost use Rattle.std.specs.Prelude.{◌≡◌, ◌≤◌, ◌+◌, ◌++◌, length};
 ghost use Rattle.acd_http.specs.Replying.{phrase_of, kind_text, allow_text, status_line, kind_field, size_field, head_text};
 
+use crate::head_text::HeadText;
 use crate::refused::Allow;
-use crate::short_text::ShortText;
 use acd_desk::Question;
 use itoa::Buffer;
 
@@ -75,7 +75,7 @@ fn allow_text(allow: Option<Allow>) -> &'static [u8]
     }
 }
 
-fn push_status(head: &mut ShortText, status: u16)
+fn push_status(head: &mut HeadText, status: u16)
     requires { length head.old ≤ 100 }
     ensures value { head.new ≡ head.old ++ status_line status }
     ensures short { length head.new ≤ length head.old + 83 }
@@ -88,7 +88,7 @@ fn push_status(head: &mut ShortText, status: u16)
     head.push(b"\r\n");
 }
 
-fn push_kind(head: &mut ShortText, kind: Kind)
+fn push_kind(head: &mut HeadText, kind: Kind)
     requires { length head.old ≤ 100 }
     ensures value { head.new ≡ head.old ++ kind_field kind }
     ensures short { length head.new ≤ length head.old + 32 }
@@ -98,7 +98,7 @@ fn push_kind(head: &mut ShortText, kind: Kind)
     head.push(b"\r\n");
 }
 
-fn push_size(head: &mut ShortText, size: usize)
+fn push_size(head: &mut HeadText, size: usize)
     requires { length head.old ≤ 150 }
     ensures value { head.new ≡ head.old ++ size_field size }
     ensures short { length head.new ≤ length head.old + 58 }
@@ -111,10 +111,10 @@ fn push_size(head: &mut ShortText, size: usize)
 
 /// Makes the head of a reply. It takes no memory.
 #[tactic(auto, unfolding(crate::specs::Replying::head_text))]
-pub(crate) fn reply_head(status: u16, kind: Kind, size: usize, allow: Option<Allow>) -> ShortText
+pub(crate) fn reply_head(status: u16, kind: Kind, size: usize, allow: Option<Allow>) -> HeadText
     ensures { result ≡ head_text status kind size allow }
 {
-    let mut head = ShortText::new();
+    let mut head = HeadText::new();
     push_status(&mut head, status);
     push_kind(&mut head, kind);
     push_size(&mut head, size);

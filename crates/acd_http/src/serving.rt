@@ -10,11 +10,11 @@ ghost use Rattle.acd_http.specs.Exchanging.{reply_out, Exchanged};
 
 use crate::answer::{Reply, answered, fixed};
 use crate::asked::{Unknown, asked_by};
+use crate::head_text::HeadText;
 use crate::input::Input;
 use crate::receive::CALLS;
 use crate::reply::reply_head;
 use crate::routes::Routes;
-use crate::short_text::ShortText;
 use acd_book::Book;
 use acd_codec::FixedAnswer;
 use acd_desk::Desk;
@@ -50,7 +50,7 @@ fn body_sent(bodiless: bool, body: &[u8]) -> &[u8]
 fn send_both<W: Write>(
     writer: &mut W,
     calls: &mut u64,
-    head: &mut ShortText,
+    head: &mut HeadText,
     body: &[u8],
 ) -> Result<(), Stopped>
     ensures ok { OnOk result (Appends (W.contents writer.old) (W.contents writer.new) (head.old ++ body.now)) }

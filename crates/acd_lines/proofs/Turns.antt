@@ -8,7 +8,7 @@ use Rattle.acd_lines.specs.Input.{has_none, text_of, cut}
 use Rattle.acd_io.specs.Read.{IsInput}
 use Rattle.acd_io.proofs.Inputs.{input_begun}
 use Rattle.acd_io.specs.Sent.{Passes, Breaks, Begins}
-use Rattle.acd_lines.specs.Parts.{ServesSome, Reached, Stands, LineDone, LineStops, Feeds, Stops, FeedStops, Finishes, FinishStops, InTurn, ServesText}
+use Rattle.acd_lines.specs.Parts.{ServesSome, Reached, AnsweredSoFar, LineDone, LineStops, Feeds, Stops, FeedStops, Finishes, FinishStops, InTurn, ServesText}
 use Rattle.acd_io.proofs.Sends.{breaks_front, passes_same_front, passes_nothing, passes_then, breaks_then, passes_out, breaks_out, begins_so, passes_whole}
 use Rattle.acd_lines.specs.Output.{whole_lines}
 use Rattle.acd_lines.specs.Lines.{LinesAnswered, AllLines, FirstLines, EndedLines}
@@ -53,7 +53,7 @@ chunk_read items buf len same size = take_at buf (drop (length buf) items) len (
 
 module _ {S L : Type 0} (asks : List ℕ → L) (by_front : ByFront asks) (A : S → L → List ℕ → S → Type 0) where
   -- nothing was read
-  pub starts : (n : ℕ) (s : S) (kept waiting : List ℕ) (a : Option (List ℕ)) → kept ≡ [] → waiting ≡ [] → Stands asks A n s [] kept [] [] waiting s a a
+  pub starts : (n : ℕ) (s : S) (kept waiting : List ℕ) (a : Option (List ℕ)) → kept ≡ [] → waiting ≡ [] → AnsweredSoFar asks A n s [] kept [] [] waiting s a a
   starts n s kept waiting a e f = record {
     part = [];
     answers = [];
@@ -63,7 +63,7 @@ module _ {S L : Type 0} (asks : List ℕ → L) (by_front : ByFront asks) (A : S
   }
 
   -- nothing more was read
-  pub stands_first : (n : ℕ) (s : S) (seen part kept earlier before : List ℕ) (t : S) (a : Option (List ℕ)) → kept ≡ take n part → Reached asks A s seen part earlier t → Stands asks A n s (seen ++ []) kept earlier before before t a a
+  pub stands_first : (n : ℕ) (s : S) (seen part kept earlier before : List ℕ) (t : S) (a : Option (List ℕ)) → kept ≡ take n part → Reached asks A s seen part earlier t → AnsweredSoFar asks A n s (seen ++ []) kept earlier before before t a a
   stands_first n s seen part kept earlier before t a e h = record {
     part = part;
     answers = [];
@@ -72,7 +72,7 @@ module _ {S L : Type 0} (asks : List ℕ → L) (by_front : ByFront asks) (A : S
     passes = passes_nothing a before;
   }
 
-  line_reached : (m : ℕ) (s : S) (seen kept earlier before waiting : List ℕ) (mid t : S) (a b : Option (List ℕ)) (end out : List ℕ) → 4107 < m → (h : Stands asks A (m + 1) s seen kept earlier before waiting mid a b) → has_none 10 end ≡ true
+  line_reached : (m : ℕ) (s : S) (seen kept earlier before waiting : List ℕ) (mid t : S) (a b : Option (List ℕ)) (end out : List ℕ) → 4107 < m → (h : AnsweredSoFar asks A (m + 1) s seen kept earlier before waiting mid a b) → has_none 10 end ≡ true
       → A mid (asks (strip_last 13 (take (m + 1) (kept ++ end)))) out t → Reached asks A s (seen ++ (end ++ 10 ∷ [])) [] (earlier ++ (h.answers ++ out)) t
   line_reached m s seen kept earlier before waiting mid t a b end out big h none answered =
       let line = line_text_of asks by_front m h.part kept end big h.keeps in
@@ -88,8 +88,8 @@ module _ {S L : Type 0} (asks : List ℕ → L) (by_front : ByFront asks) (A : S
   stops_same s line line' t a b before e h = (h.0, subst (λ (l : L). A s l h.0 t) e h.1, h.2)
 
   -- a line ended, and was answered
-  pub step_line : (m : ℕ) (s : S) (seen kept kept' earlier before waiting waiting' : List ℕ) (mid t : S) (a b c : Option (List ℕ)) (end : List ℕ) → 4107 < m → Stands asks A (m + 1) s seen kept earlier before waiting mid a b → has_none 10 end ≡ true
-      → LineDone A mid (asks (strip_last 13 (take (m + 1) (kept ++ end)))) t b c waiting waiting' → kept' ≡ [] → Stands asks A (m + 1) s (seen ++ (end ++ 10 ∷ [])) kept' earlier before waiting' t a c
+  pub step_line : (m : ℕ) (s : S) (seen kept kept' earlier before waiting waiting' : List ℕ) (mid t : S) (a b c : Option (List ℕ)) (end : List ℕ) → 4107 < m → AnsweredSoFar asks A (m + 1) s seen kept earlier before waiting mid a b → has_none 10 end ≡ true
+      → LineDone A mid (asks (strip_last 13 (take (m + 1) (kept ++ end)))) t b c waiting waiting' → kept' ≡ [] → AnsweredSoFar asks A (m + 1) s (seen ++ (end ++ 10 ∷ [])) kept' earlier before waiting' t a c
   step_line m s seen kept kept' earlier before waiting waiting' mid t a b c end big h none done empty = record {
     part = [];
     answers = h.answers ++ done.0;
@@ -99,8 +99,8 @@ module _ {S L : Type 0} (asks : List ℕ → L) (by_front : ByFront asks) (A : S
   }
 
   -- bytes with no line feed
-  pub step_bytes : (n : ℕ) (s : S) (seen kept kept' earlier before waiting : List ℕ) (t : S) (a b : Option (List ℕ)) (bytes : List ℕ) → Stands asks A n s seen kept earlier before waiting t a b → has_none 10 bytes ≡ true → kept' ≡ take n (kept ++ bytes)
-      → Stands asks A n s (seen ++ bytes) kept' earlier before waiting t a b
+  pub step_bytes : (n : ℕ) (s : S) (seen kept kept' earlier before waiting : List ℕ) (t : S) (a b : Option (List ℕ)) (bytes : List ℕ) → AnsweredSoFar asks A n s seen kept earlier before waiting t a b → has_none 10 bytes ≡ true → kept' ≡ take n (kept ++ bytes)
+      → AnsweredSoFar asks A n s (seen ++ bytes) kept' earlier before waiting t a b
   step_bytes n s seen kept kept' earlier before waiting t a b bytes h none is = record {
     part = h.part ++ bytes;
     answers = h.answers;
@@ -110,7 +110,7 @@ module _ {S L : Type 0} (asks : List ℕ → L) (by_front : ByFront asks) (A : S
   }
 
   -- the same values
-  pub stands_same : (n : ℕ) (s : S) (seen kept kept' earlier before waiting waiting' : List ℕ) (t t' : S) (a b b' : Option (List ℕ)) → kept' ≡ kept → waiting' ≡ waiting → t' ≡ t → b' ≡ b → Stands asks A n s seen kept earlier before waiting t a b → Stands asks A n s seen kept' earlier before waiting' t' a b'
+  pub stands_same : (n : ℕ) (s : S) (seen kept kept' earlier before waiting waiting' : List ℕ) (t t' : S) (a b b' : Option (List ℕ)) → kept' ≡ kept → waiting' ≡ waiting → t' ≡ t → b' ≡ b → AnsweredSoFar asks A n s seen kept earlier before waiting t a b → AnsweredSoFar asks A n s seen kept' earlier before waiting' t' a b'
   stands_same n s seen kept kept' earlier before waiting waiting' t t' a b b' e f i j h = record {
     part = h.part;
     answers = h.answers;
@@ -120,7 +120,7 @@ module _ {S L : Type 0} (asks : List ℕ → L) (by_front : ByFront asks) (A : S
   }
 
   -- the same bytes
-  pub stands_seen : (n : ℕ) (s : S) (seen seen' kept earlier before waiting : List ℕ) (t : S) (a b : Option (List ℕ)) → seen ≡ seen' → Stands asks A n s seen kept earlier before waiting t a b → Stands asks A n s seen' kept earlier before waiting t a b
+  pub stands_seen : (n : ℕ) (s : S) (seen seen' kept earlier before waiting : List ℕ) (t : S) (a b : Option (List ℕ)) → seen ≡ seen' → AnsweredSoFar asks A n s seen kept earlier before waiting t a b → AnsweredSoFar asks A n s seen' kept earlier before waiting t a b
   stands_seen n s seen seen' kept earlier before waiting t a b e h = record {
     part = h.part;
     answers = h.answers;
@@ -130,7 +130,7 @@ module _ {S L : Type 0} (asks : List ℕ → L) (by_front : ByFront asks) (A : S
   }
 
   -- what waits was written
-  pub stands_out : (n : ℕ) (s : S) (seen kept earlier before waiting waiting' : List ℕ) (t : S) (a b c : Option (List ℕ)) → Stands asks A n s seen kept earlier before waiting t a b → Passes b c [] waiting → waiting' ≡ [] → Stands asks A n s seen kept earlier before waiting' t a c
+  pub stands_out : (n : ℕ) (s : S) (seen kept earlier before waiting waiting' : List ℕ) (t : S) (a b c : Option (List ℕ)) → AnsweredSoFar asks A n s seen kept earlier before waiting t a b → Passes b c [] waiting → waiting' ≡ [] → AnsweredSoFar asks A n s seen kept earlier before waiting' t a c
   stands_out n s seen kept earlier before waiting waiting' t a b c h out none = record {
     part = h.part;
     answers = h.answers;
@@ -140,7 +140,7 @@ module _ {S L : Type 0} (asks : List ℕ → L) (by_front : ByFront asks) (A : S
   }
 
   -- the writer stopped at a line
-  pub stop_line : (m : ℕ) (s : S) (seen whole kept earlier before waiting : List ℕ) (mid t : S) (a b c : Option (List ℕ)) (end left : List ℕ) → 4107 < m → Stands asks A (m + 1) s seen kept earlier before waiting mid a b → has_none 10 end ≡ true
+  pub stop_line : (m : ℕ) (s : S) (seen whole kept earlier before waiting : List ℕ) (mid t : S) (a b c : Option (List ℕ)) (end left : List ℕ) → 4107 < m → AnsweredSoFar asks A (m + 1) s seen kept earlier before waiting mid a b → has_none 10 end ≡ true
       → LineStops A mid (asks (strip_last 13 (take (m + 1) (kept ++ end)))) t b c waiting → whole ≡ (seen ++ (end ++ 10 ∷ [])) ++ left → Stops asks A s whole earlier t a c before
   stop_line m s seen whole kept earlier before waiting mid t a b c end left big h none stopped is_whole =
       let out = h.answers ++ stopped.0 in
@@ -152,7 +152,7 @@ module _ {S L : Type 0} (asks : List ℕ → L) (by_front : ByFront asks) (A : S
       )
 
   -- the writer stopped behind the lines
-  pub stop_out : (n : ℕ) (s : S) (seen kept earlier before waiting : List ℕ) (t : S) (a b c : Option (List ℕ)) → Stands asks A n s seen kept earlier before waiting t a b → Breaks b c waiting → Stops asks A s seen earlier t a c before
+  pub stop_out : (n : ℕ) (s : S) (seen kept earlier before waiting : List ℕ) (t : S) (a b c : Option (List ℕ)) → AnsweredSoFar asks A n s seen kept earlier before waiting t a b → Breaks b c waiting → Stops asks A s seen earlier t a c before
   stop_out n s seen kept earlier before waiting t a b c h out =
       (h.answers, λ more. some_reached asks A s seen h.part (earlier ++ h.answers) more t h.reached, breaks_out a b c waiting (before ++ h.answers) h.passes out)
 
@@ -232,8 +232,8 @@ module _ {S L : Type 0} (asks : List ℕ → L) (by_front : ByFront asks) (A : S
   -- ---- whole reads
 
   -- a whole chunk was fed
-  pub fed : (n : ℕ) (s : S) (seen chunk kept kept' waiting waiting' : List ℕ) (mid t : S) (a b c : Option (List ℕ)) → (h : Stands asks A n s seen kept [] [] waiting mid a b) → Stands asks A n s (seen ++ chunk) kept' h.answers waiting waiting' t b c
-      → Stands asks A n s (seen ++ chunk) kept' [] [] waiting' t a c
+  pub fed : (n : ℕ) (s : S) (seen chunk kept kept' waiting waiting' : List ℕ) (mid t : S) (a b c : Option (List ℕ)) → (h : AnsweredSoFar asks A n s seen kept [] [] waiting mid a b) → AnsweredSoFar asks A n s (seen ++ chunk) kept' h.answers waiting waiting' t b c
+      → AnsweredSoFar asks A n s (seen ++ chunk) kept' [] [] waiting' t a c
   fed n s seen chunk kept kept' waiting waiting' mid t a b c h k = record {
     part = k.part;
     answers = h.answers ++ k.answers;
@@ -249,7 +249,7 @@ module _ {S L : Type 0} (asks : List ℕ → L) (by_front : ByFront asks) (A : S
   pub some_short : (known : Option (List ℕ)) (s t : S) (a c : Option (List ℕ)) → LinesAnswered (FirstLines known) (InTurn asks A s t) (Breaks a c) → LinesAnswered (FirstLines known) (InTurn asks A s t) (Begins a c)
   some_short known s t a c h = out_so (FirstLines known) (InTurn asks A s t) (Breaks a c) (Begins a c) (begins_so a c) h
 
-  pub all_done : (n : ℕ) (s : S) (seen kept waiting : List ℕ) (mid t : S) (a b c known : Option (List ℕ)) → (h : Stands asks A n s seen kept [] [] waiting mid a b) → IsInput known seen → (out : List ℕ) × ServesText asks A s (cut seen) (h.answers ++ out) t × Passes b c [] (waiting ++ out)
+  pub all_done : (n : ℕ) (s : S) (seen kept waiting : List ℕ) (mid t : S) (a b c known : Option (List ℕ)) → (h : AnsweredSoFar asks A n s seen kept [] [] waiting mid a b) → IsInput known seen → (out : List ℕ) × ServesText asks A s (cut seen) (h.answers ++ out) t × Passes b c [] (waiting ++ out)
       → LinesAnswered (AllLines known) (InTurn asks A s t) (Appends a c)
   all_done n s seen kept waiting mid t a b c known h input done =
       answered_by (AllLines known) (Appends a c) s t (cut seen) (h.answers ++ done.0) (seen, input, refl) done.1 (passes_whole a c (h.answers ++ done.0) (passes_then a b c [] waiting [] h.answers done.0 h.passes done.2))
@@ -258,20 +258,20 @@ module _ {S L : Type 0} (asks : List ℕ → L) (by_front : ByFront asks) (A : S
   all_first known s t a c h = picked_so (AllLines known) (FirstLines known) (InTurn asks A s t) (Appends a c) (all_are_first known) h
 
   -- no more was read
-  pub first_done : (n : ℕ) (s : S) (seen kept waiting : List ℕ) (t : S) (a b p q : Option (List ℕ)) → Stands asks A n s seen kept [] [] waiting t a b → waiting ≡ [] → Consumes p q seen → LinesAnswered (FirstLines p) (InTurn asks A s t) (Appends a b)
+  pub first_done : (n : ℕ) (s : S) (seen kept waiting : List ℕ) (t : S) (a b p q : Option (List ℕ)) → AnsweredSoFar asks A n s seen kept [] [] waiting t a b → waiting ≡ [] → Consumes p q seen → LinesAnswered (FirstLines p) (InTurn asks A s t) (Appends a b)
   first_done n s seen kept waiting t a b p q h none taken =
       let more = input_begun p q seen taken in
       let some = some_reached asks A s seen h.part h.answers more.0 t h.reached in
       answered_by (FirstLines p) (Appends a b) s t (take some.0 (cut (seen ++ more.0))) h.answers (seen ++ more.0, some.0, more.1, refl) some.1 (passes_whole a b h.answers (subst (λ (w : List ℕ). Passes a b w h.answers) none h.passes))
 
   -- the writer stopped at the end of the input
-  pub end_stopped : (n : ℕ) (s : S) (seen kept waiting : List ℕ) (mid t : S) (a b c known : Option (List ℕ)) → (h : Stands asks A n s seen kept [] [] waiting mid a b) → IsInput known seen → (out : List ℕ) × ServesText asks A s (cut seen) (h.answers ++ out) t × Breaks b c (waiting ++ out)
+  pub end_stopped : (n : ℕ) (s : S) (seen kept waiting : List ℕ) (mid t : S) (a b c known : Option (List ℕ)) → (h : AnsweredSoFar asks A n s seen kept [] [] waiting mid a b) → IsInput known seen → (out : List ℕ) × ServesText asks A s (cut seen) (h.answers ++ out) t × Breaks b c (waiting ++ out)
       → LinesAnswered (FirstLines known) (InTurn asks A s t) (Breaks a c)
   end_stopped n s seen kept waiting mid t a b c known h input done =
       answered_by (FirstLines known) (Breaks a c) s t (cut seen) (h.answers ++ done.0) (all_are_first known (cut seen) (seen, input, refl)) done.1 (breaks_then a b c [] waiting h.answers done.0 h.passes done.2)
 
   -- it stopped in a chunk
-  pub feed_stopped : (n : ℕ) (s : S) (seen chunk kept waiting : List ℕ) (mid t : S) (a b c p q : Option (List ℕ)) → (h : Stands asks A n s seen kept [] [] waiting mid a b) → Consumes p q (seen ++ chunk) → Stops asks A s (seen ++ chunk) h.answers t b c waiting
+  pub feed_stopped : (n : ℕ) (s : S) (seen chunk kept waiting : List ℕ) (mid t : S) (a b c p q : Option (List ℕ)) → (h : AnsweredSoFar asks A n s seen kept [] [] waiting mid a b) → Consumes p q (seen ++ chunk) → Stops asks A s (seen ++ chunk) h.answers t b c waiting
       → LinesAnswered (FirstLines p) (InTurn asks A s t) (Breaks a c)
   feed_stopped n s seen chunk kept waiting mid t a b c p q h taken stopped =
       let more = input_begun p q (seen ++ chunk) taken in
@@ -279,11 +279,11 @@ module _ {S L : Type 0} (asks : List ℕ → L) (by_front : ByFront asks) (A : S
       answered_by (FirstLines p) (Breaks a c) s t (take some.0 (cut ((seen ++ chunk) ++ more.0))) (h.answers ++ stopped.0) ((seen ++ chunk) ++ more.0, some.0, more.1, refl) some.1 (breaks_then a b c [] waiting h.answers stopped.0 h.passes stopped.2)
 
   -- the reader stopped between two reads
-  pub read_done : (n : ℕ) (s : S) (seen kept waiting : List ℕ) (t : S) (a b p q : Option (List ℕ)) → Stands asks A n s seen kept [] [] waiting t a b → waiting ≡ [] → Consumes p q seen → LinesAnswered (EndedLines p q) (InTurn asks A s t) (Appends a b)
+  pub read_done : (n : ℕ) (s : S) (seen kept waiting : List ℕ) (t : S) (a b p q : Option (List ℕ)) → AnsweredSoFar asks A n s seen kept [] [] waiting t a b → waiting ≡ [] → Consumes p q seen → LinesAnswered (EndedLines p q) (InTurn asks A s t) (Appends a b)
   read_done n s seen kept waiting t a b p q h none taken =
       answered_by (EndedLines p q) (Appends a b) s t (whole_lines seen) h.answers (seen, taken, refl) (read_reached asks A s seen h.part h.answers t h.reached) (passes_whole a b h.answers (subst (λ (w : List ℕ). Passes a b w h.answers) none h.passes))
 
-  pub read_stopped : (n : ℕ) (s : S) (seen kept waiting : List ℕ) (t : S) (a b p q : Option (List ℕ)) → Stands asks A n s seen kept [] [] waiting t a b → Consumes p q seen → LinesAnswered (FirstLines p) (InTurn asks A s t) (Begins a b)
+  pub read_stopped : (n : ℕ) (s : S) (seen kept waiting : List ℕ) (t : S) (a b p q : Option (List ℕ)) → AnsweredSoFar asks A n s seen kept [] [] waiting t a b → Consumes p q seen → LinesAnswered (FirstLines p) (InTurn asks A s t) (Begins a b)
   read_stopped n s seen kept waiting t a b p q h taken =
       let more = input_begun p q seen taken in
       let some = some_reached asks A s seen h.part h.answers more.0 t h.reached in

@@ -56,7 +56,7 @@ module _ {S L : Type 0} (asks : List ℕ → L) (Answers : S → L → List ℕ 
     pub whole : answers ≡ concat outs
 
   -- So far: earlier answers, and those behind them. What waited before, and these, were written but for what waits. At most n bytes of a line are kept.
-  pub record Stands (n : ℕ) (s : S) (seen kept earlier before waiting : List ℕ) (t : S) (old new : Option (List ℕ)) : Type 0 where
+  pub record AnsweredSoFar (n : ℕ) (s : S) (seen kept earlier before waiting : List ℕ) (t : S) (old new : Option (List ℕ)) : Type 0 where
     pub part : List ℕ
     pub answers : List ℕ
     pub keeps : kept ≡ take n part
@@ -66,7 +66,7 @@ module _ {S L : Type 0} (asks : List ℕ → L) (Answers : S → L → List ℕ 
   -- more bytes lead on from what was reached
   abbrev pub Feeds : S → S → List ℕ → List ℕ → List ℕ → Option (List ℕ) → Option (List ℕ) → List ℕ → List ℕ → Type 0
   Feeds mid t kept kept' bytes old new before waiting = (s : S) (seen part answers : List ℕ) → kept ≡ take 4109 part → Reached s seen part answers mid
-      → Stands 4109 s (seen ++ bytes) kept' answers before waiting t old new
+      → AnsweredSoFar 4109 s (seen ++ bytes) kept' answers before waiting t old new
 
   -- the writer stopped, and some lines were answered of each input that begins with these bytes
   abbrev pub Stops : S → List ℕ → List ℕ → S → Option (List ℕ) → Option (List ℕ) → List ℕ → Type 0

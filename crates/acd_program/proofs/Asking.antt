@@ -16,14 +16,14 @@ use Rattle.acd_desk.proofs.Telling.{told_so, told_nothing, told_then}
 use Rattle.acd_program.specs.declared.auditing.Finding.{Finding}
 use Rattle.acd_program.specs.declared.auditing.Finding.TheVariants.{Sound, Counted, Differs}
 use Rattle.acd_program.specs.Found.{IsFinding, IsFindingOf}
-use Rattle.acd_program.specs.Work.{Asked, IsFindingIfOrdered}
+use Rattle.acd_program.specs.Work.{WasAsked, IsFindingIfOrdered}
 use Rattle.acd_program.specs.Taking.{IsOf}
 
 no_error : {A : Type 0} {found : A} {e : DeskFault} → ◌≡◌ {A = Result A DeskFault} (Ok found) (Err e) → ⊥
 no_error h = cc
 
 -- a desk that was opened was asked; of a sound content the answer is that of the read
-pub asked_by : {A : Type 0} (old : BookState) (d e : Standing) (x : A) (P : Content → A → Type 0) → Opened old d → Told d e (Ok x) P → Asked old (λ (c : Content) (y : A). IsSound c → P c y) x e.book
+pub asked_by : {A : Type 0} (old : BookState) (d e : Standing) (x : A) (P : Content → A → Type 0) → Opened old d → Told d e (Ok x) P → WasAsked old (λ (c : Content) (y : A). IsSound c → P c y) x e.book
 asked_by old d e x P o t =
     let same : e.book.is_clean → old.is_sound → d.book.content ≡ old.content = λ clean sound. (o.opened (t.clean clean) sound).2 in
     let up : e.book.is_clean → old.is_sound → e.book.is_open
@@ -41,7 +41,7 @@ asked_by old d e x P o t =
     }
 
 -- what follows from an answer is an answer
-pub asked_so : {A B : Type 0} (old new : BookState) (x : A) (y : B) (P : Content → A → Type 0) (Q : Content → B → Type 0) → ((c : Content) → P c x → Q c y) → Asked old P x new → Asked old Q y new
+pub asked_so : {A B : Type 0} (old new : BookState) (x : A) (y : B) (P : Content → A → Type 0) (Q : Content → B → Type 0) → ((c : Content) → P c x → Q c y) → WasAsked old P x new → WasAsked old Q y new
 asked_so old new x y P Q follows a = record {
   clean = a.clean;
   sound = a.sound;
@@ -53,7 +53,7 @@ asked_so old new x y P Q follows a = record {
 }
 
 -- of a book that came of another
-pub asked_of : {A : Type 0} (old mid new : BookState) (x : A) (P : Content → A → Type 0) → IsOf old mid → Asked mid P x new → Asked old P x new
+pub asked_of : {A : Type 0} (old mid new : BookState) (x : A) (P : Content → A → Type 0) → IsOf old mid → WasAsked mid P x new → WasAsked old P x new
 asked_of old mid new x P of a = record {
   clean = λ clean. of.clean (a.clean clean);
   sound = λ clean is. a.sound clean (of.sound (a.clean clean) is);
@@ -65,7 +65,7 @@ asked_of old mid new x P of a = record {
 }
 
 -- its records stand in order
-pub asked_in_order : (old mid new : BookState) (x : Finding) → IsOf old mid → Asked mid IsFindingIfOrdered x new → Asked old IsFindingOf x new
+pub asked_in_order : (old mid new : BookState) (x : Finding) → IsOf old mid → WasAsked mid IsFindingIfOrdered x new → WasAsked old IsFindingOf x new
 asked_in_order old mid new x of a =
     let there = asked_of old mid new x IsFindingIfOrdered of a in
     record {
@@ -89,7 +89,7 @@ unsound c place differs = λ sound. differs_sound place (one_audit c (audit.Diff
 
 -- what an audit of a desk over the book finds is found of what the book holds
 pub audited_by : (old : BookState) (d e : Standing) (x : Finding) → Opened old d → Told d e (Ok x) (λ (c : Content) (y : Finding). Unit {0})
-    → (e.book.is_clean → d.book.is_sound → IsFinding d x) → Asked old IsFindingIfOrdered x e.book
+    → (e.book.is_clean → d.book.is_sound → IsFinding d x) → WasAsked old IsFindingIfOrdered x e.book
 audited_by old d e x o t found =
     let told = asked_by old d e x (λ (c : Content) (y : Finding). Unit {0}) o t in
     record {

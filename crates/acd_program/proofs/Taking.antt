@@ -3,21 +3,21 @@ use Rattle.std.proofs.Common.{◌≡◌, ℕ, Bool, true, Option, None, Result, 
 use Rattle.sqlite.specs.State.{State, HasCleanDisk}
 use Rattle.acd_terms.specs.Limits.{greatest_limits}
 use Rattle.acd_book.specs.State.{BookState}
-use Rattle.acd_schema.specs.SettingUp.{MayMake}
+use Rattle.acd_sql_schema.specs.SettingUp.{MayMake}
 use Rattle.acd_sqlbook.specs.Adopting.{IsAdopted, MayMigrate}
-use Rattle.acd_columns.specs.Content.{Encodes}
-use Rattle.acd_columns.specs.InTables.{content_of}
+use Rattle.acd_sql_columns.specs.Content.{Encodes}
+use Rattle.acd_sql_columns.specs.InTables.{content_of}
 use Rattle.sqlite_trees.specs.Tree.{Trees}
 use Rattle.acd_book.specs.Content.{Content}
 use Rattle.acd_book.specs.Order.{IsOrdered}
-use Rattle.acd_columns.proofs.Decoded.{decoded}
+use Rattle.acd_sql_columns.proofs.Decoded.{decoded}
 use Rattle.acd_desk.specs.declared.open_fault.OpenFault.{OpenFault}
 use Rattle.acd_desk.specs.Opening.{Refused}
 use Rattle.acd_program.specs.Answered.{nothing}
-use Rattle.acd_columns.specs.Schema.{no_schema}
+use Rattle.acd_sql_columns.specs.Schema.{no_schema}
 use Rattle.acd_sqlbook.specs.declared.index.Index.{Index}
 use Rattle.acd_sqlbook.specs.Indexing.{SoundWith, followed}
-use Rattle.acd_sqlbook.specs.State.{book_state, IsNew}
+use Rattle.acd_sqlbook.specs.State.{book_state, IsNewBook}
 use Rattle.acd_sqlbook.proofs.Followed.{apart}
 use Rattle.acd_program.specs.Over.{held, unmade, Unserved}
 use Rattle.acd_program.specs.Taking.{IsOf, IsTaken}
@@ -34,7 +34,7 @@ of_held s t noted failures adopted none counted clean = subst (λ (o : Option In
   ordered = λ here filed. (adopted here).ordered filed;
 })
 
-pub of_unmade : (s t : State) (noted : Option Index) (failures : ℕ) → (HasCleanDisk t → IsNew (book_state t failures) greatest_limits) → noted ≡ None → failures ≡ 0 → (HasCleanDisk t → HasCleanDisk s)
+pub of_unmade : (s t : State) (noted : Option Index) (failures : ℕ) → (HasCleanDisk t → IsNewBook (book_state t failures) greatest_limits) → noted ≡ None → failures ≡ 0 → (HasCleanDisk t → HasCleanDisk s)
     → IsOf (unmade s) (followed noted (book_state t failures))
 of_unmade s t noted failures made none counted clean = subst (λ (o : Option Index). IsOf (unmade s) (followed o (book_state t failures))) (sym none) (record {
   clean = clean;

@@ -20,7 +20,7 @@ use Rattle.acd_program.specs.Statuses.{finding_status}
 use Rattle.acd_lines.specs.Lines.{AllLines, AllRequests, ArrivalsAnswered, RequestsAnswered}
 use Rattle.acd_lines.proofs.Weaker.{out_so}
 use Rattle.acd_program.specs.Over.{IsSession, AnswersOver, OverConnection}
-use Rattle.acd_program.specs.Work.{Asked, IsText, ImportsOver, AuditsOver, WorkDone, IsPrinted, text_left, status_left}
+use Rattle.acd_program.specs.Work.{WasAsked, IsTextOf, ImportsOver, AuditsOver, WorkDone, IsPrinted, text_left, status_left}
 use Rattle.acd_program.specs.InFiles.{IsLaidIn, WorkedOver}
 use Rattle.acd_program.specs.Files.{IsOpenedIn}
 use Rattle.acd_program.specs.Tasks.{WorkedIn, InFile, IsOpenedFrom, LinesDone, TaskDone}
@@ -44,7 +44,7 @@ nothing_left left between behind is h = subst (λ (x : Done). Appends between be
 -- what an audit left to print
 found_left : (counts : Bool) (before between : Option (List ℕ)) (makes : Bool) (s t : State) (left : Done)
     → OverConnection (λ (old new : BookState). AuditsOver IsFindingOf counts old left new × (between ≡ before)) makes s t
-    → (found : Finding) × (left ≡ Audited found) × HasCount counts found × OverConnection (λ (old new : BookState). Asked old IsFindingOf found new) makes s t
+    → (found : Finding) × (left ≡ Audited found) × HasCount counts found × OverConnection (λ (old new : BookState). WasAsked old IsFindingOf found new) makes s t
 found_left counts before between makes s t Nothing h =
     absurd (over_fact (λ (old new : BookState). AuditsOver IsFindingOf counts old Nothing new × (between ≡ before)) ⊥ makes s t (λ old new p. p.0) h)
 found_left counts before between makes s t (Told text) h =
@@ -54,7 +54,7 @@ found_left counts before between makes s t (Audited found) h =
       found,
       refl,
       over_fact P (HasCount counts found) makes s t (λ old new p. p.0.0) h,
-      over_so P (λ old new. Asked old IsFindingOf found new) makes s t (λ old new p. p.0.1) h,
+      over_so P (λ old new. WasAsked old IsFindingOf found new) makes s t (λ old new p. p.0.1) h,
     )
 
 module _ {D : Type 0} (disk : Ghosts D) (IsFresh : Bool → D → Type 0) (had before behind : Option (List ℕ)) (status : ℕ) where
@@ -97,7 +97,7 @@ module _ {D : Type 0} (disk : Ghosts D) (IsFresh : Bool → D → Type 0) (had b
       )
 
   pub tell_done : (makes : Bool) (telling : Telling) → WorkedIn disk IsFresh makes (Book (book.Tell telling)) had before behind status
-      → (text : List ℕ) × InFile disk IsFresh (λ (old new : BookState). Asked old (IsText telling) text new) makes × Appends before behind text × (status ≡ 0)
+      → (text : List ℕ) × InFile disk IsFresh (λ (old new : BookState). WasAsked old (IsTextOf telling) text new) makes × Appends before behind text × (status ≡ 0)
   tell_done makes telling h =
       let w = h.2 in
       let s = file_state h.0 in
@@ -109,7 +109,7 @@ module _ {D : Type 0} (disk : Ghosts D) (IsFresh : Bool → D → Type 0) (had b
           conn = h.0;
           last = w.last;
           opened = h.1;
-          done = over_so P (λ old new. Asked old (IsText telling) (text_left w.left) new) makes s t (λ old new p. p.0.asked) w.done;
+          done = over_so P (λ old new. WasAsked old (IsTextOf telling) (text_left w.left) new) makes s t (λ old new p. p.0.asked) w.done;
           closed = w.closed;
         },
         subst (λ (a : Option (List ℕ)). Appends a behind (text_left w.left)) same w.printed,
@@ -117,7 +117,7 @@ module _ {D : Type 0} (disk : Ghosts D) (IsFresh : Bool → D → Type 0) (had b
       )
 
   pub audit_done : (makes counts : Bool) → WorkedIn disk IsFresh makes (Book (book.Audit counts)) had before behind status
-      → (found : Finding) × HasCount counts found × InFile disk IsFresh (λ (old new : BookState). Asked old IsFindingOf found new) makes × Appends before behind (finding_line found) × (status ≡ finding_status found)
+      → (found : Finding) × HasCount counts found × InFile disk IsFresh (λ (old new : BookState). WasAsked old IsFindingOf found new) makes × Appends before behind (finding_line found) × (status ≡ finding_status found)
   audit_done makes counts h =
       let w = h.2 in
       let s = file_state h.0 in

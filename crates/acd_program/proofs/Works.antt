@@ -30,7 +30,7 @@ use Rattle.acd_program.specs.declared.desk.BookWork.TheVariants.{Import, Tell, A
 use Rattle.acd_program.specs.declared.desk.Done.{Done}
 use Rattle.acd_program.specs.declared.desk.Done.TheVariants as left
 use Rattle.acd_program.specs.Found.{IsFindingOf}
-use Rattle.acd_program.specs.Work.{ImportsOver, TellsOver, IsFindingIfOrdered, IsText, AuditsOver, BookDone, telling_text, text_left, status_left}
+use Rattle.acd_program.specs.Work.{ImportsOver, TellsOver, IsFindingIfOrdered, IsTextOf, AuditsOver, BookDone, telling_text, text_left, status_left}
 use Rattle.acd_program.specs.Over.{IsSession, OverConnection, held, unmade}
 use Rattle.acd_program.specs.Taking.{IsOf, IsTaken}
 use Rattle.acd_program.proofs.InFiles.{over_so}
@@ -54,7 +54,7 @@ audits_of counts old mid new (left.Audited found) of h = (h.0, asked_in_order ol
 -- the work over a book that came of another
 pub work_of : (work : BookWork) (old mid new : BookState) (before behind : Option (List ℕ)) (done : Done) → IsOf old mid → BookDone IsFindingIfOrdered work mid before behind done new → BookDone IsFindingOf work old before behind done new
 work_of (Import requests) old mid new before behind done of h = (imports_of old mid new requests.now before behind of h.0, h.1)
-work_of (Tell telling) old mid new before behind done of h = (record { asked = asked_of old mid new _ (IsText telling) of h.0.asked; status = h.0.status }, h.1)
+work_of (Tell telling) old mid new before behind done of h = (record { asked = asked_of old mid new _ (IsTextOf telling) of h.0.asked; status = h.0.status }, h.1)
 work_of (Audit counts) old mid new before behind done of h = (audits_of counts old mid new done of h.0, h.1)
 
 -- ---- over a book
@@ -64,7 +64,7 @@ pub tells_over : {Z : Type 0} (telling : Telling) (old : BookState) (d e : Stand
     → Told d e (Ok text) (λ (c : Content) (t : Option (String Z)). IsSound c → told t ≡ Some (telling_text telling c)) → text_left done ≡ unwrap_or (told text) [] → status_left done ≡ 0
     → TellsOver telling old done e.book
 tells_over {Z} telling old d e text done opened asked same status = record {
-  asked = asked_so old e.book text (text_left done) (λ (c : Content) (t : Option (String Z)). IsSound c → IsSound c → told t ≡ Some (telling_text telling c)) (IsText telling)
+  asked = asked_so old e.book text (text_left done) (λ (c : Content) (t : Option (String Z)). IsSound c → IsSound c → told t ≡ Some (telling_text telling c)) (IsTextOf telling)
       (λ c h whole. same ∙ ap (λ (o : Option (List ℕ)). unwrap_or o []) (h whole whole))
       (asked_by old d e text (λ (c : Content) (t : Option (String Z)). IsSound c → told t ≡ Some (telling_text telling c)) opened asked);
   status = status;

@@ -1,7 +1,7 @@
 -- What ends lines over a connection early.
 use Rattle.std.specs.Prelude.{⊤}
 use Rattle.acd_program.specs.Over.{IsLinesFault, IsStoreFailed}
-use Rattle.acd_program.specs.declared.session.SessionFault.TheVariants.{Open, Lines, StoreFailed}
+use Rattle.acd_program.specs.declared.session.BookLinesFault.TheVariants.{Open, Lines, Store}
 use Rattle.acd_program.specs.declared.connection.ConnectionFault.{ConnectionFault}
 use Rattle.acd_program.specs.declared.connection.ConnectionFault.TheVariants.{Book, Session}
 
@@ -20,4 +20,4 @@ abbrev pub EndsUnread : ConnectionFault → Type 0
 EndsUnread (Book fault) = ⊤
 EndsUnread (Session (Open why)) = ⊤
 EndsUnread (Session (Lines why)) = ⊥
-EndsUnread (Session StoreFailed) = ⊥
+EndsUnread (Session Store) = ⊥

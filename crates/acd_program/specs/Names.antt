@@ -1,7 +1,7 @@
 -- Names that fault lines tell.
 use Rattle.std.specs.Prelude.{ℕ, List, codes}
-use Rattle.acd_columns.specs.declared.tables.Table.{Table}
-use Rattle.acd_columns.specs.declared.tables.Table.TheVariants as table
+use Rattle.acd_sql_columns.specs.declared.tables.Table.{Table}
+use Rattle.acd_sql_columns.specs.declared.tables.Table.TheVariants as table
 use Rattle.acd_terms.specs.declared.rows.Rule.{Rule}
 use Rattle.acd_terms.specs.declared.rows.Rule.TheVariants as rule
 

@@ -6,10 +6,10 @@ use Rattle.sqlite_trees.specs.Tree.{Trees}
 use Rattle.sqlite.specs.State.{State, HasCleanDisk}
 use Rattle.acd_terms.specs.declared.command.Arrival.{Arrival}
 use Rattle.acd_book.specs.State.{BookState}
-use Rattle.acd_columns.specs.AnyRows.{IsFiled}
-use Rattle.acd_columns.specs.Content.{Encodes}
-use Rattle.acd_columns.specs.InTables.{content_of}
-use Rattle.acd_columns.specs.Schema.{no_schema}
+use Rattle.acd_sql_columns.specs.AnyRows.{IsFiled}
+use Rattle.acd_sql_columns.specs.Content.{Encodes}
+use Rattle.acd_sql_columns.specs.InTables.{content_of}
+use Rattle.acd_sql_columns.specs.Schema.{no_schema}
 use Rattle.acd_sqlbook.specs.declared.index.Index.{Index}
 use Rattle.acd_sqlbook.specs.Indexing.{followed}
 use Rattle.acd_sqlbook.specs.State.{book_state}
@@ -20,19 +20,19 @@ use Rattle.acd_desk.specs.Ran.{IsFault}
 use Rattle.acd_desk.specs.Session.{Session}
 use Rattle.acd_lines.specs.Lines.{LinesAnswered, AllLines, ArrivalsAnswered}
 use Rattle.acd_program.specs.Answered.{nothing}
-use Rattle.acd_program.specs.declared.session.SessionFault.{SessionFault}
-use Rattle.acd_program.specs.declared.session.SessionFault.TheVariants.{Open, Lines, StoreFailed}
+use Rattle.acd_program.specs.declared.session.BookLinesFault.{BookLinesFault}
+use Rattle.acd_program.specs.declared.session.BookLinesFault.TheVariants.{Open, Lines, Store}
 
-abbrev pub IsOpenFault : OpenFault → SessionFault → Type 0
+abbrev pub IsOpenFault : OpenFault → BookLinesFault → Type 0
 IsOpenFault why fault = fault ≡ Open why
 
-abbrev pub IsLinesFault : SessionFault → Type 0
+abbrev pub IsLinesFault : BookLinesFault → Type 0
 IsLinesFault (Open why) = ⊥
 IsLinesFault (Lines why) = ⊤
-IsLinesFault StoreFailed = ⊥
+IsLinesFault Store = ⊥
 
-abbrev pub IsStoreFailed : SessionFault → Type 0
-IsStoreFailed fault = fault ≡ StoreFailed
+abbrev pub IsStoreFailed : BookLinesFault → Type 0
+IsStoreFailed fault = fault ≡ Store
 
 -- the answers to arrivals that are a session, from a book to what it is then
 abbrev pub IsSession : BookState → BookState → List Arrival → List Taken → Type 0

@@ -7,7 +7,7 @@ use Rattle.sqlite_trees.specs.declared.store.Store.{Ghosts}
 use Rattle.acd_book.specs.declared.book.Book as book
 use Rattle.acd_book.specs.Content.{Content}
 use Rattle.acd_book.specs.State.{BookState}
-use Rattle.acd_columns.specs.Schema.{no_schema}
+use Rattle.acd_sql_columns.specs.Schema.{no_schema}
 use Rattle.acd_sqlbook.specs.declared.book.SqlBook.{SqlBook}
 use Rattle.acd_desk.specs.declared.desk.Desk.{Desk}
 use Rattle.acd_desk.specs.Standing.{standing}

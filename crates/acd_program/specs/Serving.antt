@@ -6,7 +6,7 @@ use Rattle.sqlite_trees.specs.declared.store.Store.{Ghosts}
 use Rattle.acd_book.specs.declared.book.Book as book
 use Rattle.acd_book.specs.Content.{Within}
 use Rattle.acd_book.specs.State.{BookState, IfHonest}
-use Rattle.acd_columns.specs.Schema.{no_schema}
+use Rattle.acd_sql_columns.specs.Schema.{no_schema}
 use Rattle.acd_sqlbook.specs.declared.book.SqlBook.{SqlBook}
 use Rattle.acd_sqlbook.specs.Indexing.{followed}
 use Rattle.acd_sqlbook.specs.State.{book_state}

@@ -4,7 +4,7 @@ use Rattle.sqlite.specs.State.{State}
 use Rattle.acd_book.specs.Content.{Within}
 use Rattle.acd_book.specs.Order.{IsOrdered}
 use Rattle.acd_book.specs.State.{BookState}
-use Rattle.acd_columns.specs.Schema.{no_schema}
+use Rattle.acd_sql_columns.specs.Schema.{no_schema}
 use Rattle.acd_program.specs.Over.{held, unmade}
 
 -- a book that came of another and holds the same

@@ -13,7 +13,7 @@ use Rattle.acd_program.specs.Answered.{AnswersAll}
 use Rattle.acd_program.specs.Over.{AnswersOver, OverConnection}
 use Rattle.acd_program.specs.Found.{IsFindingOf, HasCount, finding_line}
 use Rattle.acd_program.specs.Statuses.{finding_status}
-use Rattle.acd_program.specs.Work.{Asked, IsText, ImportsOver}
+use Rattle.acd_program.specs.Work.{WasAsked, IsTextOf, ImportsOver}
 use Rattle.acd_program.specs.Files.{IsOpenedIn}
 use Rattle.acd_program.specs.InFiles.{IsLaidIn, WorkedOver}
 use Rattle.acd_program.specs.Serving.{ServesDatabase}
@@ -86,6 +86,6 @@ module _ {D : Type 0} (disk : Ghosts D) (IsFresh : Bool → D → Type 0) where
   TaskDone (Import file plan) had before behind mute told status = ImportedIn before behind status
   TaskDone (Read file (book.Import requests)) had before behind mute told status = InFile (λ (old new : BookState). ImportsOver requests.now old before behind new) false × (status ≡ 0)
   TaskDone (Read file (book.Tell telling)) had before behind mute told status =
-      (text : List ℕ) × InFile (λ (old new : BookState). Asked old (IsText telling) text new) false × Appends before behind text × (status ≡ 0)
+      (text : List ℕ) × InFile (λ (old new : BookState). WasAsked old (IsTextOf telling) text new) false × Appends before behind text × (status ≡ 0)
   TaskDone (Read file (book.Audit counts)) had before behind mute told status =
-      (found : Finding) × HasCount counts found × InFile (λ (old new : BookState). Asked old IsFindingOf found new) false × Appends before behind (finding_line found) × (status ≡ finding_status found)
+      (found : Finding) × HasCount counts found × InFile (λ (old new : BookState). WasAsked old IsFindingOf found new) false × Appends before behind (finding_line found) × (status ≡ finding_status found)

@@ -43,7 +43,7 @@ status_left (Audited found) = finding_status found
 -- ---- over a book
 
 -- a desk was opened over the book and asked, and the book came back as it was: this was found of what it holds
-pub record Asked {A : Type 0} (old : BookState) (IsAnswer : Content → A → Type 0) (found : A) (new : BookState) : Type 0 where
+pub record WasAsked {A : Type 0} (old : BookState) (IsAnswer : Content → A → Type 0) (found : A) (new : BookState) : Type 0 where
   pub clean : new.is_clean → old.is_clean
   pub sound : IfHonest old new new.is_sound
   pub opened : IfHonest old new (old.is_open × new.is_open)
@@ -54,8 +54,8 @@ pub record Asked {A : Type 0} (old : BookState) (IsAnswer : Content → A → Ty
   pub quiet : new.failures ≡ old.failures
 
 -- of a sound content this is told
-abbrev pub IsText : Telling → Content → List ℕ → Type 0
-IsText telling c text = IsSound c → text ≡ telling_text telling c
+abbrev pub IsTextOf : Telling → Content → List ℕ → Type 0
+IsTextOf telling c text = IsSound c → text ≡ telling_text telling c
 
 -- of a content whose records stand in order, as those of tables do, this is found
 abbrev pub IsFindingIfOrdered : Content → Finding → Type 0
@@ -63,14 +63,14 @@ IsFindingIfOrdered c found = IsOrdered c → IsFindingOf c found
 
 -- a text is left to print that is told of the book
 pub record TellsOver (telling : Telling) (old : BookState) (done : Done) (new : BookState) : Type 0 where
-  pub asked : Asked old (IsText telling) (text_left done) new
+  pub asked : WasAsked old (IsTextOf telling) (text_left done) new
   pub status : status_left done ≡ 0
 
 -- an audit of the book found this, which is left to print
 abbrev pub AuditsOver : (Content → Finding → Type 0) → Bool → BookState → Done → BookState → Type 0
 AuditsOver IsAnswer counts old Nothing new = ⊥
 AuditsOver IsAnswer counts old (Told text) new = ⊥
-AuditsOver IsAnswer counts old (Audited found) new = HasCount counts found × Asked old IsAnswer found new
+AuditsOver IsAnswer counts old (Audited found) new = HasCount counts found × WasAsked old IsAnswer found new
 
 -- the requests came in at moment 0, one after the other, and one answer line was written for each; they are a session over the book
 abbrev pub ImportsOver : List Request → BookState → Option (List ℕ) → Option (List ℕ) → BookState → Type 0

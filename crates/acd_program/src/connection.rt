@@ -4,7 +4,7 @@ ghost use Rattle.std.specs.Prelude.{◌≡◌, true, false, IfOk, OnOk, IfErr};
 ghost use Rattle.sqlite.specs.Held.{state};
 ghost use Rattle.sqlite.specs.State.{HasCleanDisk};
 ghost use Rattle.acd_terms.specs.Limits.{greatest_limits};
-ghost use Rattle.acd_schema.specs.SettingUp.{MayMake};
+ghost use Rattle.acd_sql_schema.specs.SettingUp.{MayMake};
 ghost use Rattle.acd_sqlbook.specs.Indexing.{followed};
 ghost use Rattle.acd_sqlbook.specs.State.{book_state};
 ghost use Rattle.acd_lines.specs.Lines.{LinesAnswered, AllLines, FirstLines, ArrivalsAnswered};
@@ -13,7 +13,7 @@ ghost use Rattle.acd_program.specs.Over.{IsSession, IsFailedSession, OverConnect
 ghost use Rattle.acd_program.specs.Taking.{IsOf, IsTaken};
 ghost use Rattle.acd_program.specs.Endings.{EndsLines, EndsOnStoreFault, EndsUnread};
 
-use crate::session::{SessionFault, lines_over_book};
+use crate::session::{BookLinesFault, lines_over_book};
 use acd_book::BookFault;
 use acd_sqlbook::{AdoptFault, SqlBook, has_no_tables};
 use acd_terms::Limits;
@@ -30,7 +30,7 @@ pub enum ConnectionFault {
     Book(AdoptFault),
     /// The book makes no desk, or its lines ended early.
     #[error("{0}")]
-    Session(SessionFault),
+    Session(BookLinesFault),
 }
 
 // Makes the tables of a new book, with the greatest limits.

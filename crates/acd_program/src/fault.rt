@@ -4,7 +4,7 @@ ghost use Rattle.std.specs.Prelude.{◌≡◌};
 ghost use Rattle.acd_program.specs.Names.{table_name, rule_name};
 
 use crate::connection::ConnectionFault;
-use crate::session::SessionFault;
+use crate::session::BookLinesFault;
 use acd_book::BookFault;
 use acd_desk::{DeskFault, OpenFault};
 use acd_io::Stopped;
@@ -149,12 +149,12 @@ impl<'a> From<LinesFault> for Fault<'a> {
     }
 }
 
-impl<'a> From<SessionFault> for Fault<'a> {
-    fn from(fault: SessionFault) -> Fault<'a> {
+impl<'a> From<BookLinesFault> for Fault<'a> {
+    fn from(fault: BookLinesFault) -> Fault<'a> {
         match fault {
-            SessionFault::Open(fault) => Fault::from(fault),
-            SessionFault::Lines(fault) => Fault::from(fault),
-            SessionFault::StoreFailed => Fault::Store,
+            BookLinesFault::Open(fault) => Fault::from(fault),
+            BookLinesFault::Lines(fault) => Fault::from(fault),
+            BookLinesFault::Store => Fault::Store,
         }
     }
 }

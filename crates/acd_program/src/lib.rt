@@ -25,4 +25,4 @@ mod task;
 pub use connection::{ConnectionFault, lines_over_connection};
 pub use memory::{lines_over_memory, new_desk};
 pub use running::program;
-pub use session::{SessionFault, lines_over_book};
+pub use session::{BookLinesFault, lines_over_book};

@@ -17,7 +17,7 @@ use thiserror::Error;
 
 /// Why lines over a book ended early.
 #[derive(Clone, Copy, Debug, PartialEq, Eq, Error)]
-pub enum SessionFault {
+pub enum BookLinesFault {
     /// The book makes no desk.
     #[error("{0}")]
     Open(OpenFault),
@@ -26,7 +26,7 @@ pub enum SessionFault {
     Lines(LinesFault),
     /// A storeFault was answered, and nothing more was read.
     #[error("store fault")]
-    StoreFailed,
+    Store,
 }
 
 // Answers each line until the input ends or, where that is asked for, the desk fails.
@@ -36,7 +36,7 @@ fn answer<B: Book, R: Read, W: Write>(
     ends_on_store_fault: bool,
     reader: &mut R,
     writer: &mut W,
-) -> Result<(), SessionFault>
+) -> Result<(), BookLinesFault>
     ensures ok { OnOk result (LinesAnswered (AllLines (R.remaining reader.old))
         (ArrivalsAnswered (HasRun B.Book desk.old desk.new))
         (Appends (W.contents writer.old) (W.contents writer.new))) }
@@ -54,17 +54,17 @@ fn answer<B: Book, R: Read, W: Write>(
     if !ends_on_store_fault {
         return match lines(alloc, desk, reader, writer) {
             Ok(()) => Ok(()),
-            Err(fault) => Err(SessionFault::Lines(fault)),
+            Err(fault) => Err(BookLinesFault::Lines(fault)),
         };
     }
     match lines_until_failed(alloc, desk, reader, writer) {
         Ok(()) => {
             if desk.has_failed() {
-                return Err(SessionFault::StoreFailed);
+                return Err(BookLinesFault::Store);
             }
             Ok(())
         }
-        Err(fault) => Err(SessionFault::Lines(fault)),
+        Err(fault) => Err(BookLinesFault::Lines(fault)),
     }
 }
 
@@ -76,7 +76,7 @@ pub fn lines_over_book<B: Book, R: Read, W: Write>(
     ends_on_store_fault: bool,
     reader: &mut R,
     writer: &mut W,
-) -> (Result<(), SessionFault>, B)
+) -> (Result<(), BookLinesFault>, B)
     // one answer line for each line, and the arrivals among them were taken in turn
     ensures ok { OnOk result.0 (LinesAnswered (AllLines (R.remaining reader.old))
         (ArrivalsAnswered (IsSession (B.state book) (B.state result.1)))
@@ -98,7 +98,7 @@ pub fn lines_over_book<B: Book, R: Read, W: Write>(
 {
     let mut desk = match Desk::open(alloc, book) {
         Ok(desk) => desk,
-        Err((fault, book)) => return (Err(SessionFault::Open(fault)), book),
+        Err((fault, book)) => return (Err(BookLinesFault::Open(fault)), book),
     };
     match answer(alloc, &mut desk, ends_on_store_fault, reader, writer) {
         Ok(()) => (Ok(()), desk.close()),

@@ -9,29 +9,29 @@ use Rattle.sqlite.specs.declared.error.Error.{Error}
 use Rattle.sqlite.specs.State.{State, HasCleanDisk}
 use Rattle.acd_book.specs.Content.{Content, Within}
 use Rattle.acd_book.specs.Order.{IsOrdered as IsInOrder}
-use Rattle.acd_schema.specs.declared.fault.AdoptFault.{AdoptFault}
-use Rattle.acd_schema.specs.declared.fault.AdoptFault.TheVariants.{WrongVersion, BadRow, NoMemory, Store}
-use Rattle.acd_columns.specs.AnyRows.{IsFiled, IsFiledAs, HaveAllColumns}
-use Rattle.acd_schema.specs.declared.fault.Found.{Found}
-use Rattle.acd_schema.specs.declared.fault.Found.TheVariants.{Book, Fault}
-use Rattle.acd_statements.specs.InRange.{IsInRange}
-use Rattle.acd_schema.specs.Inspecting.{IsFound, IsOfBook, IsFaultOf, IsStoreFault}
-use Rattle.acd_schema.specs.Migrating.{IsMigration, IsMade, IsRestored, MayAlter}
-use Rattle.acd_columns.specs.declared.tables.Table.TheVariants as table
-use Rattle.acd_columns.specs.declared.tables.Version.{Version}
-use Rattle.acd_columns.specs.declared.tables.Version.TheVariants as version
+use Rattle.acd_sql_schema.specs.declared.fault.AdoptFault.{AdoptFault}
+use Rattle.acd_sql_schema.specs.declared.fault.AdoptFault.TheVariants.{WrongVersion, BadRow, NoMemory, Store}
+use Rattle.acd_sql_columns.specs.AnyRows.{IsFiled, IsFiledAs, HaveAllColumns}
+use Rattle.acd_sql_schema.specs.declared.fault.Found.{Found}
+use Rattle.acd_sql_schema.specs.declared.fault.Found.TheVariants.{Book, Fault}
+use Rattle.acd_sql_statements.specs.InRange.{IsInRange}
+use Rattle.acd_sql_schema.specs.Inspecting.{IsFound, IsOfBook, IsAdoptFaultOf, IsAdoptStoreFault}
+use Rattle.acd_sql_schema.specs.Migrating.{IsMigration, IsMade, IsRestored, MayAlter}
+use Rattle.acd_sql_columns.specs.declared.tables.Table.TheVariants as table
+use Rattle.acd_sql_columns.specs.declared.tables.Version.{Version}
+use Rattle.acd_sql_columns.specs.declared.tables.Version.TheVariants as version
 use Rattle.acd_sqlbook.specs.Adopting.{HasAllColumns, IsAdopted, IsHandedBack, IsUntouched, MayMigrate}
-use Rattle.acd_columns.specs.Relations.{pair_order, meta_of, relations_of}
-use Rattle.acd_columns.specs.Content.{Encodes, EncodesAs, Stores, part, tree_of}
-use Rattle.acd_columns.specs.Rows.{further_row}
-use Rattle.acd_columns.specs.Schema.{old_schema, book_schema}
-use Rattle.acd_columns.specs.InTables.{content_of}
-use Rattle.acd_columns.specs.Seeing.{HasDatabase, HasLooked}
-use Rattle.acd_sqlbook.specs.State.{IsSound, book_state}
+use Rattle.acd_sql_columns.specs.Relations.{pair_order, meta_of, relations_of}
+use Rattle.acd_sql_columns.specs.Content.{Encodes, EncodesAs, Stores, part, tree_of}
+use Rattle.acd_sql_columns.specs.Rows.{further_row}
+use Rattle.acd_sql_columns.specs.Schema.{old_schema, book_schema}
+use Rattle.acd_sql_columns.specs.InTables.{content_of}
+use Rattle.acd_sql_columns.specs.Seeing.{HasDatabase, HasLooked}
+use Rattle.acd_sqlbook.specs.State.{IsSoundState, book_state}
 use Rattle.acd_sqlbook.proofs.BookStates.{Settles, Stays}
-use Rattle.acd_columns.proofs.Decoded.{decoded, decoded_as}
-use Rattle.acd_columns.proofs.Frames.{none_heaped}
-use Rattle.acd_schema.proofs.Contents.{content_in, filed_in, filed_by_store}
+use Rattle.acd_sql_columns.proofs.Decoded.{decoded, decoded_as}
+use Rattle.acd_sql_columns.proofs.Frames.{none_heaped}
+use Rattle.acd_sql_schema.proofs.Contents.{content_in, filed_in, filed_by_store}
 use Rattle.acd_sqlbook.proofs.Rising.{stored_ordered}
 
 -- ---- what a migration leaves of a content
@@ -85,7 +85,7 @@ module _ (old mid : State) (settles : Settles old) (k : HasCleanDisk mid) where
   same_commit r h was up = (h.seen.same k (had_before r h was) up).committed ∙ h.settled was
 
   -- it is as sound as it was
-  still_sound : (r : Result Found Error) → HasLooked old mid r IsFound → IsSound old → IsSound mid
+  still_sound : (r : Result Found Error) → HasLooked old mid r IsFound → IsSoundState old → IsSoundState mid
   still_sound r h sound = record {
     stands = λ up.
         let was = h.seen.was_open k up in
@@ -101,19 +101,19 @@ module _ (old mid : State) (settles : Settles old) (k : HasCleanDisk mid) where
       let was = h.seen.was_open k up in
       (was, ap (λ (d : Database). content_of d.trees) (same_commit r h was up))
 
-  back : (r : Result Found Error) (f : AdoptFault) → HasLooked old mid r IsFound → IsFaultOf old.now f → IsHandedBack old.now (book_state old 0) (book_state mid 0) f
+  back : (r : Result Found Error) (f : AdoptFault) → HasLooked old mid r IsFound → IsAdoptFaultOf old.now f → IsHandedBack old.now (book_state old 0) (book_state mid 0) f
   back r f h fault = record { sound = still_sound r h; same = same_content r h; stops = λ filed c stop. (stop.0, h.stops k stop.0 stop.1, stop.2); cause = fault }
 
   pub back_found : (f : AdoptFault) → HasLooked old mid (Ok (Fault f)) IsFound → IsHandedBack old.now (book_state old 0) (book_state mid 0) f
   back_found f h = back (Ok (Fault f)) f h (found_in (Fault f) h)
 
-  pub of_store : (f : AdoptFault) → IsStoreFault f → IsFaultOf old.now f
+  pub of_store : (f : AdoptFault) → IsAdoptStoreFault f → IsAdoptFaultOf old.now f
   of_store (WrongVersion n) h = absurd h
   of_store (BadRow t) h = absurd h
   of_store NoMemory h = tt
   of_store Store h = tt
 
-  pub back_failed : (e : Error) (f : AdoptFault) → IsStoreFault f → HasLooked old mid (Err e) IsFound → IsHandedBack old.now (book_state old 0) (book_state mid 0) f
+  pub back_failed : (e : Error) (f : AdoptFault) → IsAdoptStoreFault f → HasLooked old mid (Err e) IsFound → IsHandedBack old.now (book_state old 0) (book_state mid 0) f
   back_failed e f is h = back (Err e) f h (of_store f is)
 
   -- the rows of a store that isn't broken rise
@@ -178,7 +178,7 @@ module _ (old mid new : State) (settles : Settles old) (stays : Stays old) (k : 
   second_there : (db : Trees) → IsMigration old.now.trees db → IsFiled old.now → Encodes db (content_of old.committed.trees)
   second_there db m filed = let c = made filed in subst (Encodes db) (sym (held_before c.0 c.1)) (migrated_encodes old.now.trees db c.0 c.1 m)
 
-  never_sound : IsSound old → ⊥
+  never_sound : IsSoundState old → ⊥
   never_sound sound = let held = sound.stands was in apart_schemas (sym (ap (λ (d : Database). d.schema) held.1.idle ∙ held.1.schema) ∙ first.schema_is)
 
   pub migrated : IsMade mid new → IsMade old new
@@ -220,7 +220,7 @@ module _ (old mid new : State) (settles : Settles old) (stays : Stays old) (k : 
         ordered = λ filed. let c = made filed in subst IsInOrder (held c) (stored_ordered new.committed.trees c.0 (whole c) c.2);
       }
 
-  pub back_unmade : (f : AdoptFault) → IsStoreFault f → MayAlter mid new → (IsTrue new.is_open → IsRestored mid new) → IsHandedBack old.now (book_state old 0) (book_state new 0) f
+  pub back_unmade : (f : AdoptFault) → IsAdoptStoreFault f → MayAlter mid new → (IsTrue new.is_open → IsRestored mid new) → IsHandedBack old.now (book_state old 0) (book_state new 0) f
   back_unmade f is may restored = record {
     sound = λ sound. absurd (never_sound sound);
     same = λ up. (was, ap (λ (d : Database). content_of d.trees) ((restored up).committed ∙ after.committed ∙ h.settled was));
@@ -228,6 +228,6 @@ module _ (old mid new : State) (settles : Settles old) (stays : Stays old) (k : 
     cause = of_store old mid settles k f is;
   }
 
-  pub not_alone : (f : AdoptFault) → IsStoreFault f → (old.now.schema ≢ old_schema) ⊎ (¬ (IsStoreFault f)) → IsUntouched old new
+  pub not_alone : (f : AdoptFault) → IsAdoptStoreFault f → (old.now.schema ≢ old_schema) ⊎ (¬ (IsAdoptStoreFault f)) → IsUntouched old new
   not_alone f is (inl other) = absurd (other first.schema_is)
   not_alone f is (inr other) = absurd (other is)

@@ -17,11 +17,11 @@ use Rattle.acd_book.specs.Content.{Content, events_behind}
 use Rattle.acd_book.specs.Memory.{number_of}
 use Rattle.acd_book.specs.Order.{Rises}
 use Rattle.acd_book.specs.Watched.{WatchesAfter}
-use Rattle.acd_columns.specs.Draft.{Quiet, NoStop}
-use Rattle.acd_columns.specs.Finding.{Finds}
-use Rattle.acd_columns.proofs.Recorded.{found_none}
-use Rattle.acd_statements.specs.Picking.{Serves}
-use Rattle.acd_statements.proofs.Chained.{behind, chained, broken, finds_on, finds_so}
+use Rattle.acd_sql_columns.specs.Draft.{Quiet, NoStop}
+use Rattle.acd_sql_columns.specs.Finding.{Finds}
+use Rattle.acd_sql_columns.proofs.Recorded.{found_none}
+use Rattle.acd_sql_statements.specs.Picking.{Serves}
+use Rattle.acd_sql_statements.proofs.Chained.{behind, chained, broken, finds_on, finds_so}
 use Rattle.acd_sqlbook.specs.Calls.{HasRead}
 use Rattle.acd_sqlbook.specs.Indexing.{Indexes, IsNoted, GoesOn, Begins, last_of}
 use Rattle.acd_sqlbook.specs.declared.index.Index.{Index}

@@ -15,14 +15,14 @@ use Rattle.acd_book.specs.State.{Reads, Commits}
 use Rattle.acd_book.specs.declared.fault.BookFault.{BookFault}
 use Rattle.acd_book.specs.declared.fault.BookFault.TheVariants.{NoMemory, Store}
 use Rattle.acd_sqlbook.specs.Commit.{written_by}
-use Rattle.acd_columns.specs.Relations.{meta_of}
-use Rattle.acd_columns.specs.Content.{Encodes}
-use Rattle.acd_columns.specs.InTables.{content_of}
+use Rattle.acd_sql_columns.specs.Relations.{meta_of}
+use Rattle.acd_sql_columns.specs.Content.{Encodes}
+use Rattle.acd_sql_columns.specs.InTables.{content_of}
 use Rattle.acd_sqlbook.specs.Calls.{HasRead, HasCommitted, HasReplaced}
-use Rattle.acd_columns.specs.Draft.{Holds}
-use Rattle.acd_sqlbook.specs.State.{IsSound, IsNew, book_state, answered, failures_after}
+use Rattle.acd_sql_columns.specs.Draft.{HoldsContent}
+use Rattle.acd_sqlbook.specs.State.{IsSoundState, IsNewBook, book_state, answered, failures_after}
 use Rattle.acd_sqlbook.proofs.Committing.{commit_is}
-use Rattle.acd_columns.proofs.Decoded.{decoded}
+use Rattle.acd_sql_columns.proofs.Decoded.{decoded}
 
 -- ---- the laws of a store, of its state
 
@@ -70,23 +70,23 @@ ok_imply : {A : Type 0} (P Q : Type 0) (r : Result A Error) → (P → OnOk r Q)
 ok_imply P Q (Ok a) h = h
 ok_imply P Q (Err e) h = tt
 
-pub held_is : (s : State) (c : Content) → Holds s c → content_of s.committed.trees ≡ c
+pub held_is : (s : State) (c : Content) → HoldsContent s c → content_of s.committed.trees ≡ c
 held_is s c held = decoded s.committed.trees c held.encodes
 
 module _ {A : Type 0} (old new : State) (failures : ℕ) (r : Result A Error) (IsAnswer : Content → A → Type 0) where
-  same_content : HasRead old new r IsAnswer → HasCleanDisk new → IsSound old → IsTrue new.is_open → IsTrue old.is_open × (content_of new.committed.trees ≡ content_of old.committed.trees)
+  same_content : HasRead old new r IsAnswer → HasCleanDisk new → IsSoundState old → IsTrue new.is_open → IsTrue old.is_open × (content_of new.committed.trees ≡ content_of old.committed.trees)
   same_content h k sound up =
       let was = h.quiet.was_open k up in
       let held = sound.stands was in
       (was, held_is new held.0 (h.quiet.same k held.0 held.1 up) ∙ sym (held_is old held.0 held.1))
 
-  read_value : HasRead old new r IsAnswer → HasCleanDisk new → IsSound old → IfOk (answered r) (λ a. IsTrue old.is_open × IsAnswer (content_of old.committed.trees) a)
+  read_value : HasRead old new r IsAnswer → HasCleanDisk new → IsSoundState old → IfOk (answered r) (λ a. IsTrue old.is_open × IsAnswer (content_of old.committed.trees) a)
   read_value h k sound =
-      ok_kept (λ a. IsTrue new.is_open × ((c : Content) → Holds old c → IsAnswer c a)) (λ a. IsTrue old.is_open × IsAnswer (content_of old.committed.trees) a) r
+      ok_kept (λ a. IsTrue new.is_open × ((c : Content) → HoldsContent old c → IsAnswer c a)) (λ a. IsTrue old.is_open × IsAnswer (content_of old.committed.trees) a) r
       (λ a p. let was = h.quiet.was_open k p.0 in let held = sound.stands was in (was, subst (λ c. IsAnswer c a) (sym (held_is old held.0 held.1)) (p.1 held.0 held.1)))
-      (open_then (λ a. (c : Content) → Holds old c → IsAnswer c a) (IsTrue new.is_open) r (h.up k) (h.value k))
+      (open_then (λ a. (c : Content) → HoldsContent old c → IsAnswer c a) (IsTrue new.is_open) r (h.up k) (h.value k))
 
-  still_sound : HasRead old new r IsAnswer → HasCleanDisk new → IsSound old → IsSound new
+  still_sound : HasRead old new r IsAnswer → HasCleanDisk new → IsSoundState old → IsSoundState new
   still_sound h k sound = record {
     stands = λ up. let held = sound.stands (h.quiet.was_open k up) in (held.0, h.quiet.same k held.0 held.1 up);
     left = λ db left. sound.left db (h.stops k sound.stands db left);
@@ -98,7 +98,7 @@ module _ {A : Type 0} (old new : State) (failures : ℕ) (r : Result A Error) (I
     sound = still_sound h;
     value = read_value h;
     same = same_content h;
-    stays = ok_imply (HasCleanDisk new) (IsSound old → IsTrue new.is_open) r (λ k. on_up k r (h.up k));
+    stays = ok_imply (HasCleanDisk new) (IsSoundState old → IsTrue new.is_open) r (λ k. on_up k r (h.up k));
     stops = λ k sound c stop. (stop.0, h.stops k sound.stands stop.0 stop.1, stop.2);
     keeps = λ k sound up c stop.
         let same = same_content h k sound up in
@@ -108,37 +108,37 @@ module _ {A : Type 0} (old new : State) (failures : ℕ) (r : Result A Error) (I
     counts = low;
   }
     where
-      on_up : HasCleanDisk new → (r : Result A Error) → OnOk r (IsTrue new.is_open) → OnOk r (IsSound old → IsTrue new.is_open)
-      on_up k (Ok a) up = λ (sound : IsSound old). up
+      on_up : HasCleanDisk new → (r : Result A Error) → OnOk r (IsTrue new.is_open) → OnOk r (IsSoundState old → IsTrue new.is_open)
+      on_up k (Ok a) up = λ (sound : IsSoundState old). up
       on_up k (Err e) up = tt
 
-module _ (old new : State) (failures : ℕ) (r : Result (Unit {0}) Error) (written after : Content → Content) (Follows : Content → Type 0) (is : HasCleanDisk new → (c : Content) → Holds old c → Follows c → written c ≡ after c) where
-  was_open : HasCommitted old new r written → HasCleanDisk new → IsSound old → IsTrue new.is_open → (c : Content) × Holds old c
+module _ (old new : State) (failures : ℕ) (r : Result (Unit {0}) Error) (written after : Content → Content) (Follows : Content → Type 0) (is : HasCleanDisk new → (c : Content) → HoldsContent old c → Follows c → written c ≡ after c) where
+  was_open : HasCommitted old new r written → HasCleanDisk new → IsSoundState old → IsTrue new.is_open → (c : Content) × HoldsContent old c
   was_open h k sound up = sound.stands (h.was_open k up)
 
-  content_after : (r : Result (Unit {0}) Error) → (c : Content) → Holds old c → IsTrue new.is_open → OnOk r ((c : Content) → Holds old c → Holds new (written c))
-      → OnErr r ((c : Content) → Holds old c → IsTrue new.is_open → Holds new c) → (c : Content) × Holds new c
+  content_after : (r : Result (Unit {0}) Error) → (c : Content) → HoldsContent old c → IsTrue new.is_open → OnOk r ((c : Content) → HoldsContent old c → HoldsContent new (written c))
+      → OnErr r ((c : Content) → HoldsContent old c → IsTrue new.is_open → HoldsContent new c) → (c : Content) × HoldsContent new c
   content_after (Ok a) c held up made undone = (written c, made c held)
   content_after (Err e) c held up made undone = (c, undone c held up)
 
-  added : HasCommitted old new r written → HasCleanDisk new → IsSound old → (db : Trees) → new.may_leave db → old.may_leave db ⊎ (IsTrue old.is_open × ((c : Content) → Holds old c → Encodes db (written c)))
+  added : HasCommitted old new r written → HasCleanDisk new → IsSoundState old → (db : Trees) → new.may_leave db → old.may_leave db ⊎ (IsTrue old.is_open × ((c : Content) → HoldsContent old c → Encodes db (written c)))
   added h k sound = h.stops k sound.stands
 
-  sound_after : HasCommitted old new r written → HasCleanDisk new → IsSound old → IsSound new
+  sound_after : HasCommitted old new r written → HasCleanDisk new → IsSoundState old → IsSoundState new
   sound_after h k sound = record {
     stands = λ up. let held = was_open h k sound up in content_after r held.0 held.1 up (h.made k) (h.undone k);
     left = λ db left. elim (added h k sound db left) [ inl was ↦ sound.left db was | inr new ↦ let held = sound.stands new.0 in (written held.0, new.1 held.0 held.1) ];
   }
 
-  followed : HasCleanDisk new → (c : Content) → Holds old c → Follows (content_of old.committed.trees) → written c ≡ after (content_of old.committed.trees)
+  followed : HasCleanDisk new → (c : Content) → HoldsContent old c → Follows (content_of old.committed.trees) → written c ≡ after (content_of old.committed.trees)
   followed k c held follows = let known = held_is old c held in is k c held (subst Follows known follows) ∙ ap after (sym known)
 
-  made_after : HasCleanDisk new → (r : Result (Unit {0}) Error) → IsSound old → Follows (content_of old.committed.trees) → OnOk r (IsTrue old.is_open × IsTrue new.is_open)
-      → OnOk r ((c : Content) → Holds old c → Holds new (written c)) → OnOk (answered r) (content_of new.committed.trees ≡ after (content_of old.committed.trees))
+  made_after : HasCleanDisk new → (r : Result (Unit {0}) Error) → IsSoundState old → Follows (content_of old.committed.trees) → OnOk r (IsTrue old.is_open × IsTrue new.is_open)
+      → OnOk r ((c : Content) → HoldsContent old c → HoldsContent new (written c)) → OnOk (answered r) (content_of new.committed.trees ≡ after (content_of old.committed.trees))
   made_after k (Ok a) sound follows up made = let held = sound.stands up.0 in held_is new (written held.0) (made held.0 held.1) ∙ followed k held.0 held.1 follows
   made_after k (Err e) sound follows up made = tt
 
-  undone_after : (r : Result (Unit {0}) Error) → (c : Content) → Holds old c → IsTrue new.is_open → OnErr r ((c : Content) → Holds old c → IsTrue new.is_open → Holds new c)
+  undone_after : (r : Result (Unit {0}) Error) → (c : Content) → HoldsContent old c → IsTrue new.is_open → OnErr r ((c : Content) → HoldsContent old c → IsTrue new.is_open → HoldsContent new c)
       → OnErr (answered r) (IsTrue old.is_open × (content_of new.committed.trees ≡ content_of old.committed.trees))
   undone_after (Ok a) c held up undone = tt
   undone_after (Err e) c held up undone = (held.is_open, held_is new c (undone c held up) ∙ sym (held_is old c held))
@@ -174,7 +174,7 @@ reads_noted old new failures next r answer IsAnswer settles stays is count low h
     (reads old new failures r IsAnswer (subst (λ n. failures ≤ n) counted low) settles stays h)
 
 pub commits_noted : (old new : State) (failures next : ℕ) (r : Result (Unit {0}) Error) (answer : Result (Unit {0}) BookFault) (written after : Content → Content) (Follows : Content → Type 0)
-    → (HasCleanDisk new → (c : Content) → Holds old c → Follows c → written c ≡ after c) → answer ≡ answered r → next ≡ failures_after answer failures → failures ≤ next → HasCommitted old new r written
+    → (HasCleanDisk new → (c : Content) → HoldsContent old c → Follows c → written c ≡ after c) → answer ≡ answered r → next ≡ failures_after answer failures → failures ≤ next → HasCommitted old new r written
     → Commits (book_state old failures) (book_state new next) answer Follows after
 commits_noted old new failures next r answer written after Follows makes is count low h =
     let counted = count ∙ ap (λ a. failures_after a failures) is in
@@ -195,7 +195,7 @@ rows_noted old new failures next r answer rows events kept is count low h =
 
 -- ---- a new book
 
-pub new_book : (s : State) (failures : ℕ) (limits : Limits) → Settles s → Stays s → Holds s (empty_content limits) → IsNew (book_state s failures) limits
+pub new_book : (s : State) (failures : ℕ) (limits : Limits) → Settles s → Stays s → HoldsContent s (empty_content limits) → IsNewBook (book_state s failures) limits
 new_book s failures limits settles stays held =
     let known = held_is s (empty_content limits) held in
     record {

@@ -9,20 +9,20 @@ use Rattle.acd_terms.specs.declared.rows.Limits.{Limits}
 use Rattle.acd_terms.specs.declared.rows.Rows.{Rows}
 use Rattle.acd_model.specs.declared.moves.Change.{Change}
 use Rattle.acd_book.specs.declared.kept.Kept.{Kept}
-use Rattle.acd_columns.specs.Relations.{meta_of}
+use Rattle.acd_sql_columns.specs.Relations.{meta_of}
 use Rattle.acd_book.specs.Content.{Content}
 use Rattle.acd_book.specs.declared.fault.BookFault.{BookFault}
 use Rattle.acd_book.specs.declared.fault.BookFault.TheVariants.{NoMemory, Store}
-use Rattle.acd_columns.specs.InTables.{content_of}
-use Rattle.acd_differences.specs.Leading.{rows_differences}
-use Rattle.acd_statements.specs.Failing.{IsMemory, HasFailed}
-use Rattle.acd_statements.specs.InRange.{IsInRange}
-use Rattle.acd_statements.specs.Reading.{FailsToRead, Blames}
-use Rattle.acd_schema.specs.SettingUp.{FailsToSetUp}
+use Rattle.acd_sql_columns.specs.InTables.{content_of}
+use Rattle.acd_sql_differences.specs.Leading.{rows_differences}
+use Rattle.acd_sql_statements.specs.Failing.{IsMemory, StoreHasFailed}
+use Rattle.acd_sql_statements.specs.InRange.{IsInRange}
+use Rattle.acd_sql_statements.specs.Reading.{FailsToRead, Blames}
+use Rattle.acd_sql_schema.specs.SettingUp.{FailsToSetUp}
 use Rattle.acd_sqlbook.specs.Commit.{counted}
 use Rattle.acd_sqlbook.specs.Stopping.{AllFit, Drops, IsBlamedOr, IsUncounted, RefusesInAll, StopsCommit, StopsReplace}
-use Rattle.acd_sqlbook.specs.State.{IsSound, fault_of, answered, failures_after}
-use Rattle.acd_sqlbook.specs.Causes.{Asked, StoreCause, IsCaused, IsLimited, IsUnreadable, create, read, failed, change, replace, shut, limited, unfit, unreadable, drops, refused}
+use Rattle.acd_sqlbook.specs.State.{IsSoundState, fault_of, answered, failures_after}
+use Rattle.acd_sqlbook.specs.Causes.{BookCall, StoreCause, IsCaused, IsLimited, IsUnreadable, create, read, failed, change, replace, shut, limited, unfit, unreadable, drops, refused}
 use Rattle.acd_sqlbook.proofs.BookStates.{held_is}
 use Rattle.acd_sqlbook.proofs.Counting.{parted}
 
@@ -30,7 +30,7 @@ use Rattle.acd_sqlbook.proofs.Counting.{parted}
 pub not_memory : (e : Error) (f : BookFault) → f ≡ fault_of e → f ≡ Store → IsMemory e → ⊥
 not_memory e f is store memory = absurd (let apart = sym store ∙ is ∙ ap fault_of memory in cc)
 
-pub store_cause : (asked : Asked) (old new : State) → HasFailed old new → StoreCause asked old new
+pub store_cause : (asked : BookCall) (old new : State) → StoreHasFailed old new → StoreCause asked old new
 store_cause asked old new (inl more) = failed more
 store_cause asked old new (inr down) = shut down
 
@@ -47,7 +47,7 @@ read_cause old new c is e store (inr (inl more)) = failed more
 read_cause old new c is e store (inr (inr (inl steps))) = limited steps
 read_cause old new c is e store (inr (inr (inr bad))) = unreadable (λ range. bad (subst IsInRange is range))
 
-pub reads_caused : {A : Type 0} (old new : State) (r : Result A Error) (answer : Result A BookFault) → answer ≡ answered r → Blames old new r → HasCleanDisk new → IsSound old → answer ≡ Err Store → StoreCause read old new
+pub reads_caused : {A : Type 0} (old new : State) (r : Result A Error) (answer : Result A BookFault) → answer ≡ answered r → Blames old new r → HasCleanDisk new → IsSoundState old → answer ≡ Err Store → StoreCause read old new
 reads_caused old new (Ok a) answer is h clean sound store = absurd (let apart = sym store ∙ is in cc)
 reads_caused old new (Err e) answer is h clean sound store =
     let fault : fault_of e ≡ Store = cc in
@@ -59,7 +59,7 @@ reads_caused old new (Err e) answer is h clean sound store =
 -- ---- commits
 
 -- a call that reads first fails as a read does, or stops
-module _ (asked : Asked) (old new : State) (Stops : Option ℕ → Content → Type 0) (steps : IsSome old.step_limit → IsLimited asked old) (bad : ¬ (IsInRange (content_of old.committed.trees)) → IsUnreadable asked old)
+module _ (asked : BookCall) (old new : State) (Stops : Option ℕ → Content → Type 0) (steps : IsSome old.step_limit → IsLimited asked old) (bad : ¬ (IsInRange (content_of old.committed.trees)) → IsUnreadable asked old)
     (stopped : (c : Content) → content_of old.committed.trees ≡ c → Stops old.step_limit c → StoreCause asked old new) where
   each_cause : (c : Content) → content_of old.committed.trees ≡ c → (e : Error) → fault_of e ≡ Store → FailsToRead c old new e ⊎ Stops old.step_limit c → StoreCause asked old new
   each_cause c is e store (inl (inl memory)) = absurd (not_memory e (fault_of e) refl store memory)
@@ -68,7 +68,7 @@ module _ (asked : Asked) (old new : State) (Stops : Option ℕ → Content → T
   each_cause c is e store (inl (inr (inr (inr out)))) = unreadable (bad (λ range. out (subst IsInRange is range)))
   each_cause c is e store (inr stops) = stopped c is stops
 
-  commit_caused : (r : Result (Unit {0}) Error) (answer : Result (Unit {0}) BookFault) → answer ≡ answered r → IsBlamedOr Stops old new r → HasCleanDisk new → IsSound old → answer ≡ Err Store → StoreCause asked old new
+  commit_caused : (r : Result (Unit {0}) Error) (answer : Result (Unit {0}) BookFault) → answer ≡ answered r → IsBlamedOr Stops old new r → HasCleanDisk new → IsSoundState old → answer ≡ Err Store → StoreCause asked old new
   commit_caused (Ok a) answer is h clean sound store = absurd (let apart = sym store ∙ is in cc)
   commit_caused (Err e) answer is h clean sound store =
       let fault : fault_of e ≡ Store = cc in
@@ -86,7 +86,7 @@ module _ (changes : List Change) (events : List Event) (kept : Kept) (old new : 
         | inr refuses ↦ refused (subst (λ (x : Content). RefusesInAll changes events kept (counted (meta_of x.rows) changes (length events) kept) old.step_limit x) (sym is) refuses)
       ]
 
-  pub changes_caused : (r : Result (Unit {0}) Error) (answer : Result (Unit {0}) BookFault) → answer ≡ answered r → IsBlamedOr (StopsCommit changes events kept) old new r → HasCleanDisk new → IsSound old → answer ≡ Err Store
+  pub changes_caused : (r : Result (Unit {0}) Error) (answer : Result (Unit {0}) BookFault) → answer ≡ answered r → IsBlamedOr (StopsCommit changes events kept) old new r → HasCleanDisk new → IsSoundState old → answer ≡ Err Store
       → StoreCause (change changes events kept) old new
   changes_caused = commit_caused (change changes events kept) old new (StopsCommit changes events kept) (λ limit. limit) (λ out. out) change_stops
 
@@ -100,7 +100,7 @@ module _ (rows : Rows) (events : List Event) (kept : Kept) (old new : State) whe
         | inr refuses ↦ refused (subst (λ (x : Content). RefusesInAll (rows_differences x.rows rows) events kept (meta_of rows) old.step_limit x) (sym is) refuses)
       ]
 
-  pub replace_caused : (r : Result (Unit {0}) Error) (answer : Result (Unit {0}) BookFault) → answer ≡ answered r → IsBlamedOr (StopsReplace rows events kept) old new r → HasCleanDisk new → IsSound old → answer ≡ Err Store
+  pub replace_caused : (r : Result (Unit {0}) Error) (answer : Result (Unit {0}) BookFault) → answer ≡ answered r → IsBlamedOr (StopsReplace rows events kept) old new r → HasCleanDisk new → IsSoundState old → answer ≡ Err Store
       → StoreCause (replace rows events kept) old new
   replace_caused = commit_caused (replace rows events kept) old new (StopsReplace rows events kept) (λ limit. limit) (λ out. out) replace_stops
 
@@ -111,6 +111,6 @@ only_store (Ok a) failures next is more = absurd (let same : next ≡ failures =
 only_store (Err NoMemory) failures next is more = absurd (let same : next ≡ failures = is in omega (arith, same, more))
 only_store (Err Store) failures next is more = refl
 
-pub noted_cause : {A : Type 0} (asked : Asked) (old new : State) (failures next : ℕ) (answer : Result A BookFault) → next ≡ failures_after answer failures
-    → (HasCleanDisk new → IsSound old → answer ≡ Err Store → StoreCause asked old new) → IsCaused asked old new failures next answer
+pub noted_cause : {A : Type 0} (asked : BookCall) (old new : State) (failures next : ℕ) (answer : Result A BookFault) → next ≡ failures_after answer failures
+    → (HasCleanDisk new → IsSoundState old → answer ≡ Err Store → StoreCause asked old new) → IsCaused asked old new failures next answer
 noted_cause asked old new failures next answer is cause = record { answer = cause; count = λ clean sound more. cause clean sound (only_store answer failures next is more) }

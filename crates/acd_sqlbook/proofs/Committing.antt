@@ -16,8 +16,8 @@ use Rattle.acd_book.specs.Order.{Rises}
 use Rattle.acd_sqlbook.proofs.Indexed.{all_more}
 use Rattle.acd_book.specs.Content.{Content, GoOn, Follows, committed, FollowsBy, committed_by, rows_by}
 use Rattle.acd_book.specs.declared.kept.Kept.{Kept}
-use Rattle.acd_columns.specs.declared.meta.Meta.{Meta}
-use Rattle.acd_columns.specs.Relations.{meta_of}
+use Rattle.acd_sql_columns.specs.declared.meta.Meta.{Meta}
+use Rattle.acd_sql_columns.specs.Relations.{meta_of}
 use Rattle.acd_sqlbook.specs.Commit.{with_meta, filed, all_filed, with_event, with_events, with_kept, made_by, written_by, top_call, top_monitor, last_call, last_monitor, counted}
 use Rattle.acd_sqlbook.proofs.Filing.{next}
 use Rattle.acd_lemmas.proofs.Changes.{limits-changed_by}

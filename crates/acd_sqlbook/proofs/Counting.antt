@@ -10,13 +10,13 @@ use Rattle.acd_terms.specs.declared.rows.Rows.{Rows}
 use Rattle.acd_model.specs.declared.moves.Change.{Change}
 use Rattle.acd_book.specs.Content.{Content}
 use Rattle.acd_book.specs.declared.kept.Kept.{Kept}
-use Rattle.acd_columns.specs.declared.meta.Meta.{Meta}
-use Rattle.acd_columns.specs.Draft.{MetaFits}
-use Rattle.acd_columns.specs.Relations.{meta_of}
-use Rattle.acd_differences.specs.Leading.{rows_differences}
-use Rattle.acd_differences.specs.Transition.{AreWhole}
-use Rattle.acd_statements.specs.Failing.{IsMemory}
-use Rattle.acd_statements.specs.Reading.{Blames, FailsToRead}
+use Rattle.acd_sql_columns.specs.declared.meta.Meta.{Meta}
+use Rattle.acd_sql_columns.specs.Draft.{MetaFits}
+use Rattle.acd_sql_columns.specs.Relations.{meta_of}
+use Rattle.acd_sql_differences.specs.Leading.{rows_differences}
+use Rattle.acd_sql_differences.specs.Transition.{AreWhole}
+use Rattle.acd_sql_statements.specs.Failing.{IsMemory}
+use Rattle.acd_sql_statements.specs.Reading.{Blames, FailsToRead}
 use Rattle.acd_sqlbook.specs.Calls.{HasRead}
 use Rattle.acd_sqlbook.specs.Commit.{ChangeFits, EventFits, counted, filed, all_filed, with_event}
 use Rattle.acd_sqlbook.specs.Stopping.{AllFit, AreCounted, BlamesOr, Drops, IsBlamedOr, FailsToFile, IsUndone, IsUncounted, RefusesInAll, RefusesInChanges, RefusesInEvents, StopsInAll, StopsInChanges, StopsInEvents, StopsCommit, StopsReplace}

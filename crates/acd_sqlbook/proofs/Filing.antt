@@ -19,14 +19,14 @@ use Rattle.acd_model.specs.Writes.{with_group, with_station, with_agent, with_ca
 use Rattle.acd_model.specs.declared.moves.Change.{Change}
 use Rattle.acd_model.specs.declared.moves.Change.TheVariants.{PutGroup, PutStation, PutAgent, PutCall, PutConnection, PutMonitor, RemoveCall, RemoveConnection, RemoveMonitor}
 use Rattle.acd_book.specs.Content.{Content}
-use Rattle.acd_columns.specs.declared.tables.Table.TheVariants as table
-use Rattle.acd_columns.specs.Relations.{Relations, relations_of, with_group_parts, with_agent_parts}
-use Rattle.acd_columns.specs.Content.{with_part}
-use Rattle.acd_columns.specs.Tables.{stations, calls, monitors}
-use Rattle.acd_statements.specs.Writing.{with_put, without}
-use Rattle.acd_columns.specs.Draft.{Drafts}
-use Rattle.acd_columns.proofs.Decoded.{groups_rise, agents_rise}
-use Rattle.acd_columns.proofs.Joined.{further_put, agents_put, priority_put, groups_put}
+use Rattle.acd_sql_columns.specs.declared.tables.Table.TheVariants as table
+use Rattle.acd_sql_columns.specs.Relations.{Relations, relations_of, with_group_parts, with_agent_parts}
+use Rattle.acd_sql_columns.specs.Content.{with_part}
+use Rattle.acd_sql_columns.specs.Tables.{stations, calls, monitors}
+use Rattle.acd_sql_statements.specs.Writing.{with_put, without}
+use Rattle.acd_sql_columns.specs.Draft.{Drafts}
+use Rattle.acd_sql_columns.proofs.Decoded.{groups_rise, agents_rise}
+use Rattle.acd_sql_columns.proofs.Joined.{further_put, agents_put, priority_put, groups_put}
 use Rattle.acd_lemmas.proofs.Decided.{ascending_from}
 use Rattle.acd_sqlbook.specs.Commit.{filed, with_event, with_events}
 

@@ -9,11 +9,11 @@ use Rattle.sqlite.specs.declared.error.Error.{Error}
 use Rattle.sqlite.specs.State.{State, HasCleanDisk}
 use Rattle.acd_model.specs.declared.moves.Change.{Change}
 use Rattle.acd_book.specs.declared.kept.Kept.{Kept}
-use Rattle.acd_columns.specs.Draft.{Holds}
-use Rattle.acd_columns.specs.InTables.{content_of}
+use Rattle.acd_sql_columns.specs.Draft.{HoldsContent}
+use Rattle.acd_sql_columns.specs.InTables.{content_of}
 use Rattle.acd_sqlbook.specs.Calls.{HasCommitted}
 use Rattle.acd_sqlbook.specs.Commit.{written_by}
-use Rattle.acd_sqlbook.specs.State.{IsSound}
+use Rattle.acd_sqlbook.specs.State.{IsSoundState}
 use Rattle.acd_sqlbook.proofs.BookStates.{held_is}
 use Rattle.acd_sqlbook.proofs.Committing.{written_events}
 use Rattle.acd_sqlbook.specs.declared.index.Index.{Index}
@@ -60,8 +60,8 @@ module _ {A : Type 0} (before behind : Option Index) (old new : BookState) (r : 
   }
 
 -- what is noted behind a page is of the events that are held, where what was noted before is
-pub page_goes : (before behind : Option Index) (old new : State) → (HasCleanDisk new → (c : Content) → Holds old c → IsNoted before c.events → IsNoted behind c.events)
-    → HasCleanDisk new → IsSound old → IsTrue old.is_open → IsNoted before (content_of old.committed.trees).events → IsNoted behind (content_of old.committed.trees).events
+pub page_goes : (before behind : Option Index) (old new : State) → (HasCleanDisk new → (c : Content) → HoldsContent old c → IsNoted before c.events → IsNoted behind c.events)
+    → HasCleanDisk new → IsSoundState old → IsTrue old.is_open → IsNoted before (content_of old.committed.trees).events → IsNoted behind (content_of old.committed.trees).events
 page_goes before behind old new goes k sound up noted =
     let held = sound.stands up in
     let same = held_is old held.0 held.1 in
@@ -89,7 +89,7 @@ commits_followed before behind old new r Follows after goes h = record {
 
 -- what is noted behind a commit of changes is of the events that it leaves
 pub changes_goes : (before behind : Option Index) (old new : State) (r : Result (Unit {0}) Error) (changes : List Change) (events : List Event) (kept : Kept) → IsNotedBehind before r events behind
-    → HasCommitted old new r (written_by changes events kept) → HasCleanDisk new → IsSound old → IsTrue new.is_open → (IsTrue old.is_open → IsNoted before (content_of old.committed.trees).events)
+    → HasCommitted old new r (written_by changes events kept) → HasCleanDisk new → IsSoundState old → IsTrue new.is_open → (IsTrue old.is_open → IsNoted before (content_of old.committed.trees).events)
     → IsNoted behind (content_of new.committed.trees).events
 changes_goes before None old new r changes events kept on h k sound up noted = tt
 changes_goes before (Some next) old new (Err e) changes events kept on h k sound up noted = absurd (let apart = on.0 in cc)

@@ -9,9 +9,9 @@ use Rattle.acd_terms.specs.declared.event.Event.{Event}
 use Rattle.acd_book.specs.Content.{Content, is_at, is_told, events_behind}
 use Rattle.acd_book.specs.Memory.{number_of}
 use Rattle.acd_book.specs.Order.{Rises}
-use Rattle.acd_columns.specs.Draft.{Holds}
-use Rattle.acd_columns.specs.declared.tables.Table.TheVariants as table
-use Rattle.acd_statements.specs.Picking.{picked}
+use Rattle.acd_sql_columns.specs.Draft.{HoldsContent}
+use Rattle.acd_sql_columns.specs.declared.tables.Table.TheVariants as table
+use Rattle.acd_sql_statements.specs.Picking.{picked}
 use Rattle.acd_lemmas.proofs.Numbers.{less_is}
 use Rattle.acd_sqlbook.specs.Indexing.{last_of}
 
@@ -21,7 +21,7 @@ abbrev pub Ascends : List Event → Type 0
 Ascends events = IsAscending (λ (a b : Event). nat_cmp a.number b.number) events
 
 -- the events of a connection's content do
-pub ascending : (s : State) (c : Content) → Holds s c → Ascends c.events
+pub ascending : (s : State) (c : Content) → HoldsContent s c → Ascends c.events
 ascending s c held = (held.encodes table.Events).ascending
 
 is_above : (n : ℕ) → 0 < n → nat_lt (n - 1) n ≡ true

@@ -9,10 +9,10 @@ use Rattle.acd_terms.specs.declared.record.MonitorRecord.{MonitorRecord}
 use Rattle.acd_model.specs.Scans.{monitor_of}
 use Rattle.acd_book.specs.Content.{Content, is_told, watched_by, events_of_monitor}
 use Rattle.acd_book.specs.Watched.{IsPage}
-use Rattle.acd_columns.specs.Draft.{Holds}
-use Rattle.acd_columns.specs.Finding.{Finds}
-use Rattle.acd_statements.specs.Picking.{picked}
-use Rattle.acd_statements.proofs.Chained.{behind, finds_so}
+use Rattle.acd_sql_columns.specs.Draft.{HoldsContent}
+use Rattle.acd_sql_columns.specs.Finding.{Finds}
+use Rattle.acd_sql_statements.specs.Picking.{picked}
+use Rattle.acd_sql_statements.proofs.Chained.{behind, finds_so}
 use Rattle.acd_sqlbook.specs.Calls.{HasRead}
 use Rattle.acd_sqlbook.specs.Indexing.{Indexes, IsNoted}
 use Rattle.acd_sqlbook.specs.declared.index.Index.{Index}
@@ -69,7 +69,7 @@ module _ (old mid new : State) (before took next : Option Index) (monitor number
       (λ c events p q n. q (p (subst (λ (o : Option Index). IsNoted o c.events) (sym taken) n)))
       (reads_behind mid mid new r (λ (c : Content) (events : Vec Event Global). IsNoted next c.events → events.items ≡ events_of_monitor c monitor number limit) (quiet_still mid) first.up (λ k db left. left) second)
 
-  pub next_noted : (HasCleanDisk new → HasCleanDisk mid) → HasCleanDisk new → (c : Content) → Holds old c → IsNoted before c.events → IsNoted next c.events
+  pub next_noted : (HasCleanDisk new → HasCleanDisk mid) → HasCleanDisk new → (c : Content) → HoldsContent old c → IsNoted before c.events → IsNoted next c.events
   next_noted clean k c held n = first.value (clean k) c held (subst (λ (o : Option Index). IsNoted o c.events) (sym taken) n)
 
 pub page_never : (old new : State) (before took : Option Index) (monitor number limit : ℕ) (e : Error) (r : Result (Vec Event Global) Error) → r ≡ Err e → HasRead {A = Option Index} old new (Err e) (λ c n. IsNoted took c.events → IsNoted n c.events)

@@ -12,20 +12,20 @@ use Rattle.acd_book.specs.Content.{Content, Follows, committed}
 use Rattle.acd_book.specs.declared.kept.Kept.{Kept}
 use Rattle.acd_lemmas.specs.Orders.{Orders}
 use Rattle.acd_lemmas.proofs.Decided.{orders_decided}
-use Rattle.acd_columns.specs.declared.meta.Meta.{Meta}
-use Rattle.acd_columns.specs.declared.tables.Table.TheVariants as table
+use Rattle.acd_sql_columns.specs.declared.meta.Meta.{Meta}
+use Rattle.acd_sql_columns.specs.declared.tables.Table.TheVariants as table
 use Rattle.acd_sqlbook.specs.Calls.{HasRead, HasReplaced, LeadsTo}
 use Rattle.acd_sqlbook.specs.Commit.{made_by}
-use Rattle.acd_columns.specs.Relations.{meta_of}
-use Rattle.acd_columns.specs.Draft.{Holds, AddsStop}
-use Rattle.acd_columns.proofs.Decoded.{groups_rise, agents_rise}
-use Rattle.acd_differences.specs.Leading.{rows_differences}
-use Rattle.acd_differences.specs.Transition.{HasTables}
+use Rattle.acd_sql_columns.specs.Relations.{meta_of}
+use Rattle.acd_sql_columns.specs.Draft.{HoldsContent, AddsStop}
+use Rattle.acd_sql_columns.proofs.Decoded.{groups_rise, agents_rise}
+use Rattle.acd_sql_differences.specs.Leading.{rows_differences}
+use Rattle.acd_sql_differences.specs.Transition.{HasTables}
 use Rattle.acd_sqlbook.proofs.Committing.{rows_made}
 use Rattle.acd_sqlbook.proofs.Standing.{quiet_still, reads_not, reads_on, commits_not, commits_behind}
 
 -- what is held is in order
-held_in_order : (s : State) (c : Content) → Holds s c → Orders c.rows
+held_in_order : (s : State) (c : Content) → HoldsContent s c → Orders c.rows
 held_in_order s c held = record {
   groups = groups_rise c.rows.groups (held.encodes table.Groups).ascending;
   stations = (held.encodes table.Stations).ascending;
@@ -73,8 +73,8 @@ replaces_still s e rows events kept =
 pub replaces : (old mid new : State) (r : Result (Unit {0}) Error) (changes : Vec Change Global) (all : List Change) (meta : Meta) (rows : Rows) (events : List Event) (kept : Kept)
     → all ≡ changes.items → meta ≡ meta_of rows → HasRead old mid (Ok changes) (Leading rows)
     → (HasCleanDisk new → HasCleanDisk mid) → (HasCleanDisk new → OnOk r (IsTrue mid.is_open × IsTrue new.is_open)) → (HasCleanDisk new → IsTrue new.is_open → IsTrue mid.is_open)
-    → (HasCleanDisk new → OnOk r ((c : Content) → Holds mid c → Holds new (made_by all events kept meta c)))
-    → (HasCleanDisk new → OnErr r ((c : Content) → Holds mid c → IsTrue new.is_open → Holds new c))
+    → (HasCleanDisk new → OnOk r ((c : Content) → HoldsContent mid c → HoldsContent new (made_by all events kept meta c)))
+    → (HasCleanDisk new → OnErr r ((c : Content) → HoldsContent mid c → IsTrue new.is_open → HoldsContent new c))
     → (HasCleanDisk new → AddsStop mid new (made_by all events kept meta)) → HasReplaced old new r (Follows rows events kept) (committed rows events kept)
 replaces old mid new r changes all meta rows events kept same counters read clean up was done undone stops =
     let written : Content → Content = made_by all events kept meta in

@@ -10,18 +10,18 @@ use Rattle.acd_book.specs.Content.{Content}
 use Rattle.acd_book.specs.Memory.{stamp_of, number_of}
 use Rattle.acd_book.specs.Order.{Rises, IsOrdered}
 use Rattle.acd_book.specs.declared.kept.Kept.{Kept}
-use Rattle.acd_columns.specs.declared.tables.Table.TheVariants as table
-use Rattle.acd_columns.specs.AnyRows.{is_good}
-use Rattle.acd_statements.specs.InRange.{is_good_table, IsInRange}
-use Rattle.acd_columns.specs.Content.{Encodes}
-use Rattle.acd_columns.specs.Values.{at_least, whole_at, stamp_at}
-use Rattle.acd_columns.specs.Fields.{read_whole}
-use Rattle.acd_columns.specs.Ranges.{event_from, event_in, kept_in}
-use Rattle.acd_columns.specs.Rows.{event_fields, event_made, event_values, kept_values}
-use Rattle.acd_schema.proofs.Contents.{each_good, of_mapped}
-use Rattle.acd_columns.proofs.KeyedRows.{by_key}
-use Rattle.acd_columns.proofs.Looked.{all_so}
-use Rattle.acd_columns.proofs.Ranged.{bound, guarded}
+use Rattle.acd_sql_columns.specs.declared.tables.Table.TheVariants as table
+use Rattle.acd_sql_columns.specs.AnyRows.{is_good}
+use Rattle.acd_sql_statements.specs.InRange.{is_good_table, IsInRange}
+use Rattle.acd_sql_columns.specs.Content.{Encodes}
+use Rattle.acd_sql_columns.specs.Values.{at_least, whole_at, stamp_at}
+use Rattle.acd_sql_columns.specs.Fields.{read_whole}
+use Rattle.acd_sql_columns.specs.Ranges.{event_from, event_in, kept_in}
+use Rattle.acd_sql_columns.specs.Rows.{event_fields, event_made, event_values, kept_values}
+use Rattle.acd_sql_schema.proofs.Contents.{each_good, of_mapped}
+use Rattle.acd_sql_columns.proofs.KeyedRows.{by_key}
+use Rattle.acd_sql_columns.proofs.Looked.{all_so}
+use Rattle.acd_sql_columns.proofs.Ranged.{bound, guarded}
 use Rattle.acd_lemmas.proofs.Numbers.{less_is}
 use Rattle.acd_lemmas.proofs.Lists.{some_is, some_from}
 

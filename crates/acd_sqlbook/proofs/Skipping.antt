@@ -14,9 +14,9 @@ use Rattle.acd_lemmas.proofs.Lists.{ascending-put}
 use Rattle.acd_lemmas.proofs.Keyed.{Keyed, others_left}
 use Rattle.acd_lemmas.proofs.State.{by_connection}
 use Rattle.acd_book.specs.Content.{Content}
-use Rattle.acd_columns.specs.declared.tables.Table.TheVariants as table
-use Rattle.acd_columns.specs.Relations.{relations_of}
-use Rattle.acd_columns.specs.Draft.{Drafts}
+use Rattle.acd_sql_columns.specs.declared.tables.Table.TheVariants as table
+use Rattle.acd_sql_columns.specs.Relations.{relations_of}
+use Rattle.acd_sql_columns.specs.Draft.{Drafts}
 use Rattle.acd_sqlbook.specs.Commit.{filed, all_filed}
 
 module _ {T K : Type 0} (r : Keyed T K) (x : T) where

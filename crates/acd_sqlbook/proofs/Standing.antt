@@ -6,14 +6,14 @@ use Rattle.acd_terms.specs.declared.event.Event.{Event}
 use Rattle.acd_model.specs.declared.moves.Change.{Change}
 use Rattle.acd_book.specs.Content.{Content}
 use Rattle.acd_book.specs.declared.kept.Kept.{Kept}
-use Rattle.acd_columns.specs.declared.meta.Meta.{Meta}
+use Rattle.acd_sql_columns.specs.declared.meta.Meta.{Meta}
 use Rattle.acd_sqlbook.specs.Commit.{counted, made_by, written_by}
-use Rattle.acd_columns.specs.Relations.{meta_of}
-use Rattle.acd_columns.specs.Content.{Encodes}
+use Rattle.acd_sql_columns.specs.Relations.{meta_of}
+use Rattle.acd_sql_columns.specs.Content.{Encodes}
 use Rattle.acd_sqlbook.specs.Calls.{HasRead, HasCommitted}
-use Rattle.acd_columns.specs.Draft.{Holds, Quiet, NoStop, AddsStop}
-use Rattle.acd_columns.specs.Finding.{Finds}
-use Rattle.acd_statements.proofs.Chained.{quiet_on}
+use Rattle.acd_sql_columns.specs.Draft.{HoldsContent, Quiet, NoStop, AddsStop}
+use Rattle.acd_sql_columns.specs.Finding.{Finds}
+use Rattle.acd_sql_statements.proofs.Chained.{quiet_on}
 
 pub quiet_still : (s : State) → Quiet s s
 quiet_still s = record { clean = λ k. k; was_open = λ k up. up; same = λ k c h up. h }
@@ -34,7 +34,7 @@ module _ {A : Type 0} (old mid new : State) (r : Result A Error) (IsAnswer : Con
         still m db (found.stops k held.0 (quiet.same m held.0 held.1 (live m)) db left);
     value = λ k.
         let m = found.quiet.clean k in
-        ok_map (λ a. (c : Content) → Holds mid c → IsAnswer c a) (λ a. (c : Content) → Holds old c → IsAnswer c a) r (λ a h c held. h c (quiet.same m c held (live m))) (found.answer k);
+        ok_map (λ a. (c : Content) → HoldsContent mid c → IsAnswer c a) (λ a. (c : Content) → HoldsContent old c → IsAnswer c a) r (λ a h c held. h c (quiet.same m c held (live m))) (found.answer k);
   }
 
 -- no read, where the connection doesn't serve
@@ -71,21 +71,21 @@ commits_not old new e P after h = record {
 }
 
 module _ (old mid new : State) (r : Result (Unit {0}) Error) (made after : Content → Content) where
-  same_made : (IsTrue mid.is_open) → Quiet old mid → HasCleanDisk mid → ((c : Content) → Holds old c → made c ≡ after c)
-      → OnOk r ((c : Content) → Holds mid c → Holds new (made c)) → OnOk r ((c : Content) → Holds old c → Holds new (after c))
+  same_made : (IsTrue mid.is_open) → Quiet old mid → HasCleanDisk mid → ((c : Content) → HoldsContent old c → made c ≡ after c)
+      → OnOk r ((c : Content) → HoldsContent mid c → HoldsContent new (made c)) → OnOk r ((c : Content) → HoldsContent old c → HoldsContent new (after c))
   same_made live quiet m same done = go r done
     where
-      go : (r : Result (Unit {0}) Error) → OnOk r ((c : Content) → Holds mid c → Holds new (made c)) → OnOk r ((c : Content) → Holds old c → Holds new (after c))
-      go (Ok x) h = λ (c : Content) (held : Holds old c). subst (Holds new) (same c held) (h c (quiet.same m c held live))
+      go : (r : Result (Unit {0}) Error) → OnOk r ((c : Content) → HoldsContent mid c → HoldsContent new (made c)) → OnOk r ((c : Content) → HoldsContent old c → HoldsContent new (after c))
+      go (Ok x) h = λ (c : Content) (held : HoldsContent old c). subst (HoldsContent new) (same c held) (h c (quiet.same m c held live))
       go (Err e) h = tt
 
   same_undone : (IsTrue mid.is_open) → Quiet old mid → HasCleanDisk mid
-      → OnErr r ((c : Content) → Holds mid c → IsTrue new.is_open → Holds new c) → OnErr r ((c : Content) → Holds old c → IsTrue new.is_open → Holds new c)
+      → OnErr r ((c : Content) → HoldsContent mid c → IsTrue new.is_open → HoldsContent new c) → OnErr r ((c : Content) → HoldsContent old c → IsTrue new.is_open → HoldsContent new c)
   same_undone live quiet m undone = go r undone
     where
-      go : (r : Result (Unit {0}) Error) → OnErr r ((c : Content) → Holds mid c → IsTrue new.is_open → Holds new c) → OnErr r ((c : Content) → Holds old c → IsTrue new.is_open → Holds new c)
+      go : (r : Result (Unit {0}) Error) → OnErr r ((c : Content) → HoldsContent mid c → IsTrue new.is_open → HoldsContent new c) → OnErr r ((c : Content) → HoldsContent old c → IsTrue new.is_open → HoldsContent new c)
       go (Ok x) h = tt
-      go (Err e) h = λ (c : Content) (held : Holds old c) (up : IsTrue new.is_open). h c (quiet.same m c held live) up
+      go (Err e) h = λ (c : Content) (held : HoldsContent old c) (up : IsTrue new.is_open). h c (quiet.same m c held live) up
 
   both_open : IsTrue old.is_open → OnOk r (IsTrue mid.is_open × IsTrue new.is_open) → OnOk r (IsTrue old.is_open × IsTrue new.is_open)
   both_open was up = go r up
@@ -97,8 +97,8 @@ module _ (old mid new : State) (r : Result (Unit {0}) Error) (made after : Conte
   -- a commit behind a read that succeeded
   pub commits_behind : {A : Type 0} (a : A) (P : Content → A → Type 0) → HasRead old mid (Ok a) P → ((c : Content) → P c a → made c ≡ after c)
       → (HasCleanDisk new → HasCleanDisk mid) → (HasCleanDisk new → OnOk r (IsTrue mid.is_open × IsTrue new.is_open)) → (HasCleanDisk new → IsTrue new.is_open → IsTrue mid.is_open)
-      → (HasCleanDisk new → OnOk r ((c : Content) → Holds mid c → Holds new (made c)))
-      → (HasCleanDisk new → OnErr r ((c : Content) → Holds mid c → IsTrue new.is_open → Holds new c))
+      → (HasCleanDisk new → OnOk r ((c : Content) → HoldsContent mid c → HoldsContent new (made c)))
+      → (HasCleanDisk new → OnErr r ((c : Content) → HoldsContent mid c → IsTrue new.is_open → HoldsContent new c))
       → (HasCleanDisk new → AddsStop mid new made) → HasCommitted old new r after
   commits_behind a P read same clean up was done undone stops = record {
     clean = λ k. read.quiet.clean (clean k);
@@ -118,8 +118,8 @@ module _ (old mid new : State) (r : Result (Unit {0}) Error) (made after : Conte
 pub commits_counted : (old mid new : State) (r : Result (Unit {0}) Error) (last : ℕ) (next : Meta) (changes : List Change) (events : List Event) (kept : Kept)
     → HasRead {A = ℕ × Meta} old mid (Ok (last, next)) (λ c found. found.1 ≡ counted (meta_of c.rows) changes (length events) kept)
     → (HasCleanDisk new → HasCleanDisk mid) → (HasCleanDisk new → OnOk r (IsTrue mid.is_open × IsTrue new.is_open)) → (HasCleanDisk new → IsTrue new.is_open → IsTrue mid.is_open)
-    → (HasCleanDisk new → OnOk r ((c : Content) → Holds mid c → Holds new (made_by changes events kept next c)))
-    → (HasCleanDisk new → OnErr r ((c : Content) → Holds mid c → IsTrue new.is_open → Holds new c))
+    → (HasCleanDisk new → OnOk r ((c : Content) → HoldsContent mid c → HoldsContent new (made_by changes events kept next c)))
+    → (HasCleanDisk new → OnErr r ((c : Content) → HoldsContent mid c → IsTrue new.is_open → HoldsContent new c))
     → (HasCleanDisk new → AddsStop mid new (made_by changes events kept next)) → HasCommitted old new r (written_by changes events kept)
 commits_counted old mid new r last next changes events kept read =
     commits_behind old mid new r (made_by changes events kept next) (written_by changes events kept) (last, next) (λ c found. found.1 ≡ counted (meta_of c.rows) changes (length events) kept) read
@@ -136,5 +136,5 @@ reads_two old mid new a r P Q W first both second = record {
       first.stops m stands db (second.stops k (λ up. let held = stands (first.quiet.was_open m up) in (held.0, first.quiet.same m held.0 held.1 up)) db left);
   value = λ k.
       let m = second.quiet.clean k in
-      ok_map (λ b. (c : Content) → Holds mid c → Q c b) (λ b. (c : Content) → Holds old c → W c b) r (λ b h c held. both c b (first.value m c held) (h c (first.quiet.same m c held (first.up m)))) (second.value k);
+      ok_map (λ b. (c : Content) → HoldsContent mid c → Q c b) (λ b. (c : Content) → HoldsContent old c → W c b) r (λ b h c held. both c b (first.value m c held) (h c (first.quiet.same m c held (first.up m)))) (second.value k);
 }

@@ -6,11 +6,11 @@ use Rattle.sqlite.specs.Steps.{FailsToCommit}
 use Rattle.acd_terms.specs.declared.event.Event.{Event}
 use Rattle.acd_model.specs.declared.moves.Change.{Change}
 use Rattle.acd_book.specs.Content.{Content}
-use Rattle.acd_columns.specs.Draft.{Drafts, Works}
-use Rattle.acd_columns.specs.Relations.{Relations, relations_of}
-use Rattle.acd_statements.specs.Refusing.{IsBlamed, FailsToLeave}
-use Rattle.acd_statements.proofs.Failures.{failed_before, failed_after, commit_failed}
-use Rattle.acd_statements.proofs.Refused.{by_more}
+use Rattle.acd_sql_columns.specs.Draft.{Drafts, Works}
+use Rattle.acd_sql_columns.specs.Relations.{Relations, relations_of}
+use Rattle.acd_sql_statements.specs.Refusing.{IsBlamed, FailsToLeave}
+use Rattle.acd_sql_statements.proofs.Failures.{failed_before, failed_after, commit_failed}
+use Rattle.acd_sql_statements.proofs.Refused.{by_more}
 use Rattle.acd_sqlbook.specs.Commit.{with_events, with_event}
 use Rattle.acd_sqlbook.specs.Stopping.{RefusesChange, StopsAtEvent, StopsInEvents, FailsToFile, IsStopped}
 

@@ -6,17 +6,17 @@ use Rattle.sqlite.specs.State.{State}
 use Rattle.acd_book.specs.Content.{Within}
 use Rattle.acd_book.specs.Order.{IsOrdered}
 use Rattle.acd_book.specs.State.{BookState}
-use Rattle.acd_schema.specs.declared.fault.AdoptFault.{AdoptFault}
-use Rattle.acd_columns.specs.Content.{Encodes}
-use Rattle.acd_columns.specs.InTables.{content_of}
-use Rattle.acd_columns.specs.Draft.{NoStop}
-use Rattle.acd_columns.specs.AnyRows.{IsFiled, HaveAllColumns, schema_of}
-use Rattle.acd_columns.specs.Seeing.{HasDatabase}
-use Rattle.acd_columns.specs.declared.tables.Version.{Version}
-use Rattle.acd_columns.specs.Schema.{old_schema}
-use Rattle.acd_schema.specs.Migrating.{IsMigration}
-use Rattle.acd_statements.specs.InRange.{IsInRange}
-use Rattle.acd_schema.specs.Inspecting.{IsFaultOf, IsOfBook}
+use Rattle.acd_sql_schema.specs.declared.fault.AdoptFault.{AdoptFault}
+use Rattle.acd_sql_columns.specs.Content.{Encodes}
+use Rattle.acd_sql_columns.specs.InTables.{content_of}
+use Rattle.acd_sql_columns.specs.Draft.{NoStop}
+use Rattle.acd_sql_columns.specs.AnyRows.{IsFiled, HaveAllColumns, schema_of}
+use Rattle.acd_sql_columns.specs.Seeing.{HasDatabase}
+use Rattle.acd_sql_columns.specs.declared.tables.Version.{Version}
+use Rattle.acd_sql_columns.specs.Schema.{old_schema}
+use Rattle.acd_sql_schema.specs.Migrating.{IsMigration}
+use Rattle.acd_sql_statements.specs.InRange.{IsInRange}
+use Rattle.acd_sql_schema.specs.Inspecting.{IsAdoptFaultOf, IsOfBook}
 
 -- each row of its version's tables has its number, and a value for each column
 abbrev pub HasAllColumns : Database → Type 0
@@ -55,4 +55,4 @@ pub record IsHandedBack (d : Database) (old new : BookState) (fault : AdoptFault
   pub sound : old.is_sound → new.is_sound
   pub same : new.is_open → old.is_open × (new.content ≡ old.content)
   pub stops : IsFiled d → Within new.stops old.stops
-  pub cause : IsFaultOf d fault
+  pub cause : IsAdoptFaultOf d fault

@@ -7,36 +7,36 @@ use Rattle.acd_model.specs.Changes.{changed_by}
 use Rattle.acd_model.specs.declared.moves.Change.{Change}
 use Rattle.acd_lemmas.specs.Orders.{Orders}
 use Rattle.acd_book.specs.Content.{Content}
-use Rattle.acd_columns.specs.Draft.{Holds, Quiet, NoStop, MayAdd}
-use Rattle.acd_differences.specs.Leading.{rows_differences}
-use Rattle.acd_differences.specs.Transition.{HasTables}
+use Rattle.acd_sql_columns.specs.Draft.{HoldsContent, Quiet, NoStop, MayAdd}
+use Rattle.acd_sql_differences.specs.Leading.{rows_differences}
+use Rattle.acd_sql_differences.specs.Transition.{HasTables}
 
 -- while it is open it has a content
-abbrev pub Stands : State → Type 0
-Stands s = IsTrue s.is_open → (c : Content) × Holds s c
+abbrev pub ShowsContent : State → Type 0
+ShowsContent s = IsTrue s.is_open → (c : Content) × HoldsContent s c
 
 -- a read, where `IsAnswer c found` says that this is found in that content
 pub record HasRead {A : Type 0} (old new : State) (result : Result A Error) (IsAnswer : Content → A → Type 0) : Type 0 where
   pub quiet : Quiet old new
   pub up : HasCleanDisk new → OnOk result (IsTrue new.is_open)
-  pub stops : HasCleanDisk new → Stands old → NoStop old new
-  pub value : HasCleanDisk new → IfOk result (λ (found : A). (c : Content) → Holds old c → IsAnswer c found)
+  pub stops : HasCleanDisk new → ShowsContent old → NoStop old new
+  pub value : HasCleanDisk new → IfOk result (λ (found : A). (c : Content) → HoldsContent old c → IsAnswer c found)
 
 -- a commit, all or none, where `after c` is what it makes of a content
 pub record HasCommitted (old new : State) (result : Result (Unit {0}) Error) (after : Content → Content) : Type 0 where
   pub clean : HasCleanDisk new → HasCleanDisk old
   pub up : HasCleanDisk new → OnOk result (IsTrue old.is_open × IsTrue new.is_open)
   pub was_open : HasCleanDisk new → IsTrue new.is_open → IsTrue old.is_open
-  pub made : HasCleanDisk new → OnOk result ((c : Content) → Holds old c → Holds new (after c))
-  pub undone : HasCleanDisk new → OnErr result ((c : Content) → Holds old c → IsTrue new.is_open → Holds new c)
-  pub stops : HasCleanDisk new → Stands old → MayAdd old new after
+  pub made : HasCleanDisk new → OnOk result ((c : Content) → HoldsContent old c → HoldsContent new (after c))
+  pub undone : HasCleanDisk new → OnErr result ((c : Content) → HoldsContent old c → IsTrue new.is_open → HoldsContent new c)
+  pub stops : HasCleanDisk new → ShowsContent old → MayAdd old new after
 
 -- a commit, all or none, where `after c` is what it makes of a content that it follows
 pub record HasReplaced (old new : State) (result : Result (Unit {0}) Error) (Follows : Content → Type 0) (after : Content → Content) : Type 0 where
   -- what it makes of any
   pub written : Content → Content
   pub commits : HasCommitted old new result written
-  pub same : HasCleanDisk new → (c : Content) → Holds old c → Follows c → written c ≡ after c
+  pub same : HasCleanDisk new → (c : Content) → HoldsContent old c → Follows c → written c ≡ after c
 
 -- ---- the changes of a commit of tables
 

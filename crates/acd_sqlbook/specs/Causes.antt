@@ -7,35 +7,35 @@ use Rattle.acd_terms.specs.declared.rows.Limits.{Limits}
 use Rattle.acd_terms.specs.declared.rows.Rows.{Rows}
 use Rattle.acd_model.specs.declared.moves.Change.{Change}
 use Rattle.acd_book.specs.declared.kept.Kept.{Kept}
-use Rattle.acd_columns.specs.Relations.{meta_of}
+use Rattle.acd_sql_columns.specs.Relations.{meta_of}
 use Rattle.acd_book.specs.declared.fault.BookFault.{BookFault}
 use Rattle.acd_book.specs.declared.fault.BookFault.TheVariants.{Store}
-use Rattle.acd_columns.specs.Draft.{LimitsFit}
-use Rattle.acd_columns.specs.InTables.{content_of}
-use Rattle.acd_columns.specs.Schema.{no_schema}
-use Rattle.acd_differences.specs.Leading.{rows_differences}
-use Rattle.acd_statements.specs.InRange.{IsInRange}
-use Rattle.acd_schema.specs.SettingUp.{IsUnstarted}
-use Rattle.acd_sqlbook.specs.State.{IsSound}
+use Rattle.acd_sql_columns.specs.Draft.{LimitsFit}
+use Rattle.acd_sql_columns.specs.InTables.{content_of}
+use Rattle.acd_sql_columns.specs.Schema.{no_schema}
+use Rattle.acd_sql_differences.specs.Leading.{rows_differences}
+use Rattle.acd_sql_statements.specs.InRange.{IsInRange}
+use Rattle.acd_sql_schema.specs.SettingUp.{IsUnstarted}
+use Rattle.acd_sqlbook.specs.State.{IsSoundState}
 use Rattle.acd_sqlbook.specs.Commit.{counted}
 use Rattle.acd_sqlbook.specs.Stopping.{AllFit, AreCounted, Drops, IsUncounted, RefusesInAll}
 
 -- what a book is asked
-pub data Asked : Type 0 where
-  create : Limits → Asked
-  read : Asked
-  change : List Change → List Event → Kept → Asked
-  replace : Rows → List Event → Kept → Asked
+pub data BookCall : Type 0 where
+  create : Limits → BookCall
+  read : BookCall
+  change : List Change → List Event → Kept → BookCall
+  replace : Rows → List Event → Kept → BookCall
 
 -- its query may take no more than so many steps
-abbrev pub IsLimited : Asked → State → Type 0
+abbrev pub IsLimited : BookCall → State → Type 0
 IsLimited (create limits) s = ⊥
 IsLimited read s = IsSome s.step_limit
 IsLimited (change changes events kept) s = IsSome s.step_limit
 IsLimited (replace rows events kept) s = IsSome s.step_limit
 
 -- a number of it, of a change that it makes, or of the counters behind it, doesn't fit its column
-abbrev pub IsUnfit : Asked → State → Type 0
+abbrev pub IsUnfit : BookCall → State → Type 0
 IsUnfit (create limits) s = ¬ (LimitsFit limits)
 IsUnfit read s = ⊥
 IsUnfit (change changes events kept) s =
@@ -44,21 +44,21 @@ IsUnfit (replace rows events kept) s =
     (¬ (AreCounted rows kept)) ⊎ (¬ (AllFit (rows_differences (content_of s.committed.trees).rows rows) events))
 
 -- it asks for a content with a value out of its range, which `adopt` would refuse
-abbrev pub IsUnreadable : Asked → State → Type 0
+abbrev pub IsUnreadable : BookCall → State → Type 0
 IsUnreadable (create limits) s = ⊥
 IsUnreadable read s = ¬ (IsInRange (content_of s.committed.trees))
 IsUnreadable (change changes events kept) s = ¬ (IsInRange (content_of s.committed.trees))
 IsUnreadable (replace rows events kept) s = ¬ (IsInRange (content_of s.committed.trees))
 
 -- it makes tables, and the database has some
-abbrev pub IsOccupied : Asked → State → Type 0
+abbrev pub IsOccupied : BookCall → State → Type 0
 IsOccupied (create limits) s = s.now.schema ≢ no_schema
 IsOccupied read s = ⊥
 IsOccupied (change changes events kept) s = ⊥
 IsOccupied (replace rows events kept) s = ⊥
 
 -- it would drop a group, a station or an agent
-abbrev pub IsDropping : Asked → State → Type 0
+abbrev pub IsDropping : BookCall → State → Type 0
 IsDropping (create limits) s = ⊥
 IsDropping read s = ⊥
 IsDropping (change changes events kept) s = ⊥
@@ -66,16 +66,16 @@ IsDropping (replace rows events kept) s = Drops rows s.step_limit (content_of s.
 
 -- by what it says of such tables, the store refuses the row of the limits; it refuses no query, and no table of a book; of a commit it refuses a statement, on
 -- what those before it made
-abbrev pub IsRefused : Asked → State → Type 0
-IsRefused (create limits) s = IsUnstarted s.step_limit limits
-IsRefused read s = ⊥
-IsRefused (change changes events kept) s =
+abbrev pub IsRefusedByStore : BookCall → State → Type 0
+IsRefusedByStore (create limits) s = IsUnstarted s.step_limit limits
+IsRefusedByStore read s = ⊥
+IsRefusedByStore (change changes events kept) s =
     RefusesInAll changes events kept (counted (meta_of (content_of s.committed.trees).rows) changes (length events) kept) s.step_limit (content_of s.committed.trees)
-IsRefused (replace rows events kept) s =
+IsRefusedByStore (replace rows events kept) s =
     RefusesInAll (rows_differences (content_of s.committed.trees).rows rows) events kept (meta_of rows) s.step_limit (content_of s.committed.trees)
 
 -- between these two states of its connection
-pub data StoreCause (asked : Asked) (old new : State) : Type 0 where
+pub data StoreCause (asked : BookCall) (old new : State) : Type 0 where
   -- the store's own count of faults rose
   failed : MoreFaults old.faults new.faults → StoreCause asked old new
   -- the connection was shut before
@@ -85,9 +85,9 @@ pub data StoreCause (asked : Asked) (old new : State) : Type 0 where
   unreadable : IsUnreadable asked old → StoreCause asked old new
   occupied : IsOccupied asked old → StoreCause asked old new
   drops : IsDropping asked old → StoreCause asked old new
-  refused : IsRefused asked old → StoreCause asked old new
+  refused : IsRefusedByStore asked old → StoreCause asked old new
 
 -- a book that holds a content answers so, and counts a failure, only where there is a cause
-pub record IsCaused {A : Type 0} (asked : Asked) (old new : State) (failures next : ℕ) (result : Result A BookFault) : Type 0 where
-  pub answer : HasCleanDisk new → IsSound old → result ≡ Err Store → StoreCause asked old new
-  pub count : HasCleanDisk new → IsSound old → failures < next → StoreCause asked old new
+pub record IsCaused {A : Type 0} (asked : BookCall) (old new : State) (failures next : ℕ) (result : Result A BookFault) : Type 0 where
+  pub answer : HasCleanDisk new → IsSoundState old → result ≡ Err Store → StoreCause asked old new
+  pub count : HasCleanDisk new → IsSoundState old → failures < next → StoreCause asked old new

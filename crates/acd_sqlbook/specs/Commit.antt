@@ -9,14 +9,14 @@ use Rattle.acd_model.specs.declared.moves.Change.{Change}
 use Rattle.acd_model.specs.declared.moves.Change.TheVariants.{Nothing, PutGroup, PutStation, PutAgent, PutCall, PutConnection, PutMonitor, RemoveCall, RemoveConnection, RemoveMonitor}
 use Rattle.acd_book.specs.Content.{Content}
 use Rattle.acd_book.specs.declared.kept.Kept.{Kept}
-use Rattle.acd_columns.specs.declared.meta.Meta.{Meta}
-use Rattle.acd_columns.specs.Relations.{meta_of}
-use Rattle.acd_columns.specs.Draft.{Fits, FiguresFit}
+use Rattle.acd_sql_columns.specs.declared.meta.Meta.{Meta}
+use Rattle.acd_sql_columns.specs.Relations.{meta_of}
+use Rattle.acd_sql_columns.specs.Draft.{Fits, FiguresFitColumns}
 
 -- its numbers fit
 abbrev pub ChangeFits : Change → Type 0
 ChangeFits Nothing = ⊤
-ChangeFits (PutGroup g) = FiguresFit g.figures
+ChangeFits (PutGroup g) = FiguresFitColumns g.figures
 ChangeFits (PutStation s) = ⊤
 ChangeFits (PutAgent a) = Fits a.stamp
 ChangeFits (PutCall k) = Fits k.call

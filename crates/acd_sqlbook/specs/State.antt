@@ -10,27 +10,27 @@ use Rattle.acd_book.specs.Content.{Content, empty_content}
 use Rattle.acd_book.specs.State.{BookState}
 use Rattle.acd_book.specs.declared.fault.BookFault.{BookFault}
 use Rattle.acd_book.specs.declared.fault.BookFault.TheVariants.{NoMemory, Store}
-use Rattle.acd_columns.specs.Content.{Encodes}
-use Rattle.acd_columns.specs.InTables.{content_of}
-use Rattle.acd_sqlbook.specs.Calls.{Stands}
+use Rattle.acd_sql_columns.specs.Content.{Encodes}
+use Rattle.acd_sql_columns.specs.InTables.{content_of}
+use Rattle.acd_sqlbook.specs.Calls.{ShowsContent}
 
 -- whatever a crash may leave is the tables of a content, and so is what the connection sees while it is open
-pub record IsSound (s : State) : Type 0 where
-  pub stands : Stands s
+pub record IsSoundState (s : State) : Type 0 where
+  pub stands : ShowsContent s
   pub left : (db : Trees) → s.may_leave db → (c : Content) × Encodes db c
 
 abbrev pub book_state : State → ℕ → BookState
 book_state s failures = record {
   content = content_of s.committed.trees;
   stops = λ c. (db : Trees) × s.may_leave db × (c ≡ content_of db);
-  is_sound = IsSound s;
+  is_sound = IsSoundState s;
   is_clean = HasCleanDisk s;
   is_open = IsTrue s.is_open;
   failures = failures;
 }
 
 -- a book that holds the limits and nothing else
-pub record IsNew (b : BookState) (limits : Limits) : Type 0 where
+pub record IsNewBook (b : BookState) (limits : Limits) : Type 0 where
   pub sound : b.is_sound
   pub live : b.is_open
   pub content : b.content ≡ empty_content limits

@@ -9,18 +9,18 @@ use Rattle.acd_model.specs.declared.moves.Change.{Change}
 use Rattle.acd_model.specs.declared.moves.Change.TheVariants.{Nothing, PutGroup, PutStation, PutAgent, PutCall, PutConnection, PutMonitor, RemoveCall, RemoveConnection, RemoveMonitor}
 use Rattle.acd_book.specs.Content.{Content}
 use Rattle.acd_book.specs.declared.kept.Kept.{Kept}
-use Rattle.acd_columns.specs.Draft.{Drafts, Fits, Holds, MetaFits}
-use Rattle.acd_columns.specs.Relations.{Relations, meta_of, relations_of}
-use Rattle.acd_columns.specs.Rows.{kept_values, meta_shown}
-use Rattle.acd_columns.specs.Tables.{stations, calls, monitors, events}
-use Rattle.acd_columns.specs.Values.{id_value}
-use Rattle.acd_columns.specs.declared.meta.Meta.{Meta}
-use Rattle.acd_columns.specs.declared.texts.TheConstants.{DELETE_CALL, DELETE_CONNECTION, DELETE_MONITOR, INSERT_KEPT, UPDATE_CALL, UPDATE_META, UPDATE_MONITOR}
-use Rattle.acd_differences.specs.Leading.{rows_differences}
-use Rattle.acd_differences.specs.Transition.{AreWhole}
-use Rattle.acd_statements.specs.Failing.{IsMemory, HasFailed}
-use Rattle.acd_statements.specs.Reading.{FailsToRead}
-use Rattle.acd_statements.specs.Refusing.{RefusesOn, RefusesPut, RefusesPutConnection, RefusesGroup, RefusesAgent}
+use Rattle.acd_sql_columns.specs.Draft.{Drafts, Fits, HoldsContent, MetaFits}
+use Rattle.acd_sql_columns.specs.Relations.{Relations, meta_of, relations_of}
+use Rattle.acd_sql_columns.specs.Rows.{kept_values, meta_shown}
+use Rattle.acd_sql_columns.specs.Tables.{stations, calls, monitors, events}
+use Rattle.acd_sql_columns.specs.Values.{id_value}
+use Rattle.acd_sql_columns.specs.declared.meta.Meta.{Meta}
+use Rattle.acd_sql_columns.specs.declared.texts.TheConstants.{DELETE_CALL, DELETE_CONNECTION, DELETE_MONITOR, INSERT_KEPT, UPDATE_CALL, UPDATE_META, UPDATE_MONITOR}
+use Rattle.acd_sql_differences.specs.Leading.{rows_differences}
+use Rattle.acd_sql_differences.specs.Transition.{AreWhole}
+use Rattle.acd_sql_statements.specs.Failing.{IsMemory, StoreHasFailed}
+use Rattle.acd_sql_statements.specs.Reading.{FailsToRead}
+use Rattle.acd_sql_statements.specs.Refusing.{RefusesOn, RefusesPut, RefusesPutConnection, RefusesGroup, RefusesAgent}
 use Rattle.acd_sqlbook.specs.Commit.{ChangeFits, EventFits, counted, filed, all_filed, with_event, with_events, with_kept}
 
 -- with this limit of steps and on these relations, the store refuses a statement of the change
@@ -92,7 +92,7 @@ RefusesInAll changes events kept meta limit c =
 
 -- why it fails, where `Stops limit c` says at what it stops
 abbrev pub FailsToFile : (Option ℕ → Content → Type 0) → Content → State → State → Error → Type 0
-FailsToFile Stops c old new e = IsMemory e ⊎ (HasFailed old new ⊎ Stops old.step_limit c)
+FailsToFile Stops c old new e = IsMemory e ⊎ (StoreHasFailed old new ⊎ Stops old.step_limit c)
 
 -- it fails by this alone
 abbrev pub IsStopped : {A : Type 0} → (Option ℕ → Content → Type 0) → State → State → Result A Error → Type 0
@@ -100,7 +100,7 @@ IsStopped Stops old new result = HasCleanDisk new → (c : Content) → Drafts o
 
 -- of a whole commit, on a connection that holds a content
 abbrev pub IsUndone : {A : Type 0} → (Option ℕ → Content → Type 0) → State → State → Result A Error → Type 0
-IsUndone Stops old new result = HasCleanDisk new → (c : Content) → Holds old c → IfErr result (FailsToFile Stops c old new)
+IsUndone Stops old new result = HasCleanDisk new → (c : Content) → HoldsContent old c → IfErr result (FailsToFile Stops c old new)
 
 -- ---- a commit of changes
 
@@ -132,7 +132,7 @@ StopsReplace rows events kept limit c =
 
 -- why a call that reads first fails: as a read does, or at this
 abbrev pub IsBlamedOr : {A : Type 0} → (Option ℕ → Content → Type 0) → State → State → Result A Error → Type 0
-IsBlamedOr Stops old new result = HasCleanDisk new → (c : Content) → Holds old c → IfErr result (λ e. FailsToRead c old new e ⊎ Stops old.step_limit c)
+IsBlamedOr Stops old new result = HasCleanDisk new → (c : Content) → HoldsContent old c → IfErr result (λ e. FailsToRead c old new e ⊎ Stops old.step_limit c)
 
 -- that, and what it leaves of the store's count and of the limit of steps
 pub record BlamesOr {A : Type 0} (Stops : Option ℕ → Content → Type 0) (old new : State) (result : Result A Error) : Type 0 where

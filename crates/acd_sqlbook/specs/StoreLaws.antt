@@ -6,8 +6,8 @@ use Rattle.sqlite.specs.Held.{Held, state}
 use Rattle.sqlite.specs.Steps.{over_memory}
 use Rattle.acd_book.specs.Content.{Content}
 use Rattle.acd_book.specs.Order.{IsOrdered}
-use Rattle.acd_statements.specs.InRange.{IsInRange}
-use Rattle.acd_columns.specs.Content.{Encodes}
+use Rattle.acd_sql_statements.specs.InRange.{IsInRange}
+use Rattle.acd_sql_columns.specs.Content.{Encodes}
 use Rattle.acd_sqlbook.specs.State.{book_state}
 
 -- over a store in memory a book is clean, whatever was done to it

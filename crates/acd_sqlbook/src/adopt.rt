@@ -3,16 +3,16 @@
 ghost use Rattle.std.specs.Prelude.{◌≡◌, ◌≢◌, ◌⊎◌, false, None, IfOk, IfErr};
 ghost use Rattle.sqlite.specs.State.{HasCleanDisk};
 ghost use Rattle.sqlite.specs.Held.{state};
-ghost use Rattle.acd_columns.specs.AnyRows.{IsFiled};
-ghost use Rattle.acd_columns.specs.Schema.{old_schema, book_schema};
-ghost use Rattle.acd_schema.specs.Inspecting.{IsStoreFault};
-ghost use Rattle.acd_schema.specs.Migrating.{IsMade};
+ghost use Rattle.acd_sql_columns.specs.AnyRows.{IsFiled};
+ghost use Rattle.acd_sql_columns.specs.Schema.{old_schema, book_schema};
+ghost use Rattle.acd_sql_schema.specs.Inspecting.{IsAdoptStoreFault};
+ghost use Rattle.acd_sql_schema.specs.Migrating.{IsMade};
 ghost use Rattle.acd_sqlbook.specs.Adopting.{HasAllColumns, IsAdopted, IsHandedBack, IsUntouched, MayMigrate};
 ghost use Rattle.acd_sqlbook.specs.State.{book_state};
 
 use crate::book::SqlBook;
-use acd_columns::Version;
-use acd_schema::{AdoptFault, Found, fault_of, look_over, migrate};
+use acd_sql_columns::Version;
+use acd_sql_schema::{AdoptFault, Found, fault_of, look_over, migrate};
 use sqlite::{Alter, Connection};
 use std::alloc::Global;
 
@@ -37,7 +37,7 @@ impl<S: Alter> SqlBook<S> {
         ensures idle { IfErr result (λ e. e.1.in_transaction ≡ false) }
         ensures doubted { IfErr result (λ e. HasCleanDisk (state S.Store e.1) → HasCleanDisk (state S.Store conn)) }
         ensures handed_back { IfErr result (λ e. HasCleanDisk (state S.Store e.1) → IsHandedBack (state S.Store conn).now (book_state (state S.Store conn) 0) (book_state (state S.Store e.1) 0) e.0) }
-        ensures left_alone { IfErr result (λ e. HasCleanDisk (state S.Store e.1) → ((state S.Store conn).now.schema ≢ old_schema) ⊎ (¬ (IsStoreFault e.0)) → IsUntouched (state S.Store conn) (state S.Store e.1)) }
+        ensures left_alone { IfErr result (λ e. HasCleanDisk (state S.Store e.1) → ((state S.Store conn).now.schema ≢ old_schema) ⊎ (¬ (IsAdoptStoreFault e.0)) → IsUntouched (state S.Store conn) (state S.Store e.1)) }
         ensures leaves_refused { IfErr result (λ e. HasCleanDisk (state S.Store e.1) → MayMigrate (state S.Store conn) (state S.Store e.1)) }
     {
         match look_over(alloc, &mut conn) {

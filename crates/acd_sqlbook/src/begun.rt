@@ -3,16 +3,16 @@
 ghost use Rattle.std.specs.Prelude.{◌≡◌, false, IsTrue};
 ghost use Rattle.sqlite.specs.State.{HasCleanDisk};
 ghost use Rattle.sqlite.specs.Held.{state};
-ghost use Rattle.acd_columns.specs.Finding.{Finds};
-ghost use Rattle.acd_statements.specs.Picking.{Serves};
-ghost use Rattle.acd_statements.specs.Reading.{Blames};
+ghost use Rattle.acd_sql_columns.specs.Finding.{Finds};
+ghost use Rattle.acd_sql_statements.specs.Picking.{Serves};
+ghost use Rattle.acd_sql_statements.specs.Reading.{Blames};
 ghost use Rattle.acd_sqlbook.specs.Calls.{HasRead};
 ghost use Rattle.acd_sqlbook.specs.Indexing.{Begins, IsNoted};
 
 use crate::index::{Index, noted_on};
 use crate::ready::serve;
 use acd_book::Watched;
-use acd_statements::{events_behind, rows};
+use acd_sql_statements::{events_behind, rows};
 use acd_terms::MonitorRecord;
 use sqlite::{Alter, Connection, Error};
 use std::alloc::Global;

@@ -3,11 +3,11 @@
 ghost use Rattle.std.specs.Prelude.{◌≡◌, ◌≢◌, ◌≤◌, false, Err, None, is_ok, IsTrue, IfOk, IfErr};
 ghost use Rattle.sqlite.specs.State.{HasCleanDisk};
 ghost use Rattle.sqlite.specs.Held.{state};
-ghost use Rattle.acd_columns.specs.Schema.{no_schema};
-ghost use Rattle.acd_columns.specs.Draft.{LimitsFit};
+ghost use Rattle.acd_sql_columns.specs.Schema.{no_schema};
+ghost use Rattle.acd_sql_columns.specs.Draft.{LimitsFit};
 ghost use Rattle.acd_sqlbook.specs.Indexing.{followed};
-ghost use Rattle.acd_sqlbook.specs.State.{book_state, IsNew, fault_of, answered, failures_after};
-ghost use Rattle.acd_schema.specs.SettingUp.{MayMake};
+ghost use Rattle.acd_sqlbook.specs.State.{book_state, IsNewBook, fault_of, answered, failures_after};
+ghost use Rattle.acd_sql_schema.specs.SettingUp.{MayMake};
 ghost use Rattle.acd_sqlbook.specs.Causes.{StoreCause, IsCaused, create as creating, read as reading, change as changing, replace as replacing};
 ghost use Rattle.acd_book.specs.Content.{IsKeptAfter, events_behind, events_of_monitor, kept_of, Follows, committed, FollowsBy, committed_by};
 ghost use Rattle.acd_book.specs.State.{Reads, Commits};
@@ -20,7 +20,7 @@ use crate::ready::{
 use crate::transition::commit_rows_ready;
 use acd_book::{Book, BookFault, Kept};
 use acd_model::Change;
-use acd_schema::{has_no_tables, set_up};
+use acd_sql_schema::{has_no_tables, set_up};
 use acd_terms::{Event, Invoke, Limits, Requester, Rows};
 use sqlite::{Alter, Connection, Error, ErrorCode};
 use std::alloc::Global;
@@ -84,7 +84,7 @@ impl<S: Alter> SqlBook<S> {
         limits: Limits,
     ) -> Result<SqlBook<S>, (BookFault, Connection<S>)>
         requires { conn.in_transaction ≡ false }
-        ensures made { IfOk result (λ b. HasCleanDisk (state S.Store b.conn) → IsNew (book_state (state S.Store b.conn) b.failures) limits) }
+        ensures made { IfOk result (λ b. HasCleanDisk (state S.Store b.conn) → IsNewBook (book_state (state S.Store b.conn) b.failures) limits) }
         ensures counted { IfOk result (λ b. b.failures ≡ 0) }
         ensures unnoted { IfOk result (λ b. b.noted ≡ None) }
         ensures clean { IfOk result (λ b. HasCleanDisk (state S.Store b.conn) → HasCleanDisk (state S.Store conn)) }
@@ -134,7 +134,7 @@ impl<S: Alter> Book for SqlBook<S> {
     ghost use Rattle.std.specs.Prelude.{refl};
     ghost use Rattle.std.proofs.Common.{ap, ◌∙◌};
     ghost use Rattle.std.proofs.Math.Logic.{∥∥₁_map};
-    ghost use Rattle.acd_columns.specs.InTables.{content_of};
+    ghost use Rattle.acd_sql_columns.specs.InTables.{content_of};
 
     ghost state = { λ b. followed b.noted (book_state (state S.Store b.conn) b.failures) };
 

@@ -10,24 +10,24 @@ ghost use Rattle.acd_book.specs.Content.{Content};
 ghost use Rattle.acd_sqlbook.specs.Choosing.{puts_the_same, is_put_once, is_new};
 ghost use Rattle.acd_sqlbook.specs.Commit.{ChangeFits, EventFits, filed, all_filed, with_event, with_events, made_by, top_call, top_monitor, last_call, last_monitor, counted};
 ghost use Rattle.acd_sqlbook.specs.Stopping.{RefusesChange, StopsAtChange, StopsInChanges, StopsAtEvent, StopsInEvents, StopsInAll, IsStopped, IsUndone};
-ghost use Rattle.acd_statements.specs.Refusing.{RefusesAgent, IsBlamed};
-ghost use Rattle.acd_columns.specs.Relations.{relations_of};
-ghost use Rattle.acd_columns.specs.Draft.{Drafts, Works, Holds, AddsStop, Fits, FiguresFit, MetaFits};
+ghost use Rattle.acd_sql_statements.specs.Refusing.{RefusesAgent, IsBlamed};
+ghost use Rattle.acd_sql_columns.specs.Relations.{relations_of};
+ghost use Rattle.acd_sql_columns.specs.Draft.{Drafts, Works, HoldsContent, AddsStop, Fits, FiguresFitColumns, MetaFits};
 
 use acd_book::Kept;
-use acd_columns::Meta;
 use acd_model::Change;
-use acd_statements::fitting::{fits, too_large};
-use acd_statements::parts::{put_agent, put_group};
-use acd_statements::put::{insert, put, remove};
-use acd_statements::write::{
+use acd_sql_columns::Meta;
+use acd_sql_statements::fitting::{fits, too_large};
+use acd_sql_statements::parts::{put_agent, put_group};
+use acd_sql_statements::put::{insert, put, remove};
+use acd_sql_statements::write::{
     drop_connection, insert_connection, insert_kept, put_connection, set_meta,
 };
 use acd_terms::{AgentRecord, CallRecord, Event, Figures, MonitorRecord};
 use sqlite::{Alter, Connection, Error, Transaction};
 
 fn figures_fit(figures: &Figures) -> bool
-    ensures { IsTrue result ↔ FiguresFit figures.now }
+    ensures { IsTrue result ↔ FiguresFitColumns figures.now }
 {
     fits(figures.entered)
         && fits(figures.answered)
@@ -366,13 +366,13 @@ pub(crate) fn commit_all<S: Alter>(
     requires meta { MetaFits meta.now }
     requires idle { conn.old.in_transaction ≡ false }
     ensures idle { conn.new.in_transaction ≡ false }
-    ensures done { HasCleanDisk (state S.Store conn.new) → OnOk result ((c : Content) → Holds (state S.Store conn.old) c
-        → Holds (state S.Store conn.new) (made_by changes.now events.now kept.now meta.now c)) }
+    ensures done { HasCleanDisk (state S.Store conn.new) → OnOk result ((c : Content) → HoldsContent (state S.Store conn.old) c
+        → HoldsContent (state S.Store conn.new) (made_by changes.now events.now kept.now meta.now c)) }
     ensures clean { HasCleanDisk (state S.Store conn.new) → HasCleanDisk (state S.Store conn.old) }
     ensures up { HasCleanDisk (state S.Store conn.new) → OnOk result (IsTrue (state S.Store conn.old).is_open × IsTrue (state S.Store conn.new).is_open) }
     ensures was { HasCleanDisk (state S.Store conn.new) → IsTrue (state S.Store conn.new).is_open → IsTrue (state S.Store conn.old).is_open }
-    ensures undone { HasCleanDisk (state S.Store conn.new) → OnErr result ((c : Content) → Holds (state S.Store conn.old) c
-        → IsTrue (state S.Store conn.new).is_open → Holds (state S.Store conn.new) c) }
+    ensures undone { HasCleanDisk (state S.Store conn.new) → OnErr result ((c : Content) → HoldsContent (state S.Store conn.old) c
+        → IsTrue (state S.Store conn.new).is_open → HoldsContent (state S.Store conn.new) c) }
     ensures stops { HasCleanDisk (state S.Store conn.new) → AddsStop (state S.Store conn.old) (state S.Store conn.new) (made_by changes.now events.now kept.now meta.now) }
     ensures failed { IsUndone (StopsInAll changes.now events.now kept.now meta.now)
         (state S.Store conn.old) (state S.Store conn.new) result }

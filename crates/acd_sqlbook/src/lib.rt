@@ -5,7 +5,7 @@
 //! [`Book`](acd_book::Book) that keeps nothing but its connection, whether its last call succeeded and how
 //! often its store has failed: each read asks the database.
 //!
-//! Each statement is a function of `acd_statements`, which works inside a transaction and adds no stop; the end
+//! Each statement is a function of `acd_sql_statements`, which works inside a transaction and adds no stop; the end
 //! of the transaction alone adds the commit.
 //!
 //! ```ignore
@@ -25,7 +25,7 @@ mod page;
 mod ready;
 mod transition;
 
-pub use acd_columns::Table;
-pub use acd_differences::{Filed, row_changes};
-pub use acd_schema::{AdoptFault, has_no_tables};
+pub use acd_sql_columns::Table;
+pub use acd_sql_differences::{Filed, row_changes};
+pub use acd_sql_schema::{AdoptFault, has_no_tables};
 pub use book::SqlBook;

@@ -4,16 +4,16 @@ ghost use Rattle.std.specs.Prelude.{◌≡◌, Some, false, filter, take, IsTrue
 ghost use Rattle.sqlite.specs.State.{HasCleanDisk};
 ghost use Rattle.sqlite.specs.Held.{state};
 ghost use Rattle.acd_book.specs.Content.{Content, events_of_monitor, is_told};
-ghost use Rattle.acd_columns.specs.Draft.{Holds};
-ghost use Rattle.acd_columns.specs.Finding.{Finds};
-ghost use Rattle.acd_statements.specs.Picking.{Serves};
-ghost use Rattle.acd_statements.specs.Reading.{Blames};
+ghost use Rattle.acd_sql_columns.specs.Draft.{HoldsContent};
+ghost use Rattle.acd_sql_columns.specs.Finding.{Finds};
+ghost use Rattle.acd_sql_statements.specs.Picking.{Serves};
+ghost use Rattle.acd_sql_statements.specs.Reading.{Blames};
 ghost use Rattle.acd_sqlbook.specs.Calls.{HasRead};
 ghost use Rattle.acd_sqlbook.specs.Indexing.{Indexes, IsNoted};
 
 use crate::begun::noted_first;
 use crate::index::Index;
-use acd_statements::{events_at, events_numbered, events_watched, monitor_at};
+use acd_sql_statements::{events_at, events_numbered, events_watched, monitor_at};
 use acd_terms::{DeviceId, Event};
 use sqlite::{Alter, Connection, Error};
 use std::alloc::Global;
@@ -105,7 +105,7 @@ pub(crate) fn page_followed<S: Alter>(
         → IsTrue (state S.Store conn.old).is_open }
     ensures idle { conn.new.in_transaction ≡ false }
     ensures noted { HasCleanDisk (state S.Store conn.new) → (c : Content)
-        → Holds (state S.Store conn.old) c
+        → HoldsContent (state S.Store conn.old) c
         → IsNoted noted.old c.events → IsNoted noted.new c.events }
     ensures read { HasRead (state S.Store conn.old) (state S.Store conn.new) result
         (λ c events. IsNoted noted.old c.events

@@ -6,8 +6,8 @@ use Rattle.acd_sqlbook.specs.Indexing.{followed}
 use Rattle.acd_sqlbook.specs.State.{book_state}
 use Rattle.acd_desk.specs.declared.open_fault.OpenFault.{OpenFault}
 use Rattle.acd_desk.specs.Opening.{Refused}
-use Rattle.acd_program.specs.declared.session.SessionFault.{SessionFault}
-use Rattle.acd_program.specs.declared.session.SessionFault.TheVariants.{Open, Lines, StoreFailed}
+use Rattle.acd_program.specs.declared.session.BookLinesFault.{BookLinesFault}
+use Rattle.acd_program.specs.declared.session.BookLinesFault.TheVariants.{Open, Lines, Store}
 use Rattle.acd_program.specs.declared.connection.ConnectionFault.TheVariants.{Session}
 use Rattle.acd_program.specs.Endings.{EndsUnread}
 use Rattle.acd_lines.specs.Lines.{LinesAnswered, AllLines, FirstLines, ArrivalsAnswered}
@@ -39,7 +39,7 @@ returns-in-Err-done-clause-stopped g c is =
     let mid : BookState = followed c.in-Ok.book.noted (book_state (state g.S.Store c.in-Ok.book.conn) c.in-Ok.book.failures) in
     let last : _ = c.lines_over_book-done.result.1 in
     let new : BookState = followed last.noted (book_state (state g.S.Store last.conn) last.failures) in
-    let said : P mid new = (subst (λ (r : _). IfErr r (λ (fault : SessionFault). IsLinesFault fault → P mid new)) c.in-Err-done.is c.lines_over_book-done.ensures.stopped) is in
+    let said : P mid new = (subst (λ (r : _). IfErr r (λ (fault : BookLinesFault). IsLinesFault fault → P mid new)) c.in-Err-done.is c.lines_over_book-done.ensures.stopped) is in
     subst (λ (x : _). OverConnection P c.args.makes (state g.S.Store c.args.conn) (state g.S.Store x)) (sym c.into_connection-in-Err-done.ensures.same)
     (over_connection P c.args.makes (state g.S.Store c.args.conn) (state g.S.Store last.conn) mid last.noted last.failures (λ old of h. lines_since (FirstLines had) (Begins before behind) old mid new of h) c.in-Ok.ensures.taken said)
 
@@ -52,16 +52,16 @@ returns-in-Err-done-clause-failed g c is =
     let mid : BookState = followed c.in-Ok.book.noted (book_state (state g.S.Store c.in-Ok.book.conn) c.in-Ok.book.failures) in
     let last : _ = c.lines_over_book-done.result.1 in
     let new : BookState = followed last.noted (book_state (state g.S.Store last.conn) last.failures) in
-    let said : (c.args.ends_on_store_fault ≡ true) × P mid new = (subst (λ (r : _). IfErr r (λ (fault : SessionFault). IsStoreFailed fault → (c.args.ends_on_store_fault ≡ true) × P mid new)) c.in-Err-done.is c.lines_over_book-done.ensures.failed) is in (
+    let said : (c.args.ends_on_store_fault ≡ true) × P mid new = (subst (λ (r : _). IfErr r (λ (fault : BookLinesFault). IsStoreFailed fault → (c.args.ends_on_store_fault ≡ true) × P mid new)) c.in-Err-done.is c.lines_over_book-done.ensures.failed) is in (
       said.0,
       subst (λ (x : _). OverConnection P c.args.makes (state g.S.Store c.args.conn) (state g.S.Store x)) (sym c.into_connection-in-Err-done.ensures.same)
           (over_connection P c.args.makes (state g.S.Store c.args.conn) (state g.S.Store last.conn) mid last.noted last.failures (λ old of h. failed_lines_since (FirstLines had) (Appends before behind) old mid new of h) c.in-Ok.ensures.taken said.1),
     )
 
-unread : (fault : SessionFault) (P : Type 0) → EndsUnread (Session fault) → ((why : OpenFault) → IsOpenFault why fault → P) → P
+unread : (fault : BookLinesFault) (P : Type 0) → EndsUnread (Session fault) → ((why : OpenFault) → IsOpenFault why fault → P) → P
 unread (Open why) P is h = h why refl
 unread (Lines why) P is h = absurd is
-unread StoreFailed P is h = absurd is
+unread Store P is h = absurd is
 
 pub returns-in-Err-done-clause-unread : goal.returns-in-Err-done-clause-unread
 returns-in-Err-done-clause-unread g c is =
@@ -70,7 +70,7 @@ returns-in-Err-done-clause-unread g c is =
     let new : BookState = followed last.noted (book_state (state g.S.Store last.conn) last.failures) in
     let Q : Type 0 = (c.lines_over_book-done.new.reader ≡ c.args.reader.now) × (c.lines_over_book-done.new.writer ≡ c.args.writer.now) in
     let said : (why : OpenFault) → IsOpenFault why c.in-Err-done.fault → Refused mid why new × (c.lines_over_book-done.new.reader ≡ c.args.reader.now) × (c.lines_over_book-done.new.writer ≡ c.args.writer.now)
-    = subst (λ (r : _). IfErr r (λ (fault : SessionFault). (why : OpenFault) → IsOpenFault why fault → Refused mid why new × (c.lines_over_book-done.new.reader ≡ c.args.reader.now) × (c.lines_over_book-done.new.writer ≡ c.args.writer.now)))
+    = subst (λ (r : _). IfErr r (λ (fault : BookLinesFault). (why : OpenFault) → IsOpenFault why fault → Refused mid why new × (c.lines_over_book-done.new.reader ≡ c.args.reader.now) × (c.lines_over_book-done.new.writer ≡ c.args.writer.now)))
     c.in-Err-done.is c.lines_over_book-done.ensures.refused in
     unread c.in-Err-done.fault Q is (λ why no_desk. ((said why no_desk).1, (said why no_desk).2))
 
@@ -81,7 +81,7 @@ returns-in-Err-done-clause-unserved g c is =
     let new : BookState = followed last.noted (book_state (state g.S.Store last.conn) last.failures) in
     let Q : Type 0 = Unserved c.args.makes (state g.S.Store c.args.conn) (state g.S.Store last.conn) in
     let said : (why : OpenFault) → IsOpenFault why c.in-Err-done.fault → Refused mid why new × (c.lines_over_book-done.new.reader ≡ c.args.reader.now) × (c.lines_over_book-done.new.writer ≡ c.args.writer.now)
-    = subst (λ (r : _). IfErr r (λ (fault : SessionFault). (why : OpenFault) → IsOpenFault why fault → Refused mid why new × (c.lines_over_book-done.new.reader ≡ c.args.reader.now) × (c.lines_over_book-done.new.writer ≡ c.args.writer.now)))
+    = subst (λ (r : _). IfErr r (λ (fault : BookLinesFault). (why : OpenFault) → IsOpenFault why fault → Refused mid why new × (c.lines_over_book-done.new.reader ≡ c.args.reader.now) × (c.lines_over_book-done.new.writer ≡ c.args.writer.now)))
     c.in-Err-done.is c.lines_over_book-done.ensures.refused in
     subst (λ (x : _). Unserved c.args.makes (state g.S.Store c.args.conn) (state g.S.Store x)) (sym c.into_connection-in-Err-done.ensures.same)
     (unread c.in-Err-done.fault Q is

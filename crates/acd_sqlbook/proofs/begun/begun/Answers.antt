@@ -1,6 +1,6 @@
 use Rattle.std.proofs.Common.{rules}
 use Rattle.sqlite.specs.Held.{state}
-use Rattle.acd_statements.proofs.Blamed.{blames_as, blames_behind}
+use Rattle.acd_sql_statements.proofs.Blamed.{blames_as, blames_behind}
 use Rattle.acd_sqlbook.specs.declared.index.Index.{Index}
 use Rattle.acd_sqlbook.proofs.Beginning.{begins, begins_never}
 use Rattle.acd_sqlbook.proofs.begun.begun.Goals as goal

@@ -1,6 +1,6 @@
 use Rattle.std.proofs.Common.{rules}
 use Rattle.sqlite.specs.Held.{state}
-use Rattle.acd_statements.proofs.Blamed.{blames_as, blames_behind}
+use Rattle.acd_sql_statements.proofs.Blamed.{blames_as, blames_behind}
 use Rattle.acd_sqlbook.specs.Indexing.{IsNoted}
 use Rattle.acd_sqlbook.proofs.Standing.{reads_behind}
 use Rattle.acd_sqlbook.proofs.Beginning.{stays_noted, begins_anew}

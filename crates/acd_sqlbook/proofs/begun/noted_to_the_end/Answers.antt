@@ -1,6 +1,6 @@
 use Rattle.std.proofs.Common.{◌≡◌, ◌<◌, [], refl, rules, Ok, Err, None, Some, subst, sym, arith}
 use Rattle.sqlite.specs.Held.{state}
-use Rattle.acd_statements.proofs.Blamed.{blames_as, blames_behind, blames_done, blames_still}
+use Rattle.acd_sql_statements.proofs.Blamed.{blames_as, blames_behind, blames_done, blames_still}
 use Rattle.acd_sqlbook.specs.Indexing.{GoesOn}
 use Rattle.acd_sqlbook.proofs.Beginning.{pass_begins, pass_more, pass_all, pass_not, pass_fails, pass_cut}
 use Rattle.acd_sqlbook.proofs.begun.noted_to_the_end.Goals as goal

@@ -1,9 +1,9 @@
 use Rattle.std.proofs.Common.{◌≡◌, false, Ok}
 use Rattle.sqlite.specs.Held.{state}
 use Rattle.sqlite.specs.declared.error.Error.{Error}
-use Rattle.acd_columns.specs.Finding.{Finds}
-use Rattle.acd_statements.specs.Picking.{Serves}
-use Rattle.acd_statements.specs.Reading.{Blames}
+use Rattle.acd_sql_columns.specs.Finding.{Finds}
+use Rattle.acd_sql_statements.specs.Picking.{Serves}
+use Rattle.acd_sql_statements.specs.Reading.{Blames}
 use Rattle.acd_sqlbook.proofs.Beginning.{HasPassed}
 use Rattle.acd_sqlbook.proofs.begun.noted_to_the_end.Given as goal
 

@@ -3,11 +3,11 @@ use Rattle.sqlite.specs.State.{HasCleanDisk, KeepsCommit}
 use Rattle.sqlite.specs.Held.{state}
 use Rattle.acd_book.specs.Content.{Content}
 use Rattle.acd_sqlbook.specs.Commit.{made_by}
-use Rattle.acd_columns.specs.Draft.{Holds, Drafts, AddsStop}
-use Rattle.acd_columns.specs.Relations.{relations_of}
-use Rattle.acd_columns.proofs.Endings.{not_committed, begins, made_whole, adds_stop}
+use Rattle.acd_sql_columns.specs.Draft.{HoldsContent, Drafts, AddsStop}
+use Rattle.acd_sql_columns.specs.Relations.{relations_of}
+use Rattle.acd_sql_columns.proofs.Endings.{not_committed, begins, made_whole, adds_stop}
 use Rattle.std.proofs.Common.{Err, IfErr, sym}
-use Rattle.acd_columns.specs.Draft.{Works}
+use Rattle.acd_sql_columns.specs.Draft.{Works}
 use Rattle.acd_sqlbook.specs.Stopping.{StopsInAll, FailsToFile}
 use Rattle.acd_sqlbook.proofs.Stopped.{still_stopped, commit_stopped}
 use Rattle.acd_sqlbook.proofs.commit.commit_all.Goals as goal
@@ -22,9 +22,9 @@ returns-clause-done g c clean =
     let begun = c.transaction-tx.ensures.begun in
     let middle : HasCleanDisk mid = omega (arith, c.commit.ensures.survives.clean) in
     let made = made_by c.args.changes.now c.args.events.now c.args.kept.now c.args.meta.now in
-    let put : (x : Content) → Holds old x → Drafts mid (relations_of (made x)) =
-    λ (x : Content) (h : Holds old x). (rw begun at c.in_ok-write_all.ensures.put) middle x (begins old (state g.S.Store (record c.args.conn.now { in_transaction = true })) x refl refl h) in
-    subst (λ h. OnOk c.commit.result ((x : Content) → Holds old x → Holds (state g.S.Store h) (made x))) same
+    let put : (x : Content) → HoldsContent old x → Drafts mid (relations_of (made x)) =
+    λ (x : Content) (h : HoldsContent old x). (rw begun at c.in_ok-write_all.ensures.put) middle x (begins old (state g.S.Store (record c.args.conn.now { in_transaction = true })) x refl refl h) in
+    subst (λ h. OnOk c.commit.result ((x : Content) → HoldsContent old x → HoldsContent (state g.S.Store h) (made x))) same
     (made_whole old mid (state g.S.Store end) c.commit.result made put (c.commit.ensures.ok late))
 
 pub returns-clause-undone : goal.returns-clause-undone
@@ -38,9 +38,9 @@ returns-clause-undone g c clean =
     let middle : HasCleanDisk mid = omega (arith, c.commit.ensures.survives.clean) in
     let keeps = (rw begun at c.write_all.ensures.works).kept middle in
     let kept : KeepsCommit old mid = record { was_open = keeps.was_open; committed = keeps.committed } in
-    let inside : (x : Content) → Holds old x → mid.in_transaction ≡ true =
-    λ (x : Content) (h : Holds old x). ((rw begun at c.in_ok-write_all.ensures.put) middle x (begins old (state g.S.Store (record c.args.conn.now { in_transaction = true })) x refl refl h)).inside in
-    subst (λ h. OnErr c.commit.result ((x : Content) → Holds old x → IsTrue (state g.S.Store h).is_open → Holds (state g.S.Store h) x)) same
+    let inside : (x : Content) → HoldsContent old x → mid.in_transaction ≡ true =
+    λ (x : Content) (h : HoldsContent old x). ((rw begun at c.in_ok-write_all.ensures.put) middle x (begins old (state g.S.Store (record c.args.conn.now { in_transaction = true })) x refl refl h)).inside in
+    subst (λ h. OnErr c.commit.result ((x : Content) → HoldsContent old x → IsTrue (state g.S.Store h).is_open → HoldsContent (state g.S.Store h) x)) same
     (not_committed old mid (state g.S.Store end) c.commit.result kept inside (c.commit.ensures.err late))
 
 pub returns-clause-stops : goal.returns-clause-stops
@@ -54,8 +54,8 @@ returns-clause-stops g c clean =
     let begun = c.transaction-tx.ensures.begun in
     let middle : HasCleanDisk mid = omega (arith, c.commit.ensures.survives.clean) in
     let made = made_by c.args.changes.now c.args.events.now c.args.kept.now c.args.meta.now in
-    let put : (x : Content) → Holds old x → Drafts mid (relations_of (made x)) =
-    λ (x : Content) (h : Holds old x). (rw begun at c.in_ok-write_all.ensures.put) middle x (begins old begun-state x refl refl h) in
+    let put : (x : Content) → HoldsContent old x → Drafts mid (relations_of (made x)) =
+    λ (x : Content) (h : HoldsContent old x). (rw begun at c.in_ok-write_all.ensures.put) middle x (begins old begun-state x refl refl h) in
     subst (λ h. AddsStop old (state g.S.Store h) made) same
     (adds_stop old begun-state mid (state g.S.Store end) made (λ db left. left) (rw begun at c.write_all.ensures.works).survives c.commit.ensures.survives put middle late)
 

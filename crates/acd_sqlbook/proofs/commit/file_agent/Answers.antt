@@ -1,5 +1,5 @@
 use Rattle.sqlite.specs.Held.{state}
-use Rattle.acd_columns.specs.Relations.{with_agent_parts}
+use Rattle.acd_sql_columns.specs.Relations.{with_agent_parts}
 use Rattle.acd_model.specs.declared.moves.Change.TheVariants.{PutAgent}
 use Rattle.acd_sqlbook.specs.Commit.{filed}
 use Rattle.acd_sqlbook.proofs.Filing.{leaving, agent_filed}

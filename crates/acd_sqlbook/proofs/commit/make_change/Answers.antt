@@ -1,14 +1,14 @@
 use Rattle.sqlite.specs.Held.{state}
 use Rattle.acd_sqlbook.specs.Commit.{filed}
-use Rattle.acd_columns.specs.Relations.{with_group_parts}
+use Rattle.acd_sql_columns.specs.Relations.{with_group_parts}
 use Rattle.acd_model.specs.declared.moves.Change.TheVariants.{PutGroup, PutStation, PutAgent, PutCall, PutConnection, PutMonitor, RemoveCall, RemoveConnection, RemoveMonitor}
 use Rattle.acd_sqlbook.proofs.Filing.{leaving, named, filing, group_filed, station_filed, call_filed, connection_filed, monitor_filed, call_gone, monitor_gone, connection_gone}
 use Rattle.std.proofs.Common.{[], ◌∷◌, inr}
-use Rattle.acd_columns.specs.Rows.{connection_values}
-use Rattle.acd_columns.specs.Tables.{stations, calls, monitors}
-use Rattle.acd_columns.specs.Values.{id_value}
-use Rattle.acd_columns.specs.declared.texts.TheConstants.{DELETE_CALL, DELETE_CONNECTION, DELETE_MONITOR, INSERT_CONNECTION, UPDATE_CALL, UPDATE_MONITOR}
-use Rattle.acd_statements.specs.Refusing.{RefusesOn, RefusesPut, RefusesPutConnection, RefusesGroup, RefusesAgent}
+use Rattle.acd_sql_columns.specs.Rows.{connection_values}
+use Rattle.acd_sql_columns.specs.Tables.{stations, calls, monitors}
+use Rattle.acd_sql_columns.specs.Values.{id_value}
+use Rattle.acd_sql_columns.specs.declared.texts.TheConstants.{DELETE_CALL, DELETE_CONNECTION, DELETE_MONITOR, INSERT_CONNECTION, UPDATE_CALL, UPDATE_MONITOR}
+use Rattle.acd_sql_statements.specs.Refusing.{RefusesOn, RefusesPut, RefusesPutConnection, RefusesGroup, RefusesAgent}
 use Rattle.acd_sqlbook.proofs.Stopped.{by_change}
 use Rattle.acd_sqlbook.proofs.commit.make_change.Goals as goal
 

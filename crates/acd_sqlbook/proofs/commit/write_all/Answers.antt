@@ -3,11 +3,11 @@ use Rattle.sqlite.specs.State.{HasCleanDisk}
 use Rattle.sqlite.specs.Held.{state}
 use Rattle.std.proofs.Common.{Err, inl, inr, rules, ℕ, Option}
 use Rattle.acd_book.specs.Content.{Content}
-use Rattle.acd_columns.proofs.Endings.{works_on}
-use Rattle.acd_columns.specs.Rows.{kept_values, meta_shown}
-use Rattle.acd_columns.specs.Relations.{relations_of}
-use Rattle.acd_columns.specs.declared.texts.TheConstants.{INSERT_KEPT, UPDATE_META}
-use Rattle.acd_statements.specs.Refusing.{RefusesOn}
+use Rattle.acd_sql_columns.proofs.Endings.{works_on}
+use Rattle.acd_sql_columns.specs.Rows.{kept_values, meta_shown}
+use Rattle.acd_sql_columns.specs.Relations.{relations_of}
+use Rattle.acd_sql_columns.specs.declared.texts.TheConstants.{INSERT_KEPT, UPDATE_META}
+use Rattle.acd_sql_statements.specs.Refusing.{RefusesOn}
 use Rattle.acd_sqlbook.specs.Commit.{all_filed, with_events, with_kept}
 use Rattle.acd_sqlbook.specs.Stopping.{StopsInChanges, StopsInEvents, StopsInAll}
 use Rattle.acd_sqlbook.proofs.Stopped.{stops_as, stops_more, stops_same, stops_later}

@@ -1,7 +1,7 @@
 use Rattle.std.proofs.Common.{◌∙◌, arith}
 use Rattle.sqlite.specs.State.{HasCleanDisk}
 use Rattle.sqlite.specs.Held.{state}
-use Rattle.acd_columns.proofs.Endings.{works_on}
+use Rattle.acd_sql_columns.proofs.Endings.{works_on}
 use Rattle.acd_sqlbook.proofs.Skipping.{next_filed, none_left}
 use Rattle.std.proofs.Common.{rules}
 use Rattle.acd_sqlbook.specs.Commit.{filed}

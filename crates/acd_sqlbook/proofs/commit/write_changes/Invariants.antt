@@ -3,8 +3,8 @@ use Rattle.sqlite.specs.State.{HasCleanDisk}
 use Rattle.sqlite.specs.Held.{state}
 use Rattle.acd_book.specs.Content.{Content}
 use Rattle.acd_sqlbook.specs.Commit.{all_filed}
-use Rattle.acd_columns.specs.Relations.{relations_of}
-use Rattle.acd_columns.specs.Draft.{Drafts, Works}
+use Rattle.acd_sql_columns.specs.Relations.{relations_of}
+use Rattle.acd_sql_columns.specs.Draft.{Drafts, Works}
 use Rattle.acd_sqlbook.specs.Stopping.{StopsInChanges}
 use Rattle.acd_sqlbook.proofs.commit.write_changes.Given as goal
 

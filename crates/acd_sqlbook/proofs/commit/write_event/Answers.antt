@@ -1,11 +1,11 @@
 use Rattle.std.proofs.Common.{refl}
 use Rattle.sqlite.specs.Held.{state}
-use Rattle.acd_columns.specs.Tables.{events}
-use Rattle.acd_statements.specs.Writing.{with_put}
+use Rattle.acd_sql_columns.specs.Tables.{events}
+use Rattle.acd_sql_statements.specs.Writing.{with_put}
 use Rattle.acd_sqlbook.specs.Commit.{with_event}
 use Rattle.acd_sqlbook.proofs.Filing.{leaving}
 use Rattle.std.proofs.Common.{inr}
-use Rattle.acd_statements.specs.Refusing.{RefusesOn}
+use Rattle.acd_sql_statements.specs.Refusing.{RefusesOn}
 use Rattle.acd_sqlbook.specs.Stopping.{StopsAtEvent}
 use Rattle.acd_sqlbook.proofs.Stopped.{stops_as}
 use Rattle.acd_sqlbook.proofs.commit.write_event.Goals as goal

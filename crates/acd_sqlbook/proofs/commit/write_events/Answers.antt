@@ -2,9 +2,9 @@ use Rattle.std.proofs.Common.{sym, subst, ◌∙◌, arith}
 use Rattle.sqlite.specs.State.{HasCleanDisk}
 use Rattle.sqlite.specs.Held.{state}
 use Rattle.acd_sqlbook.specs.Commit.{with_events}
-use Rattle.acd_columns.specs.Relations.{relations_of}
-use Rattle.acd_columns.specs.Draft.{Drafts}
-use Rattle.acd_columns.proofs.Endings.{works_on}
+use Rattle.acd_sql_columns.specs.Relations.{relations_of}
+use Rattle.acd_sql_columns.specs.Draft.{Drafts}
+use Rattle.acd_sql_columns.proofs.Endings.{works_on}
 use Rattle.acd_sqlbook.proofs.Filing.{events_next}
 use Rattle.std.proofs.Common.{Err, take, rules}
 use Rattle.acd_book.specs.Content.{Content}

@@ -3,8 +3,8 @@ use Rattle.sqlite.specs.State.{HasCleanDisk}
 use Rattle.sqlite.specs.Held.{state}
 use Rattle.acd_book.specs.Content.{Content}
 use Rattle.acd_sqlbook.specs.Commit.{with_events}
-use Rattle.acd_columns.specs.Relations.{relations_of}
-use Rattle.acd_columns.specs.Draft.{Drafts, Works}
+use Rattle.acd_sql_columns.specs.Relations.{relations_of}
+use Rattle.acd_sql_columns.specs.Draft.{Drafts, Works}
 use Rattle.acd_sqlbook.proofs.commit.write_events.Given as goal
 
 abbrev pub invariant-loop-event : goal.invariant-loop-event

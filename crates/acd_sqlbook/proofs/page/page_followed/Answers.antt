@@ -1,6 +1,6 @@
 use Rattle.std.proofs.Common.{Option, rules, subst, sym}
 use Rattle.sqlite.specs.Held.{state}
-use Rattle.acd_statements.proofs.Blamed.{blames_as, blames_behind}
+use Rattle.acd_sql_statements.proofs.Blamed.{blames_as, blames_behind}
 use Rattle.acd_sqlbook.specs.Indexing.{IsNoted}
 use Rattle.acd_sqlbook.specs.declared.index.Index.{Index}
 use Rattle.acd_sqlbook.proofs.PageFound.{page_next, next_noted, page_never}

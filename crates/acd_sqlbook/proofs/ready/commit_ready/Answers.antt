@@ -1,8 +1,8 @@
 use Rattle.std.proofs.Common.{◌≡◌, ℕ, length}
 use Rattle.sqlite.specs.Held.{state}
 use Rattle.acd_sqlbook.specs.Commit.{counted, written_by}
-use Rattle.acd_columns.specs.Relations.{meta_of}
-use Rattle.acd_columns.specs.declared.meta.Meta.{Meta}
+use Rattle.acd_sql_columns.specs.Relations.{meta_of}
+use Rattle.acd_sql_columns.specs.declared.meta.Meta.{Meta}
 use Rattle.acd_sqlbook.proofs.Standing.{commits_not, commits_counted}
 use Rattle.std.proofs.Common.{refl, rules}
 use Rattle.sqlite.specs.declared.error.Error.TheVariants.{SqliteFailure}

@@ -2,7 +2,7 @@ use Rattle.sqlite.specs.Held.{state}
 use Rattle.acd_book.specs.Content.{IsKeptAfter}
 use Rattle.acd_sqlbook.proofs.Standing.{reads_behind}
 use Rattle.std.proofs.Common.{rules}
-use Rattle.acd_statements.proofs.Blamed.{blames_as, blames_behind}
+use Rattle.acd_sql_statements.proofs.Blamed.{blames_as, blames_behind}
 use Rattle.acd_sqlbook.proofs.ready.kept_after_ready.Goals as goal
 
 pub returns-clause-read : goal.returns-clause-read

@@ -1,8 +1,8 @@
 use Rattle.std.proofs.Common.{◌≡◌, Ok, ap}
 use Rattle.sqlite.specs.Held.{state}
 use Rattle.acd_sqlbook.proofs.Standing.{reads_on}
-use Rattle.acd_columns.specs.Relations.{meta_of}
-use Rattle.acd_statements.proofs.Blamed.{blames_fail, blames_on}
+use Rattle.acd_sql_columns.specs.Relations.{meta_of}
+use Rattle.acd_sql_statements.proofs.Blamed.{blames_fail, blames_on}
 use Rattle.acd_sqlbook.proofs.ready.limits_ready.Goals as goal
 
 pub returns-in-Ok-clause-read : goal.returns-in-Ok-clause-read

@@ -1,8 +1,8 @@
 use Rattle.std.proofs.Common.{◌≡◌, rules}
 use Rattle.sqlite.specs.Held.{state}
-use Rattle.acd_columns.specs.Relations.{meta_of}
+use Rattle.acd_sql_columns.specs.Relations.{meta_of}
 use Rattle.acd_sqlbook.proofs.Standing.{reads_behind}
-use Rattle.acd_statements.proofs.Blamed.{blames_as, blames_behind}
+use Rattle.acd_sql_statements.proofs.Blamed.{blames_as, blames_behind}
 use Rattle.acd_sqlbook.proofs.ready.meta_ready.Goals as goal
 
 pub returns-clause-read : goal.returns-clause-read

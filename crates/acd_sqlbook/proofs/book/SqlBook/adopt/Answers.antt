@@ -1,9 +1,9 @@
 use Rattle.std.proofs.Common.{◌≡◌, Ok, rules, subst, refl}
 use Rattle.sqlite.specs.Held.{state}
-use Rattle.acd_columns.specs.declared.tables.Version.TheVariants as version
-use Rattle.acd_columns.specs.Seeing.{HasLooked}
-use Rattle.acd_schema.specs.declared.fault.Found.TheVariants.{Book}
-use Rattle.acd_schema.specs.Inspecting.{IsFound}
+use Rattle.acd_sql_columns.specs.declared.tables.Version.TheVariants as version
+use Rattle.acd_sql_columns.specs.Seeing.{HasLooked}
+use Rattle.acd_sql_schema.specs.declared.fault.Found.TheVariants.{Book}
+use Rattle.acd_sql_schema.specs.Inspecting.{IsFound}
 use Rattle.acd_sqlbook.proofs.Adopted.{adopted, adopted_first, back_unmade, files, may_migrate, schema_there}
 use Rattle.acd_sqlbook.proofs.book.SqlBook.adopt.Goals as goal
 

@@ -1,4 +1,0 @@
-use Rattle.acd_schema.proofs.create.make.Goals as goal
-
-pub returns : goal.returns
-returns g c = c.write.ensures

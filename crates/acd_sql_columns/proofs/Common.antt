@@ -1,0 +1,46 @@
+-- What the texts of a put say, and what a statement leaves inside a transaction.
+use Rattle.std.proofs.Common.{◌≡◌, ℕ, zero, suc, ◌+◌, List, [], ◌∷◌, Bool, true, false, cond, Ok, Err, Result, OnOk, Option, Some, None, refl}
+use Rattle.sqlite_value.specs.declared.value.Value.{Value}
+use Rattle.sqlite_value.specs.declared.value.Value.TheVariants.{Null}
+use Rattle.sqlite_value.specs.Order.{Row}
+use Rattle.sqlite_sql.specs.Term.{Term, col}
+use Rattle.sqlite_sql.specs.Ops.{unary}
+use Rattle.sqlite_schema.specs.declared.schema.Kind.TheVariants.{Integer}
+use Rattle.sqlite_rules.specs.Cast.{cast}
+use Rattle.sqlite.specs.declared.error.Error.{Error}
+use Rattle.sqlite.specs.Values.{or_null}
+use Rattle.sqlite.specs.State.{State, Executes}
+use Rattle.acd_sql_columns.specs.Relations.{Relations}
+use Rattle.acd_sql_columns.specs.Values.{id_value}
+use Rattle.acd_sql_columns.specs.Draft.{Drafts, RanStatement}
+use Rattle.acd_sql_columns.specs.Schema.{book_schema}
+use Rattle.acd_sql_columns.proofs.Statements.{IsInert}
+
+abbrev pub run : ℕ → ℕ → List Term
+run start zero = []
+run start (suc more) = col 0 start ∷ run (start + 1) more
+
+pub inert : IsInert book_schema
+inert = (tt, (tt, (tt, (((refl, refl), ((refl, refl), tt)), (tt, (((refl, refl), ((refl, refl), tt)), (tt, (tt, (tt, (((refl, refl), ((refl, refl), tt)), (((refl, refl), tt), tt)))))))))))
+
+pub either : (b : Bool) (x : Value) → cond b x x ≡ x
+either true x = refl
+either false x = refl
+
+pub cast_id : (n : ℕ) → cast Integer (id_value n) ≡ id_value n
+unfolding unary
+cast_id n = either _ (id_value n)
+
+pub cast_null : cast Integer Null ≡ Null
+unfolding unary
+cast_null = either _ Null
+
+pub cast_maybe : {X : Type 0} (f : X → ℕ) (o : Option X) → cast Integer (or_null (λ x. id_value (f x)) o) ≡ or_null (λ x. id_value (f x)) o
+cast_maybe f None = cast_null
+cast_maybe f (Some x) = cast_id (f x)
+
+pub drafts : (sql : List ℕ) (params : Row) (change : Relations → Relations) (old new : State) (r : Result (Unit {0}) Error)
+    → ((c : Relations) (count : ℕ) → Drafts old c → Executes sql params old new (Ok count) → Drafts new (change c))
+    → OnOk r (RanStatement sql params old new) → OnOk r ((c : Relations) → Drafts old c → Drafts new (change c))
+drafts sql params change old new (Err e) law ran = tt
+drafts sql params change old new (Ok x) law ran = λ (c : Relations) (d : Drafts old c). law c ran.0 d ran.1

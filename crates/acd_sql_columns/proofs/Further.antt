@@ -1,0 +1,48 @@
+-- The queries of the tables of version 2 show all their rows.
+use Rattle.std.proofs.Common.{◌++◌, [], ◌∷◌, length, refl}
+use Rattle.sqlite_sql.specs.Term.{col}
+use Rattle.sqlite.specs.Listing.{understood}
+use Rattle.sqlite_tied.specs.Compute.{everything}
+use Rattle.acd_sql_columns.specs.declared.tables.Table.TheVariants as table
+use Rattle.acd_sql_columns.specs.declared.texts.TheConstants.{SELECT_STANDING_AGENT_GROUPS, SELECT_GROUP_PRIORITY}
+use Rattle.acd_sql_columns.specs.Schema.{nine, two, names_of, behind_first}
+use Rattle.acd_sql_columns.specs.Schema as schema
+use Rattle.acd_sql_columns.proofs.Asked.{columns, by_number, no_limit}
+use Rattle.acd_sql_columns.proofs.Listings.{Listing}
+use Rattle.acd_sql_columns.proofs.Seeing.{AsksAll}
+
+unfoldable pub further_listing : Listing (nine ++ two) SELECT_STANDING_AGENT_GROUPS.now
+unfolding understood everything
+further_listing = record {
+  tree = schema.agent_groups.tree;
+  terms = [];
+  project = columns 1 (length schema.agent_groups.columns);
+  order = [];
+  limit = no_limit;
+  names = names_of schema.agent_groups;
+  command = λ rest s. refl;
+  plain = λ rest s. (refl, refl);
+  unlisted = λ rest s. refl;
+}
+
+pub asks_further : AsksAll table.AgentGroups (nine ++ two) SELECT_STANDING_AGENT_GROUPS.now further_listing
+unfolding further_listing
+asks_further = record { tree = refl; all = refl; unlimited = refl; shows = λ r. refl }
+
+unfoldable pub priorities_listing : Listing (nine ++ two) SELECT_GROUP_PRIORITY.now
+unfolding understood everything
+priorities_listing = record {
+  tree = schema.group_priority.tree;
+  terms = [];
+  project = col 1 0 ∷ columns 2 (behind_first schema.group_priority);
+  order = by_number;
+  limit = no_limit;
+  names = names_of schema.group_priority;
+  command = λ rest s. refl;
+  plain = λ rest s. (refl, refl);
+  unlisted = λ rest s. refl;
+}
+
+pub asks_priorities : AsksAll table.GroupPriority (nine ++ two) SELECT_GROUP_PRIORITY.now priorities_listing
+unfolding priorities_listing
+asks_priorities = record { tree = refl; all = refl; unlimited = refl; shows = λ r. refl }

@@ -1,0 +1,102 @@
+-- A query over one table whose answer is in the order of its records.
+use Rattle.std.proofs.Common.{◌≡◌, ℕ, ◌+◌, List, [], ◌∷◌, map, refl, sym, ap, subst, ◌∙◌, arith}
+use Rattle.std.proofs.Math.ListN.{set, get_or, length-map, get_or-map}
+use Rattle.std.proofs.lemmas.List.{map-set}
+use Rattle.std.proofs.lemmas.List as lists
+use Rattle.std.specs.Cmp.{IsTotalOrder}
+use Rattle.std.specs.declared.cmp.Ordering.{Ordering}
+use Rattle.std.specs.declared.cmp.Ordering.TheVariants.{Less}
+use Rattle.std.specs.Ordering.{is_lt}
+use Rattle.std.specs.List.{AllByRecursion, swap}
+use Rattle.std.specs.List.Sorted.{IsPermutation, IsSorted, apply_swaps, SwapsInRange}
+use Rattle.std.proofs.lemmas.List.Sorted.{IsPermutation-trans}
+use Rattle.sqlite_value.specs.declared.value.Value.TheVariants.{Null}
+use Rattle.sqlite_value.specs.declared.keys.Key.{Key}
+use Rattle.sqlite_value.specs.Order.{Row}
+use Rattle.sqlite_trees.specs.Tree.{Trees}
+use Rattle.sqlite_trees.specs.Tree as tree
+use Rattle.sqlite_sql.specs.Term.{Term, eval}
+use Rattle.sqlite_sql.specs.Query.{Query, output, output_cmp, Output, IsAnswer, limited, as_count}
+use Rattle.sqlite_sql.specs.Program.{overlay, IsProgramAnswer}
+use Rattle.sqlite_keyed.proofs.SortLemmas.{sorted_unique}
+use Rattle.sqlite_keyed.proofs.ListLemmas.{map-map}
+use Rattle.acd_terms.specs.Lists.{AllAfter, IsAscending}
+use Rattle.acd_sql_columns.proofs.Scans.{scan, passing, staged_is, nothing_over}
+
+-- ---- a permutation of records that is in order
+
+module _ {X Y : Type 0} (f : X → Y) where
+  map-swap : (xs : List X) (i j : ℕ) → map f (swap xs i j) ≡ swap (map f xs) i j
+  map-swap [] i j = refl
+  map-swap (d ∷ ys) i j = map-set f (set (d ∷ ys) i (get_or (d ∷ ys) j d)) j (get_or (d ∷ ys) i d)
+      ∙ (λ k. set ((map-set f (d ∷ ys) i (get_or (d ∷ ys) j d) ∙ ap (set (map f (d ∷ ys)) i) (sym (get_or-map f (d ∷ ys) j d))) k) j (sym (get_or-map f (d ∷ ys) i d) k))
+
+  map_swaps : (xs : List X) (ps : List (ℕ × ℕ)) → map f (apply_swaps xs ps) ≡ apply_swaps (map f xs) ps
+  map_swaps xs [] = refl
+  map_swaps xs (p ∷ ps) = map-swap (apply_swaps xs ps) p.0 p.1 ∙ ap (λ l. swap l p.0 p.1) (map_swaps xs ps)
+
+  -- what is in another order than the images are images in another order
+  unmapped : (xs : List X) (ys : List Y) → IsPermutation (map f xs) ys → (zs : List X) × IsPermutation xs zs × (ys ≡ map f zs)
+  unmapped xs ys p = (
+    apply_swaps xs p.moves,
+    record { moves = p.moves; below = subst (λ n. SwapsInRange n p.moves) (length-map xs f) p.below; is = refl },
+    p.is ∙ sym (map_swaps xs p.moves),
+  )
+
+module _ {R : Type 0} (cmp : R → R → Ordering) (total : IsTotalOrder cmp) where
+  rises : (z : R) (xs : List R) → AllAfter cmp z xs → AllByRecursion (λ x. cmp z x ≡ Less) xs
+  rises z [] h = tt
+  rises z (x ∷ xs) h = (h.0, rises z xs h.1)
+
+  pub strict : (xs : List R) → IsAscending cmp xs → tree.IsAscending (λ a b. cmp a b ≡ Less) xs
+  strict [] h = tt
+  strict (x ∷ xs) h = (rises x xs h.0, strict xs h.1)
+
+  module _ {Y : Type 0} (by : Y → Y → Ordering) (f : R → Y) (same : (a b : R) → by (f a) (f b) ≡ cmp a b) where
+    unmapped_order : (zs : List R) → IsSorted by (map f zs) → IsSorted cmp zs
+    unmapped_order zs sorted k d low high =
+        ap is_lt (sym (same (get_or zs (k + 1) d) (get_or zs k d)))
+        ∙ (rw (lists.get_or-map f zs (k + 1) d (f d) high, lists.get_or-map f zs k d (f d) (omega arith)) at (sorted k (f d) low (rw length-map high)))
+
+    -- of ascending records the images in order are the images of the records in order
+    pub only_order : (xs : List R) (ys : List Y) → IsAscending cmp xs → IsPermutation (map f xs) ys → IsSorted by ys → ys ≡ map f xs
+    only_order xs ys up moved sorted =
+        let found = unmapped f xs ys moved in
+        found.2 ∙ ap (map f) (sorted_unique cmp total xs found.0 (strict xs up) found.1 (unmapped_order found.0 (subst (IsSorted by) found.2 sorted)))
+
+-- ---- the answer
+
+abbrev pub asking : ℕ → List Term → List Term → List (Term × Key) → Term → Query
+asking t terms project order limit = record (scan t terms project order) { limit = limit }
+
+-- what a row is sorted by, and what it shows
+abbrev pub given : Query → Row → Row → Output
+given q params r = output q (params ∷ r ∷ [])
+
+given_is : (q : Query) (params : Row) (rows : List Row) → map (output q) (map (λ r. params ∷ r ∷ []) rows) ≡ map (given q params) rows
+given_is q params rows = map-map (output q) (λ r. params ∷ r ∷ []) rows
+
+-- the first rows, in some order, of those that pass
+pub in_some_order : (t : ℕ) (terms project : List Term) (order : List (Term × Key)) (limit : Term) (db : Trees) (params : Row) (rows : List Row) → IsProgramAnswer [] (asking t terms project order limit) db params rows
+    → (ordered : List Output) × IsPermutation (map (given (asking t terms project order limit) params) (passing params terms (db t))) ordered × (rows ≡ limited (as_count (eval limit (params ∷ []))) (map (λ (o : Output). o.1) ordered))
+in_some_order t terms project order limit db params rows h =
+    let q = asking t terms project order limit in
+    let a : IsAnswer q (overlay db []) params rows = h Null in
+    let staged = a.grouped ∙ staged_is params terms (overlay db [] t) ∙ ap (λ (l : List Row). map (λ r. params ∷ r ∷ []) (passing params terms l)) (nothing_over db t) in
+    let kept = a.distinct ∙ ap (map (output q)) staged ∙ given_is q params (passing params terms (db t)) in
+    (a.ordered, subst (λ k. IsPermutation k a.ordered) kept a.same, a.shown)
+
+-- the first rows in order of those that pass
+pub answered : {R : Type 0} (cmp : R → R → Ordering) (total : IsTotalOrder cmp) (t : ℕ) (terms project : List Term) (order : List (Term × Key)) (limit : Term) (db : Trees) (params : Row) (rows : List Row)
+    (out : R → Output) (records : List R) → ((a b : R) → output_cmp (asking t terms project order limit) (out a) (out b) ≡ cmp a b) → IsAscending cmp records
+    → IsPermutation (map out records) (map (given (asking t terms project order limit) params) (passing params terms (db t)))
+    → IsProgramAnswer [] (asking t terms project order limit) db params rows → rows ≡ limited (as_count (eval limit (params ∷ []))) (map (λ r. (out r).1) records)
+answered cmp total t terms project order limit db params rows out records same up all h =
+    let q = asking t terms project order limit in
+    let a : IsAnswer q (overlay db []) params rows = h Null in
+    let staged = a.grouped ∙ staged_is params terms (overlay db [] t) ∙ ap (λ (l : List Row). map (λ r. params ∷ r ∷ []) (passing params terms l)) (nothing_over db t) in
+    let kept = a.distinct ∙ ap (map (output q)) staged ∙ given_is q params (passing params terms (db t)) in
+    let moved : IsPermutation (map out records) a.ordered = IsPermutation-trans _ _ _ all (subst (λ k. IsPermutation k a.ordered) kept a.same) in
+    let is = only_order cmp total (output_cmp q) out same records a.ordered up moved a.sorted in
+    a.shown ∙ ap (λ (l : List Output). limited (as_count (eval limit (params ∷ []))) (map (λ o. o.1) l)) is
+    ∙ ap (limited (as_count (eval limit (params ∷ [])))) (map-map (λ (o : Output). o.1) out records)

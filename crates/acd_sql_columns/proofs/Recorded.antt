@@ -1,0 +1,42 @@
+-- What is read of rows are the records that the rows stand for.
+use Rattle.std.proofs.Common.{◌≡◌, ℕ, ◌+◌, ◌<◌, List, [], ◌∷◌, ◌++◌, length, map, take, get_or, Result, Ok, Err, Option, Some, IfOk, refl, sym, ap, ap₂, ◌∙◌, arith}
+use Rattle.std.specs.Prelude.{Vec}
+use Rattle.std.specs.declared.alloc.Global.{Global}
+use Rattle.std.proofs.lemmas.Grind.{common_steps}
+use Rattle.sqlite_value.specs.Order.{Row}
+use Rattle.sqlite.specs.declared.error.Error.{Error}
+use Rattle.sqlite.specs.State.{State}
+use Rattle.acd_book.specs.Content.{Content}
+use Rattle.acd_sql_columns.specs.Finding.{Finds}
+use Rattle.acd_lemmas.proofs.Lists.{map-push, take-push, head_is, tail_is}
+
+-- ---- rows, one after the other
+
+pub one_more : {R : Type 0} (in_row : Row → Option R) (i : ℕ) (rows : List Row) (row d : Row) (found next : List R) (x : R) → map Some found ≡ map in_row (take i rows) → row ≡ get_or rows i d → i < length rows
+    → Some x ≡ in_row row → next ≡ found ++ x ∷ [] → map Some next ≡ map in_row (take (i + 1) rows)
+one_more in_row i rows row d found next x so_far at low is pushed =
+    ap (map Some) pushed ∙ map-push Some found x ∙ ap₂ (λ l o. l ++ o ∷ []) so_far (is ∙ ap in_row at)
+    ∙ sym (ap (map in_row) (take-push i rows d low) ∙ map-push in_row (take i rows) (get_or rows i d))
+
+-- ---- back to the records
+
+module _ {R : Type 0} (in_row : Row → Option R) (values : R → Row) (exact : (row : Row) (x y : R) → in_row row ≡ Some x → row ≡ values y → x ≡ y) where
+  same_records : (found records : List R) (rows : List Row) → rows ≡ map values records → map Some found ≡ map in_row rows → found ≡ records
+  same_records [] [] rows are read = refl
+  same_records [] (y ∷ records) rows are read = absurd (let k = read ∙ ap (map in_row) are in cc)
+  same_records (x ∷ found) [] rows are read = absurd (let k = read ∙ ap (map in_row) are in cc)
+  same_records (x ∷ found) (y ∷ records) rows are read =
+      let each = read ∙ ap (map in_row) are in
+      let first = exact (values y) x y (sym (head_is (Some x) (in_row (values y)) (map Some found) (map in_row (map values records)) each)) refl in
+      ap₂ (λ z l. z ∷ l) first (same_records found records (map values records) refl (tail_is (Some x) (in_row (values y)) (map Some found) (map in_row (map values records)) each))
+
+  pub recorded : (old new : State) (rows : Vec Row Global) (r : Result (Vec R Global) Error) (part : Content → List R) → Finds {E = Error} old new (Ok rows) (λ c rows. rows.items ≡ map values (part c))
+      → IfOk r (λ found. map Some found.items ≡ map in_row rows.items) → Finds old new r (λ c found. found.items ≡ part c)
+  recorded old new rows (Err e) part h read = record { up = λ k. tt; quiet = h.quiet; stops = h.stops; answer = λ k. tt }
+  recorded old new rows (Ok found) part h read = record { up = h.up; quiet = h.quiet; stops = h.stops; answer = λ k c held. same_records found.items (part c) rows.items (h.answer k c held) read }
+
+pub found_none : {A B : Type 0} (old new : State) (e : Error) (P : Content → A → Type 0) (Q : Content → B → Type 0) → Finds old new (Err e) P → Finds old new (Err e) Q
+found_none old new e P Q h = record { up = λ k. tt; quiet = h.quiet; stops = h.stops; answer = λ k. tt }
+
+pub none_recorded : {R A : Type 0} (part : Content → List R) (old new : State) (e : Error) (P : Content → A → Type 0) → Finds old new (Err e) P → Finds old new (Err e) (λ c (found : Vec R Global). found.items ≡ part c)
+none_recorded part old new e P h = found_none old new e P (λ c found. found.items ≡ part c) h

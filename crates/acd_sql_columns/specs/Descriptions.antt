@@ -1,0 +1,76 @@
+-- What a table of records is.
+use Rattle.std.specs.Prelude.{ℕ, ℤ, ◌∷◌, List, Option, Bool, length, drop}
+use Rattle.std.specs.List.{list_all}
+use Rattle.std.specs.Option.{is_some}
+use Rattle.std.specs.Ordering.{nat_cmp, ordering_then}
+use Rattle.std.specs.declared.cmp.Ordering.{Ordering}
+use Rattle.sqlite_value.specs.declared.value.Value.TheVariants.{Int}
+use Rattle.sqlite_value.specs.Order.{Row}
+use Rattle.acd_sql_columns.specs.Rows.{keyed_row}
+use Rattle.acd_sql_columns.specs.declared.tables.Table.{Table}
+use Rattle.acd_sql_columns.specs.Relations.{Relations}
+use Rattle.acd_sql_columns.specs.Schema.{Layout, behind_first}
+
+-- ---- where the key is the number of a row
+
+pub record Description (R : Type 0) : Type 1 where
+  pub table : Table
+  -- its place among the tables
+  pub place : ℕ
+  pub layout : Layout
+  pub key : R → ℕ
+  -- the values of the columns, and the record of such values where each is in its range
+  pub values : R → Row
+  pub in_row : Row → Option R
+  -- what the relations have of it
+  pub records : Relations → List R
+  pub with_records : List R → Relations → Relations
+  -- the columns can hold the record
+  pub Fits : R → Type 0
+  -- the record can be read of its row
+  pub IsRead : R → Type 0
+  -- the text of the statement that puts a record which has no row
+  pub insert : List ℕ
+
+-- how many columns stand behind the key
+abbrev pub behind : {R : Type 0} → Description R → ℕ
+behind d = behind_first d.layout
+
+-- the row as it stands: the column that is the number of the row is NULL
+abbrev pub row_of : {R : Type 0} → Description R → R → Row
+row_of d r = keyed_row (d.values r)
+
+-- each row stands for a record
+unfoldable pub are_read : {R : Type 0} → Description R → List Row → Bool
+are_read d rows = list_all (λ row. is_some (d.in_row row)) rows
+
+-- ---- where the key is of the first two columns, so that the rows have numbers of their own
+
+pub record Heap (R : Type 0) : Type 1 where
+  pub table : Table
+  -- its place among the tables
+  pub place : ℕ
+  pub layout : Layout
+  -- the two numbers of the key
+  pub first : R → ℕ
+  pub second : R → ℕ
+  -- the values of the columns, and the record of such values where each is in its range
+  pub values : R → Row
+  pub in_row : Row → Option R
+  -- what the relations have of it
+  pub records : Relations → List R
+  pub with_records : List R → Relations → Relations
+  -- the text of the statement that puts a record which has no row
+  pub insert : List ℕ
+
+-- how many columns stand behind the key
+abbrev pub behind_both : {R : Type 0} → Heap R → ℕ
+behind_both h = length (drop 2 h.layout.columns)
+
+-- the row with its number
+abbrev pub numbered_row : {R : Type 0} → Heap R → ℤ → R → Row
+numbered_row h id r = Int id ∷ h.values r
+
+-- by the first number, then by the second
+abbrev pub by_both : {R : Type 0} → Heap R → R → R → Ordering
+by_both h a b = ordering_then (nat_cmp (h.first a) (h.first b)) (nat_cmp (h.second a) (h.second b))

@@ -1,0 +1,215 @@
+-- The tables of a book, as their texts make them.
+use Rattle.std.specs.Prelude.{◌≡◌, ◌++◌, Bool, true, false, ℕ, pos, [], ◌∷◌, Option, None, Some, codes, List, map, length, drop}
+use Rattle.sqlite_value.specs.declared.keys.Order.{Order}
+use Rattle.sqlite_value.specs.declared.keys.Collation.TheVariants.{Binary}
+use Rattle.sqlite_value.specs.declared.value.Value.TheVariants.{Null, Int}
+use Rattle.sqlite_value.specs.Keys.{plain}
+use Rattle.sqlite_sql.specs.Term.{Term, lit, col, op2}
+use Rattle.sqlite_sql.specs.declared.ops.BinaryOp.TheVariants.{Compare, And}
+use Rattle.sqlite_sql.specs.declared.ops.CompareOp.TheVariants.{Eq, Ge, Le}
+use Rattle.sqlite_schema.specs.declared.schema.Table.{Table}
+use Rattle.sqlite_schema.specs.declared.schema.Index.{Index}
+use Rattle.sqlite_schema.specs.declared.schema.Schema.{Schema}
+use Rattle.sqlite_schema.specs.declared.schema.Column.{Column}
+use Rattle.sqlite_schema.specs.declared.schema.Reference.{Reference}
+use Rattle.sqlite_schema.specs.declared.schema.Action.TheVariants.{NoAction}
+use Rattle.sqlite_schema.specs.declared.schema.Kind.{Kind}
+use Rattle.sqlite_schema.specs.declared.schema.Kind.TheVariants.{Integer, Text}
+
+-- ---- columns
+
+abbrev pub column_of : List ℕ → Kind → Bool → Column
+column_of name kind not_null = record { name = name; kind = kind; is_strict = true; not_null = not_null; default = Null; collation = Binary }
+
+abbrev pub number : List ℕ → Column
+number name = column_of name Integer true
+
+abbrev pub number_or_null : List ℕ → Column
+number_or_null name = column_of name Integer false
+
+abbrev pub text : List ℕ → Column
+text name = column_of name Text true
+
+-- ---- tables
+
+abbrev pub no_schema : Schema
+no_schema = record { tables = []; indexes = []; views = [] }
+
+-- what the text of a table says: none counts its rowids, and none has a default
+pub record Layout : Type 0 where
+  pub name : List ℕ
+  pub tree : ℕ
+  pub columns : List Column
+  pub key : Option ℕ
+  pub primary : List ℕ
+  pub uniques : List (List ℕ)
+  pub orders : List Order
+  pub checks : List Term
+  pub references : List Reference
+
+abbrev pub table_of : Layout → Table
+table_of l = record {
+  name = l.name;
+  tree = l.tree;
+  columns = l.columns;
+  key = l.key;
+  primary = l.primary;
+  uniques = l.uniques;
+  orders = l.orders;
+  checks = l.checks;
+  references = l.references;
+  computed = [];
+  stamps = record { places = []; terms = []; formats = [] };
+  is_counted = false;
+}
+
+-- how many columns stand behind the first
+abbrev pub behind_first : Layout → ℕ
+behind_first l = length (drop 1 l.columns)
+
+-- as a query of all columns names them
+abbrev pub names_of : Layout → List (List ℕ)
+names_of l = map (λ (c : Column). c.name) l.columns
+
+-- a table whose first column is its key, with no more to say
+abbrev pub keyed : List ℕ → ℕ → List Column → Layout
+keyed name tree columns = record {
+  name = name;
+  tree = tree;
+  columns = columns;
+  key = Some 0;
+  primary = 0 ∷ [];
+  uniques = [];
+  orders = [];
+  checks = [];
+  references = [];
+}
+
+-- the value in a column, counted from 1, is one of these
+abbrev pub is_between : ℕ → ℕ → ℕ → Term
+is_between place least greatest =
+    op2 And (op2 (Compare Ge Binary) (col 1 place) (lit (Int (pos least)))) (op2 (Compare Le Binary) (col 1 place) (lit (Int (pos greatest))))
+
+-- a column refers to the key of a table
+abbrev pub refers : ℕ → List ℕ → Reference
+refers place parent = record { columns = place ∷ []; parent = parent; parent_columns = []; on_delete = NoAction; on_update = NoAction; is_deferred = false }
+
+abbrev pub unique : List ℕ → ℕ → ℕ → List ℕ → Index
+unique name tree table columns = record { name = name; tree = tree; table = table; columns = columns; order = plain; is_unique = true }
+
+abbrev pub meta : Layout
+meta = record (keyed (codes "meta") 0 (
+    number (codes "id") ∷ number (codes "version")
+    ∷ number (codes "max_requests") ∷ number (codes "max_calls") ∷ number (codes "max_groups") ∷ number (codes "max_stations") ∷ number (codes "max_agents") ∷ number (codes "max_monitors")
+    ∷ number (codes "last_stamp") ∷ number (codes "last_moment") ∷ number (codes "last_call") ∷ number (codes "last_monitor") ∷ number (codes "last_event") ∷ []
+    )) { checks = op2 (Compare Eq Binary) (col 1 0) (lit (Int (pos 1))) ∷ [] }
+
+abbrev pub groups : Layout
+groups = keyed (codes "acd_groups") 1 (
+    number (codes "device") ∷ text (codes "name") ∷ number (codes "ring") ∷ number (codes "wrap")
+    ∷ number (codes "entered") ∷ number (codes "answered") ∷ number (codes "abandoned") ∷ number (codes "moved") ∷ number (codes "waited") ∷ []
+    )
+
+abbrev pub stations : Layout
+stations = keyed (codes "stations") 2 (number (codes "device") ∷ [])
+
+abbrev pub agents : Layout
+agents = record (keyed (codes "agents") 3 (
+    number (codes "agent") ∷ text (codes "name") ∷ number (codes "state") ∷ number_or_null (codes "pending") ∷ number_or_null (codes "station")
+    ∷ number_or_null (codes "grp") ∷ number (codes "stamp") ∷ number (codes "since") ∷ []
+    )) {
+      uniques = (5 ∷ []) ∷ [];
+      orders = plain ∷ [];
+      checks = is_between 3 0 4 ∷ [];
+      references = refers 5 (codes "stations") ∷ refers 6 (codes "acd_groups") ∷ [];
+    }
+
+abbrev pub agents_station : Index
+agents_station = unique (codes "sqlite_autoindex_agents_1") 4 3 (5 ∷ [])
+
+abbrev pub calls : Layout
+calls = keyed (codes "calls") 5 (number (codes "call") ∷ number (codes "caller") ∷ number (codes "called") ∷ number (codes "since") ∷ [])
+
+-- its key is of two columns, so its rows have numbers of their own
+abbrev pub connections : Layout
+connections = record {
+  name = codes "connections";
+  tree = 6;
+  columns = number (codes "call") ∷ number (codes "device") ∷ number (codes "state") ∷ number_or_null (codes "grp") ∷ number_or_null (codes "place")
+      ∷ number_or_null (codes "queued") ∷ number_or_null (codes "offered") ∷ [];
+  key = None;
+  primary = 1 ∷ 2 ∷ [];
+  uniques = (1 ∷ 2 ∷ []) ∷ [];
+  orders = plain ∷ [];
+  checks = is_between 3 1 6 ∷ [];
+  references = refers 1 (codes "calls") ∷ refers 4 (codes "acd_groups") ∷ [];
+}
+
+abbrev pub connections_key : Index
+connections_key = unique (codes "sqlite_autoindex_connections_1") 7 6 (1 ∷ 2 ∷ [])
+
+abbrev pub monitors : Layout
+monitors = keyed (codes "monitors") 8 (number (codes "monitor") ∷ number (codes "device") ∷ number (codes "after_event") ∷ [])
+
+abbrev pub events : Layout
+events = record (keyed (codes "events") 9 (
+    number (codes "number") ∷ number (codes "moment") ∷ number (codes "kind") ∷ number_or_null (codes "device") ∷ number_or_null (codes "call")
+    ∷ number_or_null (codes "agent") ∷ number_or_null (codes "grp") ∷ number_or_null (codes "target") ∷ number_or_null (codes "cause") ∷ number_or_null (codes "waited") ∷ []
+    )) { checks = is_between 3 1 18 ∷ [] }
+
+abbrev pub kept : Layout
+kept = record (keyed (codes "kept") 10 (
+    number (codes "stamp") ∷ text (codes "requester") ∷ number (codes "invoke") ∷ number (codes "moment") ∷ text (codes "request") ∷ number (codes "status") ∷ text (codes "body") ∷ []
+    )) { uniques = (2 ∷ 3 ∷ []) ∷ []; orders = plain ∷ [] }
+
+abbrev pub kept_key : Index
+kept_key = unique (codes "sqlite_autoindex_kept_1") 11 10 (2 ∷ 3 ∷ [])
+
+-- ---- version 1
+
+abbrev pub nine : List Table
+nine = table_of meta ∷ table_of groups ∷ table_of stations ∷ table_of agents ∷ table_of calls ∷ table_of connections ∷ table_of monitors ∷ table_of events ∷ table_of kept ∷ []
+
+abbrev pub old_schema : Schema
+old_schema = record { tables = nine; indexes = agents_station ∷ connections_key ∷ kept_key ∷ []; views = [] }
+
+-- ---- version 2
+
+-- the groups of an agent behind its first; its key is of two columns, so its rows have numbers of their own
+abbrev pub agent_groups : Layout
+agent_groups = record {
+  name = codes "agent_groups";
+  tree = 12;
+  columns = number (codes "agent") ∷ number (codes "grp") ∷ [];
+  key = None;
+  primary = 1 ∷ 2 ∷ [];
+  uniques = (1 ∷ 2 ∷ []) ∷ [];
+  orders = plain ∷ [];
+  checks = [];
+  references = refers 1 (codes "agents") ∷ refers 2 (codes "acd_groups") ∷ [];
+}
+
+abbrev pub agent_groups_key : Index
+agent_groups_key = unique (codes "sqlite_autoindex_agent_groups_1") 13 12 (1 ∷ 2 ∷ [])
+
+-- the groups whose priority isn't 0
+abbrev pub group_priority : Layout
+group_priority = record (keyed (codes "group_priority") 14 (number (codes "device") ∷ number (codes "priority") ∷ [])) {
+  checks = is_between 2 1 9 ∷ [];
+  references = refers 0 (codes "acd_groups") ∷ [];
+}
+
+abbrev pub two : List Table
+two = table_of agent_groups ∷ table_of group_priority ∷ []
+
+abbrev pub book_schema : Schema
+book_schema = record { tables = nine ++ two; indexes = agents_station ∷ connections_key ∷ kept_key ∷ agent_groups_key ∷ []; views = [] }
+
+-- ---- of either version
+
+-- these tables, and whatever lies behind them
+abbrev pub with_behind : List Table → List Table → Schema → Schema
+with_behind base rest s = record s { tables = base ++ rest }
+
+abbrev pub BeginsSchema : List Table → Schema → Type 0
+BeginsSchema base s = (rest : List Table) × (s.tables ≡ base ++ rest)

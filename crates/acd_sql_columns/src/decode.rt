@@ -1,0 +1,422 @@
+//! The records of rows, where each value is in its range.
+//!
+//! Of an event and of a kept record the number alone can be asked for, where a look at the row is all that is wanted: no record is
+//! made then.
+
+ghost use Rattle.std.specs.Prelude.{◌≡◌, option_map, option_and_then, IfOk};
+ghost use Rattle.std.specs.Str.{bytes_eq};
+ghost use Rattle.std.specs.Result.{result_ok};
+ghost use Rattle.acd_codec.specs.Reading.{reads_as};
+ghost use Rattle.acd_codec.specs.RequestTexts.{request_text};
+ghost use Rattle.acd_sql_columns.specs.Ranges.{further_in, priority_in, group_in, station_in, agent_in, call_in, connection_in, monitor_in, counters_in, event_from, event_in, event_number, request_at, kept_from, kept_in, kept_stamp};
+ghost use Rattle.acd_sql_columns.specs.Values.{body_at};
+
+use crate::meta::Meta;
+use crate::relations::{AgentRow, GroupPriority, GroupRow};
+use crate::shape::{is_formed, report_in};
+use crate::values;
+use acd_book::{Kept, Text};
+use acd_codec::{ReadFault, RequestReader, request_text};
+use acd_terms::{
+    AgentId, CallRecord, Columns, ConnectionRecord, DeviceId, Event, Figures, Limits,
+    MonitorRecord, Request, StationRecord,
+};
+use sqlite::Row;
+use std::alloc::{AllocError, Global};
+
+pub fn group_in(row: &Row) -> Option<GroupRow>
+    ensures { result ≡ group_in row.now }
+{
+    if row.column_count() != 9 {
+        return None;
+    }
+    let device = values::device(row, 0)?;
+    let name = values::name(row, 1)?;
+    let ring = values::seconds(row, 2)?;
+    let wrap = values::seconds(row, 3)?;
+    let entered = values::whole(row, 4)?;
+    let answered = values::whole(row, 5)?;
+    let abandoned = values::whole(row, 6)?;
+    let moved = values::whole(row, 7)?;
+    let waited = values::whole(row, 8)?;
+    let figures = Figures {
+        entered,
+        answered,
+        abandoned,
+        moved,
+        waited,
+    };
+    Some(GroupRow {
+        device,
+        name,
+        ring,
+        wrap,
+        figures,
+    })
+}
+
+pub fn station_in(row: &Row) -> Option<StationRecord>
+    ensures { result ≡ station_in row.now }
+{
+    if row.column_count() != 1 {
+        return None;
+    }
+    let device = values::device(row, 0)?;
+    Some(StationRecord { device })
+}
+
+pub fn agent_in(row: &Row) -> Option<AgentRow>
+    ensures { result ≡ agent_in row.now }
+{
+    if row.column_count() != 8 {
+        return None;
+    }
+    let agent = values::agent(row, 0)?;
+    let name = values::name(row, 1)?;
+    let state = values::agent_state(row, 2)?;
+    let pending = values::pending_or_none(row, 3)?;
+    let station = values::device_or_none(row, 4)?;
+    let group = values::device_or_none(row, 5)?;
+    let stamp = values::stamp(row, 6)?;
+    let since = values::moment(row, 7)?;
+    Some(AgentRow {
+        agent,
+        name,
+        state,
+        pending,
+        station,
+        group,
+        stamp,
+        since,
+    })
+}
+
+pub fn call_in(row: &Row) -> Option<CallRecord>
+    ensures { result ≡ call_in row.now }
+{
+    if row.column_count() != 4 {
+        return None;
+    }
+    let call = values::serial(row, 0)?;
+    let caller = values::device(row, 1)?;
+    let called = values::device(row, 2)?;
+    let since = values::moment(row, 3)?;
+    Some(CallRecord {
+        call,
+        caller,
+        called,
+        since,
+    })
+}
+
+pub fn connection_in(row: &Row) -> Option<ConnectionRecord>
+    ensures { result ≡ connection_in row.now }
+{
+    if row.column_count() != 7 {
+        return None;
+    }
+    let call = values::serial(row, 0)?;
+    let device = values::device(row, 1)?;
+    let state = values::connection_state(row, 2)?;
+    let group = values::device_or_none(row, 3)?;
+    let place = values::stamp_or_none(row, 4)?;
+    let queued = values::moment_or_none(row, 5)?;
+    let offered = values::moment_or_none(row, 6)?;
+    Some(ConnectionRecord {
+        call,
+        device,
+        state,
+        group,
+        place,
+        queued,
+        offered,
+    })
+}
+
+/// An agent and a group that it has behind its first.
+pub fn further_in(row: &Row) -> Option<(AgentId, DeviceId)>
+    ensures { result ≡ further_in row.now }
+{
+    if row.column_count() != 2 {
+        return None;
+    }
+    let agent = values::agent(row, 0)?;
+    let group = values::device(row, 1)?;
+    Some((agent, group))
+}
+
+pub fn priority_in(row: &Row) -> Option<GroupPriority>
+    ensures { result ≡ priority_in row.now }
+{
+    if row.column_count() != 2 {
+        return None;
+    }
+    let device = values::device(row, 0)?;
+    let priority = values::priority(row, 1)?;
+    Some(GroupPriority { device, priority })
+}
+
+pub fn monitor_in(row: &Row) -> Option<MonitorRecord>
+    ensures { result ≡ monitor_in row.now }
+{
+    if row.column_count() != 3 {
+        return None;
+    }
+    let monitor = values::serial(row, 0)?;
+    let device = values::device(row, 1)?;
+    let after_event = values::whole(row, 2)?;
+    Some(MonitorRecord {
+        monitor,
+        device,
+        after_event,
+    })
+}
+
+/// The limits and the counters, as they are read.
+pub fn counters_in(row: &Row) -> Option<Meta>
+    ensures { result ≡ counters_in row.now }
+{
+    if row.column_count() != 11 {
+        return None;
+    }
+    let requests = values::whole(row, 0)?;
+    let calls = values::whole(row, 1)?;
+    let groups = values::whole(row, 2)?;
+    let stations = values::whole(row, 3)?;
+    let agents = values::whole(row, 4)?;
+    let monitors = values::whole(row, 5)?;
+    let limits = Limits {
+        requests,
+        calls,
+        groups,
+        stations,
+        agents,
+        monitors,
+    };
+    let last_stamp = values::whole(row, 6)?;
+    let last_moment = values::moment(row, 7)?;
+    let last_call = values::whole(row, 8)?;
+    let last_monitor = values::whole(row, 9)?;
+    let last_event = values::whole(row, 10)?;
+    Some(Meta {
+        limits,
+        last_stamp,
+        last_moment,
+        last_call,
+        last_monitor,
+        last_event,
+    })
+}
+
+/// The values of the row of an event, before it is asked what its columns say together.
+#[derive(Clone, Copy)]
+pub struct EventValues {
+    pub number: u64,
+    pub moment: u32,
+    pub columns: Columns,
+}
+
+// None where a value is out of its range; what the columns say together isn't asked.
+#[tactic(auto, unfolding(crate::specs::Ranges::event_in))]
+fn event_values(row: &Row) -> Option<EventValues>
+    ensures { option_and_then event_from result ≡ event_in row.now }
+{
+    if row.column_count() != 10 {
+        return None;
+    }
+    let number = values::stamp(row, 0)?;
+    let moment = values::moment(row, 1)?;
+    let kind = values::kind(row, 2)?;
+    let device = values::device_or_none(row, 3)?;
+    let call = values::serial_or_none(row, 4)?;
+    let agent = values::agent_or_none(row, 5)?;
+    let group = values::device_or_none(row, 6)?;
+    let to = values::device_or_none(row, 7)?;
+    let cause = values::cause_or_none(row, 8)?;
+    let waited = values::moment_or_none(row, 9)?;
+    let columns = Columns {
+        kind,
+        device,
+        call,
+        agent,
+        group,
+        to,
+        cause,
+        waited,
+    };
+    Some(EventValues {
+        number,
+        moment,
+        columns,
+    })
+}
+
+pub fn event_in(row: &Row) -> Option<Event>
+    ensures { result ≡ event_in row.now }
+{
+    let values = event_values(row)?;
+    let report = report_in(&values.columns)?;
+    Some(Event {
+        number: values.number,
+        moment: values.moment,
+        report,
+    })
+}
+
+/// The number of the event that the row stands for.
+#[tactic(auto, unfolding(crate::specs::Reports::report_in))]
+pub fn event_number(row: &Row) -> Option<u64>
+    ensures { result ≡ event_number row.now }
+{
+    let values = event_values(row)?;
+    if is_formed(&values.columns) {
+        Some(values.number)
+    } else {
+        None
+    }
+}
+
+// Whether the bytes are the request's own text.
+fn is_own_text(alloc: Global, request: &Request, bytes: &[u8]) -> Result<bool, AllocError>
+    ensures { IfOk result (λ own. own ≡ bytes_eq bytes.now (request_text request.now)) }
+{
+    let text = request_text(alloc, request)?;
+    Ok(bytes == text.as_bytes())
+}
+
+// The values of the row of a kept record, but for its body.
+#[derive(Clone, Copy)]
+struct KeptHead {
+    stamp: u64,
+    moment: u32,
+    request: Request,
+    status: u16,
+}
+
+fn body_in(row: &Row) -> Option<&str>
+    ensures { option_map (λ t. t.now) result ≡ body_at row.now 6 }
+{
+    values::body(row, 6)
+}
+
+/// Reads the rows of kept records, one after another. It keeps from one to the next the room in which texts are read.
+#[derive(Drop)]
+pub struct KeptReader {
+    alloc: Global,
+    requests: RequestReader,
+}
+
+impl KeptReader {
+    pub fn new(alloc: Global) -> KeptReader {
+        KeptReader {
+            alloc,
+            requests: RequestReader::new(alloc),
+        }
+    }
+
+    // The request that bytes stand for, if they do.
+    fn request_of(&mut self, bytes: &[u8]) -> Result<Option<Request>, AllocError>
+        ensures { IfOk result (λ request. request ≡ result_ok (reads_as bytes.now)) }
+    {
+        match self.requests.read(bytes) {
+            Ok(request) => Ok(Some(request)),
+            Err(ReadFault::Malformed(_)) => Ok(None),
+            Err(ReadFault::NoMemory) => Err(AllocError),
+        }
+    }
+
+    #[tactic(auto, unfolding(crate::specs::Ranges::request_at))]
+    fn request_in(&mut self, row: &Row) -> Result<Option<Request>, AllocError>
+        ensures { IfOk result (λ request. request ≡ request_at row.now) }
+    {
+        let Some(requester) = values::text(row, 1) else {
+            return Ok(None);
+        };
+        let Some(invoke) = values::whole(row, 2) else {
+            return Ok(None);
+        };
+        let Some(text) = values::text(row, 4) else {
+            return Ok(None);
+        };
+        let Some(request) = self.request_of(text)? else {
+            return Ok(None);
+        };
+        let is_key = requester == request.requester.as_bytes()
+            && invoke == u64::from(request.invoke.number());
+        if is_key && is_own_text(self.alloc, &request, text)? {
+            Ok(Some(request))
+        } else {
+            Ok(None)
+        }
+    }
+
+    // None where a value is out of its range, the text isn't its request's own, or the key isn't that of the columns.
+    #[tactic(auto, unfolding(crate::specs::Ranges::kept_in))]
+    fn head_in(&mut self, row: &Row) -> Result<Option<KeptHead>, AllocError>
+        ensures { IfOk result (λ head. option_and_then (kept_from row.now) head ≡ kept_in row.now) }
+    {
+        if row.column_count() != 7 {
+            return Ok(None);
+        }
+        let Some(stamp) = values::stamp(row, 0) else {
+            return Ok(None);
+        };
+        let Some(moment) = values::moment(row, 3) else {
+            return Ok(None);
+        };
+        let Some(request) = self.request_in(row)? else {
+            return Ok(None);
+        };
+        let Some(status) = values::status(row, 5) else {
+            return Ok(None);
+        };
+        Ok(Some(KeptHead {
+            stamp,
+            moment,
+            request,
+            status,
+        }))
+    }
+
+    /// The stamp of the kept record that the row stands for. Its body isn't copied.
+    pub fn stamp(&mut self, row: &Row) -> Result<Option<u64>, AllocError>
+        ensures { IfOk result (λ stamp. stamp ≡ kept_stamp row.now) }
+    {
+        let Some(KeptHead { stamp, .. }) = self.head_in(row)? else {
+            return Ok(None);
+        };
+        if body_in(row).is_some() {
+            Ok(Some(stamp))
+        } else {
+            Ok(None)
+        }
+    }
+
+    /// None where a value is out of its range, the text isn't its request's own, or the key isn't that of the
+    /// columns.
+    pub fn read(&mut self, row: &Row) -> Result<Option<Kept>, AllocError>
+        ensures { IfOk result (λ kept. kept ≡ kept_in row.now) }
+    {
+        let Some(head) = self.head_in(row)? else {
+            return Ok(None);
+        };
+        let Some(body) = body_in(row) else {
+            return Ok(None);
+        };
+        let body = Text::new(String::from_str(self.alloc, body)?);
+        Ok(Some(Kept {
+            stamp: head.stamp,
+            moment: head.moment,
+            request: head.request,
+            status: head.status,
+            body,
+        }))
+    }
+}
+
+/// The kept record of a row, read with a reader of its own.
+pub fn kept_in(alloc: Global, row: &Row) -> Result<Option<Kept>, AllocError>
+    ensures { IfOk result (λ kept. kept ≡ kept_in row.now) }
+{
+    KeptReader::new(alloc).read(row)
+}

@@ -1,0 +1,95 @@
+-- The changes that lead from the tables of one state to those of another, in the order in which they are made.
+use Rattle.std.specs.Prelude.{ℕ, ◌==◌, ◌++◌, Bool, List, filter, map, Option, None, Some, is_some, if◌then◌else◌}
+use Rattle.acd_terms.specs.Lists.{find_by}
+use Rattle.acd_terms.specs.declared.rows.Rows.{Rows}
+use Rattle.acd_terms.specs.declared.record.GroupRecord.{GroupRecord}
+use Rattle.acd_terms.specs.declared.record.StationRecord.{StationRecord}
+use Rattle.acd_terms.specs.declared.record.AgentRecord.{AgentRecord}
+use Rattle.acd_terms.specs.declared.record.CallRecord.{CallRecord}
+use Rattle.acd_terms.specs.declared.record.ConnectionRecord.{ConnectionRecord}
+use Rattle.acd_terms.specs.declared.record.MonitorRecord.{MonitorRecord}
+use Rattle.acd_terms.specs.contracts.record.GroupRecordPartialEq.TheImpl as groups_eq
+use Rattle.acd_terms.specs.contracts.record.StationRecordPartialEq.TheImpl as stations_eq
+use Rattle.acd_terms.specs.contracts.record.AgentRecordPartialEq.TheImpl as agents_eq
+use Rattle.acd_terms.specs.contracts.record.CallRecordPartialEq.TheImpl as calls_eq
+use Rattle.acd_terms.specs.contracts.record.ConnectionRecordPartialEq.TheImpl as connections_eq
+use Rattle.acd_terms.specs.contracts.record.MonitorRecordPartialEq.TheImpl as monitors_eq
+use Rattle.acd_model.specs.Scans.{at_agent, at_connection}
+use Rattle.acd_model.specs.Rules.Plan.{group_order, station_order, agent_order, call_order, connection_order, monitor_order}
+use Rattle.acd_model.specs.declared.moves.Change.{Change}
+use Rattle.acd_model.specs.declared.moves.Change.TheVariants.{Nothing, PutGroup, PutStation, PutAgent, PutCall, PutConnection, PutMonitor, RemoveCall, RemoveConnection, RemoveMonitor}
+use Rattle.acd_sql_differences.specs.Differing.{differences}
+
+-- ---- records, as their types compare them
+
+abbrev pub group_eq : GroupRecord → GroupRecord → Bool
+group_eq = (groups_eq.eq-value).it
+
+abbrev pub station_eq : StationRecord → StationRecord → Bool
+station_eq = (stations_eq.eq-value).it
+
+abbrev pub agent_eq : AgentRecord → AgentRecord → Bool
+agent_eq = (agents_eq.eq-value).it
+
+abbrev pub call_eq : CallRecord → CallRecord → Bool
+call_eq = (calls_eq.eq-value).it
+
+abbrev pub connection_eq : ConnectionRecord → ConnectionRecord → Bool
+connection_eq = (connections_eq.eq-value).it
+
+abbrev pub monitor_eq : MonitorRecord → MonitorRecord → Bool
+monitor_eq = (monitors_eq.eq-value).it
+
+-- ---- the changes that take them out: a group, a station and an agent never are
+
+abbrev pub none_gone : {T : Type 0} → T → Change
+none_gone x = Nothing
+
+abbrev pub call_gone : CallRecord → Change
+call_gone x = RemoveCall x.call
+
+abbrev pub connection_gone : ConnectionRecord → Change
+connection_gone x = RemoveConnection x.call x.device
+
+abbrev pub monitor_gone : MonitorRecord → Change
+monitor_gone x = RemoveMonitor x.monitor
+
+-- ---- those between
+
+-- the station that both have
+abbrev pub shared_station : Option ℕ → Option ℕ → Option ℕ
+shared_station (Some one) (Some other) = if one == other then Some one else None
+shared_station _ _ = None
+
+abbrev pub station_in : Option AgentRecord → Option ℕ
+station_in (Some a) = a.station
+station_in None = None
+
+-- an agent as it is held, but without a station that is to be another's, or nobody's
+unfoldable pub unseated : List AgentRecord → AgentRecord → AgentRecord
+unseated new a = record a { station = shared_station a.station (station_in (find_by (at_agent a.agent) new)) }
+
+-- a connection of its key is among these
+unfoldable pub stays : List ConnectionRecord → ConnectionRecord → Bool
+stays new x = is_some (find_by (at_connection x.call x.device) new)
+
+-- ---- all of them
+
+-- groups and stations before agents, who give their stations up before others take them
+unfoldable pub plan_differences : Rows → Rows → List Change
+plan_differences held new =
+    differences group_order group_eq none_gone PutGroup held.groups new.groups
+    ++ (differences station_order station_eq none_gone PutStation held.stations new.stations
+    ++ (differences agent_order agent_eq none_gone PutAgent held.agents (map (unseated new.agents) held.agents)
+    ++ differences agent_order agent_eq none_gone PutAgent (map (unseated new.agents) held.agents) new.agents))
+
+-- connections go before their calls, and calls are put before their connections
+unfoldable pub traffic_differences : Rows → Rows → List Change
+traffic_differences held new =
+    differences connection_order connection_eq connection_gone PutConnection held.connections (filter (stays new.connections) held.connections)
+    ++ (differences call_order call_eq call_gone PutCall held.calls new.calls
+    ++ (differences connection_order connection_eq connection_gone PutConnection (filter (stays new.connections) held.connections) new.connections
+    ++ differences monitor_order monitor_eq monitor_gone PutMonitor held.monitors new.monitors))
+
+unfoldable pub rows_differences : Rows → Rows → List Change
+rows_differences held new = plan_differences held new ++ traffic_differences held new

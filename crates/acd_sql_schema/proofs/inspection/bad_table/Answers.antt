@@ -1,0 +1,35 @@
+use Rattle.std.proofs.Common.{◌≡◌, Err, [], true, false, refl, rules, subst, sym}
+use Rattle.sqlite.specs.Held.{state}
+use Rattle.acd_sql_columns.specs.AnyRows.{Covers}
+use Rattle.acd_sql_schema.specs.Inspecting.{IsBadOf}
+use Rattle.acd_sql_columns.specs.Seeing.{Sees}
+use Rattle.acd_sql_schema.proofs.Looks.{Good, every_at, tables_next, tables_bad, tables_fail, tables_end}
+use Rattle.acd_sql_columns.proofs.Seen.{sees_here}
+use Rattle.acd_sql_schema.proofs.inspection.bad_table.Goals as goal
+
+pub loop-table-init : goal.loop-table-init
+loop-table-init g c = record { idle = c.requires.idle; seen = λ d is. sees_here d (state g.S.Store c.args.conn.now) tt (Good [] d.trees) (λ had filed. tt) }
+
+pub loop-table-preserved : goal.loop-table-preserved
+loop-table-preserved g c =
+    let good : c.in_ok-good.good ≡ true = search rules in record {
+      idle = c.is_good_table.ensures.idle;
+      seen = λ d is.
+          tables_next d (state g.S.Store c.args.conn.now) (state g.S.Store c.loop-table.conn) (state g.S.Store c.is_good_table.new.conn) c.args.tables.now c.loop-table.table-index (c.loop-table.invariant.seen d is)
+          _ _ c.in_ok-good.good refl c.loop-table-test.true good (c.in_ok-good.ensures.seen d (every_at (Covers d.schema) c.args.tables.now c.loop-table.table-index _ is c.loop-table-test.true));
+    }
+
+pub returns-in_err-good-clause-seen : goal.returns-in_err-good-clause-seen
+returns-in_err-good-clause-seen g c d same =
+    let is : c.from_residual.result ≡ Err c.in_err-good.field-0.0 = search rules in
+    subst (λ r. Sees d (state g.S.Store c.args.conn.now) (state g.S.Store c.is_good_table.new.conn) r (λ bad. IsBadOf c.args.tables.now d bad)) (sym is)
+    (tables_fail d (state g.S.Store c.args.conn.now) (state g.S.Store c.loop-table.conn) (state g.S.Store c.is_good_table.new.conn) c.args.tables.now c.loop-table.table-index (c.loop-table.invariant.seen d same) _ c.in_err-good.field-0.0 (c.in_err-good.ensures.seen d (every_at (Covers d.schema) c.args.tables.now c.loop-table.table-index _ same c.loop-table-test.true)))
+
+pub returns-then-not-good-clause-seen : goal.returns-then-not-good-clause-seen
+returns-then-not-good-clause-seen g c d is =
+    let bad : c.in_ok-good.good ≡ false = search rules in
+    let covers = every_at (Covers d.schema) c.args.tables.now c.loop-table.table-index _ is c.loop-table-test.true in
+    tables_bad d (state g.S.Store c.args.conn.now) (state g.S.Store c.loop-table.conn) (state g.S.Store c.is_good_table.new.conn) c.args.tables.now c.loop-table.table-index (c.loop-table.invariant.seen d is) _ c.in_ok-good.good covers bad (c.in_ok-good.ensures.seen d covers)
+
+pub returns-clause-seen : goal.returns-clause-seen
+returns-clause-seen g c d is = tables_end d (state g.S.Store c.args.conn.now) (state g.S.Store c.loop-table.conn) c.args.tables.now c.loop-table.table-index (c.loop-table.invariant.seen d is) c.loop-table-test.false

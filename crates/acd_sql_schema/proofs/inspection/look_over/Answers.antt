@@ -1,0 +1,17 @@
+use Rattle.std.proofs.Common.{◌≡◌, Err, rules, subst, sym}
+use Rattle.sqlite.specs.Held.{state}
+use Rattle.acd_sql_schema.specs.Inspecting.{IsFound}
+use Rattle.acd_sql_columns.specs.Seeing.{HasLooked}
+use Rattle.acd_sql_schema.proofs.Looks.{looked, looked_not, was_idle}
+use Rattle.acd_sql_schema.proofs.inspection.look_over.Goals as goal
+
+pub returns-in_err-probe-clause-looked : goal.returns-in_err-probe-clause-looked
+returns-in_err-probe-clause-looked g c =
+    let is : c.from_residual.result ≡ Err c.in_err-probe.field-0.0 = search rules in
+    subst (λ r. HasLooked (state g.S.Store c.args.conn.now) (state g.S.Store c.probe.new.conn) r (λ d f. IsFound d f)) (sym is)
+    (looked_not (state g.S.Store c.args.conn.now) (state g.S.Store c.probe.new.conn) c.in_err-probe.field-0.0 (λ d f. IsFound d f) (c.in_err-probe.ensures.seen (state g.S.Store c.args.conn.now).now) c.probe.ensures.stops (c.is_autocommit-settled.ensures.settled (was_idle c.args.conn.now.in_transaction c.is_autocommit-settled.result c.requires c.is_autocommit-settled.ensures.value)) (λ up. (c.schema-obeyed.ensures.live up).0))
+
+pub returns-clause-looked : goal.returns-clause-looked
+returns-clause-looked g c =
+    looked (state g.S.Store c.args.conn.now) (state g.S.Store c.probe.new.conn) (state g.S.Store c.found_in.new.conn) c.found_in.result (λ d f. IsFound d f) (c.in_ok-probe.ensures.seen (state g.S.Store c.args.conn.now).now) c.in_ok-probe.ensures.up c.probe.ensures.stops (c.is_autocommit-settled.ensures.settled (was_idle c.args.conn.now.in_transaction c.is_autocommit-settled.result c.requires c.is_autocommit-settled.ensures.value)) (λ up. (c.schema-obeyed.ensures.live up).0)
+    c.found_in.ensures.seen

@@ -1,0 +1,169 @@
+-- When a connection is taken for a book: its version is that of these tables, and each value is in its range.
+use Rattle.std.specs.Prelude.{◌==◌, ◌≡◌, ◌≢◌, ◌⊎◌, ℕ, Bool, true, false, List, [], ◌∷◌, Option, None, Some, if◌then◌else◌, ⊤}
+use Rattle.sqlite_value.specs.Order.{Row}
+use Rattle.sqlite_trees.specs.Tree.{Trees}
+use Rattle.sqlite_rules.specs.Lists.{Has}
+use Rattle.sqlite_schema.specs.declared.schema.Schema.{Schema}
+use Rattle.sqlite.specs.Effect.{Database}
+use Rattle.sqlite.specs.declared.error.Error.{Error}
+use Rattle.sqlite.specs.declared.error.Error.TheVariants.{SqliteFailure}
+use Rattle.sqlite.specs.declared.error.ErrorCode.TheVariants.{OutOfMemory}
+use Rattle.acd_terms.specs.Lists.{Every}
+use Rattle.acd_sql_columns.specs.declared.tables.Table.{Table}
+use Rattle.acd_sql_columns.specs.declared.tables.Table.TheVariants as table
+use Rattle.acd_sql_schema.specs.declared.fault.AdoptFault.{AdoptFault}
+use Rattle.acd_sql_schema.specs.declared.fault.AdoptFault.TheVariants.{WrongVersion, BadRow, NoMemory, Store}
+use Rattle.acd_sql_columns.specs.declared.tables.Log.{Log}
+use Rattle.acd_sql_columns.specs.declared.tables.Version.{Version}
+use Rattle.acd_sql_columns.specs.declared.tables.Version.TheVariants as version
+use Rattle.acd_sql_schema.specs.declared.fault.Found.{Found}
+use Rattle.acd_sql_schema.specs.declared.fault.Found.TheVariants.{Book, Fault}
+use Rattle.acd_sql_schema.specs.declared.verdict.Likeness.{Likeness}
+use Rattle.acd_sql_schema.specs.declared.verdict.Likeness.TheVariants.{Whole, First, Other}
+use Rattle.acd_sql_schema.specs.declared.verdict.Told.{Told}
+use Rattle.acd_sql_schema.specs.declared.verdict.Told.TheVariants.{Of, Faulty}
+use Rattle.acd_sql_schema.specs.declared.verdict.Page.{Page}
+use Rattle.acd_sql_schema.specs.declared.verdict.Page.TheVariants.{Bad, Last, More}
+use Rattle.acd_sql_columns.specs.Content.{IsIn, number_of}
+use Rattle.acd_sql_columns.specs.Draft.{Fits}
+use Rattle.acd_sql_columns.specs.AnyRows.{is_good, are_good, is_good_in, is_beside, is_ranked, IsFiledAs, table_of_log, Numbered, AreNumbered, values_behind, has_meta, BeginsAsBook, schema_of, Covers}
+use Rattle.acd_sql_columns.specs.Schema.{book_schema}
+use Rattle.acd_sql_columns.specs.Schema as schema
+use Rattle.acd_sql_columns.specs.Values.{◌>>=◌, whole_at}
+
+-- the tables of a version, in the order in which they are looked at
+abbrev pub tables_of : Version → List Table
+tables_of version.First = table.Meta ∷ table.Groups ∷ table.Stations ∷ table.Agents ∷ table.Calls ∷ table.Connections ∷ table.Monitors ∷ table.Events ∷ table.Kept ∷ []
+tables_of version.Second =
+    table.Meta ∷ table.Groups ∷ table.Stations ∷ table.Agents ∷ table.Calls ∷ table.Connections ∷ table.Monitors ∷ table.Events ∷ table.Kept
+    ∷ table.AgentGroups ∷ table.GroupPriority ∷ []
+
+-- one that isn't good or, of rows that are filed, none
+abbrev pub IsBadOf : List Table → Database → Option Table → Type 0
+IsBadOf tables d None = IsFiledAs version.First d.trees → Every (λ t. is_good_in t d.trees ≡ true) tables
+IsBadOf tables d (Some t) = Covers d.schema t × (is_good_in t d.trees ≡ false)
+
+unfoldable pub is_good_behind : Log → ℕ → List Numbered → Bool
+is_good_behind l n xs = are_good (table_of_log l) (values_behind l n xs)
+
+abbrev pub number_if_good : Log → Row → Option ℕ
+number_if_good l r = if is_good (table_of_log l) r then whole_at r 0 else None
+
+-- the number of the last row, where all are good
+unfoldable pub last_good : Log → ℕ → List Row → Option ℕ
+last_good l n [] = Some n
+last_good l n (row ∷ rows) = number_if_good l row >>= (λ m. last_good l m rows)
+
+-- what the rows of a page tell
+abbrev pub IsPageOf : Log → ℕ → List Row → Page → Type 0
+IsPageOf l n rows Bad = last_good l n rows ≡ None
+IsPageOf l n rows Last = rows ≡ []
+IsPageOf l n rows (More m) = last_good l n rows ≡ Some m
+
+-- what is left behind a page
+abbrev pub IsPageOfLog : Log → ℕ → Trees → Page → Type 0
+IsPageOfLog l n db Bad = is_good_in (table_of_log l) db ≡ false
+IsPageOfLog l n db Last = (xs : List Numbered) → AreNumbered l db xs → is_good_behind l n xs ≡ true
+IsPageOfLog l n db (More m) = (xs : List Numbered) → AreNumbered l db xs → is_good_behind l n xs ≡ is_good_behind l m xs
+
+-- of the rows above 0
+pub record TellsBehind (l : Log) (db : Trees) (good : Bool) : Type 0 where
+  pub bad : good ≡ false → is_good_in (table_of_log l) db ≡ false
+  pub filed : good ≡ true → (xs : List Numbered) → AreNumbered l db xs → is_good_behind l 0 xs ≡ true
+
+-- its number can be asked for
+abbrev pub PageFits : Page → Type 0
+PageFits Bad = ⊤
+PageFits Last = ⊤
+PageFits (More m) = Fits m
+
+-- ---- versions
+
+-- how far the tables are those of a book
+abbrev pub IsLike : Schema → Likeness → Type 0
+IsLike s (Whole v) = s ≡ schema_of v
+IsLike s First = BeginsAsBook s
+IsLike s Other = ⊤
+
+-- a row of the first table tells this version
+abbrev pub IsToldIn : Trees → Option ℕ → Type 0
+IsToldIn db version = (r : Row) × Has (db schema.meta.tree) r × (whole_at r 2 ≡ version)
+
+-- the version of a database: 0 where it has no table `meta`, or no row in it
+abbrev pub IsVersion : Database → ℕ → Type 0
+IsVersion d n =
+    ((has_meta d.schema.tables ≡ false) × (n ≡ 0))
+    ⊎ (BeginsAsBook d.schema × (((d.trees schema.meta.tree ≡ []) × (n ≡ 0)) ⊎ IsToldIn d.trees (Some n)))
+
+-- a further group, or a priority, doesn't belong to what stands beside it
+abbrev pub IsMisplaced : Table → Trees → Type 0
+IsMisplaced table.AgentGroups db = is_beside db ≡ false
+IsMisplaced table.GroupPriority db = is_ranked db ≡ false
+IsMisplaced _ db = ⊥
+
+-- a value of the table is out of its range, or its rows don't belong to those of another
+abbrev pub IsBadIn : Table → Database → Type 0
+IsBadIn t d =
+    (Covers d.schema t × (is_good_in t d.trees ≡ false)) ⊎ ((t ≡ table.Meta) × BeginsAsBook d.schema × IsToldIn d.trees None)
+    ⊎ ((d.schema ≡ book_schema) × IsMisplaced t d.trees)
+
+abbrev pub told_of : Option ℕ → Told
+told_of None = Faulty (BadRow table.Meta)
+told_of (Some n) = if n == 1 then Of version.First else if n == 2 then Of version.Second else Faulty (WrongVersion n)
+
+-- what the rows of versions tell
+abbrev pub told_by : List Row → Told
+told_by [] = Faulty (WrongVersion 0)
+told_by (r ∷ rows) = told_of (whole_at r 0)
+
+-- ---- faults
+
+-- the store refused
+abbrev pub IsAdoptStoreFault : AdoptFault → Type 0
+IsAdoptStoreFault (WrongVersion n) = ⊥
+IsAdoptStoreFault (BadRow t) = ⊥
+IsAdoptStoreFault NoMemory = ⊤
+IsAdoptStoreFault Store = ⊤
+
+-- a version that is told is that of the database, and is none of a book; a table that is told has a value out of its range
+abbrev pub IsAdoptFaultOf : Database → AdoptFault → Type 0
+IsAdoptFaultOf d (WrongVersion n) = (n ≢ 1) × (n ≢ 2) × IsVersion d n
+IsAdoptFaultOf d (BadRow t) = IsBadIn t d
+IsAdoptFaultOf d NoMemory = ⊤
+IsAdoptFaultOf d Store = ⊤
+
+-- further groups and priorities belong to what stands beside them
+abbrev pub ArePlaced : Version → Trees → Type 0
+ArePlaced version.First db = ⊤
+ArePlaced version.Second db = (is_beside db ≡ true) × (is_ranked db ≡ true)
+
+-- the tables are those of a book of this version, and where their rows are filed, each value is in its range
+pub record IsOfBook (v : Version) (d : Database) : Type 0 where
+  pub schema_is : d.schema ≡ schema_of v
+  pub in_range : IsFiledAs version.First d.trees → (t : Table) → IsIn v t → is_good_in t d.trees ≡ true
+  pub version : IsToldIn d.trees (Some (number_of v))
+  pub placed : ArePlaced v d.trees
+
+-- what the rows tell of tables that are a book's
+abbrev pub IsRowFound : Version → Database → Option AdoptFault → Type 0
+IsRowFound v d None = ArePlaced v d.trees × (IsFiledAs version.First d.trees → (t : Table) → IsIn v t → is_good_in t d.trees ≡ true)
+IsRowFound v d (Some f) = IsAdoptFaultOf d f
+
+-- what further groups and priorities tell
+abbrev pub IsPlaceFound : Version → Database → Option AdoptFault → Type 0
+IsPlaceFound v d None = ArePlaced v d.trees
+IsPlaceFound v d (Some f) = IsAdoptFaultOf d f
+
+abbrev pub IsFound : Database → Found → Type 0
+IsFound d (Book v) = IsOfBook v d
+IsFound d (Fault f) = IsAdoptFaultOf d f
+
+-- the version is that of a book, or a fault
+abbrev pub IsVersionTold : Database → Told → Type 0
+IsVersionTold d (Of v) = IsToldIn d.trees (Some (number_of v))
+IsVersionTold d (Faulty f) = IsAdoptFaultOf d f
+
+-- want of memory is no failure of the store
+abbrev pub adopt_fault_of : Error → AdoptFault
+adopt_fault_of (SqliteFailure OutOfMemory) = NoMemory
+adopt_fault_of _ = Store

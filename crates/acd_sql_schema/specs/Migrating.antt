@@ -1,0 +1,44 @@
+-- What a migration makes of version 1, and what a crash leaves of it.
+use Rattle.std.specs.Prelude.{◌≡◌, ◌≢◌, ◌⊎◌, true, [], ◌∷◌, IsTrue}
+use Rattle.sqlite_trees.specs.Tree.{Trees}
+use Rattle.sqlite.specs.State.{State, HasCleanDisk}
+use Rattle.acd_sql_columns.specs.declared.meta.Meta.{Meta}
+use Rattle.acd_sql_columns.specs.declared.tables.Table.{Table}
+use Rattle.acd_sql_columns.specs.declared.tables.Table.TheVariants as table
+use Rattle.acd_sql_columns.specs.declared.tables.Version.TheVariants as version
+use Rattle.acd_sql_columns.specs.Content.{tree_of, IsIn}
+use Rattle.acd_sql_columns.specs.Rows.{meta_row, meta_row_as}
+use Rattle.acd_sql_columns.specs.Schema.{old_schema, book_schema}
+
+-- the nine tables as they were but for the version, and two empty ones
+pub record IsMigration (old new : Trees) : Type 0 where
+  pub told : (m : Meta) → old (tree_of table.Meta) ≡ meta_row_as 1 m ∷ [] → new (tree_of table.Meta) ≡ meta_row m ∷ []
+  pub kept : (t : Table) → IsIn version.First t → tree_of t ≢ tree_of table.Meta → new (tree_of t) ≡ old (tree_of t)
+  pub further : new (tree_of table.AgentGroups) ≡ []
+  pub priorities : new (tree_of table.GroupPriority) ≡ []
+
+-- this holds where the tables were those of version 1, and no disk lied
+abbrev pub IfFirst : State → State → Type 0 → Type 0
+IfFirst old new Fact = HasCleanDisk new → old.now.schema ≡ old_schema → Fact
+
+-- inside the transaction
+pub record IsAltered (old new : State) : Type 0 where
+  pub inside : new.in_transaction ≡ true
+  pub schema_is : new.now.schema ≡ book_schema
+  pub tables : IsMigration old.now.trees new.now.trees
+
+-- behind it
+pub record IsMade (old new : State) : Type 0 where
+  pub is_open : IsTrue new.is_open
+  pub idle : new.now ≡ new.committed
+  pub schema_is : new.committed.schema ≡ book_schema
+  pub tables : IsMigration old.now.trees new.committed.trees
+
+-- the last commit is still the last
+pub record IsRestored (old new : State) : Type 0 where
+  pub now : new.now ≡ old.committed
+  pub committed : new.committed ≡ old.committed
+
+-- a crash leaves what it left before, or a migration
+abbrev pub MayAlter : State → State → Type 0
+MayAlter old new = (db : Trees) → new.may_leave db → old.may_leave db ⊎ IsMigration old.now.trees db

@@ -1,0 +1,145 @@
+//! Makes the tables of a book.
+
+ghost use Rattle.std.specs.Prelude.{◌≡◌, ◌↔◌, ◌++◌, ◌∷◌, [], List, false, IsTrue, IfErr, OnOk};
+ghost use Rattle.sqlite_value.specs.Order.{Row as Values};
+ghost use Rattle.sqlite.specs.State.{HasCleanDisk};
+ghost use Rattle.sqlite.specs.Held.{state};
+ghost use Rattle.acd_sql_columns.specs.Schema.{no_schema, old_schema, book_schema};
+ghost use Rattle.acd_sql_columns.specs.Making.{Builds, no_rows, plan_schema, state_schema};
+ghost use Rattle.acd_sql_columns.specs.Draft.{Works, HoldsContent, LimitsFit};
+ghost use Rattle.acd_book.specs.Content.{empty_content};
+ghost use Rattle.acd_sql_schema.specs.SettingUp.{MakesTables, MayMake, FailsToMake, FailsToSetUp};
+ghost use Rattle.acd_sql_statements.specs.Between.{IsUp};
+ghost use Rattle.acd_sql_statements.specs.Inside.{RunsText};
+
+use acd_sql_columns::Meta;
+use acd_sql_columns::texts::{
+    CREATE_AGENT_GROUPS, CREATE_AGENTS, CREATE_CALLS, CREATE_CONNECTIONS, CREATE_EVENTS,
+    CREATE_GROUP_PRIORITY, CREATE_GROUPS, CREATE_KEPT, CREATE_META, CREATE_MONITORS,
+    CREATE_STATIONS,
+};
+use acd_sql_statements::write::{insert_meta, write};
+use acd_terms::Limits;
+use sqlite::{Alter, Connection, Error, Transaction};
+use sqlite_schema::schema::Schema;
+
+/// Whether a database has no table, no index and no view.
+pub fn has_no_tables(schema: &Schema) -> bool
+    ensures { IsTrue result ↔ (schema.now ≡ no_schema) }
+{
+    schema.tables.is_empty() && schema.indexes.is_empty() && schema.views.is_empty()
+}
+
+// Makes one table.
+fn make<S: Alter>(tx: &mut Transaction<'_, S>, sql: &str) -> Result<(), Error>
+    ensures { RunsText S.Store tx.old.conn tx.new.conn result sql.now [] }
+{
+    write(tx, sql, &[])
+}
+
+// The limits and the plan.
+fn make_plan<S: Alter>(tx: &mut Transaction<'_, S>) -> Result<(), Error>
+    ensures { MakesTables S.Store tx.old.conn tx.new.conn result
+        no_schema (no_rows 0) plan_schema (no_rows 4) }
+{
+    make(tx, CREATE_META)?;
+    make(tx, CREATE_GROUPS)?;
+    make(tx, CREATE_STATIONS)?;
+    make(tx, CREATE_AGENTS)
+}
+
+// What changes from call to call.
+fn make_state<S: Alter>(tx: &mut Transaction<'_, S>) -> Result<(), Error>
+    ensures { MakesTables S.Store tx.old.conn tx.new.conn result
+        plan_schema (no_rows 4) state_schema (no_rows 7) }
+{
+    make(tx, CREATE_CALLS)?;
+    make(tx, CREATE_CONNECTIONS)?;
+    make(tx, CREATE_MONITORS)
+}
+
+// The events and the kept replies.
+fn make_log<S: Alter>(tx: &mut Transaction<'_, S>) -> Result<(), Error>
+    ensures { MakesTables S.Store tx.old.conn tx.new.conn result
+        state_schema (no_rows 7) old_schema (no_rows 9) }
+{
+    make(tx, CREATE_EVENTS)?;
+    make(tx, CREATE_KEPT)
+}
+
+// Makes the nine tables of version 1.
+fn make_nine<S: Alter>(tx: &mut Transaction<'_, S>) -> Result<(), Error>
+    ensures { MakesTables S.Store tx.old.conn tx.new.conn result
+        no_schema (no_rows 0) old_schema (no_rows 9) }
+{
+    make_plan(tx)?;
+    make_state(tx)?;
+    make_log(tx)
+}
+
+/// Makes the two tables of version 2 behind the nine, whatever rows these have.
+pub(crate) fn make_two<S: Alter>(tx: &mut Transaction<'_, S>) -> Result<(), Error>
+    ensures same { tx.new.conn.ghost_name ≡ tx.old.conn.ghost_name }
+    ensures works { Works (state S.Store tx.old.conn.now) (state S.Store tx.new.conn.now) }
+    ensures made { HasCleanDisk (state S.Store tx.new.conn.now) → OnOk result
+        ((rows : List (List Values)) → Builds (state S.Store tx.old.conn.now) old_schema rows
+        → Builds (state S.Store tx.new.conn.now) book_schema ((rows ++ [] ∷ []) ++ [] ∷ [])) }
+    ensures failed { HasCleanDisk (state S.Store tx.new.conn.now)
+        → (rows : List (List Values)) → Builds (state S.Store tx.old.conn.now) old_schema rows
+        → IfErr result (FailsToMake
+        (state S.Store tx.old.conn.now) (state S.Store tx.new.conn.now)) }
+{
+    make(tx, CREATE_AGENT_GROUPS)?;
+    make(tx, CREATE_GROUP_PRIORITY)
+}
+
+// Makes the eleven tables.
+fn make_tables<S: Alter>(tx: &mut Transaction<'_, S>) -> Result<(), Error>
+    ensures { MakesTables S.Store tx.old.conn tx.new.conn result
+        no_schema (no_rows 0) book_schema (no_rows 11) }
+{
+    make_nine(tx)?;
+    make_two(tx)
+}
+
+/// Makes the tables of version 1 in one transaction, with no row.
+pub(crate) fn set_up_old<S: Alter>(conn: &mut Connection<S>) -> Result<(), Error>
+    requires idle { conn.old.in_transaction ≡ false }
+    requires empty { (state S.Store conn.old).now.schema ≡ no_schema }
+    ensures idle { conn.new.in_transaction ≡ false }
+    ensures made { HasCleanDisk (state S.Store conn.new)
+        → OnOk result ((state S.Store conn.new).now.schema ≡ old_schema) }
+{
+    let mut tx = conn.transaction();
+    make_nine(&mut tx)?;
+    tx.commit()
+}
+
+/// Makes the tables of a new book in one transaction, and the row of the limits.
+pub fn set_up<S: Alter>(conn: &mut Connection<S>, limits: Limits) -> Result<(), Error>
+    requires idle { conn.old.in_transaction ≡ false }
+    requires empty { (state S.Store conn.old).now.schema ≡ no_schema }
+    requires fit { LimitsFit limits }
+    ensures idle { conn.new.in_transaction ≡ false }
+    ensures clean { HasCleanDisk (state S.Store conn.new) → HasCleanDisk (state S.Store conn.old) }
+    ensures made { HasCleanDisk (state S.Store conn.new)
+        → OnOk result (HoldsContent (state S.Store conn.new) (empty_content limits)) }
+    ensures up { IsUp (state S.Store conn.new) result }
+    ensures stops { HasCleanDisk (state S.Store conn.new)
+        → MayMake (state S.Store conn.old) (state S.Store conn.new) limits }
+    ensures failed { HasCleanDisk (state S.Store conn.new) → IfErr result (FailsToSetUp
+        (state S.Store conn.old) (state S.Store conn.new) limits) }
+{
+    let meta = Meta {
+        limits,
+        last_stamp: 0,
+        last_moment: 0,
+        last_call: 0,
+        last_monitor: 0,
+        last_event: 0,
+    };
+    let mut tx = conn.transaction();
+    make_tables(&mut tx)?;
+    insert_meta(&mut tx, &meta)?;
+    tx.commit()
+}

@@ -1,0 +1,497 @@
+//! Whether a database has the tables of a book, of version 1 or 2, with each value in its range.
+
+ghost use Rattle.std.specs.Prelude.{◌≡◌, true, false, None, Some, IfOk};
+ghost use Rattle.acd_terms.specs.Lists.{Every};
+ghost use Rattle.sqlite.specs.Effect.{Database};
+ghost use Rattle.sqlite.specs.Held.{state};
+ghost use Rattle.acd_sql_columns.specs.declared.tables.Table.TheVariants as table;
+ghost use Rattle.acd_sql_columns.specs.AnyRows.{is_beside, table_of_log, are_good, schema_of, BeginsAsBook, Covers, TellsGood};
+ghost use Rattle.acd_sql_columns.specs.Content.{number_of};
+ghost use Rattle.acd_sql_schema.specs.Inspecting.{number_if_good, last_good, tables_of, told_by, IsLike, TellsBehind, IsBadOf, IsPageOfLog, IsPageOf, PageFits, IsFound, IsRowFound, IsPlaceFound, IsVersionTold, IsToldIn, IsAdoptStoreFault, adopt_fault_of};
+ghost use Rattle.acd_sql_columns.specs.Draft.{Fits};
+ghost use Rattle.acd_sql_columns.specs.Schema.{nine, old_schema, book_schema, BeginsSchema};
+ghost use Rattle.acd_sql_columns.specs.Seeing.{Sees, HasLooked};
+
+use crate::create::{set_up, set_up_old};
+use crate::fault::{AdoptFault, Found};
+use crate::verdict::{Likeness, Page, Told};
+use acd_sql_columns::decode::{KeptReader, connection_in, counters_in, event_number, further_in};
+use acd_sql_columns::{AgentRow, GroupPriority, GroupRow, Log, Table, Version, values};
+use acd_sql_statements::fitting::{fits, too_large};
+use acd_sql_statements::look::{further_rows, has_meta, unordered_connection_rows, version_rows};
+use acd_sql_statements::placed::{are_further_placed, are_priorities_placed};
+use acd_sql_statements::read::{meta_rows, probe};
+use acd_sql_statements::same::{is_same_first, is_same_schema};
+use acd_sql_statements::select::is_good;
+use acd_sql_statements::tables::{low_rows, rows_above};
+use acd_terms::{CallRecord, Limits, MonitorRecord, StationRecord};
+use sqlite::{Alter, Connection, Error, ErrorCode, MemStore, Row};
+use sqlite_schema::schema::Schema;
+use std::alloc::Global;
+
+#[tactic(auto, unfolding(acd_sql_columns::specs::AnyRows::are_good))]
+fn are_counters(rows: &[Row]) -> bool
+    ensures { result ≡ are_good table.Meta rows.now }
+{
+    rows.iter().all(|row| counters_in(row).is_some())
+}
+
+#[tactic(auto, unfolding(acd_sql_columns::specs::AnyRows::are_good))]
+fn are_connections(rows: &[Row]) -> bool
+    ensures { result ≡ are_good table.Connections rows.now }
+{
+    rows.iter().all(|row| connection_in(row).is_some())
+}
+
+// Whether the limits and the counters are in their ranges.
+fn is_good_meta<S: Alter>(conn: &mut Connection<S>) -> Result<bool, Error>
+    requires { conn.old.in_transaction ≡ false }
+    ensures idle { conn.new.in_transaction ≡ false }
+    ensures seen { (d : Database) → BeginsSchema nine d.schema → Sees d (state S.Store conn.old) (state S.Store conn.new) result (λ good. TellsGood table.Meta d.trees good) }
+{
+    match meta_rows(conn) {
+        Ok(rows) => Ok(are_counters(&rows)),
+        Err(error) => Err(error),
+    }
+}
+
+// Whether each value of the connections is in its range.
+fn are_good_connections<S: Alter>(conn: &mut Connection<S>) -> Result<bool, Error>
+    requires { conn.old.in_transaction ≡ false }
+    ensures idle { conn.new.in_transaction ≡ false }
+    ensures seen { (d : Database) → BeginsSchema nine d.schema → Sees d (state S.Store conn.old) (state S.Store conn.new) result (λ good. TellsGood table.Connections d.trees good) }
+{
+    match unordered_connection_rows(conn) {
+        Ok(rows) => Ok(are_connections(&rows)),
+        Err(error) => Err(error),
+    }
+}
+
+#[tactic(auto, unfolding(acd_sql_columns::specs::AnyRows::are_good))]
+fn are_further(rows: &[Row]) -> bool
+    ensures { result ≡ are_good table.AgentGroups rows.now }
+{
+    rows.iter().all(|row| further_in(row).is_some())
+}
+
+// Whether each value of the further groups is in its range.
+fn are_good_further<S: Alter>(conn: &mut Connection<S>) -> Result<bool, Error>
+    requires { conn.old.in_transaction ≡ false }
+    ensures idle { conn.new.in_transaction ≡ false }
+    ensures seen { (d : Database) → d.schema ≡ book_schema → Sees d (state S.Store conn.old) (state S.Store conn.new) result (λ good. TellsGood table.AgentGroups d.trees good) }
+{
+    match further_rows(conn) {
+        Ok(rows) => Ok(are_further(&rows)),
+        Err(error) => Err(error),
+    }
+}
+
+// The number of a row where each of its values is in its range.
+fn number_if_good(kept: &mut KeptReader, log: Log, row: &Row) -> Result<Option<u64>, Error>
+    ensures { IfOk result (λ number. number ≡ number_if_good log row.now) }
+{
+    match log {
+        Log::Events => Ok(event_number(row)),
+        Log::Kept => match kept.stamp(row) {
+            Ok(stamp) => Ok(stamp),
+            Err(_) => Err(Error::SqliteFailure(ErrorCode::OutOfMemory)),
+        },
+    }
+}
+
+// The number of the last row where all are good.
+fn last_good(
+    kept: &mut KeptReader,
+    log: Log,
+    number: u64,
+    rows: &[Row],
+) -> Result<Option<u64>, Error>
+    ensures { IfOk result (λ last. last ≡ last_good log number rows.now) }
+{
+    let mut last = number;
+    for row in rows {
+        let next = number_if_good(kept, log, row)?;
+        match next {
+            Some(next) => last = next,
+            None => return Ok(None),
+        }
+    }
+    Ok(Some(last))
+}
+
+// What the rows above a number tell.
+fn page_of(kept: &mut KeptReader, log: Log, number: u64, rows: &[Row]) -> Result<Page, Error>
+    ensures tells { IfOk result (λ page. IsPageOf log number rows.now page) }
+    ensures fits { IfOk result (λ page. PageFits page) }
+{
+    if rows.is_empty() {
+        return Ok(Page::Last);
+    }
+    let last = last_good(kept, log, number, rows)?;
+    match last {
+        Some(last) if fits(last) => Ok(Page::More(last)),
+        Some(_) => Err(too_large()),
+        None => Ok(Page::Bad),
+    }
+}
+
+// The page of a log above a number.
+fn page_behind<S: Alter>(
+    kept: &mut KeptReader,
+    conn: &mut Connection<S>,
+    log: Log,
+    number: u64,
+) -> Result<Page, Error>
+    requires idle { conn.old.in_transaction ≡ false }
+    requires number { Fits number }
+    ensures idle { conn.new.in_transaction ≡ false }
+    ensures seen { (d : Database) → BeginsSchema nine d.schema → Sees d (state S.Store conn.old) (state S.Store conn.new) result (λ page. IsPageOfLog log number d.trees page) }
+    ensures fits { IfOk result (λ page. PageFits page) }
+{
+    match rows_above(log, conn, number) {
+        Ok(rows) => page_of(kept, log, number, &rows),
+        Err(error) => Err(error),
+    }
+}
+
+// Whether each value of a row from 1 on is in its range.
+fn are_pages_good<S: Alter>(
+    kept: &mut KeptReader,
+    conn: &mut Connection<S>,
+    log: Log,
+) -> Result<bool, Error>
+    requires idle { conn.old.in_transaction ≡ false }
+    ensures idle { conn.new.in_transaction ≡ false }
+    ensures seen { (d : Database) → BeginsSchema nine d.schema → Sees d (state S.Store conn.old) (state S.Store conn.new) result (λ good. TellsBehind log d.trees good) }
+{
+    let mut number = 0;
+    for _ in 0..u64::MAX {
+        let page = page_behind(kept, conn, log, number)?;
+        match page {
+            Page::Bad => return Ok(false),
+            Page::Last => return Ok(true),
+            Page::More(last) => number = last,
+        }
+    }
+    Err(too_large())
+}
+
+// Whether each value of the log is in its range.
+fn is_good_log<S: Alter>(
+    kept: &mut KeptReader,
+    conn: &mut Connection<S>,
+    log: Log,
+) -> Result<bool, Error>
+    requires { conn.old.in_transaction ≡ false }
+    ensures idle { conn.new.in_transaction ≡ false }
+    ensures seen { (d : Database) → BeginsSchema nine d.schema → Sees d (state S.Store conn.old) (state S.Store conn.new) result (λ good. TellsGood (table_of_log log) d.trees good) }
+{
+    let low = low_rows(log, conn)?;
+    if low.is_empty() {
+        are_pages_good(kept, conn, log)
+    } else {
+        Ok(false)
+    }
+}
+
+// Whether each value of the table is in its range.
+fn is_good_table<S: Alter>(
+    kept: &mut KeptReader,
+    conn: &mut Connection<S>,
+    table: Table,
+) -> Result<bool, Error>
+    requires { conn.old.in_transaction ≡ false }
+    ensures idle { conn.new.in_transaction ≡ false }
+    ensures seen { (d : Database) → Covers d.schema table → Sees d (state S.Store conn.old) (state S.Store conn.new) result (λ good. TellsGood table d.trees good) }
+{
+    match table {
+        Table::Meta => is_good_meta(conn),
+        Table::Groups => is_good::<GroupRow, S>(conn),
+        Table::Stations => is_good::<StationRecord, S>(conn),
+        Table::Agents => is_good::<AgentRow, S>(conn),
+        Table::Calls => is_good::<CallRecord, S>(conn),
+        Table::Connections => are_good_connections(conn),
+        Table::Monitors => is_good::<MonitorRecord, S>(conn),
+        Table::Events => is_good_log(kept, conn, Log::Events),
+        Table::Kept => is_good_log(kept, conn, Log::Kept),
+        Table::AgentGroups => are_good_further(conn),
+        Table::GroupPriority => is_good::<GroupPriority, S>(conn),
+    }
+}
+
+// The first of the tables that has a value out of its range.
+fn bad_table<S: Alter>(
+    kept: &mut KeptReader,
+    conn: &mut Connection<S>,
+    tables: &[Table],
+) -> Result<Option<Table>, Error>
+    requires idle { conn.old.in_transaction ≡ false }
+    ensures idle { conn.new.in_transaction ≡ false }
+    ensures seen { (d : Database) → Every (Covers d.schema) tables.now → Sees d (state S.Store conn.old) (state S.Store conn.new) result (λ bad. IsBadOf tables.now d bad) }
+{
+    for table in tables {
+        let good = is_good_table(kept, conn, *table)?;
+        if !good {
+            return Ok(Some(*table));
+        }
+    }
+    Ok(None)
+}
+
+// The tables of each version, in the order in which they are looked at.
+const TABLES: [Table; 11] = [
+    Table::Meta,
+    Table::Groups,
+    Table::Stations,
+    Table::Agents,
+    Table::Calls,
+    Table::Connections,
+    Table::Monitors,
+    Table::Events,
+    Table::Kept,
+    Table::AgentGroups,
+    Table::GroupPriority,
+];
+
+// The tables of a version.
+fn tables_of(version: Version) -> &'static [Table]
+    ensures { result.now ≡ tables_of version }
+{
+    match version {
+        Version::First => &TABLES[..9],
+        Version::Second => &TABLES,
+    }
+}
+
+// What further groups and priorities tell that don't belong to what stands beside them.
+fn misplaced<S: Alter>(
+    alloc: Global,
+    conn: &mut Connection<S>,
+    version: Version,
+) -> Result<Option<AdoptFault>, Error>
+    requires { conn.old.in_transaction ≡ false }
+    ensures idle { conn.new.in_transaction ≡ false }
+    ensures seen { (d : Database) → d.schema ≡ schema_of version → Sees d (state S.Store conn.old) (state S.Store conn.new) result (λ fault. IsPlaceFound version d fault) }
+{
+    match version {
+        Version::First => Ok(None),
+        Version::Second => found_misplaced(alloc, conn),
+    }
+}
+
+fn found_misplaced<S: Alter>(
+    alloc: Global,
+    conn: &mut Connection<S>,
+) -> Result<Option<AdoptFault>, Error>
+    requires { conn.old.in_transaction ≡ false }
+    ensures idle { conn.new.in_transaction ≡ false }
+    ensures seen { (d : Database) → d.schema ≡ book_schema → Sees d (state S.Store conn.old) (state S.Store conn.new) result (λ fault. IsPlaceFound Version.Second d fault) }
+{
+    match are_further_placed(alloc, conn) {
+        Ok(true) => ranks_misplaced(alloc, conn),
+        Ok(false) => Ok(Some(AdoptFault::BadRow(Table::AgentGroups))),
+        Err(error) => Err(error),
+    }
+}
+
+// The same of priorities alone.
+fn ranks_misplaced<S: Alter>(
+    alloc: Global,
+    conn: &mut Connection<S>,
+) -> Result<Option<AdoptFault>, Error>
+    requires { conn.old.in_transaction ≡ false }
+    ensures idle { conn.new.in_transaction ≡ false }
+    ensures seen { (d : Database) → d.schema ≡ book_schema → Sees d (state S.Store conn.old) (state S.Store conn.new) result (λ fault. is_beside d.trees ≡ true → IsPlaceFound Version.Second d fault) }
+{
+    match are_priorities_placed(alloc, conn) {
+        Ok(true) => Ok(None),
+        Ok(false) => Ok(Some(AdoptFault::BadRow(Table::GroupPriority))),
+        Err(error) => Err(error),
+    }
+}
+
+// What the tables tell against a book of the version.
+fn bad_row<S: Alter>(
+    alloc: Global,
+    conn: &mut Connection<S>,
+    version: Version,
+) -> Result<Option<AdoptFault>, Error>
+    requires idle { conn.old.in_transaction ≡ false }
+    ensures idle { conn.new.in_transaction ≡ false }
+    ensures seen { (d : Database) → d.schema ≡ schema_of version → Sees d (state S.Store conn.old) (state S.Store conn.new) result (λ fault. IsRowFound version d fault) }
+{
+    let mut kept = KeptReader::new(alloc);
+    let bad = bad_table(&mut kept, conn, tables_of(version))?;
+    match bad {
+        Some(table) => Ok(Some(AdoptFault::BadRow(table))),
+        None => misplaced(alloc, conn, version),
+    }
+}
+
+// What the rows of versions tell.
+fn told_by(rows: &[Row]) -> Told
+    ensures { result ≡ told_by rows.now }
+{
+    if rows.is_empty() {
+        return Told::Faulty(AdoptFault::WrongVersion(0));
+    }
+    match values::whole(&rows[0], 0) {
+        Some(1) => Told::Of(Version::First),
+        Some(2) => Told::Of(Version::Second),
+        Some(version) => Told::Faulty(AdoptFault::WrongVersion(version)),
+        None => Told::Faulty(AdoptFault::BadRow(Table::Meta)),
+    }
+}
+
+fn version_told<S: Alter>(conn: &mut Connection<S>) -> Result<Told, Error>
+    requires { conn.old.in_transaction ≡ false }
+    ensures idle { conn.new.in_transaction ≡ false }
+    ensures seen { (d : Database) → BeginsAsBook d.schema → Sees d (state S.Store conn.old) (state S.Store conn.new) result (λ told. IsVersionTold d told) }
+{
+    match version_rows(conn) {
+        Ok(rows) => Ok(told_by(&rows)),
+        Err(error) => Err(error),
+    }
+}
+
+// The tables of a new book, in memory.
+fn new_tables(alloc: Global) -> Result<Connection<MemStore>, Error>
+    ensures { IfOk result (λ conn. conn.schema ≡ book_schema) }
+{
+    match Connection::open_in_memory(alloc) {
+        Ok(mut conn) => {
+            set_up(&mut conn, Limits::GREATEST)?;
+            Ok(conn)
+        }
+        Err(_) => Err(Error::SqliteFailure(ErrorCode::OutOfMemory)),
+    }
+}
+
+// The tables of version 1, in memory.
+fn old_tables(alloc: Global) -> Result<Connection<MemStore>, Error>
+    ensures { IfOk result (λ conn. conn.schema ≡ old_schema) }
+{
+    match Connection::open_in_memory(alloc) {
+        Ok(mut conn) => {
+            set_up_old(&mut conn)?;
+            Ok(conn)
+        }
+        Err(_) => Err(Error::SqliteFailure(ErrorCode::OutOfMemory)),
+    }
+}
+
+// How far the tables are those of an old book.
+fn compared_to_old(alloc: Global, schema: &Schema) -> Result<Likeness, Error>
+    ensures { IfOk result (λ likeness. IsLike schema.now likeness) }
+{
+    let book = old_tables(alloc)?;
+    let own = book.schema();
+    if is_same_schema(schema, own) {
+        return Ok(Likeness::Whole(Version::First));
+    }
+    if is_same_first(schema.tables.as_slice(), own.tables.as_slice()) {
+        return Ok(Likeness::First);
+    }
+    Ok(Likeness::Other)
+}
+
+// How far the tables are those of a new book, or of an old one.
+fn compared(alloc: Global, schema: &Schema) -> Result<Likeness, Error>
+    ensures { IfOk result (λ likeness. IsLike schema.now likeness) }
+{
+    let book = new_tables(alloc)?;
+    if is_same_schema(schema, book.schema()) {
+        return Ok(Likeness::Whole(Version::Second));
+    }
+    compared_to_old(alloc, schema)
+}
+
+// Why a database whose first table alone is that of a book isn't taken.
+fn found_in_first<S: Alter>(conn: &mut Connection<S>) -> Result<Found, Error>
+    requires { conn.old.in_transaction ≡ false }
+    ensures idle { conn.new.in_transaction ≡ false }
+    ensures seen { (d : Database) → BeginsAsBook d.schema → Sees d (state S.Store conn.old) (state S.Store conn.new) result (λ found. IsFound d found) }
+{
+    match version_told(conn) {
+        Ok(Told::Faulty(fault)) => Ok(Found::Fault(fault)),
+        Ok(Told::Of(_)) => Ok(Found::Fault(AdoptFault::Store)),
+        Err(error) => Err(error),
+    }
+}
+
+// What the rows tell of tables of a version that is told.
+fn found_in_rows<S: Alter>(
+    alloc: Global,
+    conn: &mut Connection<S>,
+    version: Version,
+) -> Result<Found, Error>
+    requires { conn.old.in_transaction ≡ false }
+    ensures idle { conn.new.in_transaction ≡ false }
+    ensures seen { (d : Database) → d.schema ≡ schema_of version → Sees d (state S.Store conn.old) (state S.Store conn.new) result (λ found. IsToldIn d.trees (Some (number_of version)) → IsFound d found) }
+{
+    match bad_row(alloc, conn, version) {
+        Ok(Some(fault)) => Ok(Found::Fault(fault)),
+        Ok(None) => Ok(Found::Book(version)),
+        Err(error) => Err(error),
+    }
+}
+
+// What is found where the tables are those of a version: another that is told is no book's.
+fn found_in_whole<S: Alter>(
+    alloc: Global,
+    conn: &mut Connection<S>,
+    version: Version,
+) -> Result<Found, Error>
+    requires { conn.old.in_transaction ≡ false }
+    ensures idle { conn.new.in_transaction ≡ false }
+    ensures seen { (d : Database) → d.schema ≡ schema_of version → Sees d (state S.Store conn.old) (state S.Store conn.new) result (λ found. IsFound d found) }
+{
+    let told = version_told(conn)?;
+    match told {
+        Told::Faulty(fault) => Ok(Found::Fault(fault)),
+        Told::Of(other) if other == version => found_in_rows(alloc, conn, version),
+        Told::Of(_) => Ok(Found::Fault(AdoptFault::Store)),
+    }
+}
+
+// What is found where the store serves.
+fn found_in<S: Alter>(alloc: Global, conn: &mut Connection<S>) -> Result<Found, Error>
+    requires { conn.old.in_transaction ≡ false }
+    ensures idle { conn.new.in_transaction ≡ false }
+    ensures seen { Sees (state S.Store conn.old).now (state S.Store conn.old) (state S.Store conn.new) result (λ found. IsFound (state S.Store conn.old).now found) }
+{
+    if !has_meta(conn.schema()) {
+        return Ok(Found::Fault(AdoptFault::WrongVersion(0)));
+    }
+    let likeness = compared(alloc, conn.schema())?;
+    match likeness {
+        Likeness::Whole(version) => found_in_whole(alloc, conn, version),
+        Likeness::First => found_in_first(conn),
+        Likeness::Other => Ok(Found::Fault(AdoptFault::Store)),
+    }
+}
+
+/// Whether a connection holds a book, and of which version, or else why it isn't taken for one. Nothing is changed.
+pub fn look_over<S: Alter>(alloc: Global, conn: &mut Connection<S>) -> Result<Found, Error>
+    requires { conn.old.in_transaction ≡ false }
+    ensures idle { conn.new.in_transaction ≡ false }
+    ensures looked { HasLooked (state S.Store conn.old) (state S.Store conn.new) result
+        (λ d found. IsFound d found) }
+{
+    // What these two promise holds of the connection before anything is read; their answers aren't needed.
+    let _settled = conn.is_autocommit();
+    let _obeyed = conn.schema();
+    probe(conn)?;
+    found_in(alloc, conn)
+}
+
+/// The fault of a look that failed. Want of memory is no failure of the store.
+pub fn fault_of(error: Error) -> AdoptFault
+    ensures cause { result ≡ adopt_fault_of error }
+    ensures store { IsAdoptStoreFault result }
+{
+    match error {
+        Error::SqliteFailure(ErrorCode::OutOfMemory) => AdoptFault::NoMemory,
+        _ => AdoptFault::Store,
+    }
+}

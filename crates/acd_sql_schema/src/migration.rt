@@ -1,0 +1,47 @@
+//! Makes version 2 of a book of version 1.
+
+ghost use Rattle.std.specs.Prelude.{◌≡◌, false, IsTrue, OnErr, OnOk};
+ghost use Rattle.sqlite.specs.State.{HasCleanDisk};
+ghost use Rattle.sqlite.specs.Held.{state};
+ghost use Rattle.acd_sql_columns.specs.Schema.{old_schema, book_schema};
+ghost use Rattle.acd_sql_columns.specs.Draft.{Works};
+ghost use Rattle.acd_sql_schema.specs.Migrating.{IfFirst, IsAltered, IsMade, IsRestored, MayAlter};
+
+use crate::create::make_two;
+use acd_sql_statements::write::tell_second;
+use sqlite::{Alter, Connection, Error, Transaction};
+
+// The new tables, and then the version.
+fn alter<S: Alter>(tx: &mut Transaction<'_, S>) -> Result<(), Error>
+    ensures same { tx.new.conn.ghost_name ≡ tx.old.conn.ghost_name }
+    ensures works { Works (state S.Store tx.old.conn.now) (state S.Store tx.new.conn.now) }
+    ensures altered { HasCleanDisk (state S.Store tx.new.conn.now) → OnOk result
+        (IsTrue (state S.Store tx.old.conn.now).in_transaction
+        → (state S.Store tx.old.conn.now).now.schema ≡ old_schema
+        → IsAltered (state S.Store tx.old.conn.now) (state S.Store tx.new.conn.now)) }
+{
+    make_two(tx)?;
+    tell_second(tx)
+}
+
+/// Makes version 2 of the tables of version 1, in one transaction: two tables more, which are empty, and the version.
+///
+/// The nine tables keep their rows. After an error they are as they were.
+pub fn migrate<S: Alter>(conn: &mut Connection<S>) -> Result<(), Error>
+    requires idle { conn.old.in_transaction ≡ false }
+    ensures idle { conn.new.in_transaction ≡ false }
+    ensures clean { HasCleanDisk (state S.Store conn.new) → HasCleanDisk (state S.Store conn.old) }
+    ensures was { HasCleanDisk (state S.Store conn.new)
+        → IsTrue (state S.Store conn.new).is_open → IsTrue (state S.Store conn.old).is_open }
+    ensures made { IfFirst (state S.Store conn.old) (state S.Store conn.new)
+        (OnOk result (IsMade (state S.Store conn.old) (state S.Store conn.new))) }
+    ensures undone { IfFirst (state S.Store conn.old) (state S.Store conn.new)
+        (OnErr result (IsTrue (state S.Store conn.new).is_open
+        → IsRestored (state S.Store conn.old) (state S.Store conn.new))) }
+    ensures stops { IfFirst (state S.Store conn.old) (state S.Store conn.new)
+        (MayAlter (state S.Store conn.old) (state S.Store conn.new)) }
+{
+    let mut tx = conn.transaction();
+    alter(&mut tx)?;
+    tx.commit()
+}

@@ -1,0 +1,99 @@
+-- Why a part of a commit isn't written.
+use Rattle.std.proofs.Common.{◌≡◌, inl, inr, ℕ, ◌<◌, List, length, get_or, Option, Result, Ok, Err, IsTrue, IfErr, OnOk, sym, ap, subst, ◌∙◌, arith}
+use Rattle.std.proofs.lemmas.Grind.{common_steps}
+use Rattle.sqlite_value.specs.Order.{Row}
+use Rattle.sqlite.specs.declared.error.Error.{Error}
+use Rattle.sqlite.specs.State.{State, HasCleanDisk, Executes}
+use Rattle.acd_terms.specs.declared.record.ConnectionRecord.{ConnectionRecord}
+use Rattle.acd_sql_columns.specs.Descriptions.{Description, behind}
+use Rattle.acd_sql_columns.specs.Draft.{Drafts, Works}
+use Rattle.acd_sql_columns.specs.Relations.{Relations}
+use Rattle.acd_sql_columns.specs.Rows.{connection_values}
+use Rattle.acd_sql_columns.specs.Schema.{book_schema}
+use Rattle.acd_sql_columns.specs.declared.texts.TheConstants.{UPDATE_CONNECTION}
+use Rattle.acd_sql_columns.proofs.Connections.{behind_none}
+use Rattle.acd_sql_columns.proofs.Common.{inert}
+use Rattle.acd_sql_columns.proofs.Filed.{Filed, Updates, by_first, columns_given}
+use Rattle.acd_sql_columns.proofs.Statements.{inert_works}
+use Rattle.acd_sql_columns.proofs.Updates.{Updating}
+use Rattle.acd_sql_columns.proofs.Sets.{set_none}
+use Rattle.acd_sql_statements.specs.Failing.{FailsToWrite}
+use Rattle.acd_sql_statements.specs.Refusing.{RefusesOn, FailsToLeave, IsBlamed}
+use Rattle.acd_sql_statements.proofs.Failures.{failed_after}
+
+-- nothing is said of a success where there was none
+pub unless_ok : {A : Type 0} (P : Type 0) (e : Error) (r : Result A Error) → r ≡ Err e → OnOk r P
+unless_ok {A} P e r is = subst (λ (r : Result A Error). OnOk r P) (sym is) tt
+
+-- ---- one statement
+
+module _ (old new : State) (sql : List ℕ) (params : Row) where
+  pub refused_on : (e : Error) (r : Relations) → Drafts old r → FailsToWrite old new sql params e → FailsToLeave (RefusesOn sql params) r old new e
+  refused_on e r d (inl memory) = inl memory
+  refused_on e r d (inr (inl failed)) = inr (inl failed)
+  refused_on e r d (inr (inr refused)) = inr (inr (record { database = old.now; schema = d.schema; tables = d.tables; refuses = refused }))
+
+  pub by_one : {A : Type 0} (result : Result A Error) → (HasCleanDisk new → IsTrue old.in_transaction → IfErr result (FailsToWrite old new sql params)) → IsBlamed (RefusesOn sql params) old new result
+  by_one (Ok x) h = λ clean r d. tt
+  by_one (Err e) h = λ clean r d. refused_on e r d (h clean d.inside)
+
+-- ---- what is said of one failure is said of another
+
+module _ (old new : State) where
+  -- the same error in an answer of another kind
+  pub by_same : {B : Type 0} (R : Option ℕ → Relations → Type 0) (e : Error) (result : Result B Error) → result ≡ Err e → (HasCleanDisk new → (r : Relations) → Drafts old r → FailsToLeave R r old new e) → IsBlamed R old new result
+  by_same R e result is h = λ clean r d. subst (λ b. IfErr b (FailsToLeave R r old new)) (sym is) (h clean r d)
+
+  pub by_more : {A : Type 0} (P Q : Option ℕ → Relations → Type 0) (result : Result A Error) → ((limit : Option ℕ) (r : Relations) → P limit r → Q limit r) → IsBlamed P old new result → IsBlamed Q old new result
+  by_more P Q (Ok x) so h = λ clean r d. tt
+  by_more P Q (Err e) so h = λ clean r d. each r (h clean r d)
+    where
+      each : (r : Relations) → FailsToLeave P r old new e → FailsToLeave Q r old new e
+      each r (inl memory) = inl memory
+      each r (inr (inl failed)) = inr (inl failed)
+      each r (inr (inr p)) = inr (inr (so old.step_limit r p))
+
+-- behind what was written before
+pub by_later : {A : Type 0} (old mid new : State) (change : Relations → Relations) (Q : Option ℕ → Relations → Type 0) (result : Result A Error) → Works old mid → Works mid new
+    → (HasCleanDisk mid → (r : Relations) → Drafts old r → Drafts mid (change r)) → IsBlamed Q mid new result → IsBlamed (λ limit r. Q limit (change r)) old new result
+by_later old mid new change Q (Ok x) first second made h = λ clean r d. tt
+by_later old mid new change Q (Err e) first second made h =
+    λ clean r d. let middle : HasCleanDisk mid = omega (arith, clean, second.survives.clean) in each r middle (h clean (change r) (made middle r d))
+  where
+    each : (r : Relations) → HasCleanDisk mid → FailsToLeave Q (change r) mid new e → FailsToLeave (λ limit r. Q limit (change r)) r old new e
+    each r middle (inl memory) = inl memory
+    each r middle (inr (inl failed)) = inr (inl (failed_after old mid new first.survives middle second.survives.counts failed))
+    each r middle (inr (inr q)) = inr (inr (subst (λ limit. Q limit (change r)) first.survives.limit q))
+
+-- ---- an UPDATE that changed no row
+
+updating : {R : Type 0} (d : Description R) (f : Filed d) (text : List ℕ) → Updates d text → Updating book_schema text
+updating d f text u = record {
+  at = d.place;
+  layout = d.layout;
+  terms = by_first;
+  project = columns_given (behind d);
+  place = ap (λ t. t.0) f.computes;
+  command = u.updates;
+  plain = u.plain;
+  inert = inert_works book_schema inert d.layout.tree;
+}
+
+pub still_drafts : {R : Type 0} (d : Description R) (f : Filed d) (text : List ℕ) (u : Updates d text) (x : R) (r : Relations) (old mid : State) (none : ℕ) → Drafts old r → Executes text (d.values x) old mid (Ok none) → none ≡ 0 → Drafts mid r
+unfolding updating
+still_drafts d f text u x r old mid none drafts ran missed =
+    let still = set_none book_schema text (updating d f text u) (d.values x) old mid none drafts.schema ran missed in
+    let had = f.held r old.now.trees drafts.tables in
+    subst (Drafts mid) (f.unchanged r) (record {
+      inside = still.mode ∙ drafts.inside;
+      schema = still.schema_is;
+      tables = f.framed (d.records r) (old.now.trees d.layout.tree) old.now.trees mid.now.trees r had.0 had.1 still.rows_are still.others drafts.tables;
+    })
+
+pub still_connected : (x : ConnectionRecord) (r : Relations) (old mid : State) (none : ℕ) → Drafts old r → Executes UPDATE_CONNECTION.now (connection_values x) old mid (Ok none) → none ≡ 0 → Drafts mid r
+still_connected x r old mid none drafts ran missed = behind_none x (λ r. r) old mid mid none (Ok tt) ran missed (λ r d. d) r drafts
+
+-- ---- further groups, one behind the other
+
+pub any_default : (xs : List ℕ) (i d e : ℕ) → i < length xs → get_or xs i d ≡ get_or xs i e
+any_default xs i d e low = grind (arith, common_steps)

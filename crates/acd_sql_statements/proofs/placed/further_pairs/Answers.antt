@@ -1,0 +1,24 @@
+use Rattle.std.proofs.Common.{ℕ, map, rules}
+use Rattle.std.specs.Prelude.{Vec, IsPermutation}
+use Rattle.std.specs.declared.alloc.Global.{Global}
+use Rattle.acd_sql_columns.specs.declared.tables.Table.TheVariants as table
+use Rattle.acd_sql_columns.specs.AnyRows.{rows_in}
+use Rattle.acd_sql_columns.specs.Decoding.{as_further}
+use Rattle.acd_sql_columns.proofs.Seen.{sees_fail}
+use Rattle.sqlite.specs.Held.{state}
+use Rattle.acd_sql_statements.proofs.Beside.{pairs_seen}
+use Rattle.acd_sql_statements.proofs.placed.further_pairs.Goals as goal
+
+pub returns-in-Ok : goal.returns-in-Ok
+returns-in-Ok g c = record {
+  idle = search rules;
+  seen = λ d is.
+      pairs_seen d (state g.S.Store c.args.conn.now) (state g.S.Store c.further_rows.new.conn) c.in-Ok.rows c.records.result (rw c.deref.ensures.value at c.records.ensures.records) (c.in-Ok.ensures.seen d is);
+}
+
+pub returns-in-Err : goal.returns-in-Err
+returns-in-Err g c = record {
+  idle = search rules;
+  seen = λ d is.
+      sees_fail d (state g.S.Store c.args.conn.now) (state g.S.Store c.further_rows.new.conn) c.in-Err.error _ (λ (pairs : Vec (ℕ × ℕ) Global). IsPermutation (map as_further (rows_in table.AgentGroups d.trees)) pairs.items) (c.in-Err.ensures.seen d is);
+}

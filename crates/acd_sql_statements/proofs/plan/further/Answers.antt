@@ -1,0 +1,30 @@
+use Rattle.sqlite.specs.Held.{state}
+use Rattle.acd_sql_statements.proofs.Chained.{finds_failed}
+use Rattle.acd_book.specs.Content.{Content}
+use Rattle.acd_sql_columns.specs.Ranges.{further_in as read}
+use Rattle.acd_sql_columns.specs.Relations.{further_in}
+use Rattle.acd_sql_columns.specs.Rows.{further_values}
+use Rattle.acd_sql_columns.proofs.Records.{further_exact}
+use Rattle.acd_sql_columns.proofs.Recorded.{recorded}
+use Rattle.std.proofs.Common.{map, refl, rules}
+use Rattle.acd_sql_columns.specs.declared.tables.Table.TheVariants as table
+use Rattle.acd_sql_statements.proofs.Blamed.{blames_fail}
+use Rattle.acd_sql_statements.proofs.BlamedRows.{blames_records}
+use Rattle.acd_sql_statements.proofs.plan.further.Goals as goal
+
+pub returns-in-Ok : goal.returns-in-Ok
+returns-in-Ok g c = record {
+  idle = search rules;
+  found =
+      recorded read further_values further_exact (state g.S.Store c.args.conn.now) (state g.S.Store c.further_rows.new.conn) c.in-Ok.rows c.records.result (λ (x : Content). further_in x.rows.agents) c.in-Ok.ensures.found (rw c.deref.ensures.value at c.records.ensures.records);
+  blamed =
+      blames_records read table.AgentGroups (λ row. refl) (state g.S.Store c.args.conn.now) (state g.S.Store c.further_rows.new.conn) c.in-Ok.rows c.records.result (λ (x : Content). map further_values (further_in x.rows.agents)) (λ x row has. has)
+      c.in-Ok.ensures.blamed c.in-Ok.ensures.found (rw c.deref.ensures.value at c.records.ensures.bad);
+}
+
+pub returns-in-Err : goal.returns-in-Err
+returns-in-Err g c = record {
+  idle = search rules;
+  found = finds_failed c.in-Err.ensures.found refl;
+  blamed = blames_fail (state g.S.Store c.args.conn.now) (state g.S.Store c.further_rows.new.conn) c.in-Err.error c.in-Err.ensures.blamed;
+}

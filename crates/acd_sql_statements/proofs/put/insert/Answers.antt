@@ -1,0 +1,29 @@
+use Rattle.std.proofs.Common.{rules}
+use Rattle.sqlite.specs.Held.{state}
+use Rattle.acd_sql_columns.proofs.Filed.{inserted_in}
+use Rattle.acd_sql_statements.specs.Refusing.{RefusesOn}
+use Rattle.acd_sql_statements.proofs.Refused.{refused_on, by_same, unless_ok}
+use Rattle.acd_sql_statements.proofs.put.insert.Goals as goal
+
+pub returns : goal.returns
+returns g c = record {
+  same = c.run.ensures.same;
+  works = c.run.ensures.works;
+  put = λ clean content drafts.
+      inserted_in g.R.Described.descr g.R.Described.filed c.args.item.now (g.R.Described.reads c.args.item.now) content (state g.S.Store c.args.tx.now.conn.now) (state g.S.Store c.run.new.tx.conn.now) c.in_ok-run.field-0 drafts
+      (rw (c.insert_text.ensures) at (c.in_ok-run.ensures.ran clean));
+  failed = λ clean r d. tt;
+}
+
+pub returns-in_err-run : goal.returns-in_err-run
+returns-in_err-run g c = record {
+  same = c.run.ensures.same;
+  works = c.run.ensures.works;
+  put = λ clean. unless_ok _ c.in_err-run.field-0.0 c.from_residual.result (search rules);
+  failed =
+      let old = state g.S.Store c.args.tx.now.conn.now in
+      let new = state g.S.Store c.run.new.tx.conn.now in
+      let values = g.R.Described.descr.values c.args.item.now in
+      by_same old new (RefusesOn g.R.Described.descr.insert values) c.in_err-run.field-0.0 c.from_residual.result (search rules)
+      (λ clean r d. refused_on old new g.R.Described.descr.insert values c.in_err-run.field-0.0 r d (rw c.insert_text.ensures at (c.in_err-run.ensures.failed clean d.inside)));
+}

@@ -1,0 +1,67 @@
+use Rattle.std.proofs.Common.{◌≡◌, ℕ, Err, inl, inr, rules, arith, ◌∙◌}
+use Rattle.sqlite.specs.Held.{state}
+use Rattle.acd_sql_columns.proofs.Endings.{works_on}
+use Rattle.sqlite.specs.State.{HasCleanDisk}
+use Rattle.acd_sql_columns.proofs.Filed.{updated_in, put_in}
+use Rattle.acd_sql_statements.specs.Refusing.{RefusesOn, RefusesPut}
+use Rattle.acd_sql_statements.proofs.Refused.{refused_on, by_more, by_same, by_later, still_drafts, unless_ok}
+use Rattle.acd_sql_statements.proofs.put.put.Goals as goal
+
+pub returns-then-changed-gt0 : goal.returns-then-changed-gt0
+returns-then-changed-gt0 g c = record {
+  same = c.run.ensures.same;
+  works = c.run.ensures.works;
+  put = λ clean content drafts.
+      updated_in g.R.Described.descr g.R.Described.filed g.R.Changed.update g.met.R.Changed.updates c.args.item.now (g.R.Described.reads c.args.item.now) content (state g.S.Store c.args.tx.now.conn.now) (state g.S.Store c.run.new.tx.conn.now) c.in_ok-changed.changed drafts
+      (rw (c.update_text.ensures) at (c.in_ok-changed.ensures.ran clean)) (λ none. omega (arith, none, c.if-changed-gt0.true));
+  failed = λ clean r drafts. tt;
+}
+
+pub returns : goal.returns
+returns g c = record {
+  same = c.run-2.ensures.same ∙ c.run.ensures.same;
+  works = works_on _ _ _ c.run.ensures.works c.run-2.ensures.works;
+  put = λ clean content drafts.
+      let old = state g.S.Store c.args.tx.now.conn.now in
+      let mid = state g.S.Store c.run.new.tx.conn.now in
+      let new = state g.S.Store c.run-2.new.tx.conn.now in
+      let middle : HasCleanDisk mid = omega (arith, clean, c.run-2.ensures.works.survives.clean) in
+      let none : c.in_ok-changed.changed ≡ 0 = omega (arith, c.if-changed-gt0.false) in
+      put_in g.R.Described.descr g.R.Described.filed g.R.Changed.update g.met.R.Changed.updates c.args.item.now (g.R.Described.reads c.args.item.now) content old mid new c.in_ok-changed.changed c.in_ok-run.field-0 drafts
+      (rw (c.update_text.ensures) at (c.in_ok-changed.ensures.ran middle)) none (rw (c.insert_text.ensures) at (c.in_ok-run.ensures.ran clean));
+  failed = λ clean r drafts. tt;
+}
+
+pub returns-in_err-changed : goal.returns-in_err-changed
+returns-in_err-changed g c = record {
+  same = c.run.ensures.same;
+  works = c.run.ensures.works;
+  put = λ clean. unless_ok _ c.in_err-changed.field-0.0 c.from_residual.result (search rules);
+  failed =
+      let old = state g.S.Store c.args.tx.now.conn.now in
+      let mid = state g.S.Store c.run.new.tx.conn.now in
+      let x = c.args.item.now in
+      let values = g.R.Described.descr.values x in
+      by_more old mid (RefusesOn g.R.Changed.update values) (RefusesPut g.R.Described.descr g.R.Changed.update x) c.from_residual.result (λ limit r h. inl h)
+      (by_same old mid (RefusesOn g.R.Changed.update values) c.in_err-changed.field-0.0 c.from_residual.result (search rules)
+      (λ clean r d. refused_on old mid g.R.Changed.update values c.in_err-changed.field-0.0 r d (rw c.update_text.ensures at (c.in_err-changed.ensures.failed clean d.inside))));
+}
+
+pub returns-in_err-run : goal.returns-in_err-run
+returns-in_err-run g c = record {
+  same = c.run-2.ensures.same ∙ c.run.ensures.same;
+  works = works_on _ _ _ c.run.ensures.works c.run-2.ensures.works;
+  put = λ clean. unless_ok _ c.in_err-run.field-0.0 c.from_residual-in_err-run.result (search rules);
+  failed =
+      let old = state g.S.Store c.args.tx.now.conn.now in
+      let mid = state g.S.Store c.run.new.tx.conn.now in
+      let new = state g.S.Store c.run-2.new.tx.conn.now in
+      let x = c.args.item.now in
+      let d = g.R.Described.descr in
+      let none : c.in_ok-changed.changed ≡ 0 = omega (arith, c.if-changed-gt0.false) in
+      by_more old new (RefusesOn d.insert (d.values x)) (RefusesPut d g.R.Changed.update x) c.from_residual-in_err-run.result (λ limit r h. inr h)
+      (by_same old new (RefusesOn d.insert (d.values x)) c.in_err-run.field-0.0 c.from_residual-in_err-run.result (search rules)
+      (by_later {A = ℕ} old mid new (λ r. r) (RefusesOn d.insert (d.values x)) (Err c.in_err-run.field-0.0) c.run.ensures.works c.run-2.ensures.works
+      (λ middle r drafts. still_drafts d g.R.Described.filed g.R.Changed.update g.met.R.Changed.updates x r old mid c.in_ok-changed.changed drafts (rw c.update_text.ensures at (c.in_ok-changed.ensures.ran middle)) none)
+      (λ clean r drafts. refused_on mid new d.insert (d.values x) c.in_err-run.field-0.0 r drafts (rw c.insert_text.ensures at (c.in_err-run.ensures.failed clean drafts.inside)))));
+}

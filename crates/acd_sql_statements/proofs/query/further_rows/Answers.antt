@@ -1,0 +1,15 @@
+use Rattle.std.proofs.Common.{rules}
+use Rattle.sqlite.specs.Held.{state}
+use Rattle.acd_sql_columns.proofs.AgentGroups.{groups_plain, shows_groups}
+use Rattle.acd_sql_columns.proofs.Listings.{finds}
+use Rattle.acd_sql_statements.proofs.Answered.{further_answered}
+use Rattle.acd_sql_statements.proofs.query.further_rows.Goals as goal
+
+pub returns : goal.returns
+returns g c = record {
+  idle = search rules;
+  found =
+      let e = c.read.ensures in
+      finds _ _ (state g.S.Store c.args.conn.now) (state g.S.Store c.read.new.conn) c.read.result groups_plain _ e.up e.quiet e.stops e.shown (shows_groups _ _);
+  blamed = c.read.ensures.blamed further_answered;
+}

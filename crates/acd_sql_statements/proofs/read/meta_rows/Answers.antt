@@ -1,0 +1,25 @@
+use Rattle.sqlite.specs.Held.{state}
+use Rattle.acd_sql_columns.proofs.Selections.{meta_plain, reads_meta_if}
+use Rattle.acd_sql_columns.proofs.Looked.{sees_meta}
+use Rattle.std.proofs.Common.{refl}
+use Rattle.acd_sql_columns.specs.Schema.{book_schema}
+use Rattle.acd_sql_columns.proofs.Listings.{book_begins}
+use Rattle.acd_sql_statements.proofs.Answered.{counters_answered}
+use Rattle.acd_sql_statements.proofs.read.meta_rows.Goals as goal
+
+pub returns-clause-found : goal.returns-clause-found
+returns-clause-found g c =
+    let e = c.read.ensures in
+    let plain = meta_plain book_schema (book_begins book_schema refl) in
+    record {
+      up = e.up;
+      quiet = e.quiet plain;
+      stops = λ clean x held. e.stops clean plain x held;
+      answer = λ clean. reads_meta_if (state g.S.Store c.args.conn.now) (state g.S.Store c.read.new.conn) c.read.result (e.shown clean);
+    }
+
+pub returns-clause-seen : goal.returns-clause-seen
+returns-clause-seen g c d is = sees_meta d (state g.S.Store c.args.conn.now) (state g.S.Store c.read.new.conn) c.read.result is (c.read.ensures.seen d (meta_plain d.schema is))
+
+pub returns-clause-blamed : goal.returns-clause-blamed
+returns-clause-blamed g c = c.read.ensures.blamed counters_answered

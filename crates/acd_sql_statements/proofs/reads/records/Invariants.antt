@@ -1,0 +1,5 @@
+use Rattle.std.proofs.Common.{◌≡◌, map, take, Some}
+use Rattle.acd_sql_statements.proofs.reads.records.Given as goal
+
+abbrev pub invariant-loop-row : goal.invariant-loop-row
+invariant-loop-row g l = map Some l.records.items ≡ map g.R.Decoded.in_row (take l.row-index l.rows)

@@ -1,0 +1,20 @@
+use Rattle.std.proofs.Common.{Ok, rules}
+use Rattle.sqlite.specs.Held.{state}
+use Rattle.acd_sql_columns.specs.AnyRows.{TellsGood}
+use Rattle.acd_sql_columns.proofs.Seen.{sees_fail}
+use Rattle.acd_sql_columns.proofs.Selected.{told}
+use Rattle.acd_sql_statements.proofs.select.is_good.Goals as goal
+
+pub returns-in-Err : goal.returns-in-Err
+returns-in-Err g c = record {
+  idle = search rules;
+  seen = λ d is.
+      sees_fail d (state g.S.Store c.args.conn.now) (state g.S.Store c.rows.new.conn) c.in-Err.error _ (λ good. TellsGood g.R.Described.descr.table d.trees good) (c.in-Err.ensures.seen d is);
+}
+
+pub returns-in-Ok : goal.returns-in-Ok
+returns-in-Ok g c = record {
+  idle = search rules;
+  seen = λ d is.
+      told g.R.Described.descr g.R.Described.filed d (state g.S.Store c.args.conn.now) (state g.S.Store c.rows.new.conn) c.in-Ok.rows (Ok c.are_read.result) (rw c.deref.ensures.value at c.are_read.ensures) (c.in-Ok.ensures.seen d is);
+}

@@ -1,0 +1,17 @@
+use Rattle.sqlite.specs.Held.{state}
+use Rattle.acd_sql_columns.proofs.Selected.{rows_found, rows_seen}
+use Rattle.std.proofs.Common.{[], sym, subst}
+use Rattle.acd_sql_statements.specs.Reading.{IsAnswered}
+use Rattle.acd_sql_statements.proofs.select.rows.Goals as goal
+
+pub returns-clause-found : goal.returns-clause-found
+returns-clause-found g c =
+    let e = c.read.ensures in
+    rows_found g.R.Described.descr g.R.Described.filed g.R.Selected.base g.R.Selected.select g.met.R.Selected.selects c.select_text.result.now c.select_text.ensures (state g.S.Store c.args.conn.now) (state g.S.Store c.read.new.conn) c.read.result e.up e.quiet e.stops e.shown
+
+pub returns-clause-seen : goal.returns-clause-seen
+returns-clause-seen g c d is =
+    rows_seen g.R.Described.descr g.R.Described.filed g.R.Selected.base g.R.Selected.select g.met.R.Selected.selects c.select_text.result.now c.select_text.ensures (state g.S.Store c.args.conn.now) (state g.S.Store c.read.new.conn) c.read.result d is (c.read.ensures.seen d)
+
+pub returns-clause-blamed : goal.returns-clause-blamed
+returns-clause-blamed g c answers = c.read.ensures.blamed (subst (λ t. IsAnswered t []) (sym c.select_text.ensures) answers)

@@ -1,0 +1,88 @@
+-- Why a read between transactions fails.
+use Rattle.std.specs.Prelude.{◌≡◌, ◌⊎◌, ℕ, ◌≤◌, false, List, [], map, Option, None, Some, Result, Ok, IfErr, IsSome, ⊤}
+use Rattle.sqlite_disk.specs.Disk.{MoreFaults}
+use Rattle.sqlite_value.specs.Order.{Row}
+use Rattle.sqlite_rules.specs.Lists.{Has}
+use Rattle.sqlite_sql.specs.Program.{ProgramOverflows}
+use Rattle.sqlite_typing.specs.Types.{accepts_program}
+use Rattle.sqlite_schema.specs.Program.{lets_of}
+use Rattle.sqlite_schema.specs.declared.command.Command.{Command}
+use Rattle.sqlite_schema.specs.declared.command.Command.TheVariants.{Select, Rows}
+use Rattle.sqlite_schema.specs.declared.command.Returning.{Returning}
+use Rattle.sqlite_resolve.specs.declared.compiled.Compiled.{Compiled}
+use Rattle.sqlite.specs.declared.error.Error.{Error}
+use Rattle.sqlite.specs.Clock.{timed}
+use Rattle.sqlite.specs.Effect.{Database}
+use Rattle.sqlite.specs.Listing.{understood, reads_listing, IsSourceOf}
+use Rattle.sqlite.specs.State.{State, HasCleanDisk}
+use Rattle.acd_terms.specs.Groups.{are_groups}
+use Rattle.acd_book.specs.Content.{Content}
+use Rattle.acd_sql_columns.specs.declared.relations.AgentRow.{AgentRow}
+use Rattle.acd_sql_columns.specs.Descriptions.{Description}
+use Rattle.acd_sql_columns.specs.Draft.{Fits, HoldsContent}
+use Rattle.acd_sql_columns.specs.Relations.{joined_agent, relations_of}
+use Rattle.acd_sql_columns.specs.Schema.{book_schema}
+use Rattle.acd_sql_columns.specs.Values.{whole_at}
+use Rattle.acd_sql_statements.specs.Failing.{IsMemory, StoreHasFailed, IsUnreadText}
+use Rattle.acd_sql_statements.specs.InRange.{IsInRange, values_of}
+
+-- ---- of one text
+
+-- a value is none of the kind that the query works on, or a sum is too great
+abbrev pub IsUnanswered : Command → Database → Row → Type 0
+IsUnanswered (Select q names) db params = (accepts_program db.schema (lets_of q) q.body params ≡ false) ⊎ ProgramOverflows db.trees params [] (lets_of q) q.body
+IsUnanswered (Rows values width names) db params = ⊥
+IsUnanswered _ db params = ⊤
+
+-- the store refuses to answer the text on this database
+unfoldable pub RefusesToShow : Database → List ℕ → Row → Type 0
+RefusesToShow d sql params =
+    IsUnreadText d.schema sql params
+    ⊎ ((c : Compiled) × (understood d.schema sql ≡ Ok c)
+    × (((what : Returning) × (c.returning ≡ Some what)) ⊎ ((now : ℕ) × (db : Database) × IsSourceOf (reads_listing d.schema sql) d db × IsUnanswered c.command db (timed params c.formats now))))
+
+-- why a query fails
+abbrev pub FailsToShow : State → State → List ℕ → Row → Error → Type 0
+FailsToShow old new sql params e = IsMemory e ⊎ (StoreHasFailed old new ⊎ (IsSome old.step_limit ⊎ RefusesToShow old.now sql params))
+
+-- in tables of a book the store never refuses it
+abbrev pub IsAnswered : List ℕ → Row → Type 0
+IsAnswered sql params = (d : Database) → d.schema ≡ book_schema → ¬ (RefusesToShow d sql params)
+
+-- ---- of rows
+
+-- one of them stands for no record
+abbrev pub HasBad : {R : Type 0} → (Row → Option R) → List Row → Type 0
+HasBad in_row rows = (row : Row) × Has rows row × (in_row row ≡ None)
+
+-- why no records are made of them
+abbrev pub FailsToDecode : {R : Type 0} → (Row → Option R) → List Row → Error → Type 0
+FailsToDecode in_row rows e = IsMemory e ⊎ HasBad in_row rows
+
+-- one of them begins with no number above what a column holds
+abbrev pub HasFitting : List Row → Type 0
+HasFitting rows = (one : Row) × Has rows one × ((n : ℕ) → whole_at one 0 ≡ Some n → Fits n)
+
+-- an agent of them has more than eight groups, or some that don't ascend
+abbrev pub HasStray : List (ℕ × ℕ) → List AgentRow → Type 0
+HasStray further parts = (part : AgentRow) × Has parts part × (are_groups (joined_agent further part).groups ≡ false)
+
+-- ---- of a content
+
+-- what is said of its table's values is said of the records
+abbrev pub IsToldOf : {R : Type 0} → Description R → Type 0
+IsToldOf d = (c : Content) → values_of d.table c ≡ map d.values (d.records (relations_of c))
+
+-- no memory, a fault of the store, a limit of steps that was set, or a value out of its range
+abbrev pub FailsToRead : Content → State → State → Error → Type 0
+FailsToRead c old new e = IsMemory e ⊎ (MoreFaults old.faults new.faults ⊎ (IsSome old.step_limit ⊎ (¬ (IsInRange c))))
+
+-- what a read leaves of the store's count and of the limit of steps, and why it fails where this holds of the content
+pub record BlamesIf {A : Type 0} (P : Content → Type 0) (old new : State) (result : Result A Error) : Type 0 where
+  pub counts : old.faults ≤ new.faults
+  pub limit : new.step_limit ≡ old.step_limit
+  pub cause : HasCleanDisk new → (c : Content) → HoldsContent old c → P c → IfErr result (FailsToRead c old new)
+
+-- of any content
+abbrev pub Blames : {A : Type 0} → State → State → Result A Error → Type 0
+Blames old new result = BlamesIf (λ _. ⊤) old new result

@@ -1,0 +1,79 @@
+//! The queries by which a connection is looked at before it is taken for a book.
+
+ghost use Rattle.std.specs.Prelude.{◌≡◌, ◌∷◌, [], false, map, codes, IsPermutation};
+ghost use Rattle.std.specs.Str.{bytes_eq};
+ghost use Rattle.sqlite_value.specs.Order.{column};
+ghost use Rattle.acd_sql_columns.specs.declared.tables.Log.TheVariants as log;
+ghost use Rattle.acd_sql_columns.specs.declared.tables.Table.TheVariants as table;
+ghost use Rattle.acd_sql_columns.specs.AnyRows.{has_meta, rows_in, BeginsAsBook, TellsLow};
+ghost use Rattle.acd_sql_columns.specs.Content.{tree_of};
+ghost use Rattle.acd_sql_columns.specs.Schema.{nine, BeginsSchema};
+ghost use Rattle.acd_sql_statements.specs.Between.{LooksAt, IsBookSchema};
+
+use crate::read::read;
+use acd_sql_columns::texts::{
+    SELECT_LOW_EVENT, SELECT_LOW_KEPT, SELECT_STANDING_AGENT_GROUPS, SELECT_STANDING_CONNECTIONS,
+    SELECT_VERSION,
+};
+use sqlite::{Alter, Connection, Error, Row};
+use sqlite_schema::schema::{Schema, Table};
+
+fn is_meta(table: &Table) -> bool
+    ensures { result ≡ bytes_eq table.now.name (codes "meta") }
+{
+    table.name.as_slice() == b"meta".as_slice()
+}
+
+/// Whether a table of any shape has the name `meta`.
+#[tactic(auto, unfolding(acd_sql_columns::specs::AnyRows::has_meta))]
+pub fn has_meta(schema: &Schema) -> bool
+    ensures { result ≡ has_meta schema.now.tables }
+{
+    schema.tables.as_slice().iter().any(|table| is_meta(table))
+}
+
+/// The versions that the table tells.
+pub fn version_rows<S: Alter>(conn: &mut Connection<S>) -> Result<Vec<Row>, Error>
+    requires { conn.old.in_transaction ≡ false }
+    ensures { LooksAt BeginsAsBook S.Store conn.old conn.new result
+        (λ d rows. IsPermutation
+        (map (λ r. column r 2 ∷ []) (d.trees (tree_of table.Meta))) rows.items) }
+{
+    read(conn, SELECT_VERSION, &[])
+}
+
+/// The rows of connections in the order in which they stand. Their key isn't the number of a row, so that to put them in its order takes longer than to read them.
+pub fn unordered_connection_rows<S: Alter>(conn: &mut Connection<S>) -> Result<Vec<Row>, Error>
+    requires { conn.old.in_transaction ≡ false }
+    ensures { LooksAt (BeginsSchema nine) S.Store conn.old conn.new result
+        (λ d rows. IsPermutation (rows_in table.Connections d.trees) rows.items) }
+{
+    read(conn, SELECT_STANDING_CONNECTIONS, &[])
+}
+
+/// The rows of further groups, in the order in which they stand.
+pub fn further_rows<S: Alter>(conn: &mut Connection<S>) -> Result<Vec<Row>, Error>
+    requires { conn.old.in_transaction ≡ false }
+    ensures { LooksAt IsBookSchema S.Store conn.old conn.new result
+        (λ d rows. IsPermutation (rows_in table.AgentGroups d.trees) rows.items) }
+{
+    read(conn, SELECT_STANDING_AGENT_GROUPS, &[])
+}
+
+/// An event whose number is below 1.
+pub(crate) fn low_event_rows<S: Alter>(conn: &mut Connection<S>) -> Result<Vec<Row>, Error>
+    requires { conn.old.in_transaction ≡ false }
+    ensures { LooksAt (BeginsSchema nine) S.Store conn.old conn.new result
+        (λ d rows. TellsLow log.Events d.trees rows.items) }
+{
+    read(conn, SELECT_LOW_EVENT, &[])
+}
+
+/// A kept record whose stamp is below 1.
+pub(crate) fn low_kept_rows<S: Alter>(conn: &mut Connection<S>) -> Result<Vec<Row>, Error>
+    requires { conn.old.in_transaction ≡ false }
+    ensures { LooksAt (BeginsSchema nine) S.Store conn.old conn.new result
+        (λ d rows. TellsLow log.Kept d.trees rows.items) }
+{
+    read(conn, SELECT_LOW_KEPT, &[])
+}

@@ -1,0 +1,195 @@
+//! Reads between transactions by key and in pages, as records.
+//!
+//! A number or a limit that no INTEGER column can hold is asked for as the greatest that one can. Nothing
+//! stands above that, and no answer is so long, which is seen to before the rows are handed on.
+
+ghost use Rattle.std.specs.Prelude.{◌≡◌, ◌⊎◌, ◌-◌, ◌^◌, ◌<◌, [], false, length, map, take, filter, Some, IfErr, IfOk, IfSome, OnOk};
+ghost use Rattle.acd_model.specs.Scans.{monitor_of};
+ghost use Rattle.acd_book.specs.Content.{IsKeptAfter, events_behind, events_of_monitor, is_told, kept_of};
+ghost use Rattle.acd_sql_columns.specs.Rows.{event_values, kept_values};
+ghost use Rattle.acd_sql_columns.specs.Draft.{Fits};
+ghost use Rattle.acd_sql_columns.specs.Finding.{kept_behind};
+ghost use Rattle.acd_sql_columns.specs.Values.{whole_at};
+ghost use Rattle.acd_sql_statements.specs.Failing.{IsMemory};
+ghost use Rattle.acd_sql_statements.specs.Reading.{HasFitting};
+ghost use Rattle.acd_sql_statements.specs.Between.{LooksUp};
+
+use crate::fitting::fits;
+use crate::query::{event_rows, event_rows_at, kept_row, kept_rows, monitor_row};
+use crate::reads::{first, records};
+use crate::select;
+use acd_book::Kept;
+use acd_terms::{DeviceId, Event, Invoke, MonitorRecord, Requester, find};
+use sqlite::types::ValueRef;
+use sqlite::{Alter, Connection, Error, ErrorCode, Row};
+use std::alloc::Global;
+
+const GREATEST: u64 = i64::MAX as u64;
+
+// The number that a row begins with, which its column holds.
+fn number_of(row: &Row) -> Option<u64>
+    ensures value { result ≡ whole_at row.now 0 }
+    ensures fits { IfSome result Fits }
+{
+    match row.get_ref(0) {
+        Ok(ValueRef::Int(number)) => u64::try_from(number).ok(),
+        _ => None,
+    }
+}
+
+// The rows of a query that was asked for the least of each number and the greatest, where they are those of
+// the numbers themselves.
+fn meant(rows: Vec<Row>, number: u64, limit: u64) -> Result<Vec<Row>, Error>
+    ensures same { IfOk result (λ page. page ≡ rows) }
+    ensures none { OnOk result (¬ (Fits number) → rows.items ≡ []) }
+    ensures fewer { OnOk result (¬ (Fits limit) → length rows.items < 2 ^ 63 - 1) }
+    ensures other { IfErr result (λ e. IsMemory e ⊎ ((¬ (Fits number)) × HasFitting rows.items)) }
+{
+    if !fits(number) {
+        if let Some(row) = rows.first() {
+            // It is read so that its range is known: no column holds a number that is above.
+            let _fits = number_of(row);
+            return Err(Error::SqliteFailure(ErrorCode::DatabaseCorrupt));
+        }
+    }
+    if !fits(limit) && rows.len() as u64 >= GREATEST {
+        return Err(Error::SqliteFailure(ErrorCode::OutOfMemory));
+    }
+    Ok(rows)
+}
+
+fn event_page<S: Alter>(
+    conn: &mut Connection<S>,
+    number: u64,
+    limit: u64,
+) -> Result<Vec<Row>, Error>
+    requires { conn.old.in_transaction ≡ false }
+    ensures { LooksUp S.Store conn.old conn.new result
+        (λ c rows. rows.items ≡ map event_values (events_behind c.events number limit)) }
+{
+    let rows = event_rows(conn, number.min(GREATEST), limit.min(GREATEST))?;
+    meant(rows, number, limit)
+}
+
+fn event_page_at<S: Alter>(
+    conn: &mut Connection<S>,
+    device: DeviceId,
+    number: u64,
+    limit: u64,
+) -> Result<Vec<Row>, Error>
+    requires { conn.old.in_transaction ≡ false }
+    ensures { LooksUp S.Store conn.old conn.new result
+        (λ c rows. rows.items
+        ≡ map event_values (take limit (filter (is_told (Some device) number) c.events))) }
+{
+    let rows = event_rows_at(conn, device, number.min(GREATEST), limit.min(GREATEST))?;
+    meant(rows, number, limit)
+}
+
+// The first row of a kept record above a stamp.
+fn kept_page<S: Alter>(conn: &mut Connection<S>, stamp: u64) -> Result<Vec<Row>, Error>
+    requires { conn.old.in_transaction ≡ false }
+    ensures { LooksUp S.Store conn.old conn.new result
+        (λ c rows. rows.items ≡ map kept_values (kept_behind c.kept stamp 1)) }
+{
+    let rows = kept_rows(conn, stamp.min(GREATEST), 1)?;
+    meant(rows, stamp, 1)
+}
+
+/// What is kept under a key.
+pub fn kept_under<S: Alter>(
+    alloc: Global,
+    conn: &mut Connection<S>,
+    requester: &Requester,
+    invoke: Invoke,
+) -> Result<Option<Kept>, Error>
+    requires { conn.old.in_transaction ≡ false }
+    ensures { LooksUp S.Store conn.old conn.new result
+        (λ c found. found ≡ kept_of c.kept requester.now invoke) }
+{
+    let rows = kept_row(conn, requester, invoke)?;
+    first(alloc, &rows)
+}
+
+/// The kept record of the least greater stamp.
+pub fn kept_behind<S: Alter>(
+    alloc: Global,
+    conn: &mut Connection<S>,
+    stamp: u64,
+) -> Result<Option<Kept>, Error>
+    requires { conn.old.in_transaction ≡ false }
+    ensures { LooksUp S.Store conn.old conn.new result (λ c found. IsKeptAfter c.kept stamp found) }
+{
+    let rows = kept_page(conn, stamp)?;
+    first(alloc, &rows)
+}
+
+/// The first events above a number.
+pub fn events_behind<S: Alter>(
+    alloc: Global,
+    conn: &mut Connection<S>,
+    number: u64,
+    limit: usize,
+) -> Result<Vec<Event>, Error>
+    requires { conn.old.in_transaction ≡ false }
+    ensures { LooksUp S.Store conn.old conn.new result
+        (λ c events. events.items ≡ events_behind c.events number limit) }
+{
+    let rows = event_page(conn, number, limit as u64)?;
+    records(alloc, &rows)
+}
+
+/// The first events at a device above a number.
+pub fn events_at<S: Alter>(
+    alloc: Global,
+    conn: &mut Connection<S>,
+    device: DeviceId,
+    number: u64,
+    limit: usize,
+) -> Result<Vec<Event>, Error>
+    requires { conn.old.in_transaction ≡ false }
+    ensures { LooksUp S.Store conn.old conn.new result
+        (λ c events. events.items ≡ take limit (filter (is_told (Some device) number) c.events)) }
+{
+    let rows = event_page_at(conn, device, number, limit as u64)?;
+    records(alloc, &rows)
+}
+
+/// A running monitor.
+pub fn monitor_at<S: Alter>(
+    alloc: Global,
+    conn: &mut Connection<S>,
+    number: u64,
+) -> Result<Option<MonitorRecord>, Error>
+    requires { conn.old.in_transaction ≡ false }
+    ensures { LooksUp S.Store conn.old conn.new result
+        (λ c found. found ≡ monitor_of c.rows number) }
+{
+    if !fits(number) {
+        let monitors = select::records::<MonitorRecord, S>(alloc, conn)?;
+        return Ok(find(&monitors, number));
+    }
+    let rows = monitor_row(conn, number)?;
+    first(alloc, &rows)
+}
+
+/// The first events of a running monitor above a number.
+pub fn events_watched<S: Alter>(
+    alloc: Global,
+    conn: &mut Connection<S>,
+    monitor: u64,
+    number: u64,
+    limit: usize,
+) -> Result<Vec<Event>, Error>
+    requires { conn.old.in_transaction ≡ false }
+    ensures { LooksUp S.Store conn.old conn.new result
+        (λ c events. events.items ≡ events_of_monitor c monitor number limit) }
+{
+    match monitor_at(alloc, conn, monitor)? {
+        Some(watch) => {
+            let above = number.max(watch.after_event);
+            events_at(alloc, conn, watch.device, above, limit)
+        }
+        None => Ok(Vec::new(alloc)),
+    }
+}

@@ -1,0 +1,64 @@
+//! Reads of events by their numbers.
+
+ghost use Rattle.std.specs.Prelude.{◌≡◌, ◌++◌, ◌-◌, false, IfErr, OnOk};
+ghost use Rattle.sqlite.specs.Held.{state};
+ghost use Rattle.acd_book.specs.Content.{events_behind};
+ghost use Rattle.acd_sql_columns.specs.Finding.{Finds};
+ghost use Rattle.acd_sql_statements.specs.Failing.{IsMemory};
+ghost use Rattle.acd_sql_statements.specs.Picking.{picked, Serves};
+ghost use Rattle.acd_sql_statements.specs.Reading.{Blames};
+
+use crate::lookups::events_behind;
+use acd_terms::Event;
+use sqlite::{Alter, Connection, Error, ErrorCode};
+use std::alloc::Global;
+
+fn add_all<T: Copy + Drop>(found: &mut Vec<T>, more: &[T]) -> Result<(), Error>
+    ensures added { OnOk result (found.new.items ≡ found.old.items ++ more.now) }
+    ensures full { IfErr result IsMemory }
+{
+    match found.extend_from_slice(more) {
+        Ok(()) => Ok(()),
+        Err(_) => Err(Error::SqliteFailure(ErrorCode::OutOfMemory)),
+    }
+}
+
+// Adds the first event that isn't below the number.
+fn add_numbered<S: Alter>(
+    alloc: Global,
+    conn: &mut Connection<S>,
+    found: &mut Vec<Event>,
+    number: u64,
+) -> Result<(), Error>
+    requires { conn.old.in_transaction ≡ false }
+    ensures idle { conn.new.in_transaction ≡ false }
+    ensures found { Finds (state S.Store conn.old) (state S.Store conn.new) result
+        (λ c done. found.new.items ≡ found.old.items ++ events_behind c.events (number - 1) 1) }
+    ensures blamed { Blames (state S.Store conn.old) (state S.Store conn.new) result }
+{
+    match events_behind(alloc, conn, number.saturating_sub(1), 1) {
+        Ok(more) => add_all(found, &more),
+        Err(error) => Err(error),
+    }
+}
+
+/// For each of these numbers the first event that isn't below it, over a connection that serves.
+pub fn events_numbered<S: Alter>(
+    alloc: Global,
+    conn: &mut Connection<S>,
+    numbers: &[u64],
+) -> Result<Vec<Event>, Error>
+    requires { conn.old.in_transaction ≡ false }
+    ensures idle { conn.new.in_transaction ≡ false }
+    ensures found { Serves (state S.Store conn.old)
+        → Finds (state S.Store conn.old) (state S.Store conn.new) result
+        (λ c events. events.items ≡ picked c.events numbers.now) }
+    ensures blamed { Serves (state S.Store conn.old)
+        → Blames (state S.Store conn.old) (state S.Store conn.new) result }
+{
+    let mut found = Vec::new(alloc);
+    for number in numbers {
+        add_numbered(alloc, conn, &mut found, *number)?;
+    }
+    Ok(found)
+}

@@ -1,0 +1,166 @@
+//! Whether further groups and priorities belong to what stands beside them.
+
+ghost use Rattle.std.specs.Prelude.{◌≡◌, ◌==◌, false, nat_le, length, map, IsPermutation};
+ghost use Rattle.std.specs.List.{list_any, list_all};
+ghost use Rattle.acd_sql_columns.specs.declared.tables.Table.TheVariants as table;
+ghost use Rattle.acd_sql_columns.specs.AnyRows.{rows_in, is_beside, is_ranked};
+ghost use Rattle.acd_sql_columns.specs.Decoding.{as_group, as_agent, as_further};
+ghost use Rattle.acd_sql_columns.specs.Relations.{groups_beside, is_above, is_behind, are_behind, are_of_groups};
+ghost use Rattle.acd_sql_columns.specs.Schema.{nine, BeginsSchema};
+ghost use Rattle.acd_sql_statements.specs.Between.{LooksAt, IsBookSchema};
+
+use crate::look::further_rows;
+use crate::reads::records;
+use crate::select;
+use acd_sql_columns::{AgentRow, GroupPriority, GroupRow};
+use acd_terms::{AgentId, DeviceId};
+use sqlite::{Alter, Connection, Error};
+use std::alloc::Global;
+
+fn is_above(first: Option<DeviceId>, group: DeviceId) -> bool
+    ensures { result ≡ is_above first group }
+{
+    match first {
+        None => false,
+        Some(first) => first < group,
+    }
+}
+
+fn is_behind(agent: &AgentRow, pair: &(AgentId, DeviceId)) -> bool
+    ensures { result ≡ is_behind agent.now pair.now }
+{
+    agent.agent == pair.0 && is_above(agent.group, pair.1)
+}
+
+fn has_agent(agents: &[AgentRow], pair: &(AgentId, DeviceId)) -> bool
+    ensures { result ≡ list_any (λ a. is_behind a pair.now) agents.now }
+{
+    agents.iter().any(|agent| is_behind(agent, pair))
+}
+
+fn count_of(pairs: &[(AgentId, DeviceId)], agent: AgentId) -> usize
+    ensures { result ≡ length (groups_beside pairs.now agent) }
+{
+    let mut count = 0;
+    for pair in pairs {
+        if pair.0 == agent {
+            count += 1;
+        }
+    }
+    count
+}
+
+fn has_few(pairs: &[(AgentId, DeviceId)], agent: &AgentRow) -> bool
+    ensures { result ≡ nat_le (length (groups_beside pairs.now agent.now.agent)) 7 }
+{
+    count_of(pairs, agent.agent) <= 7
+}
+
+fn have_agents(agents: &[AgentRow], pairs: &[(AgentId, DeviceId)]) -> bool
+    ensures { result ≡ list_all (λ p. list_any (λ a. is_behind a p) agents.now) pairs.now }
+{
+    pairs.iter().all(|pair| has_agent(agents, pair))
+}
+
+fn have_few(agents: &[AgentRow], pairs: &[(AgentId, DeviceId)]) -> bool
+    ensures { result ≡ list_all (λ a. nat_le (length (groups_beside pairs.now a.agent)) 7) agents.now }
+{
+    agents.iter().all(|agent| has_few(pairs, agent))
+}
+
+fn are_behind(agents: &[AgentRow], pairs: &[(AgentId, DeviceId)]) -> bool
+    ensures { result ≡ are_behind agents.now pairs.now }
+{
+    have_agents(agents, pairs) && have_few(agents, pairs)
+}
+
+// Whether the pairs belong to the agents that stand there.
+fn are_behind_agents<S: Alter>(
+    alloc: Global,
+    conn: &mut Connection<S>,
+    pairs: &[(AgentId, DeviceId)],
+) -> Result<bool, Error>
+    requires { conn.old.in_transaction ≡ false }
+    ensures { LooksAt (BeginsSchema nine) S.Store conn.old conn.new result
+        (λ d placed. placed ≡ are_behind (map as_agent (rows_in table.Agents d.trees)) pairs.now) }
+{
+    match select::records::<AgentRow, S>(alloc, conn) {
+        Ok(agents) => Ok(are_behind(&agents, pairs)),
+        Err(error) => Err(error),
+    }
+}
+
+// The pairs, in the order in which they stand.
+fn further_pairs<S: Alter>(
+    alloc: Global,
+    conn: &mut Connection<S>,
+) -> Result<Vec<(AgentId, DeviceId)>, Error>
+    requires { conn.old.in_transaction ≡ false }
+    ensures { LooksAt IsBookSchema S.Store conn.old conn.new result
+        (λ d pairs. IsPermutation
+        (map as_further (rows_in table.AgentGroups d.trees)) pairs.items) }
+{
+    match further_rows(conn) {
+        Ok(rows) => records(alloc, &rows),
+        Err(error) => Err(error),
+    }
+}
+
+/// Whether each further group is behind the first one of its agent, who has seven at most. A value that is out of its range is a
+/// failure of the store.
+pub fn are_further_placed<S: Alter>(alloc: Global, conn: &mut Connection<S>) -> Result<bool, Error>
+    requires { conn.old.in_transaction ≡ false }
+    ensures { LooksAt IsBookSchema S.Store conn.old conn.new result
+        (λ d placed. placed ≡ is_beside d.trees) }
+{
+    match further_pairs(alloc, conn) {
+        Ok(pairs) => are_behind_agents(alloc, conn, &pairs),
+        Err(error) => Err(error),
+    }
+}
+
+fn has_group(groups: &[GroupRow], priority: &GroupPriority) -> bool
+    ensures { result ≡ list_any (λ g. g.device == priority.now.device) groups.now }
+{
+    groups.iter().any(|group| group.device == priority.device)
+}
+
+fn are_of_groups(groups: &[GroupRow], priorities: &[GroupPriority]) -> bool
+    ensures { result ≡ are_of_groups groups.now priorities.now }
+{
+    priorities
+        .iter()
+        .all(|priority| has_group(groups, priority))
+}
+
+// Whether the priorities belong to the groups that stand there.
+fn are_of_groups_there<S: Alter>(
+    alloc: Global,
+    conn: &mut Connection<S>,
+    priorities: &[GroupPriority],
+) -> Result<bool, Error>
+    requires { conn.old.in_transaction ≡ false }
+    ensures { LooksAt (BeginsSchema nine) S.Store conn.old conn.new result
+        (λ d placed. placed
+        ≡ are_of_groups (map as_group (rows_in table.Groups d.trees)) priorities.now) }
+{
+    match select::records::<GroupRow, S>(alloc, conn) {
+        Ok(groups) => Ok(are_of_groups(&groups, priorities)),
+        Err(error) => Err(error),
+    }
+}
+
+/// Whether each priority is of a group. A value that is out of its range is a failure of the store.
+pub fn are_priorities_placed<S: Alter>(
+    alloc: Global,
+    conn: &mut Connection<S>,
+) -> Result<bool, Error>
+    requires { conn.old.in_transaction ≡ false }
+    ensures { LooksAt IsBookSchema S.Store conn.old conn.new result
+        (λ d placed. placed ≡ is_ranked d.trees) }
+{
+    match select::records::<GroupPriority, S>(alloc, conn) {
+        Ok(priorities) => are_of_groups_there(alloc, conn, &priorities),
+        Err(error) => Err(error),
+    }
+}

@@ -1,0 +1,211 @@
+//! The groups and the agents, joined of what their tables hold.
+
+ghost use Rattle.std.specs.Prelude.{◌≡◌, ◌⊎◌, ◌<◌, ◌++◌, ◌∷◌, [], false, length, map, option_to_list, None, IfErr, IfOk, IfSome, OnOk};
+ghost use Rattle.sqlite.specs.Held.{state};
+ghost use Rattle.acd_terms.specs.Groups.{are_groups};
+ghost use Rattle.acd_sql_columns.specs.Finding.{Finds};
+ghost use Rattle.acd_sql_statements.specs.Failing.{IsMemory};
+ghost use Rattle.acd_sql_statements.specs.Reading.{BlamesIf, HasStray};
+ghost use Rattle.acd_sql_columns.specs.Relations.{group_part, agent_part, priority_of, joined_group, groups_beside, behind_first, joined_agent, further_in};
+ghost use Rattle.acd_sql_statements.specs.Between.{LooksUp};
+
+use crate::query::further_rows;
+use crate::reads::records;
+use crate::select;
+use acd_sql_columns::{AgentRow, GroupPriority, GroupRow};
+use acd_terms::{AgentId, AgentRecord, DeviceId, Few, GroupRecord, Groups, Priority};
+use sqlite::{Alter, Connection, Error, ErrorCode};
+use std::alloc::Global;
+
+fn push<R: Drop>(records: &mut Vec<R>, one: R) -> Result<(), Error>
+    ensures added { OnOk result (records.new.items ≡ records.old.items ++ one ∷ []) }
+    ensures full { IfErr result IsMemory }
+{
+    match records.push(one) {
+        Ok(()) => Ok(()),
+        Err(_) => Err(Error::SqliteFailure(ErrorCode::OutOfMemory)),
+    }
+}
+
+// The priority that stands for a group, and 0 where none does.
+fn priority_of(priorities: &[GroupPriority], device: DeviceId) -> Priority
+    ensures { result ≡ priority_of priorities.now device }
+{
+    for one in priorities {
+        if one.device == device {
+            return one.priority;
+        }
+    }
+    Priority::lowest()
+}
+
+fn joined_group(part: &GroupRow, priorities: &[GroupPriority]) -> GroupRecord
+    ensures { result ≡ joined_group priorities.now part.now }
+{
+    part.with_priority(priority_of(priorities, part.device))
+}
+
+fn joined_groups(
+    alloc: Global,
+    parts: &[GroupRow],
+    priorities: &[GroupPriority],
+) -> Result<Vec<GroupRecord>, Error>
+    ensures groups { IfOk result (λ groups.
+        groups.items ≡ map (joined_group priorities.now) parts.now) }
+    ensures full { IfErr result IsMemory }
+{
+    let mut groups = Vec::new(alloc);
+    for part in parts {
+        push(&mut groups, joined_group(part, priorities))?;
+    }
+    Ok(groups)
+}
+
+// The groups of these parts.
+fn ranked<S: Alter>(
+    alloc: Global,
+    conn: &mut Connection<S>,
+    parts: &[GroupRow],
+) -> Result<Vec<GroupRecord>, Error>
+    requires { conn.old.in_transaction ≡ false }
+    ensures { LooksUp S.Store conn.old conn.new result
+        (λ c groups. parts.now ≡ map group_part c.rows.groups → groups.items ≡ c.rows.groups) }
+{
+    match select::records::<GroupPriority, S>(alloc, conn) {
+        Ok(priorities) => joined_groups(alloc, parts, &priorities),
+        Err(error) => Err(error),
+    }
+}
+
+/// The groups.
+pub(crate) fn groups<S: Alter>(
+    alloc: Global,
+    conn: &mut Connection<S>,
+) -> Result<Vec<GroupRecord>, Error>
+    requires { conn.old.in_transaction ≡ false }
+    ensures { LooksUp S.Store conn.old conn.new result (λ c groups. groups.items ≡ c.rows.groups) }
+{
+    match select::records::<GroupRow, S>(alloc, conn) {
+        Ok(parts) => ranked(alloc, conn, &parts),
+        Err(error) => Err(error),
+    }
+}
+
+// ---- agents
+
+fn first(group: Option<DeviceId>) -> Few
+    ensures { result ≡ option_to_list group }
+{
+    match group {
+        None => Few::none(),
+        Some(group) => Few::one(group),
+    }
+}
+
+// The groups of an agent: its first one, and those that stand beside it. None where they are more than eight.
+fn groups_of(part: &AgentRow, further: &[(AgentId, DeviceId)]) -> Option<Few>
+    ensures groups { IfSome result (λ groups.
+        groups ≡ behind_first part.now.group (groups_beside further.now part.now.agent)) }
+    ensures many { result ≡ None
+        → 8 < length (behind_first part.now.group (groups_beside further.now part.now.agent)) }
+{
+    let mut groups = first(part.group);
+    for item in further {
+        if item.0 == part.agent {
+            if groups.len() >= 8 {
+                return None;
+            }
+            groups.push(item.1);
+        }
+    }
+    Some(groups)
+}
+
+// The same, where they ascend.
+fn ascending(list: &Few) -> Option<Groups>
+    ensures groups { IfSome result (λ groups. groups ≡ list.now) }
+    ensures other { result ≡ None → are_groups list.now ≡ false }
+{
+    let groups = Groups::in_order(list.as_slice())?;
+    if groups.as_slice() == list.as_slice() {
+        Some(groups)
+    } else {
+        None
+    }
+}
+
+fn joined_agent(part: &AgentRow, further: &[(AgentId, DeviceId)]) -> Option<AgentRecord>
+    ensures agent { IfSome result (λ agent. agent ≡ joined_agent further.now part.now) }
+    ensures other { result ≡ None → are_groups (joined_agent further.now part.now).groups ≡ false }
+{
+    let groups = groups_of(part, further)?;
+    let groups = ascending(&groups)?;
+    Some(part.with_groups(groups))
+}
+
+fn joined_agents(
+    alloc: Global,
+    parts: &[AgentRow],
+    further: &[(AgentId, DeviceId)],
+) -> Result<Vec<AgentRecord>, Error>
+    ensures agents { IfOk result (λ agents.
+        agents.items ≡ map (joined_agent further.now) parts.now) }
+    ensures other { IfErr result (λ e. IsMemory e ⊎ HasStray further.now parts.now) }
+{
+    let mut agents = Vec::new(alloc);
+    for part in parts {
+        match joined_agent(part, further) {
+            Some(agent) => push(&mut agents, agent)?,
+            None => return Err(Error::SqliteFailure(ErrorCode::DatabaseCorrupt)),
+        }
+    }
+    Ok(agents)
+}
+
+// The further groups, each beside its agent.
+fn further<S: Alter>(
+    alloc: Global,
+    conn: &mut Connection<S>,
+) -> Result<Vec<(AgentId, DeviceId)>, Error>
+    requires { conn.old.in_transaction ≡ false }
+    ensures { LooksUp S.Store conn.old conn.new result
+        (λ c pairs. pairs.items ≡ further_in c.rows.agents) }
+{
+    match further_rows(conn) {
+        Ok(rows) => records(alloc, &rows),
+        Err(error) => Err(error),
+    }
+}
+
+// The agents of these parts.
+fn grouped<S: Alter>(
+    alloc: Global,
+    conn: &mut Connection<S>,
+    parts: &[AgentRow],
+) -> Result<Vec<AgentRecord>, Error>
+    requires { conn.old.in_transaction ≡ false }
+    ensures idle { conn.new.in_transaction ≡ false }
+    ensures found { Finds (state S.Store conn.old) (state S.Store conn.new) result
+        (λ c agents. parts.now ≡ map agent_part c.rows.agents → agents.items ≡ c.rows.agents) }
+    ensures blamed { BlamesIf (λ c. parts.now ≡ map agent_part c.rows.agents)
+        (state S.Store conn.old) (state S.Store conn.new) result }
+{
+    match further(alloc, conn) {
+        Ok(further) => joined_agents(alloc, parts, &further),
+        Err(error) => Err(error),
+    }
+}
+
+/// The agents. One whose groups are more than eight, or don't ascend, is a failure of the store.
+pub(crate) fn agents<S: Alter>(
+    alloc: Global,
+    conn: &mut Connection<S>,
+) -> Result<Vec<AgentRecord>, Error>
+    requires { conn.old.in_transaction ≡ false }
+    ensures { LooksUp S.Store conn.old conn.new result (λ c agents. agents.items ≡ c.rows.agents) }
+{
+    match select::records::<AgentRow, S>(alloc, conn) {
+        Ok(parts) => grouped(alloc, conn, &parts),
+        Err(error) => Err(error),
+    }
+}

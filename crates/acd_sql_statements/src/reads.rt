@@ -1,0 +1,221 @@
+//! Reads between transactions, as records. A row with a value out of its range is a failure of the store.
+
+ghost use Rattle.std.specs.Prelude.{◌≡◌, ◌++◌, ◌∷◌, [], Option, Some, false, map, take, option_to_list, IfErr, IfOk, OnOk};
+ghost use Rattle.sqlite_value.specs.Order.{Row as Values};
+ghost use Rattle.acd_sql_columns.specs.Relations.{meta_of};
+ghost use Rattle.acd_sql_columns.specs.Finding.{joined_rows};
+ghost use Rattle.acd_sql_columns.specs.Rows.{meta_shown};
+ghost use Rattle.acd_sql_columns.specs.declared.meta.Meta.{Meta as MetaRow};
+ghost use Rattle.acd_sql_columns.specs.declared.tables.Table.TheVariants as table;
+ghost use Rattle.acd_sql_columns.specs.AnyRows.{is_good};
+ghost use Rattle.acd_sql_statements.specs.Failing.{IsMemory};
+ghost use Rattle.acd_sql_statements.specs.Reading.{FailsToDecode};
+ghost use Rattle.acd_sql_columns.specs.Ranges.{further_in, connection_in, monitor_in, event_in, kept_in};
+ghost use Rattle.acd_sql_statements.specs.Between.{LooksUp};
+
+use crate::query::connection_rows;
+use crate::read::meta_rows;
+use crate::{plan, select};
+use acd_book::Kept;
+use acd_sql_columns::{Meta, decode};
+use acd_terms::{
+    AgentId, AgentRecord, CallRecord, ConnectionRecord, DeviceId, Event, GroupRecord, Listed,
+    MonitorRecord, Rows, StationRecord,
+};
+use sqlite::{Alter, Connection, Error, ErrorCode, Row};
+use std::alloc::{AllocError, Global};
+
+type Plan = (Vec<GroupRecord>, Vec<StationRecord>, Vec<AgentRecord>);
+
+type Traffic = (Vec<CallRecord>, Vec<ConnectionRecord>, Vec<MonitorRecord>);
+
+/// A record that a row stands for, where each value is in its range.
+pub(crate) trait Decoded: Drop {
+    ghost in_row: { Values → Option Self };
+
+    fn decode(alloc: Global, row: &Row) -> Result<Option<Self>, AllocError>
+        ensures { IfOk result (λ found. found ≡ in_row row.now) };
+}
+
+impl Decoded for ConnectionRecord {
+    ghost in_row = { connection_in };
+
+    fn decode(_alloc: Global, row: &Row) -> Result<Option<ConnectionRecord>, AllocError> {
+        Ok(decode::connection_in(row))
+    }
+}
+
+// An agent and a group that it has behind its first.
+impl Decoded for (AgentId, DeviceId) {
+    ghost in_row = { further_in };
+
+    fn decode(_alloc: Global, row: &Row) -> Result<Option<(AgentId, DeviceId)>, AllocError> {
+        Ok(decode::further_in(row))
+    }
+}
+
+impl Decoded for MonitorRecord {
+    ghost in_row = { monitor_in };
+
+    fn decode(_alloc: Global, row: &Row) -> Result<Option<MonitorRecord>, AllocError> {
+        Ok(decode::monitor_in(row))
+    }
+}
+
+impl Decoded for Event {
+    ghost in_row = { event_in };
+
+    fn decode(_alloc: Global, row: &Row) -> Result<Option<Event>, AllocError> {
+        Ok(decode::event_in(row))
+    }
+}
+
+impl Decoded for Kept {
+    ghost in_row = { kept_in };
+
+    fn decode(alloc: Global, row: &Row) -> Result<Option<Kept>, AllocError> {
+        decode::kept_in(alloc, row)
+    }
+}
+
+fn read_one<R: Decoded>(alloc: Global, row: &Row) -> Result<R, Error>
+    ensures one { IfOk result (λ one. Some one ≡ R.in_row row.now) }
+    ensures bad { IfErr result (FailsToDecode R.in_row (row.now ∷ [])) }
+{
+    match R::decode(alloc, row) {
+        Ok(Some(record)) => Ok(record),
+        Ok(None) => Err(Error::SqliteFailure(ErrorCode::DatabaseCorrupt)),
+        Err(_) => Err(Error::SqliteFailure(ErrorCode::OutOfMemory)),
+    }
+}
+
+fn add<R: Drop>(records: &mut Vec<R>, one: R) -> Result<(), Error>
+    ensures added { OnOk result (records.new.items ≡ records.old.items ++ one ∷ []) }
+    ensures full { IfErr result IsMemory }
+{
+    match records.push(one) {
+        Ok(()) => Ok(()),
+        Err(_) => Err(Error::SqliteFailure(ErrorCode::OutOfMemory)),
+    }
+}
+
+/// The records of rows, in their order.
+pub(crate) fn records<R: Decoded>(alloc: Global, rows: &[Row]) -> Result<Vec<R>, Error>
+    ensures records { IfOk result (λ records. map Some records.items ≡ map R.in_row rows.now) }
+    ensures bad { IfErr result (FailsToDecode R.in_row rows.now) }
+{
+    let mut records = Vec::new(alloc);
+    for row in rows {
+        let one = read_one(alloc, row)?;
+        add(&mut records, one)?;
+    }
+    Ok(records)
+}
+
+/// The record of the first row, if there is one.
+pub(crate) fn first<R: Decoded>(alloc: Global, rows: &[Row]) -> Result<Option<R>, Error>
+    ensures found { IfOk result (λ found.
+        map Some (option_to_list found) ≡ map R.in_row (take 1 rows.now)) }
+    ensures bad { IfErr result (FailsToDecode R.in_row rows.now) }
+{
+    match rows.first() {
+        Some(row) => Ok(Some(read_one(alloc, row)?)),
+        None => Ok(None),
+    }
+}
+
+// What the one row of the table holds. Neither more rows nor a value out of its range is the book's.
+fn only_meta(rows: &[Row]) -> Result<Meta, Error>
+    ensures found { IfOk result (λ meta. (m : MetaRow) → rows.now ≡ meta_shown m ∷ [] → meta ≡ m) }
+    ensures bad { IfErr result (λ e. (m : MetaRow) → rows.now ≡ meta_shown m ∷ []
+        → is_good table.Meta (meta_shown m) ≡ false) }
+{
+    match rows {
+        [row] => match decode::counters_in(row) {
+            Some(meta) => Ok(meta),
+            None => Err(Error::SqliteFailure(ErrorCode::DatabaseCorrupt)),
+        },
+        _ => Err(Error::QueryReturnedNoRows),
+    }
+}
+
+/// The limits and the counters.
+pub fn read_meta<S: Alter>(conn: &mut Connection<S>) -> Result<Meta, Error>
+    requires { conn.old.in_transaction ≡ false }
+    ensures { LooksUp S.Store conn.old conn.new result (λ c meta. meta ≡ meta_of c.rows) }
+{
+    match meta_rows(conn) {
+        Ok(rows) => only_meta(&rows),
+        Err(error) => Err(error),
+    }
+}
+
+fn connections<S: Alter>(
+    alloc: Global,
+    conn: &mut Connection<S>,
+) -> Result<Vec<ConnectionRecord>, Error>
+    requires { conn.old.in_transaction ≡ false }
+    ensures { LooksUp S.Store conn.old conn.new result
+        (λ c connections. connections.items ≡ c.rows.connections) }
+{
+    let rows = connection_rows(conn)?;
+    records(alloc, &rows)
+}
+
+// The groups, the stations and the agents.
+fn planned<S: Alter>(alloc: Global, conn: &mut Connection<S>) -> Result<Plan, Error>
+    requires { conn.old.in_transaction ≡ false }
+    ensures { LooksUp S.Store conn.old conn.new result
+        (λ c t. (t.0.items ≡ c.rows.groups)
+        × (t.1.items ≡ c.rows.stations) × (t.2.items ≡ c.rows.agents)) }
+{
+    let groups = plan::groups(alloc, conn)?;
+    let stations = select::records::<StationRecord, S>(alloc, conn)?;
+    let agents = plan::agents(alloc, conn)?;
+    Ok((groups, stations, agents))
+}
+
+// The calls, the connections and the monitors.
+fn traffic<S: Alter>(alloc: Global, conn: &mut Connection<S>) -> Result<Traffic, Error>
+    requires { conn.old.in_transaction ≡ false }
+    ensures { LooksUp S.Store conn.old conn.new result
+        (λ c t. (t.0.items ≡ c.rows.calls)
+        × (t.1.items ≡ c.rows.connections) × (t.2.items ≡ c.rows.monitors)) }
+{
+    let calls = select::records::<CallRecord, S>(alloc, conn)?;
+    let connections = connections(alloc, conn)?;
+    let monitors = select::records::<MonitorRecord, S>(alloc, conn)?;
+    Ok((calls, connections, monitors))
+}
+
+fn joined(meta: Meta, plan: Plan, traffic: Traffic) -> Rows
+    ensures { result ≡ joined_rows meta plan.0.items plan.1.items plan.2.items traffic.0.items traffic.1.items traffic.2.items }
+{
+    let (groups, stations, agents) = plan;
+    let (calls, connections, monitors) = traffic;
+    Rows {
+        limits: meta.limits,
+        groups: Listed::new(groups),
+        stations: Listed::new(stations),
+        agents: Listed::new(agents),
+        calls: Listed::new(calls),
+        connections: Listed::new(connections),
+        monitors: Listed::new(monitors),
+        last_stamp: meta.last_stamp,
+        last_moment: meta.last_moment,
+        last_call: meta.last_call,
+        last_monitor: meta.last_monitor,
+        last_event: meta.last_event,
+    }
+}
+
+/// The limits, the tables and the counters.
+pub fn rows<S: Alter>(alloc: Global, conn: &mut Connection<S>) -> Result<Rows, Error>
+    requires { conn.old.in_transaction ≡ false }
+    ensures { LooksUp S.Store conn.old conn.new result (λ c rows. rows ≡ c.rows) }
+{
+    let meta = read_meta(conn)?;
+    let planned = planned(alloc, conn)?;
+    let live = traffic(alloc, conn)?;
+    Ok(joined(meta, planned, live))
+}
