@@ -104,7 +104,7 @@ module _ {m : ℕ} {s : Rows} {j : Journal} {start : Rows} {before : Journal} wh
       → IsLeft m (offers n s m) s j (offers most start m) start before → CarriesOut m (distribution start m) start before s j
   after_most n most none is h = offers_carried n most (rw none refl) is h
 
-module _ {turn : Turn} {s : Rows} {j : Journal} {start : Rows} {before : Journal} where
+module _ (turn : Turn) {s : Rows} {j : Journal} {start : Rows} {before : Journal} where
   -- each offer that rang too long goes back
   pub returns_carried : (items : List ConnectionRecord) (i : ℕ) → length items ≤ i → items ≡ overdue_in start turn.moment
       → IsLeft turn.moment (each (λ t x. return_moves t turn x) s (drop i items)) s j (each (λ t x. return_moves t turn x) start items) start before
@@ -120,7 +120,7 @@ module _ {turn : Turn} {s : Rows} {j : Journal} {start : Rows} {before : Journal
   rests_carried items i past same h = list_carried (λ (t : Rows) (a : AgentRecord). rest_moves turn a) (rested_in start turn.moment) items i past same h
 
 -- a tick: what goes back, then what ends
-pub tick_carried : {turn : Turn} {s t u : Rows} {i j l : Journal} → CarriesOut turn.moment (returns s turn) s i t j → CarriesOut turn.moment (rests t turn) t j u l
+pub tick_carried : (turn : Turn) {s t u : Rows} {i j l : Journal} → CarriesOut turn.moment (returns s turn) s i t j → CarriesOut turn.moment (rests t turn) t j u l
     → CarriesOut turn.moment (tick s turn) s i u l
 unfolding tick
-tick_carried {turn} {s} {t} {u} {i} {j} {l} first next = both_carried first (subst (λ (r : Rows). CarriesOut turn.moment (rests r turn) t j u l) first.rows next)
+tick_carried turn {s} {t} {u} {i} {j} {l} first next = both_carried first (subst (λ (r : Rows). CarriesOut turn.moment (rests r turn) t j u l) first.rows next)

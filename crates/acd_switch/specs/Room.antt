@@ -1,5 +1,6 @@
 -- Where the counters of a state have room in their types.
 use Rattle.std.specs.Prelude.{◌<◌, ◌-◌, ◌+◌, ◌^◌, List, length}
+use Rattle.acd_terms.specs.declared.command.Turn.{Turn}
 use Rattle.acd_terms.specs.Numbers.{EventNumber}
 use Rattle.acd_switch.specs.Counting.{AllFit}
 use Rattle.acd_terms.specs.declared.rows.Rows.{Rows}

@@ -19,4 +19,4 @@ pub returns : goal.returns
 returns c =
     let items = c.as_slice-agent-items.result.now in
     let past : length items ≤ c.loop-agent.agent-index = omega arith in
-    rests_carried items c.loop-agent.agent-index past c.loop-agent.invariant.all c.loop-agent.invariant.left
+    rests_carried c.args.at items c.loop-agent.agent-index past c.loop-agent.invariant.all c.loop-agent.invariant.left

@@ -19,4 +19,4 @@ pub returns : goal.returns
 returns c =
     let items = c.as_slice-connection-items.result.now in
     let past : length items ≤ c.loop-connection.connection-index = omega arith in
-    returns_carried items c.loop-connection.connection-index past c.loop-connection.invariant.all c.loop-connection.invariant.left
+    returns_carried c.args.at items c.loop-connection.connection-index past c.loop-connection.invariant.all c.loop-connection.invariant.left
