@@ -26,19 +26,35 @@ impl<S: Alter> SqlBook<S> {
         mut conn: Connection<S>,
     ) -> Result<SqlBook<S>, (AdoptFault, Connection<S>)>
         requires { conn.in_transaction ≡ false }
-        ensures adopted { IfOk result (λ b. HasCleanDisk (state S.Store b.conn) → IsAdopted (state S.Store conn).now (book_state (state S.Store conn) 0) (book_state (state S.Store b.conn) b.failures)) }
-        ensures untouched { IfOk result (λ b. HasCleanDisk (state S.Store b.conn) → (state S.Store conn).now.schema ≡ book_schema → IsUntouched (state S.Store conn) (state S.Store b.conn)) }
-        ensures migrated { IfOk result (λ b. HasCleanDisk (state S.Store b.conn) → (state S.Store conn).now.schema ≡ old_schema → IsMade (state S.Store conn) (state S.Store b.conn)) }
-        ensures leaves { IfOk result (λ b. HasCleanDisk (state S.Store b.conn) → MayMigrate (state S.Store conn) (state S.Store b.conn)) }
-        ensures filed { IfOk result (λ b. HasCleanDisk (state S.Store b.conn) → (S.Store.view conn.store).is_broken ≡ false → HasAllColumns (state S.Store conn).now → IsFiled (state S.Store conn).now) }
+        ensures adopted { IfOk result (λ b. HasCleanDisk (state S.Store b.conn)
+            → IsAdopted (state S.Store conn).now (book_state (state S.Store conn) 0)
+            (book_state (state S.Store b.conn) b.failures)) }
+        ensures untouched { IfOk result (λ b. HasCleanDisk (state S.Store b.conn)
+            → (state S.Store conn).now.schema ≡ book_schema
+            → IsUntouched (state S.Store conn) (state S.Store b.conn)) }
+        ensures migrated { IfOk result (λ b. HasCleanDisk (state S.Store b.conn)
+            → (state S.Store conn).now.schema ≡ old_schema
+            → IsMade (state S.Store conn) (state S.Store b.conn)) }
+        ensures leaves { IfOk result (λ b. HasCleanDisk (state S.Store b.conn)
+            → MayMigrate (state S.Store conn) (state S.Store b.conn)) }
+        ensures filed { IfOk result (λ b. HasCleanDisk (state S.Store b.conn)
+            → (S.Store.view conn.store).is_broken ≡ false
+            → HasAllColumns (state S.Store conn).now → IsFiled (state S.Store conn).now) }
         ensures counted { IfOk result (λ b. b.failures ≡ 0) }
         ensures unnoted { IfOk result (λ b. b.noted ≡ None) }
-        ensures clean { IfOk result (λ b. HasCleanDisk (state S.Store b.conn) → HasCleanDisk (state S.Store conn)) }
+        ensures clean { IfOk result
+            (λ b. HasCleanDisk (state S.Store b.conn) → HasCleanDisk (state S.Store conn)) }
         ensures idle { IfErr result (λ e. e.1.in_transaction ≡ false) }
-        ensures doubted { IfErr result (λ e. HasCleanDisk (state S.Store e.1) → HasCleanDisk (state S.Store conn)) }
-        ensures handed_back { IfErr result (λ e. HasCleanDisk (state S.Store e.1) → IsHandedBack (state S.Store conn).now (book_state (state S.Store conn) 0) (book_state (state S.Store e.1) 0) e.0) }
-        ensures left_alone { IfErr result (λ e. HasCleanDisk (state S.Store e.1) → ((state S.Store conn).now.schema ≢ old_schema) ⊎ (¬ (IsAdoptStoreFault e.0)) → IsUntouched (state S.Store conn) (state S.Store e.1)) }
-        ensures leaves_refused { IfErr result (λ e. HasCleanDisk (state S.Store e.1) → MayMigrate (state S.Store conn) (state S.Store e.1)) }
+        ensures doubted { IfErr result
+            (λ e. HasCleanDisk (state S.Store e.1) → HasCleanDisk (state S.Store conn)) }
+        ensures handed_back { IfErr result (λ e. HasCleanDisk (state S.Store e.1)
+            → IsHandedBack (state S.Store conn).now (book_state (state S.Store conn) 0)
+            (book_state (state S.Store e.1) 0) e.0) }
+        ensures left_alone { IfErr result (λ e. HasCleanDisk (state S.Store e.1)
+            → ((state S.Store conn).now.schema ≢ old_schema) ⊎ (¬ (IsAdoptStoreFault e.0))
+            → IsUntouched (state S.Store conn) (state S.Store e.1)) }
+        ensures leaves_refused { IfErr result (λ e. HasCleanDisk (state S.Store e.1)
+            → MayMigrate (state S.Store conn) (state S.Store e.1)) }
     {
         match look_over(alloc, &mut conn) {
             Ok(Found::Book(Version::Second)) => Ok(SqlBook {

@@ -84,15 +84,20 @@ impl<S: Alter> SqlBook<S> {
         limits: Limits,
     ) -> Result<SqlBook<S>, (BookFault, Connection<S>)>
         requires { conn.in_transaction ≡ false }
-        ensures made { IfOk result (λ b. HasCleanDisk (state S.Store b.conn) → IsNewBook (book_state (state S.Store b.conn) b.failures) limits) }
+        ensures made { IfOk result (λ b. HasCleanDisk (state S.Store b.conn)
+            → IsNewBook (book_state (state S.Store b.conn) b.failures) limits) }
         ensures counted { IfOk result (λ b. b.failures ≡ 0) }
         ensures unnoted { IfOk result (λ b. b.noted ≡ None) }
-        ensures clean { IfOk result (λ b. HasCleanDisk (state S.Store b.conn) → HasCleanDisk (state S.Store conn)) }
+        ensures clean { IfOk result
+            (λ b. HasCleanDisk (state S.Store b.conn) → HasCleanDisk (state S.Store conn)) }
         ensures refused { ¬ (LimitsFit limits) → result ≡ Err (BookFault.Store, conn) }
-        ensures occupied { (state S.Store conn).now.schema ≢ no_schema → result ≡ Err (BookFault.Store, conn) }
+        ensures occupied { (state S.Store conn).now.schema ≢ no_schema
+            → result ≡ Err (BookFault.Store, conn) }
         ensures handed_back { IfErr result (λ e. e.1.in_transaction ≡ false) }
-        ensures doubted { IfErr result (λ e. HasCleanDisk (state S.Store e.1) → HasCleanDisk (state S.Store conn)) }
-        ensures stops { IfErr result (λ e. HasCleanDisk (state S.Store e.1) → MayMake (state S.Store conn) (state S.Store e.1) limits) }
+        ensures doubted { IfErr result
+            (λ e. HasCleanDisk (state S.Store e.1) → HasCleanDisk (state S.Store conn)) }
+        ensures stops { IfErr result (λ e. HasCleanDisk (state S.Store e.1)
+            → MayMake (state S.Store conn) (state S.Store e.1) limits) }
         ensures caused { IfErr result (λ e. HasCleanDisk (state S.Store e.1) → e.0 ≡ BookFault.Store
             → StoreCause (creating limits) (state S.Store conn) (state S.Store e.1)) }
     {
