@@ -5,24 +5,32 @@ use Rattle.std.specs.Option.{ok_or}
 use Rattle.std.specs.Prelude.{Result, Ok}
 use Rattle.acd_terms.specs.Rows.{empty_rows}
 use Rattle.acd_terms.specs.declared.state.AgentState.TheVariants as A
+use Rattle.acd_terms.specs.declared.answer.Answer.{Answer}
+use Rattle.acd_terms.specs.declared.answer.Answer.TheVariants as replied
 use Rattle.acd_terms.specs.declared.answer.Refusal.{Refusal}
+use Rattle.acd_terms.specs.declared.answer.Refusal.TheVariants.{UnknownAgent, UnknownMonitor}
+use Rattle.acd_terms.specs.declared.record.MonitorRecord.{MonitorRecord}
 use Rattle.acd_terms.specs.declared.command.Requested.TheVariants as requested
 use Rattle.acd_terms.specs.declared.command.Command.TheVariants.{AddGroup, AddStation, AddAgent, ArriveCall, MakeCall, PhoneOffHook, AnswerCall, HoldCall, RetrieveCall, ClearConnection, DeflectCall, SingleStepTransfer, SetAgentState, MonitorStart, MonitorStop, Tick, SetGroupPriority}
 use Rattle.acd_model.specs.Offers.{GroupsAscend}
 use Rattle.acd_model.specs.Figures.{counting, with_figures}
-use Rattle.acd_model.specs.CallMoves.{arrive}
-use Rattle.acd_model.specs.AgentMoves.{in_state, go_from}
+use Rattle.acd_terms.specs.declared.record.CallRecord.{CallRecord}
+use Rattle.acd_terms.specs.declared.event.Cause.TheVariants.{NewCall, Deflected, Transferred}
+use Rattle.acd_model.specs.CallMoves.{originate, arrive, answer, hold, retrieve, divert, transfer}
+use Rattle.acd_model.specs.AgentMoves.{in_state, go_from, log_on_at}
 use Rattle.acd_model.specs.Release.{released, release_of, release_agent, release, ending_of}
 use Rattle.acd_terms.specs.Results.{◌>>=◌, ◌>>◌}
-use Rattle.acd_model.specs.Served.{refuse_if, moves_of}
-use Rattle.acd_model.specs.Services.{add_group, add_station, add_agent, arrive_call, make_call, phone_off_hook, busy_agent, occupy, answer_call, hold_call, retrieve_call, clear_other, release_other, clear_connection, deflect_call, single_step_transfer, all_groups, log_on, change_state, set_agent_state, monitor_start, monitor_stop}
+use Rattle.acd_model.specs.Scans.{call_of, monitor_of}
+use Rattle.acd_model.specs.Moves.{silent}
+use Rattle.acd_model.specs.Served.{refuse_if, moves_of, gives}
+use Rattle.acd_model.specs.Services.{add_group, add_station, add_agent, arrive_call, make_call, phone_off_hook, busy_agent, occupy, answer_call, hold_call, retrieve_call, clear_other, clearing, next_call, next_monitor, release_other, clear_connection, deflect_call, single_step_transfer, all_groups, log_on, change_state, set_agent_state, monitor_start, monitor_stop}
 use Rattle.acd_model.specs.Services.Serve.{serve}
 use Rattle.acd_model.specs.Distribution.{offer_at, offer_moves, with_offer, offers, distribution, station_of_agent}
 use Rattle.acd_model.specs.Choice.{offer_of}
 use Rattle.acd_model.specs.Tick.{return_to, return_moves, overdue_in, is_rested, rested_in, rest_moves, each, returns, rests, tick}
 use Rattle.acd_model.specs.Step.{step, step_moves, next_turn}
 use Rattle.acd_model.specs.declared.moves.Ending.TheVariants.{NoAnswer}
-use Rattle.acd_model.specs.declared.moves.Change.TheVariants.{PutGroup, PutAgent}
+use Rattle.acd_model.specs.declared.moves.Change.TheVariants.{PutGroup, PutAgent, RemoveMonitor}
 use Rattle.acd_model.specs.declared.moves.Release.TheVariants.{Stays, Goes}
 use Rattle.acd_lemmas.proofs.Words.{Rows, Limits, GroupRecord, AgentRecord, ConnectionRecord, AgentState, Pending, Change, Command, Ending, Event, Move, Offer, Release, Requested, Served, Every, at_group, at_agent, has, agent_of, connection_of, agent_at, is_distributed, is_occupied, other_of, with_group, with_station, with_agent, with_call, with_connection, with_monitor, without_call, without_connection, without_monitor, with_last, changed, moved, events_of, group_order, is_in, state_wanted}
 use Rattle.acd_lemmas.proofs.Lists.{every_among, every_from, every-append, every-put, filter_among, find_among, ascending-put}
@@ -184,54 +192,73 @@ tick_old s turn o =
 
 -- the walk over refusals
 
+record AreOldMoves (moves : List Move) : Type 0 where
+  pub old : Every IsOldMove moves
+
 abbrev IsOldServed : Served → Type 0
-IsOldServed v = Every IsOldMove (moves_of v)
+IsOldServed v = AreOldMoves (moves_of v)
+
+refused : (r : Refusal) → IsOldServed (Err r)
+refused r = record { old = tt }
+
+given : (a : Answer) (ms : List Move) → Every IsOldMove ms → IsOldServed (gives a ms)
+given a ms h = record { old = h }
 
 unless : (b : Bool) (r : Refusal) (rest : Served) → IsOldServed rest → IsOldServed (refuse_if b r >> rest)
-unless b r rest h = by_refusal IsOldServed b r rest (λ _. tt) (λ _. h)
+unless b r rest h = by_refusal IsOldServed b r rest refused (λ _. h)
 
 with : {T : Type 0} {found : Option T} (r : Refusal) (rest : T → Served) → ((x : T) → found ≡ Some x → IsOldServed (rest x)) → IsOldServed (ok_or found r >>= rest)
-with {T} {found} r rest h = by_found IsOldServed found r rest (λ _. tt) h
+with {T} {found} r rest h = by_found IsOldServed found r rest refused h
+
+-- a connection of a live call
+party : (s : Rows) (call device : ℕ) (r q : Refusal) (rest : CallRecord → ConnectionRecord → Served) → ((c : CallRecord) (x : ConnectionRecord) → IsOldServed (rest c x))
+    → IsOldServed (ok_or (call_of s call) r >>= (λ c. ok_or (connection_of s call device) q >>= rest c))
+party s call device r q rest h =
+    with {found = call_of s call} r (λ c. ok_or (connection_of s call device) q >>= rest c) (λ c _. with {found = connection_of s call device} q (rest c) (λ x _. h c x))
 
 passes : (v : Result (Unit {0}) Refusal) (rest : Served) → IsOldServed rest → IsOldServed (v >> rest)
 passes (Ok u) rest h = h
-passes (Err r) rest h = tt
+passes (Err r) rest h = refused r
 
 add_group_old : (s : Rows) (device : ℕ) (name : List ℕ) (ring wrap : ℕ) → IsOldServed (add_group s device name ring wrap)
 unfolding add_group
-add_group_old s device name ring wrap = unless _ _ _ (unless _ _ _ (refl, tt))
+add_group_old s device name ring wrap = unless _ _ _ (unless _ _ _ (given replied.Nothing _ (refl, tt)))
 
 add_station_old : (s : Rows) (device : ℕ) → IsOldServed (add_station s device)
 unfolding add_station
-add_station_old s device = unless _ _ _ (unless _ _ _ (tt, tt))
+add_station_old s device = unless _ _ _ (unless _ _ _ (given replied.Nothing _ (tt, tt)))
 
 add_agent_old : (s : Rows) (turn : Turn) (agent : ℕ) (name : List ℕ) → IsOldServed (add_agent s turn agent name)
 unfolding add_agent
-add_agent_old s turn agent name = unless _ _ _ (unless _ _ _ (tt, tt))
+add_agent_old s turn agent name = unless _ _ _ (unless _ _ _ (given replied.Nothing _ (tt, tt)))
 
 arrive_call_old : (s : Rows) (turn : Turn) (caller called : ℕ) → IsOldServed (arrive_call s turn caller called)
 unfolding arrive_call arrive
-arrive_call_old s turn caller called = unless _ _ _ (unless _ _ _ (unless _ _ _ (tt, (tt, (tt, tt)))))
+arrive_call_old s turn caller called = unless _ _ _ (unless _ _ _ (unless _ _ _ (given (replied.Call (next_call s)) _ (tt, (tt, (tt, tt))))))
 
 make_call_old : (s : Rows) (m device called : ℕ) → IsOldServed (make_call s m device called)
 unfolding make_call
-make_call_old s m device called = unless _ _ _ (unless _ _ _ (unless _ _ _ (unless _ _ _ (unless _ _ _ (unless _ _ _ (tt, (tt, tt)))))))
+make_call_old s m device called = unless _ _ _ (unless _ _ _ (unless _ _ _ (unless _ _ _ (unless _ _ _ (unless _ _ _ (given (replied.Call (next_call s)) _ (tt, (tt, tt))))))))
 
 phone_off_hook_old : (s : Rows) (turn : Turn) (call device : ℕ) → IsOldServed (phone_off_hook s turn call device)
 unfolding phone_off_hook arrive
-phone_off_hook_old s turn call device = with _ _ (λ c _. with _ _ (λ x _. unless _ _ _ (tt, (tt, tt))))
+phone_off_hook_old s turn call device =
+    party s call device _ _ _ (λ c x. unless _ _ _ (given replied.Nothing (originate x c.called ∷ arrive s turn call c.called NewCall ∷ []) (tt, (tt, tt))))
 
 answer_call_old : (s : Rows) (turn : Turn) (call device : ℕ) → IsOldState s → IsOldServed (answer_call s turn call device)
 unfolding answer_call
-answer_call_old s turn call device o = with _ _ (λ _ _. with _ _ (λ x _. unless _ _ _ (tt, (occupy_old s turn x o, tt))))
+answer_call_old s turn call device o =
+    party s call device _ _ _ (λ c x. unless _ _ _ (given replied.Nothing (answer turn.moment x ∷ occupy s turn x ∷ []) (tt, (occupy_old s turn x o, tt))))
 
 hold_call_old : (s : Rows) (call device : ℕ) → IsOldServed (hold_call s call device)
 unfolding hold_call
-hold_call_old s call device = with _ _ (λ _ _. with _ _ (λ x _. unless _ _ _ (unless _ _ _ (tt, tt))))
+hold_call_old s call device =
+    party s call device _ _ _ (λ c x. unless _ _ _ (unless _ _ _ (given replied.Nothing (hold x ∷ []) (tt, tt))))
 
 retrieve_call_old : (s : Rows) (call device : ℕ) → IsOldServed (retrieve_call s call device)
 unfolding retrieve_call
-retrieve_call_old s call device = with _ _ (λ _ _. with _ _ (λ x _. unless _ _ _ (unless _ _ _ (tt, tt))))
+retrieve_call_old s call device =
+    party s call device _ _ _ (λ c x. unless _ _ _ (unless _ _ _ (given replied.Nothing (retrieve x ∷ []) (tt, tt))))
 
 clear_other_old : (other : Option ConnectionRecord) → IsOldMove (clear_other other)
 clear_other_old None = tt
@@ -240,30 +267,33 @@ clear_other_old (Some y) = tt
 clear_connection_old : (s : Rows) (turn : Turn) (call device : ℕ) → IsOldState s → IsOldServed (clear_connection s turn call device)
 unfolding clear_connection
 clear_connection_old s turn call device o =
-    with _ _ (λ _ _. with _ _ (λ x _.
-    (tt, (clear_other_old (other_of s x), (tt, (release_old s turn x (ending_of x) o, (release_other_old s turn (other_of s x) o, tt)))))))
+    party s call device _ _ _ (λ c x. given replied.Nothing (clearing s turn x (other_of s x))
+    (tt, (clear_other_old (other_of s x), (tt, (release_old s turn x (ending_of x) o, (release_other_old s turn (other_of s x) o, tt))))))
 
 deflect_call_old : (s : Rows) (turn : Turn) (call device to : ℕ) → IsOldState s → IsOldServed (deflect_call s turn call device to)
 unfolding deflect_call arrive
 deflect_call_old s turn call device to o =
-    with _ _ (λ _ _. with _ _ (λ x _. unless _ _ _ (unless _ _ _ (unless _ _ _ (unless _ _ _ (tt, (tt, (release_old s turn x (ending_of x) o, tt))))))))
+    party s call device _ _ _ (λ c x. unless _ _ _ (unless _ _ _ (unless _ _ _ (unless _ _ _ (given replied.Nothing (divert x to Deflected ∷ arrive s turn call to Deflected ∷ release s turn x (ending_of x) ∷ [])
+    (tt, (tt, (release_old s turn x (ending_of x) o, tt))))))))
 
 single_step_transfer_old : (s : Rows) (turn : Turn) (call device to : ℕ) → IsOldState s → IsOldServed (single_step_transfer s turn call device to)
 unfolding single_step_transfer arrive
 single_step_transfer_old s turn call device to o =
-    with _ _ (λ _ _. with _ _ (λ x _. unless _ _ _ (unless _ _ _ (unless _ _ _ (unless _ _ _ (unless _ _ _ (tt, (tt, (release_old s turn x (ending_of x) o, tt)))))))))
+    party s call device _ _ _ (λ c x. unless _ _ _ (unless _ _ _ (unless _ _ _ (unless _ _ _ (unless _ _ _ (given replied.Nothing (transfer x to ∷ arrive s turn call to Transferred ∷ release s turn x (ending_of x) ∷ [])
+    (tt, (tt, (release_old s turn x (ending_of x) o, tt)))))))))
 
 log_on_old : (s : Rows) (turn : Turn) (agent device group : ℕ) → IsOldServed (log_on s turn agent device (group ∷ []))
 unfolding log_on
 log_on_old s turn agent device group =
-    with _ _ (λ a _. unless _ _ _ (unless _ _ _ (unless _ _ _ (unless _ _ _ (passes (all_groups s (group ∷ [])) _ (unless _ _ _ (tt, tt)))))))
+    with {found = agent_of s agent} UnknownAgent _ (λ a _. unless _ _ _ (unless _ _ _ (unless _ _ _ (unless _ _ _ (passes (all_groups s (group ∷ [])) _ (unless _ _ _ (given (replied.State A.NotReady) (log_on_at turn a device (group ∷ []) ∷ []) (tt, tt))))))))
 
 change_state_old : (s : Rows) (turn : Turn) (agent : ℕ) (wanted : Pending) → IsOldState s → IsOldServed (change_state s turn agent wanted)
 unfolding change_state
 change_state_old s turn agent wanted o =
     with _ _ (λ a e.
     let one : HasOneGroup a = every_among HasOneGroup s.agents a o.agents (agent_among s agent a e) in
-    unless _ _ _ (either IsOldServed (is_occupied s a) _ _ (one, tt) (either IsOldServed (is_in a.state wanted) _ _ tt (goes_old turn a a.station (state_wanted wanted) one, tt))))
+    unless _ _ _ (either IsOldServed (is_occupied s a) _ _ (given (replied.Pending a.state wanted) _ (one, tt)) (either IsOldServed (is_in a.state wanted) _ _ (given (replied.State a.state) [] tt)
+    (given (replied.State (state_wanted wanted)) _ (goes_old turn a a.station (state_wanted wanted) one, tt)))))
 
 set_agent_state_old : (s : Rows) (turn : Turn) (agent : ℕ) (q : Requested) → IsOldRequested q → IsOldState s → IsOldServed (set_agent_state s turn agent q)
 set_agent_state_old s turn agent (requested.LoggedOn device groups) h o =
@@ -272,28 +302,29 @@ set_agent_state_old s turn agent (requested.State wanted) h o = change_state_old
 
 monitor_start_old : (s : Rows) (device : ℕ) → IsOldServed (monitor_start s device)
 unfolding monitor_start
-monitor_start_old s device = unless _ _ _ (unless _ _ _ (tt, tt))
+monitor_start_old s device = unless _ _ _ (unless _ _ _ (given (replied.Monitor (next_monitor s)) _ (tt, tt)))
 
 monitor_stop_old : (s : Rows) (monitor : ℕ) → IsOldServed (monitor_stop s monitor)
 unfolding monitor_stop
-monitor_stop_old s monitor = with _ _ (λ _ _. (tt, tt))
+monitor_stop_old s monitor =
+    with {T = MonitorRecord} {found = monitor_of s monitor} UnknownMonitor (λ _. gives replied.Nothing (silent (RemoveMonitor monitor) ∷ [])) (λ _ _. given replied.Nothing _ (tt, tt))
 
 pub serve_old : (s : Rows) (turn : Turn) (c : Command) → IsOldCommand c → IsOldState s → Every IsOldMove (moves_of (serve s turn c))
-serve_old s turn (AddGroup device name ring wrap) h o = add_group_old s device name ring wrap
-serve_old s turn (AddStation device) h o = add_station_old s device
-serve_old s turn (AddAgent agent name) h o = add_agent_old s turn agent name
-serve_old s turn (ArriveCall caller called) h o = arrive_call_old s turn caller called
-serve_old s turn (MakeCall device called) h o = make_call_old s turn.moment device called
-serve_old s turn (PhoneOffHook call device) h o = phone_off_hook_old s turn call device
-serve_old s turn (AnswerCall call device) h o = answer_call_old s turn call device o
-serve_old s turn (HoldCall call device) h o = hold_call_old s call device
-serve_old s turn (RetrieveCall call device) h o = retrieve_call_old s call device
-serve_old s turn (ClearConnection call device) h o = clear_connection_old s turn call device o
-serve_old s turn (DeflectCall call device to) h o = deflect_call_old s turn call device to o
-serve_old s turn (SingleStepTransfer call device to) h o = single_step_transfer_old s turn call device to o
-serve_old s turn (SetAgentState agent q) h o = set_agent_state_old s turn agent q h o
-serve_old s turn (MonitorStart device) h o = monitor_start_old s device
-serve_old s turn (MonitorStop monitor) h o = monitor_stop_old s monitor
+serve_old s turn (AddGroup device name ring wrap) h o = (add_group_old s device name ring wrap).old
+serve_old s turn (AddStation device) h o = (add_station_old s device).old
+serve_old s turn (AddAgent agent name) h o = (add_agent_old s turn agent name).old
+serve_old s turn (ArriveCall caller called) h o = (arrive_call_old s turn caller called).old
+serve_old s turn (MakeCall device called) h o = (make_call_old s turn.moment device called).old
+serve_old s turn (PhoneOffHook call device) h o = (phone_off_hook_old s turn call device).old
+serve_old s turn (AnswerCall call device) h o = (answer_call_old s turn call device o).old
+serve_old s turn (HoldCall call device) h o = (hold_call_old s call device).old
+serve_old s turn (RetrieveCall call device) h o = (retrieve_call_old s call device).old
+serve_old s turn (ClearConnection call device) h o = (clear_connection_old s turn call device o).old
+serve_old s turn (DeflectCall call device to) h o = (deflect_call_old s turn call device to o).old
+serve_old s turn (SingleStepTransfer call device to) h o = (single_step_transfer_old s turn call device to o).old
+serve_old s turn (SetAgentState agent q) h o = (set_agent_state_old s turn agent q h o).old
+serve_old s turn (MonitorStart device) h o = (monitor_start_old s device).old
+serve_old s turn (MonitorStop monitor) h o = (monitor_stop_old s monitor).old
 serve_old s turn Tick h o = tick_old s turn o
 serve_old s turn (SetGroupPriority device priority) h o = absurd h
 

@@ -7,6 +7,7 @@ use Rattle.std.specs.Option.{ok_or}
 use Rattle.acd_terms.specs.Numbers.{Device, Agent, Moment}
 use Rattle.acd_terms.specs.States.{is_null}
 use Rattle.acd_terms.specs.declared.rows.Rows.{Rows}
+use Rattle.acd_terms.specs.declared.command.Turn.{Turn}
 use Rattle.acd_terms.specs.declared.record.AgentRecord.{AgentRecord}
 use Rattle.acd_terms.specs.declared.state.AgentState.TheVariants.{NotReady}
 use Rattle.acd_terms.specs.declared.event.Report.TheVariants.{AgentLoggedOn}
