@@ -19,7 +19,8 @@ pub fn send<W: Write>(writer: &mut W, calls: &mut u64, bytes: &[u8]) -> Result<(
     ensures ok { OnOk result (Appends (W.contents writer.old) (W.contents writer.new) bytes.now) }
     ensures err { OnErr result (Begins (W.contents writer.old) (W.contents writer.new) bytes.now) }
     // the writer didn't take all of them
-    ensures short { OnErr result (Breaks (W.contents writer.old) (W.contents writer.new) bytes.now) }
+    ensures short { OnErr result
+        (Breaks (W.contents writer.old) (W.contents writer.new) bytes.now) }
 {
     let mut done = 0;
     while done < bytes.len() {
