@@ -1,11 +1,14 @@
 -- The moment of a text.
-use Rattle.std.proofs.Common.{◌≡◌, ℕ, ◌<◌, ◌≤◌, true, false, List, ◌∷◌, ◌++◌, length, Option, Some, None, option_map, Result, Ok, Err, inl, inr, refl, sym, ap, ◌∙◌, arith}
+use Rattle.std.proofs.Common.{◌≡◌, ◌==◌, ◌&&◌, ℕ, ◌<◌, ◌≤◌, true, false, not, nat_lt, nat_le, ne_eqb, List, ◌∷◌, ◌++◌, length, Some, None, option_map, Result, Ok, Err, inl, inr, refl, sym, ap, ◌∙◌, arith}
 use Rattle.std.specs.Result.{OkIff, result_ok}
 use Rattle.std.specs.Str.Parse.{digits_value}
 use Rattle.std.proofs.lemmas.Bool.Decides.{nat_tests}
-use Rattle.std.proofs.lemmas.Bool.{cases_lt}
+use Rattle.std.proofs.lemmas.Bool.{and_parts, cases_lt, not-true, true≢false}
+use Rattle.std.specs.Cmp.Derive.{both_true}
+use Rattle.std.specs.Char.{is_ascii_digit}
+use Rattle.std.specs.List.{list_all}
 use Rattle.acd_io.specs.Digits.{is_number, number_up_to}
-use Rattle.acd_io.proofs.DigitLemmas.{few_digits, no_number}
+use Rattle.acd_io.proofs.DigitLemmas.{positive, few_digits, no_number}
 use Rattle.acd_lines.specs.Input.{has_none, is_moment, number_of, moment_before, moment_of}
 use Rattle.acd_lines.proofs.Splits.{split_none, split_first}
 
@@ -17,11 +20,23 @@ pub number_long : (digits : List ℕ) → 10 < length digits → number_of digit
 number_long digits h = no_moment digits (grind (arith, nat_tests))
 
 pub number_faulty : (digits : List ℕ) → number_up_to digits ≡ None → number_of digits ≡ None
-number_faulty digits e = let none = no_number digits e in no_moment digits (grind (arith, nat_tests))
+number_faulty digits e = elim (is_moment digits) as (λ b. is_moment digits ≡ b → number_of digits ≡ None) [
+  | false ↦ λ h. no_moment digits h
+  | true ↦ λ h.
+      let first = and_parts (nat_lt 0 (length digits)) (nat_le (length digits) 10 && (list_all is_ascii_digit digits && nat_le (digits_value 10 digits) 4294967295)) h in
+      let second = and_parts (nat_le (length digits) 10) (list_all is_ascii_digit digits && nat_le (digits_value 10 digits) 4294967295) first.1 in
+      let third = and_parts (list_all is_ascii_digit digits) (nat_le (digits_value 10 digits) 4294967295) second.1 in
+      let some : 0 < length digits = let at = first.0 in grind (arith, nat_tests) in
+      let none : (length digits == 0) ≡ false = ne_eqb (length digits) 0 (λ z. omega (arith, some, z)) in
+      absurd (true≢false (sym (both_true (ap not none) third.0) ∙ no_number digits e))
+] refl
 
 number_is : (digits : List ℕ) (v : ℕ) → length digits ≤ 10 → is_number digits ≡ true → v ≡ digits_value 10 digits → v ≤ 4294967295 → Some v ≡ number_of digits
 unfolding number_of
-number_is digits v short some is small =
+number_is digits v short numbered is small =
+    let both = and_parts (not (length digits == 0)) (list_all is_ascii_digit digits) numbered in
+    let some : 0 < length digits = positive (length digits) (not-true (length digits == 0) both.0) in
+    let all = both.1 in
     let holds : is_moment digits ≡ true = grind (arith, nat_tests) in
     rw holds (ap Some is)
 
