@@ -1,5 +1,5 @@
 -- The index of a book that holds some events already: a pass through them, page by page.
-use Rattle.std.proofs.Common.{◌≡◌, ℕ, zero, suc, ◌<◌, ◌≤◌, Bool, true, false, cond, nat_lt, List, [], ◌∷◌, ◌++◌, Option, None, Some, Result, Ok, Err, IsTrue, filter, take, drop, refl, sym, ap, ap₂, subst, ◌∙◌, arith, append_assoc, append-nil, lt-ltb}
+use Rattle.std.proofs.Common.{◌≡◌, ℕ, zero, suc, ◌<◌, ◌≤◌, ◌==◌, length, Bool, true, false, cond, nat_lt, List, [], ◌∷◌, ◌++◌, Option, None, Some, Result, Ok, Err, IsTrue, filter, take, drop, refl, sym, ap, ap₂, subst, ◌∙◌, arith, append_assoc, append-nil, lt-ltb}
 use Rattle.std.specs.Prelude.{Vec}
 use Rattle.std.specs.Ordering.{nat_cmp}
 use Rattle.std.specs.declared.alloc.Global.{Global}
@@ -12,7 +12,7 @@ use Rattle.sqlite.specs.State.{State, HasCleanDisk}
 use Rattle.acd_terms.specs.Lists.{Every, AllAfter}
 use Rattle.acd_terms.specs.declared.event.Event.{Event}
 use Rattle.acd_terms.specs.declared.rows.Rows.{Rows}
-use Rattle.acd_lemmas.proofs.Numbers.{less_is, below_is}
+use Rattle.acd_lemmas.proofs.Numbers.{less_is, below_is, same_number}
 use Rattle.acd_book.specs.Content.{Content, events_behind}
 use Rattle.acd_book.specs.Memory.{number_of}
 use Rattle.acd_book.specs.Order.{Rises}
@@ -23,7 +23,7 @@ use Rattle.acd_sql_columns.proofs.Recorded.{found_none}
 use Rattle.acd_sql_statements.specs.Picking.{Serves}
 use Rattle.acd_sql_statements.proofs.Chained.{behind, chained, broken, finds_on, finds_so}
 use Rattle.acd_sqlbook.specs.Calls.{HasRead}
-use Rattle.acd_sqlbook.specs.Indexing.{Indexes, IsNoted, GoesOn, Begins, last_of}
+use Rattle.acd_sqlbook.specs.Indexing.{Indexes, IsNoted, GoesOn, BeginsIndex, last_of}
 use Rattle.acd_sqlbook.specs.declared.index.Index.{Index}
 use Rattle.acd_sqlbook.proofs.Indexed.{Ascends, ascending}
 use Rattle.acd_sqlbook.proofs.Standing.{quiet_still}
@@ -53,7 +53,7 @@ parted n (e ∷ events) up = by (nat_lt n e.number) refl (parted n events up.1)
     by false under p = record { seen = e ∷ p.seen; rest = p.rest; all = ap (λ (l : List Event). e ∷ l) p.all; low = (no_less n e.number under, p.low); above = p.above }
 
 -- an index that watches from its last number on has begun
-begins_at : (i : Index) (events : List Event) → WatchesAfter i.last i.watched → Ascends events → Begins i events
+begins_at : (i : Index) (events : List Event) → WatchesAfter i.last i.watched → Ascends events → BeginsIndex i events
 begins_at i events after up =
     let p = parted i.last events up in
     record { seen = p.seen; rest = p.rest; all = p.all; indexes = record { lists = after p.seen p.low; last = p.low }; above = p.above }
@@ -80,7 +80,7 @@ left_behind last n past left low up =
     let p : Event → Bool = λ (e : Event). nat_lt last e.number in
     ap (take n) (filter-append p past left ∙ ap₂ (λ (a b : List Event). a ++ b) (past_filter last past low) (above_filter last last left (omega arith) up))
 
-page_front : (limit : ℕ) (i : Index) (page events : List Event) (b : Begins i events) → page ≡ events_behind events i.last limit → page ≡ take limit b.rest
+page_front : (limit : ℕ) (i : Index) (page events : List Event) (b : BeginsIndex i events) → page ≡ events_behind events i.last limit → page ≡ take limit b.rest
 page_front limit i page events b is = is ∙ ap (λ (l : List Event). events_behind l i.last limit) b.all ∙ left_behind i.last limit b.seen b.rest b.indexes.last b.above
 
 rises_left : (n last : ℕ) (events : List Event) → Rises number_of last events → Rises number_of (last_of last (take n events)) (drop n events)
@@ -88,7 +88,7 @@ rises_left zero last events up = up
 rises_left (suc n) last [] up = tt
 rises_left (suc n) last (e ∷ events) up = rises_left n e.number events up.1
 
-goes_on : (limit : ℕ) (i next : Index) (page events : List Event) → Begins i events → page ≡ events_behind events i.last limit → GoesOn i page next → Begins next events
+goes_on : (limit : ℕ) (i next : Index) (page events : List Event) → BeginsIndex i events → page ≡ events_behind events i.last limit → GoesOn i page next → BeginsIndex next events
 goes_on limit i next page events b is goes =
     let front = page_front limit i page events b is in
     record {
@@ -108,18 +108,25 @@ none_taken (suc n) [] some is = refl
 none_taken (suc n) (e ∷ events) some is = absurd (let apart = is in cc)
 
 -- behind an empty page it is of all
-ends : (limit : ℕ) (i : Index) (events : List Event) → 0 < limit → Begins i events → [] ≡ events_behind events i.last limit → Indexes i events
+ends : (limit : ℕ) (i : Index) (events : List Event) → 0 < limit → BeginsIndex i events → [] ≡ events_behind events i.last limit → Indexes i events
 ends limit i events some b is =
     let none = none_taken limit b.rest some (page_front limit i [] events b is) in
     subst (Indexes i) (sym (b.all ∙ ap (λ (l : List Event). b.seen ++ l) none ∙ append-nil b.seen)) b.indexes
 
+no_event : (events : List Event) → length events ≡ 0 → events ≡ []
+no_event [] is = refl
+no_event (e ∷ events) is = absurd (omega (arith, is))
+
+pub nothing_in : (page : Vec Event Global) → (page.len == 0) ≡ true → page.items ≡ []
+nothing_in page is = no_event page.items (omega (arith, page.ok.0, same_number page.len 0 is))
+
 -- ---- over a connection
 
 abbrev pub HasPassed : Index → Content → Index → Type 0
-HasPassed begun c i = Begins begun c.events → Begins i c.events
+HasPassed begun c i = BeginsIndex begun c.events → BeginsIndex i c.events
 
 abbrev HasNoted : Index → Content → Option Index → Type 0
-HasNoted begun c noted = Begins begun c.events → IsNoted noted c.events
+HasNoted begun c noted = BeginsIndex begun c.events → IsNoted noted c.events
 
 abbrev IsPage : ℕ → ℕ → Content → Vec Event Global → Type 0
 IsPage last limit c events = events.items ≡ events_behind c.events last limit

@@ -31,7 +31,7 @@ pub record GoesOn (old : Index) (more : List Event) (new : Index) : Type 0 where
   pub of_both : (events : List Event) → Indexes old events → Indexes new (events ++ more)
 
 -- it is of the first of these events, and the others go on above all of those
-pub record Begins (i : Index) (events : List Event) : Type 0 where
+pub record BeginsIndex (i : Index) (events : List Event) : Type 0 where
   pub seen : List Event
   pub rest : List Event
   pub all : events ≡ seen ++ rest

@@ -7,7 +7,7 @@ ghost use Rattle.acd_sql_columns.specs.Finding.{Finds};
 ghost use Rattle.acd_sql_statements.specs.Picking.{Serves};
 ghost use Rattle.acd_sql_statements.specs.Reading.{Blames};
 ghost use Rattle.acd_sqlbook.specs.Calls.{HasRead};
-ghost use Rattle.acd_sqlbook.specs.Indexing.{Begins, IsNoted};
+ghost use Rattle.acd_sqlbook.specs.Indexing.{BeginsIndex, IsNoted};
 
 use crate::index::{Index, noted_on};
 use crate::ready::serve;
@@ -40,7 +40,7 @@ fn noted_to_the_end<S: Alter>(
     ensures idle { conn.new.in_transaction ≡ false }
     ensures found { Serves (state S.Store conn.old)
         → Finds (state S.Store conn.old) (state S.Store conn.new) result
-        (λ c noted. Begins begun c.events → IsNoted noted c.events) }
+        (λ c noted. BeginsIndex begun c.events → IsNoted noted c.events) }
     ensures blamed { Serves (state S.Store conn.old)
         → Blames (state S.Store conn.old) (state S.Store conn.new) result }
 {

@@ -1,8 +1,7 @@
-use Rattle.std.proofs.Common.{◌≡◌, ◌<◌, [], refl, rules, Ok, Err, None, Some, subst, sym, arith}
+use Rattle.std.proofs.Common.{rules, Ok, Err, None, Some, sym, ◌∙◌, arith}
 use Rattle.sqlite.specs.Held.{state}
 use Rattle.acd_sql_statements.proofs.Blamed.{blames_as, blames_behind, blames_done, blames_still}
-use Rattle.acd_sqlbook.specs.Indexing.{GoesOn}
-use Rattle.acd_sqlbook.proofs.Beginning.{pass_begins, pass_more, pass_all, pass_not, pass_fails, pass_cut}
+use Rattle.acd_sqlbook.proofs.Beginning.{nothing_in, pass_begins, pass_more, pass_all, pass_not, pass_fails, pass_cut}
 use Rattle.acd_sqlbook.proofs.begun.noted_to_the_end.Goals as goal
 
 pub loop-init : goal.loop-init
@@ -28,7 +27,7 @@ returns-in_err-page-clause-blamed g c serves =
 
 pub returns-then-is_empty-clause-found : goal.returns-then-is_empty-clause-found
 returns-then-is_empty-clause-found g c serves =
-    let none : c.in_ok-page.page.items ≡ [] = search rules in
+    let none = nothing_in c.in_ok-page.page (sym c.is_empty.ensures ∙ c.if-is_empty.true) in
     pass_all (state g.S.Store c.args.conn.now) (state g.S.Store c.loop.conn) (state g.S.Store c.events_behind.new.conn) c.args.begun c.loop.index 1000 (c.loop.invariant.found serves)
     c.in_ok-page.page none (omega arith) c.in_ok-page.ensures.found
 
