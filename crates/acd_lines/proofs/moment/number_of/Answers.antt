@@ -1,4 +1,4 @@
-use Rattle.std.proofs.Common.{sym, arith}
+use Rattle.std.proofs.Common.{◌∙◌, sym, arith}
 use Rattle.acd_lines.proofs.Moments.{number_long, number_faulty, number_fits}
 use Rattle.acd_lines.proofs.moment.number_of.Goals as goal
 
