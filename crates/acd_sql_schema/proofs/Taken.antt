@@ -30,7 +30,7 @@ use Rattle.sqlite_catalog.specs.Listing.{is_formed, is_fit}
 use Rattle.sqlite.specs.declared.error.Error.{Error}
 use Rattle.sqlite.specs.Clock.{timed}
 use Rattle.sqlite.specs.Given.{IsPlain}
-use Rattle.sqlite.specs.Does.{Does, MakesTable, MakesSequence, lacks_sequence}
+use Rattle.sqlite.specs.Does.{Does, MakesTable as MakesAsked, MakesSequence, lacks_sequence}
 use Rattle.sqlite.specs.Effect.{Database}
 use Rattle.sqlite.specs.Listing.{understood}
 use Rattle.sqlite.specs.State.{shows_rows, text_of}
@@ -111,12 +111,12 @@ module _ (s : Schema) (text : List ℕ) (t : Table) (m : MakesTable s text t) (k
   refuses why.BadText h = absurd (let apart = sym (subst (λ u. is_fit (Text (codes "table")) (Text u.name) (Text u.name) (Text text) ≡ false) (own h.0 h.1) h.2) ∙ fit_for t.name text k.fit.0 k.fit.1 k.fit.2 k.fit.3 in cc)
   refuses (why.Violates rule) h = h
 
-  unmade : (d : Database) → d.schema ≡ s → (stop : Option Error) → MakesTable text d (Err stop) → ⊥
+  unmade : (d : Database) → d.schema ≡ s → (stop : Option Error) → MakesAsked text d (Err stop) → ⊥
   unmade d is None h = no_more _ _ k.short (subst (λ u. 10 ^ 9 ≤ 2 * length u.name + length text + 200) (own h.0 h.1) h.2)
   unmade d is (Some e) (inl h) = h.0 (utf8_ascii text k.ascii.0)
   unmade d is (Some e) (inr h) = refuses h.0 (subst (λ x. RefusesTable x text h.0) is h.1)
 
-  unnumbered : (d after : Database) → d.schema ≡ s → MakesTable text d (Ok after) → (stop : Option Error) → MakesSequence after (Err stop) → ⊥
+  unnumbered : (d after : Database) → d.schema ≡ s → MakesAsked text d (Ok after) → (stop : Option Error) → MakesSequence after (Err stop) → ⊥
   unnumbered d after is made stop h =
       let same : after.schema ≡ created s t = made.is ∙ ap (λ x. created x made.table) is ∙ ap (created s) (own made.table made.defined) in
       absurd (let none = rw (ap lacks_sequence same ∙ m.uncounted) at h in cc)
