@@ -272,8 +272,10 @@ impl<S: Alter> Book for SqlBook<S> {
         events: &[Event],
         kept: &Kept,
     ) -> Result<(), BookFault>
-        ensures commits { Commits (book_state (state S.Store self.old.conn) self.old.failures)
-            (book_state (state S.Store self.new.conn) self.new.failures) result
+        ensures commits { Commits
+            (followed self.old.noted (book_state (state S.Store self.old.conn) self.old.failures))
+            (followed self.new.noted (book_state (state S.Store self.new.conn) self.new.failures))
+            result
             (FollowsBy changes.now events.now kept.now)
             (committed_by changes.now events.now kept.now) }
         ensures caused { IsCaused (changing changes.now events.now kept.now)
