@@ -5,5 +5,5 @@ use Rattle.acd_read_lines.proofs.reading_lines.look.Goals as goal
 
 pub returns : goal.returns
 returns g c =
-    tells_look (standing g.B.Book) c.args.desk.now c.read-found.new.desk c.args.moment c.args.question c.is_plain-is_plain.result c.read-found.result (answered_text c.told_line.result)
+    tells_look (standing g.B.Book) c.args.desk.now c.read-found.new.self c.args.moment c.args.question c.is_plain-is_plain.result c.read-found.result (answered_text c.told_line.result)
     c.is_plain-is_plain.ensures c.told_line.ensures c.read-found.ensures
