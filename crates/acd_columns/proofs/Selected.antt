@@ -1,5 +1,5 @@
 -- What the query of a table finds, and what it tells of a table whose rows may hold anything.
-use Rattle.std.proofs.Common.{◌≡◌, ◌&&◌, ◌||◌, ℕ, not, List, [], ◌∷◌, map, Bool, true, false, Result, Ok, Err, IfOk, OnOk, IsTrue, Some, refl, sym, ap, ap₂, subst, ◌∙◌}
+use Rattle.std.proofs.Common.{◌≡◌, ◌&&◌, ◌||◌, ℕ, not, List, [], ◌∷◌, map, Bool, true, false, Result, Ok, Err, IfErr, IfOk, OnOk, IsTrue, None, Some, refl, sym, ap, ap₂, subst, ◌∙◌}
 use Rattle.std.specs.Prelude.{Vec, IsPermutation}
 use Rattle.std.specs.List.{list_any}
 use Rattle.std.specs.declared.alloc.Global.{Global}
@@ -13,13 +13,16 @@ use Rattle.sqlite.specs.declared.error.Error.{Error}
 use Rattle.sqlite.proofs.Callers.{IsPlain}
 use Rattle.acd_book.specs.Content.{Content}
 use Rattle.acd_columns.specs.declared.tables.Table.{Table}
-use Rattle.acd_columns.specs.AnyRows.{is_good, is_good_in, rows_in, TellsGood}
+use Rattle.acd_columns.specs.AnyRows.{base_of, is_good, is_good_in, rows_in, HasBadValue, TellsGood}
+use Rattle.sqlite_rules.specs.Lists.{Has}
+use Rattle.std.specs.Option.{is_some}
+use Rattle.acd_columns.proofs.Looked.{bad_among}
 use Rattle.acd_columns.specs.AnyRows as any
 use Rattle.acd_columns.specs.Draft.{Holds, Quiet, NoStop}
 use Rattle.acd_columns.specs.Finding.{Finds}
 use Rattle.acd_columns.specs.Relations.{relations_of}
 use Rattle.acd_columns.specs.Schema.{book_schema, Begins}
-use Rattle.acd_columns.specs.Seeing.{Sees}
+use Rattle.acd_columns.specs.Seeing.{FailsToLook, Sees}
 use Rattle.acd_columns.proofs.Seen.{sees_on}
 use Rattle.acd_columns.specs.Descriptions.{Description, are_read}
 use Rattle.acd_columns.proofs.Listings.{finds, plain_of}
@@ -58,13 +61,12 @@ none_bad t (row ∷ rows) = either (is_good t row) (any.are_good t rows) (list_a
 good_moved : (t : Table) (xs ys : List Row) → IsPermutation xs ys → any.are_good t ys ≡ any.are_good t xs
 good_moved t xs ys same = none_bad t ys ∙ ap not (sym (list_any-IsPermutation (λ r. not (is_good t r)) xs ys same)) ∙ sym (none_bad t xs)
 
-pub all_told : (t : Table) (b : Database) (old new : State) (rows : Vec Row Global) (r : Result Bool Error) → IfOk r (λ good. good ≡ any.are_good t rows.items)
-    → Sees b old new (Ok rows) (λ rows. IsPermutation (rows_in t b.trees) rows.items) → Sees b old new r (λ good. TellsGood t b.trees good)
+pub all_told : (t : Table) (b : Database) (old new : State) (rows : Vec Row Global) (good : Bool) → good ≡ any.are_good t rows.items
+    → Sees b old new (Ok rows) (λ rows. IsPermutation (rows_in t b.trees) rows.items) → Sees b old new (Ok good) (λ good. TellsGood t b.trees good)
 unfolding is_good_in
-all_told t b old new rows (Ok good) is h =
+all_told t b old new rows good is h =
     sees_on b old new rows (λ rows. IsPermutation (rows_in t b.trees) rows.items) (λ good. TellsGood t b.trees good) (Ok good) h
     (λ had same. let known = is ∙ good_moved t (rows_in t b.trees) rows.items same in record { bad = λ e. sym known ∙ e; filed = λ filed. known })
-all_told t b old new rows (Err e) is h = sees_on b old new rows (λ rows. IsPermutation (rows_in t b.trees) rows.items) (λ good. TellsGood t b.trees good) (Err e) h (λ had same. tt)
 
 module _ {R : Type 0} (d : Description R) (f : Filed d) where
   alike : (rows : List Row) → are_read d rows ≡ any.are_good d.table rows
@@ -72,10 +74,9 @@ module _ {R : Type 0} (d : Description R) (f : Filed d) where
   alike [] = refl
   alike (row ∷ rows) = rw (good d f row, alike rows) refl
 
-  pub told : (b : Database) (old new : State) (rows : Vec Row Global) (r : Result Bool Error) → IfOk r (λ good. good ≡ are_read d rows.items)
-      → Sees b old new (Ok rows) (λ rows. IsPermutation (rows_in d.table b.trees) rows.items) → Sees b old new r (λ good. TellsGood d.table b.trees good)
-  told b old new rows (Ok good) is h = all_told d.table b old new rows (Ok good) (is ∙ alike rows.items) h
-  told b old new rows (Err e) is h = all_told d.table b old new rows (Err e) tt h
+  pub told : (b : Database) (old new : State) (rows : Vec Row Global) (good : Bool) → good ≡ are_read d rows.items
+      → Sees b old new (Ok rows) (λ rows. IsPermutation (rows_in d.table b.trees) rows.items) → Sees b old new (Ok good) (λ good. TellsGood d.table b.trees good)
+  told b old new rows good is h = all_told d.table b old new rows good (is ∙ alike rows.items) h
 
 -- ---- records that are read of rows
 
@@ -87,9 +88,20 @@ module _ {R : Type 0} (d : Description R) (f : Filed d) where
   values_read (row ∷ rows) (x ∷ found) e = ap₂ (λ r rs. r ∷ rs) (f.stored row x (sym (head_is (Some x) (d.in_row row) (map Some found) (map d.in_row rows) e))).0 (values_read rows found (tail_is (Some x) (d.in_row row) (map Some found) (map d.in_row rows) e))
 
   pub seen_records : (b : Database) (old new : State) (rows : Vec Row Global) (r : Result (Vec R Global) Error) → IfOk r (λ found. map Some found.items ≡ map d.in_row rows.items)
+      → (IsPermutation (rows_in d.table b.trees) rows.items → IfErr r (FailsToLook b old new))
       → Sees b old new (Ok rows) (λ rows. IsPermutation (rows_in d.table b.trees) rows.items) → Sees b old new r (λ found. IsPermutation (rows_in d.table b.trees) (map d.values found.items))
-  seen_records b old new rows (Ok found) read h =
+  seen_records b old new rows (Ok found) read fails h =
       sees_on b old new rows (λ rows. IsPermutation (rows_in d.table b.trees) rows.items) (λ found. IsPermutation (rows_in d.table b.trees) (map d.values found.items)) (Ok found) h
       (λ had same. subst (IsPermutation (rows_in d.table b.trees)) (values_read rows.items found.items read) same)
-  seen_records b old new rows (Err e) read h =
-      sees_on b old new rows (λ rows. IsPermutation (rows_in d.table b.trees) rows.items) (λ found. IsPermutation (rows_in d.table b.trees) (map d.values found.items)) (Err e) h (λ had same. tt)
+  seen_records b old new rows (Err e) read fails h =
+      sees_on b old new rows (λ rows. IsPermutation (rows_in d.table b.trees) rows.items) (λ found. IsPermutation (rows_in d.table b.trees) (map d.values found.items)) (Err e) h (λ had same. fails same)
+
+-- a row that isn't good is a bad value of its table
+pub bad_row_value : (t : Table) (b : Database) (rows : List Row) (row : Row) → Begins (base_of t) b.schema → IsPermutation (rows_in t b.trees) rows → Has rows row → is_good t row ≡ false → HasBadValue b
+unfolding is_good_in
+bad_row_value t b rows row stands same has bad = (t, stands, sym (good_moved t (rows_in t b.trees) rows same) ∙ bad_among t rows row has bad)
+
+-- so is one that stands for no record
+pub bad_value : {R : Type 0} (d : Description R) (f : Filed d) (b : Database) (rows : List Row) (row : Row) → Begins (base_of d.table) b.schema → IsPermutation (rows_in d.table b.trees) rows → Has rows row → d.in_row row ≡ None
+    → HasBadValue b
+bad_value d f b rows row stands same has none = bad_row_value d.table b rows row stands same has (good d f row ∙ ap is_some none)

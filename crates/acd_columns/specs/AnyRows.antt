@@ -1,5 +1,5 @@
 -- Rows as they stand in a database, whatever they hold, and whether their values are in their ranges.
-use Rattle.std.specs.Prelude.{◌≡◌, ℕ, suc, Bool, false, List, [], ◌∷◌, length, map, take, drop, filter, nat_lt, codes, IsTrue}
+use Rattle.std.specs.Prelude.{◌≡◌, ◌<◌, ◌++◌, ℕ, suc, Bool, false, List, [], ◌∷◌, Some, length, map, take, drop, filter, nat_lt, codes, IsTrue}
 use Rattle.std.specs.List.{AllByRecursion, list_all, list_any}
 use Rattle.std.specs.Option.{is_some}
 use Rattle.std.specs.Str.{bytes_eq}
@@ -19,8 +19,9 @@ use Rattle.sqlite.specs.Effect.{Database}
 use Rattle.acd_columns.specs.Content.{tree_of, IsIn}
 use Rattle.acd_columns.specs.Decoding.{as_group, as_priority, as_agent, as_further}
 use Rattle.acd_columns.specs.Relations.{are_behind, are_of_groups}
-use Rattle.acd_columns.specs.Values.{id_value, cells}
-use Rattle.acd_columns.specs.Schema.{Layout, behind_first, nine, Begins, old_schema, book_schema}
+use Rattle.acd_columns.specs.Draft.{Fits}
+use Rattle.acd_columns.specs.Values.{id_value, cells, whole_at}
+use Rattle.acd_columns.specs.Schema.{Layout, behind_first, nine, two, Begins, old_schema, book_schema}
 use Rattle.acd_columns.specs.Schema as schema
 use Rattle.acd_columns.specs.Ranges.{priority_in, further_in, group_in, station_in, agent_in, call_in, connection_in, monitor_in, counters_in, event_in, kept_in}
 
@@ -151,6 +152,22 @@ abbrev pub Covers : Schema → Table → Type 0
 Covers s table.AgentGroups = s ≡ book_schema
 Covers s table.GroupPriority = s ≡ book_schema
 Covers s t = Begins nine s
+
+-- the tables that a schema begins with, where this one is among them
+abbrev pub base_of : Table → List Made
+base_of table.AgentGroups = nine ++ two
+base_of table.GroupPriority = nine ++ two
+base_of t = nine
+
+-- a value of a table that is there is out of its range
+abbrev pub HasBadValue : Database → Type 0
+HasBadValue d = (t : Table) × Begins (base_of t) d.schema × (is_good_in t d.trees ≡ false)
+
+-- rows that a page of a log may tell have a number that its column can't hold, or that isn't above the one that they were asked for
+abbrev pub HasBadNumber : Database → Type 0
+HasBadNumber d =
+    (l : Log) × (n : ℕ) × (rows : List Row) × (row : Row) × (m : ℕ)
+    × (IsPageRows l n 1000 d.trees rows × Has rows row × (whole_at row 0 ≡ Some m) × (¬ (Fits m × (n < m))))
 
 -- ---- the first table
 

@@ -1,5 +1,5 @@
 -- What belongs to rows belongs to them in whatever order they are seen.
-use Rattle.std.proofs.Common.{◌≡◌, ◌==◌, ◌&&◌, ◌||◌, ℕ, Bool, true, false, not, List, [], ◌∷◌, length, map, filter, nat_le, Some, Result, Ok, Err, IfOk, refl, sym, ap, ap₂, subst, ◌∙◌}
+use Rattle.std.proofs.Common.{◌≡◌, ◌==◌, ◌&&◌, ◌||◌, ℕ, Bool, true, false, not, List, [], ◌∷◌, length, map, filter, nat_le, Some, inl, inr, Result, Ok, Err, IfErr, IfOk, refl, sym, ap, ap₂, subst, ◌∙◌}
 use Rattle.std.specs.Prelude.{Vec, IsPermutation}
 use Rattle.std.specs.declared.alloc.Global.{Global}
 use Rattle.std.specs.List.{list_any, list_all}
@@ -18,7 +18,12 @@ use Rattle.acd_columns.specs.Decoding.{as_group, as_priority, as_agent, as_furth
 use Rattle.acd_columns.specs.Ranges.{further_in}
 use Rattle.acd_columns.specs.Relations.{groups_beside, is_behind, are_behind, are_of_groups}
 use Rattle.acd_columns.specs.Rows.{group_values, priority_values, agent_values, further_values}
+use Rattle.std.specs.Option.{is_some}
+use Rattle.acd_columns.specs.Schema.{book_schema}
 use Rattle.acd_columns.specs.Seeing.{Sees}
+use Rattle.acd_columns.proofs.Listings.{whole_begins}
+use Rattle.acd_columns.proofs.Selected.{bad_row_value}
+use Rattle.acd_statements.specs.Reading.{FailsToDecode}
 use Rattle.acd_columns.proofs.Records.{group_back, priority_back, agent_back, further_back, further_stored}
 use Rattle.acd_columns.proofs.Seen.{sees_on, sees_then}
 use Rattle.acd_lemmas.proofs.Lists.{head_is, tail_is}
@@ -79,13 +84,18 @@ pairs_read (row ∷ rows) (x ∷ found) e =
 
 -- ---- what is seen
 
-pub pairs_seen : (d : Database) (old new : State) (rows : Vec Row Global) (r : Result (Vec (ℕ × ℕ) Global) Error) → IfOk r (λ found. map Some found.items ≡ map further_in rows.items)
+pub pairs_seen : (d : Database) (old new : State) (rows : Vec Row Global) (r : Result (Vec (ℕ × ℕ) Global) Error) → d.schema ≡ book_schema → IfOk r (λ found. map Some found.items ≡ map further_in rows.items) → IfErr r (FailsToDecode further_in rows.items)
     → Sees d old new (Ok rows) (λ rows. IsPermutation (rows_in table.AgentGroups d.trees) rows.items) → Sees d old new r (λ pairs. IsPermutation (map as_further (rows_in table.AgentGroups d.trees)) pairs.items)
-pairs_seen d old new rows (Ok found) read h =
+pairs_seen d old new rows (Ok found) whole read fails h =
     sees_on d old new rows (λ rows. IsPermutation (rows_in table.AgentGroups d.trees) rows.items) (λ pairs. IsPermutation (map as_further (rows_in table.AgentGroups d.trees)) pairs.items) (Ok found) h
     (λ had same. shown_moved as_further further_values further_back (rows_in table.AgentGroups d.trees) found.items (subst (IsPermutation (rows_in table.AgentGroups d.trees)) (pairs_read rows.items found.items read) same))
-pairs_seen d old new rows (Err e) read h =
-    sees_on d old new rows (λ rows. IsPermutation (rows_in table.AgentGroups d.trees) rows.items) (λ pairs. IsPermutation (map as_further (rows_in table.AgentGroups d.trees)) pairs.items) (Err e) h (λ had same. tt)
+pairs_seen d old new rows (Err e) whole read fails h =
+    sees_on d old new rows (λ rows. IsPermutation (rows_in table.AgentGroups d.trees) rows.items) (λ pairs. IsPermutation (map as_further (rows_in table.AgentGroups d.trees)) pairs.items) (Err e) h
+    (λ had same.
+    elim fails [
+      | inl memory ↦ inl memory
+      | inr bad ↦ inr (inr (inr (inl (bad_row_value table.AgentGroups d rows.items bad.0 (whole_begins d.schema whole) same bad.1 (ap is_some bad.2)))))
+    ])
 
 pub agents_seen : (d : Database) (old new : State) (agents : Vec AgentRow Global) (pairs : List (ℕ × ℕ)) (placed : Bool) → placed ≡ are_behind agents.items pairs
     → Sees d old new (Ok agents) (λ found. IsPermutation (rows_in table.Agents d.trees) (map agent_values found.items)) → Sees d old new (Ok placed) (λ placed. placed ≡ are_behind (map as_agent (rows_in table.Agents d.trees)) pairs)

@@ -32,6 +32,7 @@ use Rattle.acd_columns.specs.Draft.{Holds, Quiet}
 use Rattle.acd_columns.specs.Finding.{Finds}
 use Rattle.acd_columns.specs.Relations.{meta_of}
 use Rattle.acd_columns.specs.Rows.{meta_shown}
+use Rattle.acd_columns.specs.Seeing.{FailsToLook, HasDatabase}
 use Rattle.acd_columns.proofs.Listings.{schema_is}
 use Rattle.acd_columns.proofs.Looked.{bad_among}
 use Rattle.acd_columns.proofs.Queries.{probe_text, probe_plain}
@@ -75,6 +76,17 @@ module _ (sql : List ℕ) (params : Row) (old new : State) where
   read_failed c held never e (inr (inl (inr shut))) = absurd (let apart = sym held.is_open ∙ shut in cc)
   read_failed c held never e (inr (inr (inl steps))) = inr (inr (inl steps))
   read_failed c held never e (inr (inr (inr refused))) = absurd (never refused)
+
+  -- of a database, whatever it holds
+  pub looks : (d : Database) → HasDatabase old d → ¬ (RefusesToShow old.now sql params) → (e : Error) → FailsToShow old new sql params e → FailsToLook d old new e
+  looks d had never e (inl memory) = inl memory
+  looks d had never e (inr (inl (inl more))) = inr (inl more)
+  looks d had never e (inr (inl (inr shut))) = absurd (let apart = sym had.is_open ∙ shut in cc)
+  looks d had never e (inr (inr (inl steps))) = inr (inr (inl steps))
+  looks d had never e (inr (inr (inr refused))) = absurd (never refused)
+
+  pub query_looks : (d : Database) → ¬ (RefusesToShow d sql params) → HasDatabase old d → (e : Error) → FailsToQuery sql params old new e → FailsToLook d old new e
+  query_looks d never had e h = looks d had (λ refused. never (subst (λ (x : Database). RefusesToShow x sql params) had.now refused)) e (query_failed e h)
 
   pub blames_query : {A : Type 0} {P : Trees → Type 0} (r : Result A Error) → IsAnswered sql params → Survives old new P → (HasCleanDisk new → IfErr r (FailsToQuery sql params old new)) → Blames old new r
   blames_query r answers s fails = record { counts = s.counts; limit = s.limit; cause = λ k c held any. each r (fails k) c held }
@@ -124,6 +136,9 @@ blames_probe old new e s fails = record {
   limit = s.limit;
   cause = λ k c held any. read_failed probe_text [] old new c held (probe_answered old.now) e (row_failed old new e (fails k));
 }
+
+pub probe_looks : (d : Database) (old new : State) (e : Error) → QueriesRow probe_text [] old new (Err e) → HasDatabase old d → FailsToLook d old new e
+probe_looks d old new e row had = looks probe_text [] old new d had (probe_answered old.now) e (row_failed old new e row)
 
 -- ---- one after the other
 

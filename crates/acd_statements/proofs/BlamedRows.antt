@@ -1,6 +1,6 @@
 -- Why no records are made of the rows that were read.
 use Rattle.std.proofs.Common.{◌≡◌, ◌⊎◌, inl, inr, ℕ, zero, suc, nat_lt, ◌==◌, ◌<◌, ◌-◌, ◌^◌, min, List, [], ◌∷◌, length, get_or, slice_get, map, filter, find, take, Bool, true, false, cond, Option, None, Some, Result, Ok, Err, IfErr, IfSome, refl, sym, ap, subst, ◌∙◌, arith}
-use Rattle.std.specs.Prelude.{Vec, option_to_list}
+use Rattle.std.specs.Prelude.{IsPermutation, Vec, option_to_list}
 use Rattle.std.specs.Option.{is_some}
 use Rattle.std.specs.declared.alloc.Global.{Global}
 use Rattle.std.proofs.lemmas.Bool.{and_parts}
@@ -16,7 +16,13 @@ use Rattle.acd_model.specs.Scans.{monitor_of}
 use Rattle.acd_book.specs.Content.{Content, is_at, is_told}
 use Rattle.acd_lemmas.proofs.State.{monitor_find}
 use Rattle.acd_columns.specs.declared.tables.Table.{Table}
-use Rattle.acd_columns.specs.AnyRows.{is_good}
+use Rattle.sqlite.specs.Effect.{Database}
+use Rattle.acd_columns.specs.AnyRows.{base_of, is_good, rows_in}
+use Rattle.acd_columns.specs.Descriptions.{Description}
+use Rattle.acd_columns.specs.Schema.{Begins}
+use Rattle.acd_columns.specs.Seeing.{FailsToLook}
+use Rattle.acd_columns.proofs.Filed.{Filed}
+use Rattle.acd_columns.proofs.Selected.{bad_value}
 use Rattle.acd_columns.specs.Draft.{Fits}
 use Rattle.acd_columns.specs.Finding.{Finds}
 use Rattle.acd_columns.specs.Values.{whole_at}
@@ -116,3 +122,11 @@ module _ {X : Type 0} (test : ℕ → X → Bool) (key : X → ℕ) (values : X 
       each (Ok b) c h is = tt
       each (Err e) c (inl memory) is = inl memory
       each (Err e) c (inr h) is = absurd (none_held number page (part c) rows.items h.0 (is ∙ ap (λ n. map values (take page (filter (test n) (part c)))) low) h.1)
+
+-- ---- of a database, whatever it holds
+
+pub looks_decoded : {R B : Type 0} (d : Description R) (f : Filed d) (b : Database) (old new : State) (rows : List Row) (r : Result B Error) → Begins (base_of d.table) b.schema → IfErr r (FailsToDecode d.in_row rows)
+    → IsPermutation (rows_in d.table b.trees) rows → IfErr r (FailsToLook b old new)
+looks_decoded d f b old new rows (Ok x) stands fails same = tt
+looks_decoded d f b old new rows (Err e) stands (inl memory) same = inl memory
+looks_decoded d f b old new rows (Err e) stands (inr bad) same = inr (inr (inr (inl (bad_value d f b rows bad.0 stands same bad.1 bad.2))))

@@ -6,6 +6,7 @@ use Rattle.sqlite_rules.specs.Lists.{Has}
 use Rattle.sqlite_sql.specs.Program.{ProgramOverflows}
 use Rattle.sqlite_typing.specs.Types.{accepts_program}
 use Rattle.sqlite_schema.specs.Program.{lets_of}
+use Rattle.sqlite_schema.specs.declared.schema.Table.{Table}
 use Rattle.sqlite_schema.specs.declared.command.Command.{Command}
 use Rattle.sqlite_schema.specs.declared.command.Command.TheVariants.{Select, Rows}
 use Rattle.sqlite_schema.specs.declared.command.Returning.{Returning}
@@ -21,7 +22,7 @@ use Rattle.acd_columns.specs.declared.relations.AgentRow.{AgentRow}
 use Rattle.acd_columns.specs.Descriptions.{Description}
 use Rattle.acd_columns.specs.Draft.{Fits, Holds}
 use Rattle.acd_columns.specs.Relations.{joined_agent, relations_of}
-use Rattle.acd_columns.specs.Schema.{book_schema}
+use Rattle.acd_columns.specs.Schema.{book_schema, Begins}
 use Rattle.acd_columns.specs.Values.{whole_at}
 use Rattle.acd_statements.specs.Failing.{IsMemory, HasFailed, IsUnread}
 use Rattle.acd_statements.specs.InRange.{IsInRange, values_of}
@@ -48,6 +49,10 @@ FailsToShow old new sql params e = IsMemory e ⊎ (HasFailed old new ⊎ (IsSome
 -- in tables of a book the store never refuses it
 abbrev pub IsAnswered : List ℕ → Row → Type 0
 IsAnswered sql params = (d : Database) → d.schema ≡ book_schema → ¬ (RefusesToShow d sql params)
+
+-- nor in any that begin with these
+abbrev pub IsAnsweredOver : List Table → List ℕ → Row → Type 0
+IsAnsweredOver base sql params = (d : Database) → Begins base d.schema → ¬ (RefusesToShow d sql params)
 
 -- ---- of rows
 

@@ -1,7 +1,7 @@
 //! Reads between transactions: they change nothing, but that a failure may shut the connection.
 
 ghost use Rattle.std.specs.Prelude.{◌≡◌, ◌∷◌, [], false, OnOk, IfOk, IsTrue, IsPermutation, ⊤};
-ghost use Rattle.acd_statements.specs.Reading.{IsAnswered, Blames};
+ghost use Rattle.acd_statements.specs.Reading.{IsAnswered, RefusesToShow, Blames};
 ghost use Rattle.sqlite.specs.Given.{IsPlain};
 ghost use Rattle.sqlite.specs.Listing.{understood};
 ghost use Rattle.sqlite.specs.Effect.{Database};
@@ -48,7 +48,11 @@ pub(crate) fn read<S: Alter>(
     ensures stops { HasCleanDisk (state S.Store conn.new) → IsPlain (understood book_schema sql.now) → (c : Content) → Holds (state S.Store conn.old) c
         → NoStop (state S.Store conn.old) (state S.Store conn.new) }
     ensures shown { HasCleanDisk (state S.Store conn.new) → IfOk result (λ rows. Shown sql.now (bound params.now) (state S.Store conn.old) (state S.Store conn.new) rows.items) }
-    ensures seen { (d : Database) → IsPlain (understood d.schema sql.now) → Sees d (state S.Store conn.old) (state S.Store conn.new) result (λ rows. Shown sql.now (bound params.now) (state S.Store conn.old) (state S.Store conn.new) rows.items) }
+    ensures seen { (d : Database) → IsPlain (understood d.schema sql.now)
+        → ¬ (RefusesToShow d sql.now (bound params.now))
+        → Sees d (state S.Store conn.old) (state S.Store conn.new) result
+        (λ rows. Shown sql.now (bound params.now)
+        (state S.Store conn.old) (state S.Store conn.new) rows.items) }
     ensures blamed { IsAnswered sql.now (bound params.now)
         → Blames (state S.Store conn.old) (state S.Store conn.new) result }
 {

@@ -77,6 +77,13 @@ impl Selected for GroupRow {
 
     ghost selects = { groups_selects };
 
+    ghost use Rattle.std.specs.Prelude.{refl};
+    ghost use Rattle.acd_statements.proofs.Answered.{groups_over};
+
+    ghost answered = { groups_over };
+
+    ghost stands = { refl };
+
     fn select_text() -> &'static str {
         SELECT_GROUPS
     }
@@ -153,6 +160,13 @@ impl Selected for GroupPriority {
 
     ghost selects = { priorities_selects };
 
+    ghost use Rattle.std.specs.Prelude.{refl};
+    ghost use Rattle.acd_statements.proofs.Answered.{priorities_over};
+
+    ghost answered = { priorities_over };
+
+    ghost stands = { refl };
+
     fn select_text() -> &'static str {
         SELECT_GROUP_PRIORITY
     }
@@ -199,6 +213,13 @@ impl Selected for StationRecord {
     ghost use Rattle.acd_columns.proofs.TablesFiled.{stations_selects};
 
     ghost selects = { stations_selects };
+
+    ghost use Rattle.std.specs.Prelude.{refl};
+    ghost use Rattle.acd_statements.proofs.Answered.{stations_over};
+
+    ghost answered = { stations_over };
+
+    ghost stands = { refl };
 
     fn select_text() -> &'static str {
         SELECT_STATIONS
@@ -269,6 +290,13 @@ impl Selected for AgentRow {
     ghost use Rattle.acd_columns.proofs.TablesFiled.{agents_selects};
 
     ghost selects = { agents_selects };
+
+    ghost use Rattle.std.specs.Prelude.{refl};
+    ghost use Rattle.acd_statements.proofs.Answered.{agents_over};
+
+    ghost answered = { agents_over };
+
+    ghost stands = { refl };
 
     fn select_text() -> &'static str {
         SELECT_AGENTS
@@ -350,6 +378,13 @@ impl Selected for CallRecord {
 
     ghost selects = { calls_selects };
 
+    ghost use Rattle.std.specs.Prelude.{refl};
+    ghost use Rattle.acd_statements.proofs.Answered.{calls_over};
+
+    ghost answered = { calls_over };
+
+    ghost stands = { refl };
+
     fn select_text() -> &'static str {
         SELECT_CALLS
     }
@@ -428,6 +463,13 @@ impl Selected for MonitorRecord {
     ghost use Rattle.acd_columns.proofs.TablesFiled.{monitors_selects};
 
     ghost selects = { monitors_selects };
+
+    ghost use Rattle.std.specs.Prelude.{refl};
+    ghost use Rattle.acd_statements.proofs.Answered.{monitors_over};
+
+    ghost answered = { monitors_over };
+
+    ghost stands = { refl };
 
     fn select_text() -> &'static str {
         SELECT_MONITORS

@@ -84,4 +84,13 @@ pub trait Selected: Described {
     ghost use Rattle.acd_columns.proofs.Filed.{Selects};
 
     ghost selects: { Selects Self.descr base select };
+
+    ghost use Rattle.std.specs.Prelude.{[]};
+    ghost use Rattle.acd_columns.specs.AnyRows.{base_of};
+    ghost use Rattle.acd_statements.specs.Reading.{IsAnsweredOver};
+
+    // The store never refuses it.
+    ghost answered: { IsAnsweredOver base select [] };
+
+    ghost stands: { base ≡ base_of Self.descr.table };
 }

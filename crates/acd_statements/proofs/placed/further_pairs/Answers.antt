@@ -11,7 +11,7 @@ use Rattle.acd_statements.proofs.placed.further_pairs.Goals as goal
 
 pub returns-in-Ok-clause-seen : goal.returns-in-Ok-clause-seen
 returns-in-Ok-clause-seen g c d is =
-    pairs_seen d (state g.S.Store c.args.conn.now) (state g.S.Store c.further_rows.new.conn) c.in-Ok.rows c.records.result (rw c.deref.ensures.value at c.records.ensures.records) (c.in-Ok.ensures.seen d is)
+    pairs_seen d (state g.S.Store c.args.conn.now) (state g.S.Store c.further_rows.new.conn) c.in-Ok.rows c.records.result is (rw c.deref.ensures.value at c.records.ensures.records) (rw c.deref.ensures.value at c.records.ensures.bad) (c.in-Ok.ensures.seen d is)
 
 pub returns-in-Err-clause-seen : goal.returns-in-Err-clause-seen
 returns-in-Err-clause-seen g c d is =

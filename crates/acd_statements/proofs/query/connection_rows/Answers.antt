@@ -6,7 +6,7 @@ use Rattle.acd_columns.specs.declared.tables.Table.TheVariants as table
 use Rattle.acd_columns.proofs.Seeing.{sees_all}
 use Rattle.acd_columns.proofs.Looked.{asks_connections}
 use Rattle.acd_columns.specs.declared.texts.TheConstants.{SELECT_CONNECTIONS}
-use Rattle.acd_statements.proofs.Answered.{connections_answered}
+use Rattle.acd_statements.proofs.Answered.{connections_answered, connections_over}
 use Rattle.acd_statements.proofs.query.connection_rows.Goals as goal
 
 pub returns-clause-found : goal.returns-clause-found
@@ -15,7 +15,7 @@ returns-clause-found g c =
     finds _ _ (state g.S.Store c.args.conn.now) (state g.S.Store c.read.new.conn) c.read.result connections_plain _ e.up e.quiet e.stops e.shown (shows_connections _ _)
 
 pub returns-clause-seen : goal.returns-clause-seen
-returns-clause-seen g c d is = sees_all d (state g.S.Store c.args.conn.now) (state g.S.Store c.read.new.conn) c.read.result table.Connections nine SELECT_CONNECTIONS.now connections_listing asks_connections is (c.read.ensures.seen d (plain_of nine SELECT_CONNECTIONS.now connections_listing d.schema is))
+returns-clause-seen g c d is = sees_all d (state g.S.Store c.args.conn.now) (state g.S.Store c.read.new.conn) c.read.result table.Connections nine SELECT_CONNECTIONS.now connections_listing asks_connections is (c.read.ensures.seen d (plain_of nine SELECT_CONNECTIONS.now connections_listing d.schema is) (connections_over d is))
 
 pub returns-clause-blamed : goal.returns-clause-blamed
 returns-clause-blamed g c = c.read.ensures.blamed connections_answered

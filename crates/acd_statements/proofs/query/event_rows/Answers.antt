@@ -9,7 +9,7 @@ use Rattle.acd_columns.proofs.TablesFiled.{events_filed, events_pages}
 use Rattle.acd_columns.specs.declared.texts.TheConstants.{SELECT_EVENTS_AFTER}
 use Rattle.acd_columns.specs.declared.tables.Log.TheVariants as log
 use Rattle.acd_columns.proofs.Looked.{asks_events, sees_page}
-use Rattle.acd_statements.proofs.Answered.{events_after_answered}
+use Rattle.acd_statements.proofs.Answered.{events_after_answered, events_after_over}
 use Rattle.acd_statements.proofs.query.event_rows.Goals as goal
 
 pub returns-clause-found : goal.returns-clause-found
@@ -21,7 +21,7 @@ returns-clause-found g c =
 pub returns-clause-seen : goal.returns-clause-seen
 returns-clause-seen g c d is =
     sees_page d (state g.S.Store c.args.conn.now) (state g.S.Store c.read.new.conn) c.read.result is log.Events SELECT_EVENTS_AFTER.now (paging events events_filed SELECT_EVENTS_AFTER.now events_pages c.args.number c.args.limit) c.args.number c.args.limit (asks_events c.args.number c.args.limit)
-    (rw (c.integer.ensures, c.integer-2.ensures) at (c.read.ensures.seen d (plain_of nine SELECT_EVENTS_AFTER.now (paging events events_filed SELECT_EVENTS_AFTER.now events_pages c.args.number c.args.limit) d.schema is)))
+    ((rw (c.integer.ensures, c.integer-2.ensures) at (c.read.ensures.seen d (plain_of nine SELECT_EVENTS_AFTER.now (paging events events_filed SELECT_EVENTS_AFTER.now events_pages c.args.number c.args.limit) d.schema is))) (events_after_over c.args.number c.args.limit d is))
 
 pub returns-clause-blamed : goal.returns-clause-blamed
 returns-clause-blamed g c = (rw (c.integer.ensures, c.integer-2.ensures) at c.read.ensures.blamed) (events_after_answered c.args.number c.args.limit)

@@ -9,7 +9,7 @@ use Rattle.acd_columns.proofs.TablesFiled.{kept_filed, kept_pages}
 use Rattle.acd_columns.specs.declared.texts.TheConstants.{SELECT_KEPT_AFTER}
 use Rattle.acd_columns.specs.declared.tables.Log.TheVariants as log
 use Rattle.acd_columns.proofs.Looked.{asks_kept, sees_page}
-use Rattle.acd_statements.proofs.Answered.{kept_after_answered}
+use Rattle.acd_statements.proofs.Answered.{kept_after_answered, kept_after_over}
 use Rattle.acd_statements.proofs.query.kept_rows.Goals as goal
 
 pub returns-clause-found : goal.returns-clause-found
@@ -21,7 +21,7 @@ returns-clause-found g c =
 pub returns-clause-seen : goal.returns-clause-seen
 returns-clause-seen g c d is =
     sees_page d (state g.S.Store c.args.conn.now) (state g.S.Store c.read.new.conn) c.read.result is log.Kept SELECT_KEPT_AFTER.now (paging kept kept_filed SELECT_KEPT_AFTER.now kept_pages c.args.stamp c.args.limit) c.args.stamp c.args.limit (asks_kept c.args.stamp c.args.limit)
-    (rw (c.integer.ensures, c.integer-2.ensures) at (c.read.ensures.seen d (plain_of nine SELECT_KEPT_AFTER.now (paging kept kept_filed SELECT_KEPT_AFTER.now kept_pages c.args.stamp c.args.limit) d.schema is)))
+    ((rw (c.integer.ensures, c.integer-2.ensures) at (c.read.ensures.seen d (plain_of nine SELECT_KEPT_AFTER.now (paging kept kept_filed SELECT_KEPT_AFTER.now kept_pages c.args.stamp c.args.limit) d.schema is))) (kept_after_over c.args.stamp c.args.limit d is))
 
 pub returns-clause-blamed : goal.returns-clause-blamed
 returns-clause-blamed g c = (rw (c.integer.ensures, c.integer-2.ensures) at c.read.ensures.blamed) (kept_after_answered c.args.stamp c.args.limit)

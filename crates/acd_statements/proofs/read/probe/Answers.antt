@@ -7,7 +7,7 @@ use Rattle.sqlite.proofs.Callers.{never_commits}
 use Rattle.acd_columns.proofs.Queries.{probe_text, probe_plain, quiet_unchanged, quiet_failed, quiet_stops, row_same, row_fails}
 use Rattle.acd_columns.proofs.Seen.{sees_failed, sees_shown}
 use Rattle.acd_statements.specs.Reading.{Blames}
-use Rattle.acd_statements.proofs.Blamed.{blames_none, blames_probe}
+use Rattle.acd_statements.proofs.Blamed.{blames_none, blames_probe, probe_looks}
 use Rattle.acd_statements.proofs.read.probe.Goals as goal
 
 pub returns-in_err-query_row-clause-quiet : goal.returns-in_err-query_row-clause-quiet
@@ -37,7 +37,8 @@ returns-in_err-query_row-clause-seen g c d =
     let is : c.from_residual.result ≡ Err c.in_err-query_row.field-0.0 = search rules in
     subst (λ r. Sees {A = Unit {0}} d (state g.S.Store c.args.conn.now) (state g.S.Store c.query_row.new.self) r (λ x. ⊤)) (sym is)
     (sees_failed d (state g.S.Store c.args.conn.now) (state g.S.Store c.query_row.new.self) c.query_row.ensures.survives (λ had db. never_commits probe_text [] (state g.S.Store c.args.conn.now) db (probe_plain _))
-    c.in_err-query_row.field-0.0 (λ x. ⊤) (λ clean. row_fails probe_text [] (state g.S.Store c.args.conn.now) (state g.S.Store c.query_row.new.self) c.in_err-query_row.field-0.0 (probe_plain _) (c.in_err-query_row.ensures.row clean)))
+    c.in_err-query_row.field-0.0 (λ x. ⊤) (λ clean. row_fails probe_text [] (state g.S.Store c.args.conn.now) (state g.S.Store c.query_row.new.self) c.in_err-query_row.field-0.0 (probe_plain _) (c.in_err-query_row.ensures.row clean))
+    (λ clean had. probe_looks d (state g.S.Store c.args.conn.now) (state g.S.Store c.query_row.new.self) c.in_err-query_row.field-0.0 (c.in_err-query_row.ensures.row clean) had))
 
 pub returns-clause-seen : goal.returns-clause-seen
 returns-clause-seen g c d =

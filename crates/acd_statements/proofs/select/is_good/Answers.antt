@@ -11,4 +11,4 @@ returns-in-Err-clause-seen g c d is =
 
 pub returns-in-Ok-clause-seen : goal.returns-in-Ok-clause-seen
 returns-in-Ok-clause-seen g c d is =
-    told g.R.Described.descr g.R.Described.filed d (state g.S.Store c.args.conn.now) (state g.S.Store c.rows.new.conn) c.in-Ok.rows (Ok c.are_read.result) (rw c.deref.ensures.value at c.are_read.ensures) (c.in-Ok.ensures.seen d is)
+    told g.R.Described.descr g.R.Described.filed d (state g.S.Store c.args.conn.now) (state g.S.Store c.rows.new.conn) c.in-Ok.rows c.are_read.result (rw c.deref.ensures.value at c.are_read.ensures) (c.in-Ok.ensures.seen d is)

@@ -2,6 +2,7 @@ use Rattle.std.proofs.Common.{map, sym, subst}
 use Rattle.std.specs.Prelude.{Vec, IsPermutation}
 use Rattle.std.specs.declared.alloc.Global.{Global}
 use Rattle.acd_columns.specs.AnyRows.{rows_in}
+use Rattle.acd_columns.specs.Schema.{Begins}
 use Rattle.acd_columns.proofs.Seen.{sees_fail}
 use Rattle.acd_columns.proofs.Selected.{seen_records}
 use Rattle.sqlite.specs.Held.{state}
@@ -11,7 +12,7 @@ use Rattle.acd_columns.proofs.Recorded.{none_recorded, recorded}
 use Rattle.sqlite_rules.specs.Lists.{Has}
 use Rattle.acd_columns.proofs.Filed.{good}
 use Rattle.acd_statements.proofs.Blamed.{blames_fail}
-use Rattle.acd_statements.proofs.BlamedRows.{blames_records}
+use Rattle.acd_statements.proofs.BlamedRows.{blames_records, looks_decoded}
 use Rattle.acd_statements.proofs.select.records.Goals as goal
 
 pub returns-in-Err-clause-found : goal.returns-in-Err-clause-found
@@ -29,7 +30,8 @@ returns-in-Err-clause-seen g c d is =
 
 pub returns-in-Ok-clause-seen : goal.returns-in-Ok-clause-seen
 returns-in-Ok-clause-seen g c d is =
-    seen_records g.R.Described.descr g.R.Described.filed d (state g.S.Store c.args.conn.now) (state g.S.Store c.rows.new.conn) c.in-Ok.rows c.records_of.result (rw c.deref.ensures.value at c.records_of.ensures.records) (c.in-Ok.ensures.seen d is)
+    seen_records g.R.Described.descr g.R.Described.filed d (state g.S.Store c.args.conn.now) (state g.S.Store c.rows.new.conn) c.in-Ok.rows c.records_of.result (rw c.deref.ensures.value at c.records_of.ensures.records)
+    (looks_decoded g.R.Described.descr g.R.Described.filed d (state g.S.Store c.args.conn.now) (state g.S.Store c.rows.new.conn) c.in-Ok.rows.items c.records_of.result (subst (λ l. Begins l d.schema) g.met.R.Selected.stands is) (rw c.deref.ensures.value at c.records_of.ensures.bad)) (c.in-Ok.ensures.seen d is)
 
 pub returns-in-Err-clause-blamed : goal.returns-in-Err-clause-blamed
 returns-in-Err-clause-blamed g c answers told = blames_fail (state g.S.Store c.args.conn.now) (state g.S.Store c.rows.new.conn) c.in-Err.error (c.in-Err.ensures.blamed answers)

@@ -1,7 +1,7 @@
 use Rattle.sqlite.specs.Held.{state}
 use Rattle.acd_columns.proofs.Selected.{rows_found, rows_seen}
 use Rattle.std.proofs.Common.{[], sym, subst}
-use Rattle.acd_statements.specs.Reading.{IsAnswered}
+use Rattle.acd_statements.specs.Reading.{IsAnswered, RefusesToShow}
 use Rattle.acd_statements.proofs.select.rows.Goals as goal
 
 pub returns-clause-found : goal.returns-clause-found
@@ -11,7 +11,8 @@ returns-clause-found g c =
 
 pub returns-clause-seen : goal.returns-clause-seen
 returns-clause-seen g c d is =
-    rows_seen g.R.Described.descr g.R.Described.filed g.R.Selected.base g.R.Selected.select g.met.R.Selected.selects c.select_text.result.now c.select_text.ensures (state g.S.Store c.args.conn.now) (state g.S.Store c.read.new.conn) c.read.result d is (c.read.ensures.seen d)
+    rows_seen g.R.Described.descr g.R.Described.filed g.R.Selected.base g.R.Selected.select g.met.R.Selected.selects c.select_text.result.now c.select_text.ensures (state g.S.Store c.args.conn.now) (state g.S.Store c.read.new.conn) c.read.result d is
+    (λ plain. c.read.ensures.seen d plain (subst (λ t. ¬ (RefusesToShow d t [])) (sym c.select_text.ensures) (g.met.R.Selected.answered d is)))
 
 pub returns-clause-blamed : goal.returns-clause-blamed
 returns-clause-blamed g c answers = c.read.ensures.blamed (subst (λ t. IsAnswered t []) (sym c.select_text.ensures) answers)
