@@ -1,6 +1,8 @@
 mod Changing
 pub mod Numbered
 pub mod Keys
+pub mod Left
 mod Watching
 mod Places
 mod Listing
+pub mod BookSteps

@@ -10,7 +10,9 @@ use Rattle.acd_desk.specs.Served.{served, sent}
 use Rattle.acd_desk.specs.Stands.{IsSound, replies}
 use Rattle.acd_desk.specs.Standing.{Standing, standing}
 use Rattle.acd_desk.specs.declared.desk.Desk.{Desk}
-use Rattle.acd_desk.specs.Opening.{Opened}
+use Rattle.acd_desk.specs.Opening.{Opened, Refused}
+use Rattle.acd_desk.specs.declared.open_fault.OpenFault.TheVariants.{Rows}
+use Rattle.acd_terms.specs.declared.rows.Rule.{Rule}
 use Rattle.acd_desk.specs.Ran.{Ran}
 use Rattle.acd_desk.proofs.ContentLaws.{empty_sound}
 use Rattle.acd_io.specs.Read.{IsInput}
@@ -26,6 +28,11 @@ new_over old new clean sound e o = record {
   works = o.working;
   empty = (o.opened clean sound).2 ∙ e;
 }
+
+-- no rule is broken by a new book's rows
+pub new_refused : (old new : BookState) (rule : Rule) → new.is_clean → old.is_sound → old.content ≡ nothing → Refused old (Rows rule) new → ⊥
+unfolding limits_fit
+new_refused old new rule clean sound e r = r.well clean sound (subst IsSound (sym e) (empty_sound greatest_limits refl))
 
 -- the book of the desk is clean behind the run, and has counted no failure
 pub record IsQuiet (old new : Standing) : Type 0 where
@@ -45,7 +52,7 @@ from_nothing : (old new : Standing) → IsNewDesk old → IsQuiet old new → (a
 from_nothing old new first quiet arrivals answers ran = record {
   even = ran.even;
   replies = subst (λ (c : Content). sent answers ≡ replies c (served arrivals answers)) first.empty (ran.replies quiet.clean first.starts);
-  no_fault = λ found. elim (ran.cause (ran.shuts found)) [
+  no_fault = λ found. elim (ran.desk.cause (ran.desk.shuts found)) [
     | inl cause ↦ elim cause [
       | inl failed ↦ absurd (true≢false (sym failed ∙ first.works))
       | inr risen ↦ quiet.quiet risen

@@ -1,5 +1,5 @@
 -- What serving over a database leaves, step by step.
-use Rattle.std.proofs.Common.{◌≡◌, ◌⊎◌, ℕ, Bool, true, List, [], Option, Result, Ok, Err, OnOk, Some, None, sym, ap, subst, ◌∙◌, inl, inr, refl, append-nil}
+use Rattle.std.proofs.Common.{◌≡◌, ◌⊎◌, ℕ, Bool, true, false, List, [], Option, Result, Ok, Err, OnOk, Some, None, sym, ap, subst, ◌∙◌, inl, inr, refl, append-nil}
 use Rattle.std.specs.Io.KnownBytes.{Appends}
 use Rattle.sqlite.specs.State.{State}
 use Rattle.sqlite.specs.Held.{Held}
@@ -10,7 +10,7 @@ use Rattle.sqlite_trees.specs.declared.store.Store.{Ghosts}
 use Rattle.sqlite_store.specs.declared.store.FileStore.{FileStore}
 use Rattle.acd_book.specs.declared.book.Book as book
 use Rattle.acd_book.specs.State.{BookState}
-use Rattle.acd_sqlbook.specs.declared.book.SqlBook.{SqlBook}
+use Rattle.acd_sqlbook.specs.View.{BookView}
 use Rattle.acd_desk.specs.declared.desk.Desk.{Desk}
 use Rattle.acd_desk.specs.Opening.{Opened}
 use Rattle.acd_desk.specs.Stands.{IsSound}
@@ -55,40 +55,40 @@ told_for stands (Some many) d e a b h = (h.outcomes, h.out)
 told_for stands None d e a b h = (h.1.outcomes, h.1.out)
 
 pub opened_desk : (old : BookState) (new : Standing) → Opened old new → IsDeskOf old new
-opened_desk old new o = record { clean = o.clean; sound = o.sound; opened = o.opened; starts = o.starts; stops = o.stops; working = o.working }
+opened_desk old new o = record { clean = o.step.clean; sound = o.step.sound; opened = o.opened; starts = o.starts; stops = o.stops; working = o.working }
 
 -- a desk of a book that came of another is one of that
 pub desk_of : (old mid : BookState) (new : Standing) → IsOf old mid → IsDeskOf mid new → IsDeskOf old new
 desk_of old mid new of o = record {
-  clean = λ clean. of.clean (o.clean clean);
-  sound = λ clean sound. o.sound clean (of.sound (o.clean clean) sound);
+  clean = λ clean. of.step.clean (o.clean clean);
+  sound = λ clean sound. o.sound clean (of.step.sound (o.clean clean) sound);
   opened = λ clean sound.
-      let there = of.sound (o.clean clean) sound in
+      let there = of.step.sound (o.clean clean) sound in
       let h = o.opened clean there in
       let same = of.content (o.clean clean) sound in
       (of.opened (o.clean clean) sound, h.1, h.2 ∙ same, h.3 ∙ ap (λ c. Some c.rows) same);
-  starts = λ clean sound whole. o.starts clean (of.sound (o.clean clean) sound) (subst (λ c. IsSound c) (sym (of.content (o.clean clean) sound)) whole);
-  stops = λ clean sound c at. of.stops (o.clean clean) sound c (o.stops clean (of.sound (o.clean clean) sound) c at);
+  starts = λ clean sound whole. o.starts clean (of.step.sound (o.clean clean) sound) (subst (λ c. IsSound c) (sym (of.content (o.clean clean) sound)) whole);
+  stops = λ clean sound c at. of.stops (o.clean clean) sound c (o.stops clean (of.step.sound (o.clean clean) sound) c at);
   working = o.working;
 }
 
 serves_of : {B : Type 0} (says : book.Ghosts B) (old mid : BookState) (span : Option ℕ) (a b : Option (List ℕ)) (last : B) → IsOf old mid → ServesOver says mid span a b last → ServesOver says old span a b last
-serves_of says old mid span a b last of h = record { first = h.first; final = h.final; opened = desk_of old mid (standing says h.first) of h.opened; served = h.served; back = h.back }
+serves_of says old mid span a b last of h = record { first = h.first; final = h.final; opened = desk_of old mid (standing says h.first) of h.opened; served = h.served; well = h.well; back = h.back }
 
 -- the book behind the serving of a desk over it
 pub serves_over : {B F : Type 0} (says : book.Ghosts B) (r : Result (Unit {0}) F) (old : BookState) (span : Option ℕ) (first final : Desk B) (last : B) (a b : Option (List ℕ)) → Opened old (standing says first) → last ≡ final.book
-    → OnOk r (ServedFor (standing says) span first final (Begins a b)) → OnOk r (ServesOver says old span a b last)
-serves_over says (Ok u) old span first final last a b opened back h = record { first = first; final = final; opened = opened_desk old (standing says first) opened; served = h; back = back }
-serves_over says (Err e) old span first final last a b opened back h = tt
+    → OnOk r (ServedFor (standing says) span first final (Begins a b)) → OnOk r (span ≡ None → (standing says final).failed ≡ false) → OnOk r (ServesOver says old span a b last)
+serves_over says (Ok u) old span first final last a b opened back h well = record { first = first; final = final; opened = opened_desk old (standing says first) opened; served = h; well = well; back = back }
+serves_over says (Err e) old span first final last a b opened back h well = tt
 
 module _ {S : Type 0} (store : Ghosts S) where
   -- the book was the database's, or a new one
-  over_taken : (makes : Bool) (span : Option ℕ) (s : State) (mid : BookState) (a b : Option (List ℕ)) (last : SqlBook S store) → IsTaken makes s mid → ServesOver (in_database store) mid span a b last
+  over_taken : (makes : Bool) (span : Option ℕ) (s : State) (mid : BookState) (a b : Option (List ℕ)) (last : BookView S) → IsTaken makes s mid → ServesOver (in_database store) mid span a b last
       → ServesOver (in_database store) (held s) span a b last ⊎ ((makes ≡ true) × (s.now.schema ≡ no_schema) × ServesOver (in_database store) (unmade s) span a b last)
   over_taken makes span s mid a b last (inl had) h = inl (serves_of (in_database store) (held s) mid span a b last had h)
   over_taken makes span s mid a b last (inr made) h = inr (made.0, made.1, serves_of (in_database store) (unmade s) mid span a b last made.2 h)
 
-  pub serves_database : {F : Type 0} (r : Result (Unit {0}) F) (makes : Bool) (span : Option ℕ) (s : State) (mid : BookState) (a b : Option (List ℕ)) (last : SqlBook S store) (conn : Held S) → IsTaken makes s mid → conn ≡ last.conn
+  pub serves_database : {F : Type 0} (r : Result (Unit {0}) F) (makes : Bool) (span : Option ℕ) (s : State) (mid : BookState) (a b : Option (List ℕ)) (last : BookView S) (conn : Held S) → IsTaken makes s mid → conn ≡ last.conn
       → OnOk r (ServesOver (in_database store) mid span a b last) → OnOk r (ServesDatabase store makes span s a b conn)
   serves_database (Ok u) makes span s mid a b last conn taken back h = record { its = last; over = over_taken makes span s mid a b last taken h; back = back }
   serves_database (Err e) makes span s mid a b last conn taken back h = tt

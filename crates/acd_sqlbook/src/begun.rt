@@ -1,16 +1,15 @@
 //! The index of a book that holds some events already.
 
-ghost use Rattle.std.specs.Prelude.{◌≡◌, false, IsTrue};
-ghost use Rattle.sqlite.specs.State.{HasCleanDisk};
+ghost use Rattle.std.specs.Prelude.{◌≡◌, false};
 ghost use Rattle.sqlite.specs.Held.{state};
 ghost use Rattle.acd_sql_columns.specs.Finding.{Finds};
 ghost use Rattle.acd_sql_statements.specs.Picking.{Serves};
 ghost use Rattle.acd_sql_statements.specs.Reading.{Blames};
 ghost use Rattle.acd_sqlbook.specs.Calls.{HasRead};
-ghost use Rattle.acd_sqlbook.specs.Indexing.{BeginsIndex, IsNoted};
+ghost use Rattle.acd_sqlbook.specs.Indexing.{BeginsIndex, IndexIsNoted};
 
 use crate::index::{Index, noted_on};
-use crate::ready::serve;
+use crate::ready::Ready;
 use acd_book::Watched;
 use acd_sql_statements::{events_behind, rows};
 use acd_terms::MonitorRecord;
@@ -40,7 +39,7 @@ fn noted_to_the_end<S: Alter>(
     ensures idle { conn.new.in_transaction ≡ false }
     ensures found { Serves (state S.Store conn.old)
         → Finds (state S.Store conn.old) (state S.Store conn.new) result
-        (λ c noted. BeginsIndex begun c.events → IsNoted noted c.events) }
+        (λ c noted. BeginsIndex begun c.events → IndexIsNoted noted c.events) }
     ensures blamed { Serves (state S.Store conn.old)
         → Blames (state S.Store conn.old) (state S.Store conn.new) result }
 {
@@ -63,7 +62,7 @@ fn begun<S: Alter>(alloc: Global, conn: &mut Connection<S>) -> Result<Option<Ind
     requires { conn.old.in_transaction ≡ false }
     ensures idle { conn.new.in_transaction ≡ false }
     ensures found { Finds (state S.Store conn.old) (state S.Store conn.new) result
-        (λ c noted. IsNoted noted c.events) }
+        (λ c noted. IndexIsNoted noted c.events) }
     ensures blamed { Blames (state S.Store conn.old) (state S.Store conn.new) result }
 {
     let rows = rows(alloc, conn)?;
@@ -76,21 +75,16 @@ fn begun<S: Alter>(alloc: Global, conn: &mut Connection<S>) -> Result<Option<Ind
 /// What is noted of a book, which begins here where nothing is noted yet.
 pub(crate) fn noted_first<S: Alter>(
     alloc: Global,
-    conn: &mut Connection<S>,
-    fresh: bool,
+    ready: &mut Ready<S>,
     noted: Option<Index>,
 ) -> Result<Option<Index>, Error>
-    requires idle { conn.old.in_transaction ≡ false }
-    requires fresh { IsTrue fresh → HasCleanDisk (state S.Store conn.old)
-        → IsTrue (state S.Store conn.old).is_open }
-    ensures idle { conn.new.in_transaction ≡ false }
-    ensures read { HasRead (state S.Store conn.old) (state S.Store conn.new) result
-        (λ c next. IsNoted noted c.events → IsNoted next c.events) }
-    ensures blamed { Blames (state S.Store conn.old) (state S.Store conn.new) result }
+    ensures read { HasRead (state S.Store ready.old.conn) (state S.Store ready.new.conn) result
+        (λ c next. IndexIsNoted noted c.events → IndexIsNoted next c.events) }
+    ensures blamed { Blames (state S.Store ready.old.conn) (state S.Store ready.new.conn) result }
 {
-    serve(conn, fresh)?;
+    ready.serve()?;
     match noted {
         Some(index) => Ok(Some(index)),
-        None => begun(alloc, conn),
+        None => begun(alloc, &mut ready.conn),
     }
 }
