@@ -1,6 +1,7 @@
 mod Changing
 pub mod Numbered
 pub mod Keys
+pub mod Left
 mod Watching
 mod Places
 mod Listing

@@ -1,5 +1,5 @@
 -- Lists of the numbers of events, by device.
-use Rattle.std.proofs.Common.{◌≡◌, ℕ, ◌+◌, ◌<◌, ◌≤◌, ◌==◌, Bool, true, false, cond, ◌&&◌, nat_lt, leb, List, [], ◌∷◌, ◌++◌, length, take, drop, map, filter, min, get_or, Option, Some, Result, Ok, Err, OnOk, OnErr, ◌⊎◌, inl, inr, zero, suc, true≢false, refl, ap, sym, subst, ◌∙◌, eqb-true, arith, length-drop, length-take-le, take_all}
+use Rattle.std.proofs.Common.{◌≡◌, ℕ, ◌+◌, ◌<◌, ◌≤◌, ◌==◌, Bool, true, false, cond, ◌&&◌, nat_lt, leb, List, [], ◌∷◌, ◌++◌, length, take, drop, map, filter, min, get_or, Option, Some, Result, Ok, Err, OnOk, OnErr, ◌⊎◌, inl, inr, zero, suc, true≢false, refl, ap, sym, subst, ◌∙◌, eqb-true, arith, length-drop, length-take-le, take_all, append-nil}
 use Rattle.std.specs.Prelude.{IfSome, is_err}
 use Rattle.std.specs.Map.{lookup}
 use Rattle.std.specs.List.{All}
@@ -63,13 +63,9 @@ map-append : {T S : Type 0} (f : T → S) (xs ys : List T) → map f (xs ++ ys) 
 map-append f [] ys = refl
 map-append f (x ∷ xs) ys = ap (λ (l : List _). f x ∷ l) (map-append f xs ys)
 
-nothing_more : {T : Type 0} (xs : List T) → xs ++ [] ≡ xs
-nothing_more [] = refl
-nothing_more (x ∷ xs) = ap (λ (l : List _). x ∷ l) (nothing_more xs)
-
 pub listed_elsewhere : (d q : ℕ) (l : Numbers) (e : Event) (events : List Event) → (columns_of e.report).device ≡ Some d → (d == q) ≡ false → IsListed events q l → IsListed (events ++ e ∷ []) q l
 listed_elsewhere d q l e events at other listed =
-    listed ∙ sym (ap (map number_of) (told_elsewhere d q l.above e events at other ∙ nothing_more (filter (is_told (Some q) l.above) events)))
+    listed ∙ sym (ap (map number_of) (told_elsewhere d q l.above e events at other ∙ append-nil (filter (is_told (Some q) l.above) events)))
 
 one_told : (c : Bool) (e : Event) → cond c (e.number ∷ []) [] ≡ map number_of (cond c (e ∷ []) [])
 one_told true e = refl

@@ -7,7 +7,7 @@ use Rattle.std.specs.declared.hash.FoldHasher.{FoldHasher}
 use Rattle.std.specs.declared.hash.BuildHasherDefault.{BuildHasherDefault}
 use Rattle.std.proofs.lemmas.Option.{none-some}
 use Rattle.acd_book.specs.Content.{kept_of}
-use Rattle.acd_book.specs.Memory.{key_of, is_kept_under, same_key, IsPlaced}
+use Rattle.acd_book.specs.Memory.{key_of, is_kept_under, same_key, HasPlaces}
 use Rattle.acd_book.specs.declared.kept.Kept.{Kept}
 use Rattle.acd_book.specs.declared.key.Key.{Key}
 use Rattle.acd_book.proofs.Keys.{key, own_same, same_is, same_kept}
@@ -78,17 +78,17 @@ minus_zero : (n : ℕ) → n - 0 ≡ n
 minus_zero n = omega arith
 
 -- a key that the map doesn't have is kept under no record
-pub unkept : (places : Places) (kept : List Kept) (p : List ℕ) (q : ℕ) → IsPlaced places kept → get same_key places (key p q) ≡ None → kept_of kept p q ≡ None
+pub unkept : (places : Places) (kept : List Kept) (p : List ℕ) (q : ℕ) → HasPlaces places kept → get same_key places (key p q) ≡ None → kept_of kept p q ≡ None
 unkept places kept p q placed h = found_none (is_kept_under (key p q)) 0 kept (sym (placed (key p q)) ∙ h)
 
 -- and one that it has under the record at its place
-pub kept_at : (places : Places) (kept : List Kept) (p : List ℕ) (q i : ℕ) → IsPlaced places kept → get same_key places (key p q) ≡ Some i → kept_of kept p q ≡ slice_get kept i
+pub kept_at : (places : Places) (kept : List Kept) (p : List ℕ) (q i : ℕ) → HasPlaces places kept → get same_key places (key p q) ≡ Some i → kept_of kept p q ≡ slice_get kept i
 kept_at places kept p q i placed h =
     (found_from (is_kept_under (key p q)) 0 i kept (sym (placed (key p q)) ∙ h)).1 ∙ ap (slice_get kept) (minus_zero i)
 
 -- a record of a new key is added at the end
-pub placed_push : (old new : Places) (kept : List Kept) (x : Kept) → IsPlaced old kept → kept_of kept x.request.requester x.request.invoke ≡ None
-    → ((k : Key) → get same_key new k ≡ cond (same_key (key_of x) k) (Some (length kept)) (get same_key old k)) → IsPlaced new (kept ++ x ∷ [])
+pub placed_push : (old new : Places) (kept : List Kept) (x : Kept) → HasPlaces old kept → kept_of kept x.request.requester x.request.invoke ≡ None
+    → ((k : Key) → get same_key new k ≡ cond (same_key (key_of x) k) (Some (length kept)) (get same_key old k)) → HasPlaces new (kept ++ x ∷ [])
 placed_push old new kept x placed unkept updates k =
     (elim (same_key (key_of x) k) as (λ c. same_key (key_of x) k ≡ c → get same_key new k ≡ cond c (Some (length kept)) (get same_key old k) → get same_key new k ≡ position_from (is_kept_under k) 0 (kept ++ x ∷ [])) [
       | true ↦ λ same at.

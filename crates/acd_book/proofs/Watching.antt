@@ -3,6 +3,7 @@ use Rattle.std.proofs.Common.{arith, ◌≡◌, ℕ, ◌+◌, ◌-◌, ◌<◌, 
 use Rattle.std.specs.List.{cons_option, filter_map}
 use Rattle.std.proofs.lemmas.Bool.Decides.{nat_tests}
 use Rattle.acd_terms.specs.Lists.{Among, Every}
+use Rattle.acd_terms.proofs.Numbers.{not_zero}
 use Rattle.acd_terms.specs.declared.event.Event.{Event}
 use Rattle.acd_terms.specs.declared.record.MonitorRecord.{MonitorRecord}
 use Rattle.acd_model.specs.Scans.{monitor_of}
@@ -41,11 +42,8 @@ placed b (x ∷ events) e numbered (inr a) =
     let place : e.number - (b + 1) ≡ suc (e.number - ((b + 1) + 1)) = omega (arith, rest.0) in
     (omega (arith, rest.0), ap (slice_get (x ∷ events)) place ∙ rest.1)
 
-above_none : (n : ℕ) → 0 < n → (n == 0) ≡ false
-above_none n h = grind (arith, nat_tests)
-
 at_number : (n : ℕ) (found : Option Event) → 0 < n → cond (n == 0) None found ≡ found
-at_number n found h = ap (λ (b : Bool). cond b None found) (above_none n h)
+at_number n found h = ap (λ (b : Bool). cond b None found) (not_zero n h)
 
 found_at : (events : List Event) (e : Event) → is_numbered number_of 0 events ≡ true → Among e events → event_at events e.number ≡ Some e
 found_at events e numbered a = let at = placed 0 events e numbered a in at_number e.number (slice_get events (e.number - 1)) at.0 ∙ at.1

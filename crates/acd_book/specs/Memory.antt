@@ -36,8 +36,8 @@ unfoldable pub same_key : Key → Key → Bool
 same_key a b = (key.eq-value).it a b
 
 -- the map has the place of the first record of each key, and no other key
-abbrev pub IsPlaced : HashMap Key ℕ (BuildHasherDefault FoldHasher) → List Kept → Type 0
-IsPlaced places kept = (k : Key) → get same_key places k ≡ position_from (is_kept_under k) 0 kept
+abbrev pub HasPlaces : HashMap Key ℕ (BuildHasherDefault FoldHasher) → List Kept → Type 0
+HasPlaces places kept = (k : Key) → get same_key places k ≡ position_from (is_kept_under k) 0 kept
 
 -- the two maps have the same places
 abbrev pub HasSamePlaces : HashMap Key ℕ (BuildHasherDefault FoldHasher) → HashMap Key ℕ (BuildHasherDefault FoldHasher) → Type 0

@@ -17,24 +17,24 @@ pub listed_prop : (events : List Event) (device : ℕ) (l : Numbers) → IsProp 
 listed_prop events device l = Coded-set (coded_list coded_ℕ) _ _
 
 -- each list is of these events
-abbrev pub IsWatched : List Event → Watched → Type 0
-IsWatched events w = (device : ℕ) → IfSome (get_by (λ (d : ℕ). device == d) w.lists) (IsListed events device)
+abbrev pub ListsEvents : List Event → Watched → Type 0
+ListsEvents events w = (device : ℕ) → IfSome (get_by (λ (d : ℕ). device == d) w.lists) (IsListed events device)
 
 -- where no event has a number above the last one
 abbrev pub WatchesAfter : ℕ → Watched → Type 0
-WatchesAfter last w = (events : List Event) → Every (λ (e : Event). e.number ≤ last) events → IsWatched events w
+WatchesAfter last w = (events : List Event) → Every (λ (e : Event). e.number ≤ last) events → ListsEvents events w
 
 abbrev pub WatchesFrom : ℕ → Watched → Watched → Type 0
-WatchesFrom last old new = (events : List Event) → Every (λ (e : Event). e.number ≤ last) events → IsWatched events old → IsWatched events new
+WatchesFrom last old new = (events : List Event) → Every (λ (e : Event). e.number ≤ last) events → ListsEvents events old → ListsEvents events new
 
 -- the same events are watched
 abbrev pub StillWatches : Watched → Watched → Type 0
-StillWatches old new = (events : List Event) → IsWatched events old → IsWatched events new
+StillWatches old new = (events : List Event) → ListsEvents events old → ListsEvents events new
 
 -- and more, behind them
 abbrev pub WatchesMore : List Event → Watched → Watched → Type 0
-WatchesMore more old new = (events : List Event) → IsWatched events old → IsWatched (events ++ more) new
+WatchesMore more old new = (events : List Event) → ListsEvents events old → ListsEvents (events ++ more) new
 
 -- the numbers of the first events at a device above a number
 abbrev pub IsPage : Watched → ℕ → ℕ → ℕ → List ℕ → Type 0
-IsPage w device number limit found = (events : List Event) → IsWatched events w → found ≡ map number_of (take limit (filter (is_told (Some device) number) events))
+IsPage w device number limit found = (events : List Event) → ListsEvents events w → found ≡ map number_of (take limit (filter (is_told (Some device) number) events))

@@ -5,7 +5,7 @@ ghost use Rattle.std.specs.List.{cons_option, filter_map};
 ghost use Rattle.std.proofs.Props.{props};
 ghost use Rattle.acd_book.specs.Content.{is_at, is_told};
 ghost use Rattle.acd_book.specs.Memory.{event_at, is_numbered, number_of};
-ghost use Rattle.acd_book.specs.Watched.{IsWatched, listed_prop};
+ghost use Rattle.acd_book.specs.Watched.{ListsEvents, listed_prop};
 
 use crate::watched::Watched;
 use acd_model::Change;
@@ -18,7 +18,7 @@ pub(crate) struct Log {
     pub(crate) events: Vec<Event>,
     pub(crate) watched: Watched,
     ghost numbered: { is_numbered number_of 0 events.items ≡ true },
-    ghost told: { IsWatched events.items watched } by { Prim.hlevel (props, listed_prop) },
+    ghost told: { ListsEvents events.items watched } by { Prim.hlevel (props, listed_prop) },
 }
 
 impl Log {

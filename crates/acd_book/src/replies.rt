@@ -2,7 +2,7 @@
 
 ghost use Rattle.std.specs.Prelude.{◌≡◌, ◌++◌, ◌∷◌, [], true, slice_get, option_copied, OnOk, OnErr};
 ghost use Rattle.acd_book.specs.Content.{kept_of, IsKeptAfter};
-ghost use Rattle.acd_book.specs.Memory.{is_numbered, stamp_of, HasSamePlaces, IsPlaced, IsPlacedNew};
+ghost use Rattle.acd_book.specs.Memory.{is_numbered, stamp_of, HasSamePlaces, HasPlaces, IsPlacedNew};
 
 use crate::kept::Kept;
 use crate::key::Key;
@@ -16,7 +16,7 @@ pub(crate) struct Replies {
     pub(crate) records: Vec<Kept>,
     pub(crate) places: HashMap<Key, usize>,
     ghost numbered: { is_numbered stamp_of 0 records.items ≡ true },
-    ghost placed: { IsPlaced places records.items },
+    ghost placed: { HasPlaces places records.items },
 }
 
 impl Replies {

@@ -2,7 +2,7 @@
 
 ghost use Rattle.std.specs.Prelude.{◌∷◌, [], List, IfSome};
 ghost use Rattle.acd_terms.specs.declared.event.Event.{Event};
-ghost use Rattle.acd_book.specs.Watched.{IsPage, IsWatched, StillWatches, WatchesAfter, WatchesFrom, WatchesMore};
+ghost use Rattle.acd_book.specs.Watched.{IsPage, ListsEvents, StillWatches, WatchesAfter, WatchesFrom, WatchesMore};
 
 use crate::numbers::Numbers;
 use acd_model::Change;
@@ -25,7 +25,7 @@ pub struct Watched {
 impl Watched {
     /// Nothing is watched.
     pub fn new(alloc: Global) -> Watched
-        ensures { (events : List Event) → IsWatched events result }
+        ensures { (events : List Event) → ListsEvents events result }
     {
         Watched {
             alloc,

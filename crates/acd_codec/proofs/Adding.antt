@@ -9,9 +9,9 @@ use Rattle.serde_json.specs.Data.{Data, object, Members, no_members, member}
 use Rattle.serde_json.specs.Written.{outline, items_outline, members_outline, compact_text}
 use Rattle.serde_json.proofs.Texts.{print-outline}
 use Rattle.acd_codec.specs.Parts.{Part, part, list_part, written_before, written, object_of, items_of}
-use Rattle.acd_codec.specs.Tokens.{data_tokens, tokens_of, part_tokens, parts_tokens, each_tokens, Added, Adds, Begun}
+use Rattle.acd_codec.specs.Tokens.{data_tokens, tokens_of, part_tokens, parts_tokens, each_tokens, Added, AddsTokens, Begun}
 
-pub wrote : {E : Type 0} (r : Result (Unit {0}) E) (old new : Written) (t : Token) → Writes r old new t → Adds r old new (t ∷ [])
+pub wrote : {E : Type 0} (r : Result (Unit {0}) E) (old new : Written) (t : Token) → Writes r old new t → AddsTokens r old new (t ∷ [])
 wrote {E} r old new t w = on_ok_weaker r (λ e. (w.room.0, e)) w.ok
 
 pub wrote_ok : {E : Type 0} (x : Unit {0}) (old new : Written) (t : Token) → Writes {E = E} (Ok x) old new t → Added old new (t ∷ [])
@@ -20,11 +20,11 @@ wrote_ok {E} x old new t w = (w.room.0, w.ok)
 pub and_then : (old mid new : Written) (xs ys : List Token) → Added old mid xs → Added mid new ys → Added old new (xs ++ ys)
 and_then old mid new xs ys a b = (b.0 ∙ a.0, b.1 ∙ ap (λ ts. ts ++ ys) a.1 ∙ append_assoc old.tokens xs ys)
 
-pub adds_then : {E : Type 0} (r : Result (Unit {0}) E) (old mid new : Written) (xs ys : List Token) → Added old mid xs → Adds r mid new ys → Adds r old new (xs ++ ys)
+pub adds_then : {E : Type 0} (r : Result (Unit {0}) E) (old mid new : Written) (xs ys : List Token) → Added old mid xs → AddsTokens r mid new ys → AddsTokens r old new (xs ++ ys)
 adds_then {E} r old mid new xs ys a b = on_ok_weaker r (λ (e : Added mid new ys). and_then old mid new xs ys a e) b
 
 -- the last part of several
-pub adds_last : {E : Type 0} (r : Result (Unit {0}) E) (old new : Written) (xs : List Token) → Adds r old new xs → Adds r old new (xs ++ [])
+pub adds_last : {E : Type 0} (r : Result (Unit {0}) E) (old new : Written) (xs : List Token) → AddsTokens r old new xs → AddsTokens r old new (xs ++ [])
 adds_last {E} r old new xs a = rw (append-nil xs) a
 
 -- the tokens of parts, and of those that follow them
@@ -62,19 +62,19 @@ items_closed {T} f (x ∷ xs) =
 
 -- parts, and then members
 pub adds_before : {E : Type 0} (r : Result (Unit {0}) E) (old mid new : Written) (ps : List Part) (more : Members)
-    → Added old mid (parts_tokens ps) → Adds r mid new (tokens_of more) → Adds r old new (tokens_of (written_before ps more))
+    → Added old mid (parts_tokens ps) → AddsTokens r mid new (tokens_of more) → AddsTokens r old new (tokens_of (written_before ps more))
 adds_before {E} r old mid new ps more a b = rw (before_written ps more) (adds_then r old mid new (parts_tokens ps) (tokens_of more) a b)
 
 -- an object is its members between brackets
 pub object_added : {E : Type 0} (r : Result (Unit {0}) E) (old begun filled new : Written) (ps : List Part)
-    → Added old begun (begin_object ∷ []) → Added begun filled (parts_tokens ps) → Adds r filled new (end_object ∷ []) → Adds r old new (data_tokens (object_of ps))
+    → Added old begun (begin_object ∷ []) → Added begun filled (parts_tokens ps) → AddsTokens r filled new (end_object ∷ []) → AddsTokens r old new (data_tokens (object_of ps))
 object_added {E} r old begun filled new ps a b c =
     rw (members_closed (written ps), parts_written ps) (adds_then r old filled new (begin_object ∷ parts_tokens ps) (end_object ∷ []) (and_then old begun filled (begin_object ∷ []) (parts_tokens ps) a b) c)
 
 -- a list is its items between brackets
 pub list_added : {E : Type 0} {T : Type 0} (r : Result (Unit {0}) E) (old named begun filled new : Written) (k : List ℕ) (f : T → Data) (xs : List T)
-    → Added old named (key k ∷ []) → Added named begun (begin_array ∷ []) → Added begun filled (each_tokens f xs) → Adds r filled new (end_array ∷ [])
-    → Adds r old new (part_tokens (list_part k (items_of f xs)))
+    → Added old named (key k ∷ []) → Added named begun (begin_array ∷ []) → Added begun filled (each_tokens f xs) → AddsTokens r filled new (end_array ∷ [])
+    → AddsTokens r old new (part_tokens (list_part k (items_of f xs)))
 list_added {E} {T} r old named begun filled new k f xs a b c d =
     let opened = and_then old named begun (key k ∷ []) (begin_array ∷ []) a b in
     rw (items_closed f xs) (adds_then r old filled new (key k ∷ begin_array ∷ each_tokens f xs) (end_array ∷ []) (and_then old begun filled (key k ∷ begin_array ∷ []) (each_tokens f xs) opened c) d)

@@ -10,6 +10,7 @@ use Rattle.json.specs.declared.value.Value.{Value}
 use Rattle.json.specs.Value.{items_view}
 use Rattle.serde_json.specs.Read.{of_items}
 use Rattle.acd_terms.specs.Lists.{is_less, ascends, put_by}
+use Rattle.acd_terms.proofs.Numbers.{cmp_equal, less_is, eqb_self, eqb_swap, tail_ascends}
 use Rattle.acd_terms.specs.Groups.{most_groups, is_one_of, are_groups, is_choice, with_one_more, with_all, some_of}
 use Rattle.acd_codec.specs.MemberReading.{devices_of, are_distinct, ascending, choice_of}
 
@@ -23,20 +24,8 @@ placed d xs = put_by (nat_cmp d) xs d
 
 -- ---- what is put into a list of groups
 
-equal : (x y : ℕ) → nat_cmp x y ≡ Equal → x ≡ y
-equal x y e = grind (arith, nat_tests)
-
-less : (x y : ℕ) → nat_cmp x y ≡ Less → x < y
-less x y e = grind (arith, nat_tests)
-
 greater : (x y : ℕ) → nat_cmp x y ≡ Greater → y < x
 greater x y e = grind (arith, nat_tests)
-
-is_itself : (x : ℕ) → (x == x) ≡ true
-is_itself x = grind (arith, nat_tests)
-
-turned : (x y : ℕ) → (x == y) ≡ (y == x)
-turned x y = grind (arith, nat_tests)
 
 or_again : (a b : Bool) → (a || b) ≡ (a || (a || b))
 or_again true b = refl
@@ -56,7 +45,7 @@ among_placed d e (x ∷ xs) = by (nat_cmp d x) refl (among_placed d e xs)
     by : (o : Ordering) → nat_cmp d x ≡ o → is_one_of (placed d xs) e ≡ ((d == e) || is_one_of xs e)
         → is_one_of (match_ordering o (d ∷ x ∷ xs) (d ∷ xs) (x ∷ placed d xs)) e ≡ ((d == e) || ((x == e) || is_one_of xs e))
     by Less q h = refl
-    by Equal q h = or_again (d == e) (is_one_of xs e) ∙ ap (λ (y : ℕ). (d == e) || ((y == e) || is_one_of xs e)) (equal d x q)
+    by Equal q h = or_again (d == e) (is_one_of xs e) ∙ ap (λ (y : ℕ). (d == e) || ((y == e) || is_one_of xs e)) (cmp_equal d x q)
     by Greater q h = ap (λ (b : Bool). (x == e) || b) h ∙ or_turned (x == e) (d == e) (is_one_of xs e)
 
 -- where it wasn't there, there is one more
@@ -68,7 +57,7 @@ one_longer d (x ∷ xs) h = by (nat_cmp d x) refl (x == d) refl h (one_longer d 
         → length (match_ordering o (d ∷ x ∷ xs) (d ∷ xs) (x ∷ placed d xs)) ≡ suc (suc (length xs))
     by o q true p h more = absurd (true≢false h)
     by Less q false p h more = refl
-    by Equal q false p h more = absurd (true≢false (sym (is_itself x) ∙ ap (λ (y : ℕ). x == y) (sym (equal d x q)) ∙ p))
+    by Equal q false p h more = absurd (true≢false (sym (eqb_self x) ∙ ap (λ (y : ℕ). x == y) (sym (cmp_equal d x q)) ∙ p))
     by Greater q false p h more = ap suc (more h)
 
 -- ---- which is put first doesn't matter
@@ -90,17 +79,17 @@ later_placed a b l (x ∷ xs) = by (nat_cmp a x) (nat_cmp b x) refl refl (later_
     by Less Greater q p h = rw (q, behind, p) refl
     by Equal Greater q p h = rw (q, behind) refl
     by Greater Greater q p h = rw (q, p) (ap (λ (ys : List ℕ). x ∷ ys) h)
-    by Equal Less q p h = absurd (omega (arith, equal a x q, less b x p))
-    by Equal Equal q p h = absurd (omega (arith, equal a x q, equal b x p))
-    by Greater Less q p h = absurd (omega (arith, greater a x q, less b x p))
-    by Greater Equal q p h = absurd (omega (arith, greater a x q, equal b x p))
+    by Equal Less q p h = absurd (omega (arith, cmp_equal a x q, less_is b x p))
+    by Equal Equal q p h = absurd (omega (arith, cmp_equal a x q, cmp_equal b x p))
+    by Greater Less q p h = absurd (omega (arith, greater a x q, less_is b x p))
+    by Greater Equal q p h = absurd (omega (arith, greater a x q, cmp_equal b x p))
 
 placed_twice : (a b : ℕ) (xs : List ℕ) → placed a (placed b xs) ≡ placed b (placed a xs)
 placed_twice a b xs = by (nat_cmp a b) refl
   where
     by : (o : Ordering) → nat_cmp a b ≡ o → placed a (placed b xs) ≡ placed b (placed a xs)
-    by Less q = later_placed a b (less a b q) xs
-    by Equal q = rw (equal a b q) refl
+    by Less q = later_placed a b (less_is a b q) xs
+    by Equal q = rw (cmp_equal a b q) refl
     by Greater q = sym (later_placed b a (greater a b q) xs)
 
 -- these groups, and the others put one after the other
@@ -140,7 +129,7 @@ apart_placed d xs (e ∷ es) =
     ap (λ (b : Bool). not b && apart (placed d xs) es) (among_placed d e xs)
     ∙ ap (λ (b : Bool). not ((d == e) || is_one_of xs e) && b) (apart_placed d xs es)
     ∙ nots (d == e) (is_one_of xs e) (is_one_of es d) (apart xs es)
-    ∙ ap (λ (b : Bool). not (b || is_one_of es d) && (not (is_one_of xs e) && apart xs es)) (turned d e)
+    ∙ ap (λ (b : Bool). not (b || is_one_of es d) && (not (is_one_of xs e) && apart xs es)) (eqb_swap d e)
 
 -- there is room for them, and none would stand twice
 abbrev fits : List ℕ → List ℕ → Bool
@@ -242,16 +231,12 @@ not_behind : (x g : ℕ) (gs : List ℕ) → x ≤ g → ascends nat_cmp (g ∷ 
 not_behind x g [] l a = refl
 not_behind x g (h ∷ hs) l a =
     let both = and_parts (is_less (nat_cmp g h)) (ascends nat_cmp (h ∷ hs)) a in
-    let step : g < h = less g h (before g h both.0) in
+    let step : g < h = less_is g h (before g h both.0) in
     rw (other x h (omega arith)) (not_behind x h hs (omega arith) both.1)
-
-tail : (g : ℕ) (gs : List ℕ) → ascends nat_cmp (g ∷ gs) ≡ true → ascends nat_cmp gs ≡ true
-tail g [] a = refl
-tail g (h ∷ hs) a = (and_parts (is_less (nat_cmp g h)) (ascends nat_cmp (h ∷ hs)) a).1
 
 all_distinct : (gs : List ℕ) → ascends nat_cmp gs ≡ true → are_distinct gs ≡ true
 all_distinct [] a = refl
-all_distinct (g ∷ gs) a = rw (not_behind g g gs (omega arith) a) (all_distinct gs (tail g gs a))
+all_distinct (g ∷ gs) a = rw (not_behind g g gs (omega arith) a) (all_distinct gs (tail_ascends g gs a))
 
 placed_first : (g : ℕ) (gs : List ℕ) → ascends nat_cmp (g ∷ gs) ≡ true → placed g gs ≡ g ∷ gs
 placed_first g [] a = refl
@@ -259,7 +244,7 @@ placed_first g (h ∷ hs) a = rw (before g h (and_parts (is_less (nat_cmp g h)) 
 
 in_order : (gs : List ℕ) → ascends nat_cmp gs ≡ true → ascending gs ≡ gs
 in_order [] a = refl
-in_order (g ∷ gs) a = ap (placed g) (in_order gs (tail g gs a)) ∙ placed_first g gs a
+in_order (g ∷ gs) a = ap (placed g) (in_order gs (tail_ascends g gs a)) ∙ placed_first g gs a
 
 pub choice_again : (gs : List ℕ) → is_choice gs ≡ true → choice_of gs ≡ Some gs
 choice_again gs h =

@@ -155,11 +155,11 @@ unfoldable pub reads_as : List ℕ → Result Request Member
 reads_as bytes = if is_utf8 bytes then request_from (read bytes) else Err member.Json
 
 -- the fault is this reading's, or memory ran out
-abbrev pub IsFault : {A : Type 0} → ReadFault → Result A Member → Type 0
-IsFault (Malformed m) reading = reading ≡ Err m
-IsFault NoMemory reading = Unit {0}
+abbrev pub IsReadFault : {A : Type 0} → ReadFault → Result A Member → Type 0
+IsReadFault (Malformed m) reading = reading ≡ Err m
+IsReadFault NoMemory reading = Unit {0}
 
 -- what a reader returned is this, unless memory ran out
 abbrev pub Gives : {A : Type 0} → Result A ReadFault → Result A Member → Type 0
 Gives (Ok x) reading = reading ≡ Ok x
-Gives (Err e) reading = IsFault e reading
+Gives (Err e) reading = IsReadFault e reading

@@ -35,8 +35,8 @@ abbrev pub Added : Written → Written → List Token → Type 0
 Added old new ts = (new.before ≡ old.before) × (new.tokens ≡ old.tokens ++ ts)
 
 -- the same, unless memory ran out
-abbrev pub Adds : {E : Type 0} → Result (Unit {0}) E → Written → Written → List Token → Type 0
-Adds r old new ts = OnOk r (Added old new ts)
+abbrev pub AddsTokens : {E : Type 0} → Result (Unit {0}) E → Written → Written → List Token → Type 0
+AddsTokens r old new ts = OnOk r (Added old new ts)
 
 -- an object begins in an empty buffer
 abbrev pub Begun : Written → Type 0

@@ -11,7 +11,7 @@ ghost use Rattle.serde_json.specs.Find.{get, as_object, as_number, as_u64};
 ghost use Rattle.acd_codec.specs.Members.{member_name};
 ghost use Rattle.acd_codec.specs.Documents.{json_of, data_of};
 ghost use Rattle.acd_codec.specs.MemberReading.{text_in, number_in, list_in, is_there};
-ghost use Rattle.acd_codec.specs.Reading.{IsFault, request_from, reads_as};
+ghost use Rattle.acd_codec.specs.Reading.{IsReadFault, request_from, reads_as};
 
 use crate::fault::ReadFault;
 use crate::member::Member;
@@ -51,7 +51,7 @@ impl<'a> Document<'a> {
         scratch: &'a mut Scratch,
     ) -> Result<Document<'a>, ReadFault>
         ensures ok { IfOk result (λ d. reads_as bytes.now ≡ request_from (Some (data_of d))) }
-        ensures err { IfErr result (λ e. IsFault e (reads_as bytes.now)) }
+        ensures err { IfErr result (λ e. IsReadFault e (reads_as bytes.now)) }
     {
         let Ok(text) = std::str::from_utf8(bytes) else {
             return Err(ReadFault::Malformed(Member::Json));

@@ -7,7 +7,7 @@ ghost use Rattle.serde_json.specs.Read.{of_json, of_items};
 ghost use Rattle.acd_terms.specs.Groups.{with_all};
 ghost use Rattle.acd_codec.specs.Documents.{data_of};
 ghost use Rattle.acd_codec.specs.MemberReading.{device_of, device_in, agent_in, name_in, requester_in, invoke_in, seconds_in, priority_in, serial_in, service_in, requested_state_in, devices_of, choice_of, groups_in};
-ghost use Rattle.acd_codec.specs.Reading.{Gives, IsFault, at_connection, at_device, at_devices, to_device, add_group_in, add_agent_in, monitor_stop_in, two_devices_in, connection_in, one_group_in, chosen_in, requested_in, set_agent_state_in, set_group_priority_in, command_in, request_in, request_from, reads_as};
+ghost use Rattle.acd_codec.specs.Reading.{Gives, IsReadFault, at_connection, at_device, at_devices, to_device, add_group_in, add_agent_in, monitor_stop_in, two_devices_in, connection_in, one_group_in, chosen_in, requested_in, set_agent_state_in, set_group_priority_in, command_in, request_in, request_from, reads_as};
 
 use crate::document::Document;
 use crate::fault::ReadFault;

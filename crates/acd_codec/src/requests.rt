@@ -4,7 +4,7 @@ ghost use Rattle.std.specs.Prelude.{◌≡◌, codes, IfOk, string_bytes};
 ghost use Rattle.serde_json.specs.Data.{string, member, no_members};
 ghost use Rattle.acd_codec.specs.Services.{service_name};
 ghost use Rattle.acd_codec.specs.RequestTexts.{named, asked, add_group, add_agent, arrive_call, make_call, at_device, at_connection, to_device, set_agent_state, set_group_priority, monitor_stop, sent, request_members, request_text};
-ghost use Rattle.acd_codec.specs.Tokens.{tokens_of, Adds};
+ghost use Rattle.acd_codec.specs.Tokens.{tokens_of, AddsTokens};
 
 use crate::service::{RequestedState, Service};
 use crate::writing::{
@@ -20,7 +20,7 @@ const ROOM: usize = 320;
 
 // Writes which service is asked for.
 fn put_service(out: &mut Writer, service: Service) -> Result<(), AllocError>
-    ensures { Adds result out.old out.new (tokens_of (member (codes "service") (string (service_name service)) no_members)) }
+    ensures { AddsTokens result out.old out.new (tokens_of (member (codes "service") (string (service_name service)) no_members)) }
 {
     put_text(out, "service", service.name())
 }
@@ -28,7 +28,7 @@ fn put_service(out: &mut Writer, service: Service) -> Result<(), AllocError>
 // Writes what every request has, where no other member stands between.
 fn put_sent(out: &mut Writer, request: &Request, service: Service) -> Result<(), AllocError>
     ensures { let r = request.now in
-        Adds result out.old out.new (tokens_of (sent r.requester r.invoke service no_members)) }
+        AddsTokens result out.old out.new (tokens_of (sent r.requester r.invoke service no_members)) }
 {
     put_whom(out, &request.requester, request.invoke)?;
     put_service(out, service)
@@ -37,7 +37,7 @@ fn put_sent(out: &mut Writer, request: &Request, service: Service) -> Result<(),
 // Writes whose request it is, and the name between.
 fn put_named(out: &mut Writer, request: &Request, name: &Name) -> Result<(), AllocError>
     ensures { let r = request.now in
-        Adds result out.old out.new (tokens_of (named r.requester r.invoke name.now no_members)) }
+        AddsTokens result out.old out.new (tokens_of (named r.requester r.invoke name.now no_members)) }
 {
     put_invoke(out, request.invoke)?;
     put_text(out, "name", name.as_str())?;
@@ -53,7 +53,7 @@ fn put_add_group(
     wrap: Seconds,
 ) -> Result<(), AllocError>
     ensures { let r = request.now in
-        Adds result out.old out.new (tokens_of (add_group r.requester r.invoke device name.now ring wrap)) }
+        AddsTokens result out.old out.new (tokens_of (add_group r.requester r.invoke device name.now ring wrap)) }
 {
     put_device(out, "device", Some(device))?;
     put_named(out, request, name)?;
@@ -69,7 +69,7 @@ fn put_add_agent(
     name: &Name,
 ) -> Result<(), AllocError>
     ensures { let r = request.now in
-        Adds result out.old out.new (tokens_of (add_agent r.requester r.invoke agent name.now)) }
+        AddsTokens result out.old out.new (tokens_of (add_agent r.requester r.invoke agent name.now)) }
 {
     put_agent(out, "agent", Some(agent))?;
     put_named(out, request, name)?;
@@ -83,7 +83,7 @@ fn put_at_device(
     device: DeviceId,
 ) -> Result<(), AllocError>
     ensures { let r = request.now in
-        Adds result out.old out.new (tokens_of (at_device r.requester r.invoke service device)) }
+        AddsTokens result out.old out.new (tokens_of (at_device r.requester r.invoke service device)) }
 {
     put_device(out, "device", Some(device))?;
     put_sent(out, request, service)
@@ -97,7 +97,7 @@ fn put_at_connection(
     device: DeviceId,
 ) -> Result<(), AllocError>
     ensures { let r = request.now in
-        Adds result out.old out.new (tokens_of (at_connection r.requester r.invoke service call device)) }
+        AddsTokens result out.old out.new (tokens_of (at_connection r.requester r.invoke service call device)) }
 {
     put_serial(out, "call", call)?;
     put_at_device(out, request, service, device)
@@ -112,7 +112,7 @@ fn put_to_device(
     to: DeviceId,
 ) -> Result<(), AllocError>
     ensures { let r = request.now in
-        Adds result out.old out.new (tokens_of (to_device r.requester r.invoke service call device to)) }
+        AddsTokens result out.old out.new (tokens_of (to_device r.requester r.invoke service call device to)) }
 {
     put_at_connection(out, request, service, call, device)?;
     put_device(out, "to", Some(to))
@@ -125,7 +125,7 @@ fn put_arrive_call(
     called: DeviceId,
 ) -> Result<(), AllocError>
     ensures { let r = request.now in
-        Adds result out.old out.new (tokens_of (arrive_call r.requester r.invoke caller called)) }
+        AddsTokens result out.old out.new (tokens_of (arrive_call r.requester r.invoke caller called)) }
 {
     put_device(out, "called", Some(called))?;
     put_device(out, "caller", Some(caller))?;
@@ -139,7 +139,7 @@ fn put_make_call(
     called: DeviceId,
 ) -> Result<(), AllocError>
     ensures { let r = request.now in
-        Adds result out.old out.new (tokens_of (make_call r.requester r.invoke device called)) }
+        AddsTokens result out.old out.new (tokens_of (make_call r.requester r.invoke device called)) }
 {
     put_device(out, "called", Some(called))?;
     put_at_device(out, request, Service::MakeCall, device)
@@ -148,7 +148,7 @@ fn put_make_call(
 // Writes whose request it is, what the agent is asked for between, and the service.
 fn put_asked(out: &mut Writer, request: &Request, state: RequestedState) -> Result<(), AllocError>
     ensures { let r = request.now in
-        Adds result out.old out.new (tokens_of (asked r.requester r.invoke state)) }
+        AddsTokens result out.old out.new (tokens_of (asked r.requester r.invoke state)) }
 {
     put_invoke(out, request.invoke)?;
     put_text(out, "requested", state.name())?;
@@ -163,7 +163,7 @@ fn put_set_agent_state(
     requested: Requested,
 ) -> Result<(), AllocError>
     ensures { let r = request.now in
-        Adds result out.old out.new (tokens_of (set_agent_state r.requester r.invoke agent requested)) }
+        AddsTokens result out.old out.new (tokens_of (set_agent_state r.requester r.invoke agent requested)) }
 {
     put_agent(out, "agent", Some(agent))?;
     match requested {
@@ -178,7 +178,7 @@ fn put_set_agent_state(
 
 fn put_monitor_stop(out: &mut Writer, request: &Request, monitor: Serial) -> Result<(), AllocError>
     ensures { let r = request.now in
-        Adds result out.old out.new (tokens_of (monitor_stop r.requester r.invoke monitor)) }
+        AddsTokens result out.old out.new (tokens_of (monitor_stop r.requester r.invoke monitor)) }
 {
     put_invoke(out, request.invoke)?;
     put_serial(out, "monitor", monitor)?;
@@ -193,7 +193,7 @@ fn put_set_group_priority(
     priority: Priority,
 ) -> Result<(), AllocError>
     ensures { let r = request.now in
-        Adds result out.old out.new
+        AddsTokens result out.old out.new
         (tokens_of (set_group_priority r.requester r.invoke device priority)) }
 {
     put_device(out, "device", Some(device))?;
@@ -205,7 +205,7 @@ fn put_set_group_priority(
 
 fn put_request(out: &mut Writer, request: &Request) -> Result<(), AllocError>
     ensures { let r = request.now in
-        Adds result out.old out.new (tokens_of (request_members r.requester r.invoke r.command)) }
+        AddsTokens result out.old out.new (tokens_of (request_members r.requester r.invoke r.command)) }
 {
     let service = Service::of(&request.command);
     match &request.command {

@@ -7,7 +7,7 @@ ghost use Rattle.serde_json.specs.Data.{Data, string, number, unsigned, member, 
 ghost use Rattle.acd_terms.specs.Forms.{digits_of};
 ghost use Rattle.acd_codec.specs.Parts.{text_part, number_part, list_part, groups_parts, items_of};
 ghost use Rattle.acd_codec.specs.ReplyTexts.{to_whom};
-ghost use Rattle.acd_codec.specs.Tokens.{Begun, data_tokens, tokens_of, part_tokens, parts_tokens, each_tokens, Adds};
+ghost use Rattle.acd_codec.specs.Tokens.{Begun, data_tokens, tokens_of, part_tokens, parts_tokens, each_tokens, AddsTokens};
 
 use acd_terms::{AgentId, DeviceId, Groups, Invoke, Priority, Requester, Seconds, Serial};
 use json::Writer;
@@ -21,12 +21,12 @@ pub(crate) trait Form {
 
     /// Writes one of them.
     fn write(out: &mut Writer, item: &Self::Item) -> Result<(), AllocError>
-        ensures { Adds result out.old out.new (data_tokens (data_of item.now)) };
+        ensures { AddsTokens result out.old out.new (data_tokens (data_of item.now)) };
 }
 
 /// Writes a member that is a text.
 pub(crate) fn put_text(out: &mut Writer, name: &str, text: &str) -> Result<(), AllocError>
-    ensures { Adds result out.old out.new (tokens_of (member name.now (string text.now) no_members)) }
+    ensures { AddsTokens result out.old out.new (tokens_of (member name.now (string text.now) no_members)) }
 {
     out.key(name)?;
     out.string(text)
@@ -34,7 +34,7 @@ pub(crate) fn put_text(out: &mut Writer, name: &str, text: &str) -> Result<(), A
 
 /// Writes a member that is a number.
 pub(crate) fn put_number(out: &mut Writer, name: &str, value: u64) -> Result<(), AllocError>
-    ensures { Adds result out.old out.new (tokens_of (member name.now (number (unsigned value)) no_members)) }
+    ensures { AddsTokens result out.old out.new (tokens_of (member name.now (number (unsigned value)) no_members)) }
 {
     out.key(name)?;
     out.u64(value)
@@ -42,14 +42,14 @@ pub(crate) fn put_number(out: &mut Writer, name: &str, value: u64) -> Result<(),
 
 /// Writes the number of a request among those of its requester.
 pub(crate) fn put_invoke(out: &mut Writer, invoke: Invoke) -> Result<(), AllocError>
-    ensures { Adds result out.old out.new (tokens_of (member (codes "invoke") (number (unsigned invoke)) no_members)) }
+    ensures { AddsTokens result out.old out.new (tokens_of (member (codes "invoke") (number (unsigned invoke)) no_members)) }
 {
     put_number(out, "invoke", u64::from(invoke.number()))
 }
 
 /// Writes who sends a request.
 pub(crate) fn put_requester(out: &mut Writer, requester: &Requester) -> Result<(), AllocError>
-    ensures { Adds result out.old out.new (tokens_of (member (codes "requester") (string requester.now) no_members)) }
+    ensures { AddsTokens result out.old out.new (tokens_of (member (codes "requester") (string requester.now) no_members)) }
 {
     put_text(out, "requester", requester.as_str())
 }
@@ -60,7 +60,7 @@ pub(crate) fn put_whom(
     requester: &Requester,
     invoke: Invoke,
 ) -> Result<(), AllocError>
-    ensures { Adds result out.old out.new (tokens_of (to_whom requester.now invoke no_members)) }
+    ensures { AddsTokens result out.old out.new (tokens_of (to_whom requester.now invoke no_members)) }
 {
     put_invoke(out, invoke)?;
     put_requester(out, requester)
@@ -68,14 +68,14 @@ pub(crate) fn put_whom(
 
 /// Writes a time of a group.
 pub(crate) fn put_seconds(out: &mut Writer, name: &str, value: Seconds) -> Result<(), AllocError>
-    ensures { Adds result out.old out.new (tokens_of (member name.now (number (unsigned value)) no_members)) }
+    ensures { AddsTokens result out.old out.new (tokens_of (member name.now (number (unsigned value)) no_members)) }
 {
     put_number(out, name, u64::from(value.number()))
 }
 
 /// Writes the priority that a group is given.
 pub(crate) fn put_priority(out: &mut Writer, priority: Priority) -> Result<(), AllocError>
-    ensures { Adds result out.old out.new
+    ensures { AddsTokens result out.old out.new
         (tokens_of (member (codes "priority") (number (unsigned priority)) no_members)) }
 {
     put_number(out, "priority", u64::from(priority.number()))
@@ -83,7 +83,7 @@ pub(crate) fn put_priority(out: &mut Writer, priority: Priority) -> Result<(), A
 
 /// Writes a call or a monitor as a request names it.
 pub(crate) fn put_serial(out: &mut Writer, name: &str, value: Serial) -> Result<(), AllocError>
-    ensures { Adds result out.old out.new (tokens_of (member name.now (number (unsigned value)) no_members)) }
+    ensures { AddsTokens result out.old out.new (tokens_of (member name.now (number (unsigned value)) no_members)) }
 {
     put_number(out, name, value.number())
 }
@@ -94,7 +94,7 @@ pub(crate) fn put_text_if(
     name: &str,
     text: Option<&str>,
 ) -> Result<(), AllocError>
-    ensures { Adds result out.old out.new (part_tokens (text_part name.now (option_map (λ t. t.now) text.entry))) }
+    ensures { AddsTokens result out.old out.new (part_tokens (text_part name.now (option_map (λ t. t.now) text.entry))) }
 {
     match text {
         None => Ok(()),
@@ -108,7 +108,7 @@ pub(crate) fn put_number_if(
     name: &str,
     value: Option<u64>,
 ) -> Result<(), AllocError>
-    ensures { Adds result out.old out.new (part_tokens (number_part name.now value)) }
+    ensures { AddsTokens result out.old out.new (part_tokens (number_part name.now value)) }
 {
     match value {
         None => Ok(()),
@@ -122,7 +122,7 @@ pub(crate) fn put_device(
     name: &str,
     device: Option<DeviceId>,
 ) -> Result<(), AllocError>
-    ensures { Adds result out.old out.new (part_tokens (text_part name.now (option_map digits_of device))) }
+    ensures { AddsTokens result out.old out.new (part_tokens (text_part name.now (option_map digits_of device))) }
 {
     match device {
         None => Ok(()),
@@ -136,7 +136,7 @@ pub(crate) fn put_agent(
     name: &str,
     agent: Option<AgentId>,
 ) -> Result<(), AllocError>
-    ensures { Adds result out.old out.new (part_tokens (text_part name.now (option_map digits_of agent))) }
+    ensures { AddsTokens result out.old out.new (part_tokens (text_part name.now (option_map digits_of agent))) }
 {
     match agent {
         None => Ok(()),
@@ -146,7 +146,7 @@ pub(crate) fn put_agent(
 
 // Writes one item after the other.
 fn put_each<F: Form>(out: &mut Writer, items: &[F::Item]) -> Result<(), AllocError>
-    ensures { Adds result out.old out.new (each_tokens F.data_of items.now) }
+    ensures { AddsTokens result out.old out.new (each_tokens F.data_of items.now) }
 {
     for item in items {
         F::write(out, item)?;
@@ -160,7 +160,7 @@ pub(crate) fn put_list<F: Form>(
     name: &str,
     items: &[F::Item],
 ) -> Result<(), AllocError>
-    ensures { Adds result out.old out.new (part_tokens (list_part name.now (items_of F.data_of items.now))) }
+    ensures { AddsTokens result out.old out.new (part_tokens (list_part name.now (items_of F.data_of items.now))) }
 {
     out.key(name)?;
     out.begin_array()?;
@@ -185,7 +185,7 @@ impl Form for Devices {
 
 /// Writes the groups of an agent: one by itself, more in a list.
 pub(crate) fn put_groups(out: &mut Writer, groups: &Groups) -> Result<(), AllocError>
-    ensures { Adds result out.old out.new (parts_tokens (groups_parts groups.now)) }
+    ensures { AddsTokens result out.old out.new (parts_tokens (groups_parts groups.now)) }
 {
     match groups.as_slice() {
         [] => Ok(()),

@@ -29,29 +29,9 @@ use Rattle.acd_desk.proofs.Commits.{some_none}
 use Rattle.acd_desk.proofs.ContentLaws.{nothing_taken}
 use Rattle.acd_desk.proofs.Sound.{run_sound}
 use Rattle.acd_book.proofs.Keys.{key_own}
+use Rattle.acd_book.proofs.Left.{left_behind}
 
 -- ---- lists in order ----
-
-above_filter : (last m : ℕ) (es : List Event) → last ≤ m → Rises number_of m es → filter (λ (e : Event). nat_lt last e.number) es ≡ es
-above_filter last m [] le h = refl
-above_filter last m (e ∷ es) le h =
-    let here : m < e.number = h.0 in
-    let above : last < e.number = omega (arith, le, here) in
-    let next : last ≤ e.number = omega (arith, above) in
-    ap (λ (b : Bool). cond b (e ∷ filter (λ (e : Event). nat_lt last e.number) es) (filter (λ (e : Event). nat_lt last e.number) es)) (lt-ltb last e.number above)
-    ∙ ap (λ (l : List Event). e ∷ l) (above_filter last e.number es next h.1)
-
-past_filter : (last : ℕ) (es : List Event) → Every (λ (e : Event). e.number ≤ last) es → filter (λ (e : Event). nat_lt last e.number) es ≡ []
-past_filter last [] h = refl
-past_filter last (e ∷ es) h =
-    ap (λ (b : Bool). cond b (e ∷ filter (λ (e : Event). nat_lt last e.number) es) (filter (λ (e : Event). nat_lt last e.number) es)) (le-ltb last e.number h.0)
-    ∙ past_filter last es h.1
-
--- what a book tells behind the events of a replay is what is left
-left_behind : (last n : ℕ) (past left : List Event) → Every (λ (e : Event). e.number ≤ last) past → Rises number_of last left → events_behind (past ++ left) last n ≡ take n left
-left_behind last n past left h rise =
-    let p : Event → Bool = λ (e : Event). nat_lt last e.number in
-    ap (take n) (filter-append p past left ∙ ap₂ (λ (a b : List Event). a ++ b) (past_filter last past h) (above_filter last last left (omega arith) rise))
 
 rises_after : (last : ℕ) (es left : List Event) → GoOn last es → Rises number_of last (es ++ left) → Rises number_of (last + length es) left
 rises_after last [] left go rise = subst (λ (n : ℕ). Rises number_of n left) (omega arith) rise

@@ -12,6 +12,7 @@ use Rattle.acd_desk.specs.Standing.{Standing, with_new_key}
 use Rattle.acd_desk.specs.Ran.{Took}
 use Rattle.acd_desk.specs.Reread.{Reread}
 use Rattle.acd_desk.specs.Stands.{IsNew}
+use Rattle.acd_terms.proofs.Results.{ok_err}
 
 -- ---- behind a read ----
 
@@ -61,9 +62,6 @@ behind old mid new a t r took = record {
 }
 
 -- an answer is no fault
-pub ok_err : {A : Type 0} {found : A} {e : BookFault} → ◌≡◌ {A = Result A BookFault} (Ok found) (Err e) → ⊥
-ok_err h = cc
-
 -- the rows were read, and made a switch
 pub loaded_rows : (b d : BookState) (rows switch : Rows) → Reads b d (Ok rows) (λ (c : Content) (found : Rows). found ≡ c.rows) → switch ≡ rows
     → Reread (record { book = b; switch = None; failed = false }) (record { book = d; switch = Some switch; failed = false })

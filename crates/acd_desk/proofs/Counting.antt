@@ -9,10 +9,7 @@ use Rattle.acd_book.specs.Content.{Content, empty_content, GoOn, IsCounted}
 use Rattle.acd_desk.specs.Firsts.{stepped, record_of, executed, run_from, run, firsts}
 use Rattle.acd_desk.proofs.Steps.{step_stamp, step_numbers, step_event}
 use Rattle.acd_lemmas.proofs.Lists.{every-append}
-
-events_raised : (m n : ℕ) (es : List Event) → m ≤ n → Every (λ (e : Event). e.number ≤ m) es → Every (λ (e : Event). e.number ≤ n) es
-events_raised m n [] le h = tt
-events_raised m n (e ∷ es) le h = let here = h.0 in (omega (arith, le, here), events_raised m n es le h.1)
+use Rattle.acd_book.proofs.Left.{events_raised}
 
 kept_raised : (m n : ℕ) (ks : List Kept) → m ≤ n → Every (λ (k : Kept). k.stamp ≤ m) ks → Every (λ (k : Kept). k.stamp ≤ n) ks
 kept_raised m n [] le h = tt

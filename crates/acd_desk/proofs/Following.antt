@@ -32,6 +32,7 @@ use Rattle.acd_desk.proofs.Sound.{ran_sound}
 use Rattle.acd_desk.proofs.Steps.{step_numbers, step_event}
 use Rattle.acd_desk.proofs.PageLemmas.{is_above, not_above}
 use Rattle.acd_laws.proofs.Watched.Order.{last-append}
+use Rattle.acd_lemmas.proofs.Lists.{every-append}
 
 above_old : (n : ℕ) (es fs : List Event) → Every (λ (e : Event). e.number ≤ n) es → above (es ++ fs) n ≡ above fs n
 above_old n [] fs h = refl
@@ -40,10 +41,6 @@ above_old n (e ∷ es) fs h = ap (λ (b : Bool). cond b (e ∷ above (es ++ fs) 
 above_new : (n : ℕ) (es : List Event) → Every (λ (e : Event). n < e.number) es → above es n ≡ es
 above_new n [] h = refl
 above_new n (e ∷ es) h = ap (λ (b : Bool). cond b (e ∷ above es n) (above es n)) (is_above n e h.0) ∙ ap (λ (l : List Event). e ∷ l) (above_new n es h.1)
-
-every_both : (P : Event → Type 0) (es fs : List Event) → Every P es → Every P fs → Every P (es ++ fs)
-every_both P [] fs h k = k
-every_both P (e ∷ es) fs h k = (h.0, every_both P es fs h.1 k)
 
 -- one content has the events of another, and others behind its last one, which tell a watcher the rest
 record Grown (c d : Content) : Type 0 where
@@ -68,7 +65,7 @@ grown_executed c d a sound g =
     record {
       new = g.new ++ es;
       whole = ap (λ (l : List Event). l ++ es) g.whole ∙ append_assoc c.events g.new es;
-      behind = every_both (λ (e : Event). c.rows.last_event < e.number) g.new es g.behind (going_up c.rows.last_event d.rows.last_event es last (step_numbers d.rows a.moment a.request.command));
+      behind = every-append (λ (e : Event). c.rows.last_event < e.number) g.new es g.behind (going_up c.rows.last_event d.rows.last_event es last (step_numbers d.rows a.moment a.request.command));
       last = omega (arith, last, event);
       watched = subst (IsWatched (stepped d.rows a).rows) on told.0;
       no_more = subst (TellsNoMore (stepped d.rows a).rows) on told.1;

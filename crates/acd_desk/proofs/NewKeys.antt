@@ -15,7 +15,7 @@ use Rattle.acd_desk.specs.Faults.{answer_to, left_by}
 use Rattle.acd_desk.specs.Prepared.{Prepared}
 use Rattle.acd_desk.specs.Standing.{Standing, switch_of, is_failed, holding, Mirrors, with_new_key}
 use Rattle.acd_desk.specs.Ran.{Took}
-use Rattle.acd_desk.proofs.Calls.{ok_err}
+use Rattle.acd_terms.proofs.Results.{ok_err}
 use Rattle.acd_desk.proofs.Commits.{some_none, commits, executed_in_step, executed_reply}
 use Rattle.acd_desk.proofs.Faulty.{Undone, faulted, no_memory}
 

@@ -12,7 +12,7 @@ use Rattle.acd_desk.specs.declared.open_fault.OpenFault.{OpenFault}
 use Rattle.acd_desk.specs.declared.open_fault.OpenFault.TheVariants as fault
 use Rattle.acd_desk.specs.Stands.{IsSound}
 use Rattle.acd_desk.specs.Opening.{by_rows, Opened, Refused}
-use Rattle.acd_desk.proofs.Calls.{ok_err}
+use Rattle.acd_terms.proofs.Results.{ok_err}
 use Rattle.acd_desk.proofs.Commits.{some_none}
 use Rattle.acd_desk.proofs.ContentLaws.{sound_rules, sound_counted}
 

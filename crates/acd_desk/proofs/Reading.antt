@@ -4,9 +4,7 @@ use Rattle.acd_book.specs.Content.{Content, HasRisen}
 use Rattle.acd_book.specs.State.{BookState, Reads}
 use Rattle.acd_book.specs.declared.fault.BookFault.{BookFault}
 use Rattle.acd_book.specs.declared.fault.BookFault.TheVariants.{Store}
-
-ok_store : {A : Type 0} (x : A) → ◌≡◌ {A = Result A BookFault} (Ok x) (Err Store) → ⊥
-ok_store x h = cc
+use Rattle.acd_terms.proofs.Results.{ok_err}
 
 -- what was read tells another answer
 pub then_ok : {A C : Type 0} {P : Content → A → Type 0} (Q : Content → C → Type 0) (a b : BookState) (x : A) (y : C) → Reads a b (Ok x) P → ((c : Content) → P c x → Q c y) → Reads a b (Ok y) Q
@@ -18,8 +16,8 @@ then_ok Q a b x y r tells = record {
   stays = r.stays;
   stops = r.stops;
   keeps = r.keeps;
-  cause = λ is. absurd (ok_store y is);
-  quiet = λ none. r.quiet (λ is. ok_store x is);
+  cause = λ is. absurd (ok_err is);
+  quiet = λ none. r.quiet (λ is. ok_err is);
   counts = r.counts;
 }
 
@@ -28,7 +26,7 @@ pub then_read : {A C : Type 0} {P : Content → A → Type 0} {Q : Content → C
     → Reads a b (Ok x) P → Reads b d r Q → ((c : Content) → P c x → (y : C) → Q c y → R c y) → Reads a d r R
 then_read {A = A} {C = C} {Q = Q} R a b d x r one two tells =
     let same : d.is_clean → a.is_sound → b.content ≡ a.content = λ clean sound. (one.same (two.clean clean) sound (one.stays (two.clean clean) sound)).1 in
-    let quiet : b.failures ≡ a.failures = one.quiet (λ is. ok_store x is) in
+    let quiet : b.failures ≡ a.failures = one.quiet (λ is. ok_err is) in
     let value : (r : Result C BookFault) → (d.is_clean → b.is_sound → IfOk r (λ (y : C). b.is_open × Q b.content y)) → d.is_clean → a.is_sound → IfOk r (λ (y : C). a.is_open × R a.content y)
     = λ r. elim r as (λ r. (d.is_clean → b.is_sound → IfOk r (λ (y : C). b.is_open × Q b.content y)) → d.is_clean → a.is_sound → IfOk r (λ (y : C). a.is_open × R a.content y)) [
       | Ok y ↦ λ told clean sound.

@@ -5,15 +5,10 @@ use Rattle.acd_book.specs.State.{BookState, Reads}
 use Rattle.acd_book.specs.declared.fault.BookFault.{BookFault}
 use Rattle.acd_book.specs.declared.fault.BookFault.TheVariants.{NoMemory, Store}
 use Rattle.acd_desk.specs.Pages.{ReadsIfOpen}
-
-ok_store : {A : Type 0} (x : A) → ◌≡◌ {A = Result A BookFault} (Ok x) (Err Store) → ⊥
-ok_store x h = cc
+use Rattle.acd_terms.proofs.Results.{ok_err, same_error}
 
 no_store : {A : Type 0} → ◌≡◌ {A = Result A BookFault} (Err NoMemory) (Err Store) → ⊥
 no_store h = cc
-
-same_fault : {A : Type 0} {f g : BookFault} → ◌≡◌ {A = Result A BookFault} (Err f) (Err g) → f ≡ g
-same_fault h = cc (h)
 
 -- it is known, and nothing is read
 pub known : {C : Type 0} (Q : Content → C → Type 0) (a : BookState) (y : C) → ((c : Content) → Q c y) → ReadsIfOpen a a (Ok y) Q
@@ -25,7 +20,7 @@ known Q a y tells = record {
   stays = λ clean sound opened. opened;
   stops = λ clean sound c at. at;
   keeps = λ clean sound opened c at. at;
-  cause = λ is. absurd (ok_store y is);
+  cause = λ is. absurd (ok_err is);
   quiet = λ none. refl;
   counts = omega arith;
 }
@@ -66,8 +61,8 @@ told_ok Q a b x y r tells = record {
   stays = r.stays;
   stops = r.stops;
   keeps = r.keeps;
-  cause = λ is. absurd (ok_store y is);
-  quiet = λ none. r.quiet (λ is. ok_store x is);
+  cause = λ is. absurd (ok_err is);
+  quiet = λ none. r.quiet (λ is. ok_err is);
   counts = r.counts;
 }
 
@@ -81,8 +76,8 @@ told_fault {C = C} Q a b f r read is = subst (λ (r : Result C BookFault). Reads
   stays = tt;
   stops = read.stops;
   keeps = read.keeps;
-  cause = λ is. read.cause (ap Err (same_fault is));
-  quiet = λ none. read.quiet (λ is. none (ap Err (same_fault is)));
+  cause = λ is. read.cause (ap Err (same_error is));
+  quiet = λ none. read.quiet (λ is. none (ap Err (same_error is)));
   counts = read.counts;
 })
 
@@ -97,7 +92,7 @@ told_no_memory {C = C} Q a b x r read is = subst (λ (r : Result C BookFault). R
   stops = read.stops;
   keeps = read.keeps;
   cause = λ is. absurd (no_store is);
-  quiet = λ none. read.quiet (λ is. ok_store x is);
+  quiet = λ none. read.quiet (λ is. ok_err is);
   counts = read.counts;
 })
 
@@ -142,7 +137,7 @@ pub told_then : {A C : Type 0} {P : Content → A → Type 0} {Q : Content → C
     → ReadsIfOpen a b (Ok x) P → ReadsIfOpen b d r Q → ((c : Content) → P c x → (y : C) → Q c y → R c y) → ReadsIfOpen a d r R
 told_then {A = A} {C = C} {Q = Q} R a b d x r one two tells =
     let up : d.is_clean → a.is_sound → a.is_open → b.is_open = λ clean. one.stays (two.clean clean) in
-    let quiet : b.failures ≡ a.failures = one.quiet (λ is. ok_store x is) in
+    let quiet : b.failures ≡ a.failures = one.quiet (λ is. ok_err is) in
     let value : (r : Result C BookFault) → (d.is_clean → b.is_sound → b.is_open → IfOk r (Q b.content)) → d.is_clean → a.is_sound → a.is_open → IfOk r (R a.content)
     = λ r. elim r as (λ r. (d.is_clean → b.is_sound → b.is_open → IfOk r (Q b.content)) → d.is_clean → a.is_sound → a.is_open → IfOk r (R a.content)) [
       | Ok y ↦ λ told clean sound opened.

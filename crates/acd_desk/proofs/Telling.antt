@@ -19,21 +19,13 @@ use Rattle.acd_desk.specs.Told.{Told, TellsNothing}
 use Rattle.acd_desk.specs.Tells.{told}
 use Rattle.acd_desk.specs.AnswerTexts.{seen}
 use Rattle.acd_desk.proofs.Many.{no_store}
-
-ok_err : {A : Type 0} {found : A} {e : DeskFault} → ◌≡◌ {A = Result A DeskFault} (Ok found) (Err e) → ⊥
-ok_err h = cc
+use Rattle.acd_terms.proofs.Results.{ok_err, same_error}
 
 no_fault : {A : Type 0} → ◌≡◌ {A = Result A DeskFault} (Err NoMemory) (Err StoreFault) → ⊥
 no_fault h = cc
 
 the_fault : {A : Type 0} {e f : DeskFault} → ◌≡◌ {A = Result A DeskFault} (Err e) (Err f) → e ≡ f
 the_fault h = cc
-
-book_fault : {A : Type 0} {e f : BookFault} → ◌≡◌ {A = Result A BookFault} (Err e) (Err f) → e ≡ f
-book_fault h = cc
-
-book_ok : {A : Type 0} {found : A} {e : BookFault} → ◌≡◌ {A = Result A BookFault} (Ok found) (Err e) → ⊥
-book_ok h = cc
 
 not_failed : (b : Bool) → (b ≡ true → ⊥) → b ≡ false
 not_failed true h = absurd (h refl)
@@ -193,7 +185,7 @@ told_by_book b d w x P reads works = record {
   tells = λ h. absurd (true≢false (sym h ∙ works));
   shut = λ h. absurd (true≢false (sym h ∙ works));
   cause = λ h. absurd (ok_err h);
-  quiet = λ none. reads.quiet (λ h. book_ok h);
+  quiet = λ none. reads.quiet (λ h. ok_err h);
   counts = reads.counts;
   loads = λ working gone. gone;
 }
@@ -252,14 +244,14 @@ store_failed b d w Q spoiled counts cause = record {
 pub untold_by_book : {A B : Type 0} (b d : BookState) (w : Working) (f : BookFault) (P : Content → A → Type 0) (Q : Content → B → Type 0) → Reads b d (Err f) P → is_failed w ≡ false
     → Told (stands b w) (stands d (left_by f w)) (Err (fault_of f)) Q
 untold_by_book b d w faults.NoMemory P Q reads works =
-    without_memory b d w Q (read_spoiled b d _ P reads) (reads.quiet (λ h. (let same = book_fault h in absurd cc))) works
+    without_memory b d w Q (read_spoiled b d _ P reads) (reads.quiet (λ h. (let same = same_error h in absurd cc))) works
 untold_by_book b d w faults.Store P Q reads works =
     store_failed b d w Q (read_spoiled b d _ P reads) reads.counts (inl (inr (reads.cause refl)))
 
 -- the rows were read, and make no switch
 pub untold_by_rows : {B : Type 0} (b d : BookState) (rows : Rows) (f : BookFault) (Q : Content → B → Type 0) → Reads b d (Ok rows) (λ (c : Content) (found : Rows). found ≡ c.rows) → (f ≡ faults.Store → ¬ (BreaksNoRule rows))
     → Told (stands b Unloaded) (stands d (left_by f Unloaded)) (Err (fault_of f)) Q
-untold_by_rows b d rows faults.NoMemory Q reads broken = without_memory b d Unloaded Q (read_spoiled b d _ _ reads) (reads.quiet (λ h. book_ok h)) refl
+untold_by_rows b d rows faults.NoMemory Q reads broken = without_memory b d Unloaded Q (read_spoiled b d _ _ reads) (reads.quiet (λ h. ok_err h)) refl
 untold_by_rows b d rows faults.Store Q reads broken =
     store_failed b d Unloaded Q (read_spoiled b d _ _ reads) reads.counts
     (inr (

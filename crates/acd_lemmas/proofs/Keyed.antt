@@ -9,17 +9,9 @@ use Rattle.std.specs.declared.cmp.Ordering.TheVariants.{Equal}
 use Rattle.std.proofs.lemmas.Bool.{eqb-true}
 use Rattle.std.proofs.lemmas.Bool.Decides.{nat_tests}
 use Rattle.std.proofs.lemmas.Cmp.{nat_cmp_total, on_total}
+pub use Rattle.acd_terms.proofs.Numbers.{cmp_equal, eqb_self, eqb_swap}
 use Rattle.acd_lemmas.proofs.Words.{find_by, put_by, remove_by, count, Among, IsAscending}
 use Rattle.acd_lemmas.proofs.Lists.{one, eq_is, is_eq_of, find_by_find, find-put, find-filter, find-filter_none, find_passes, find_among, find_found, any-find, remove_is, count-put_new, count-put_old}
-
-pub eqb_self : (n : ℕ) → (n == n) ≡ true
-eqb_self n = eq-eqb n n refl
-
-pub eqb_swap : (m n : ℕ) → (m == n) ≡ (n == m)
-eqb_swap m n = both_ways (m == n) (n == m) (λ e. eq-eqb n m (sym (eqb-true m n e))) (λ e. eq-eqb m n (sym (eqb-true n m e)))
-
-pub cmp_equal : (m n : ℕ) → nat_cmp m n ≡ Equal → m ≡ n
-cmp_equal m n e = grind (arith, nat_tests)
 
 pub cmp_self : (m n : ℕ) → m ≡ n → nat_cmp m n ≡ Equal
 cmp_self m n e = grind (arith, nat_tests)

@@ -5,9 +5,7 @@ use Rattle.std.specs.Ordering.{nat_cmp, ordering_then, is_eq}
 use Rattle.std.specs.declared.cmp.Ordering.{Ordering}
 use Rattle.std.specs.declared.cmp.Ordering.TheVariants.{Less, Equal, Greater}
 use Rattle.std.proofs.lemmas.Bool.Decides.{nat_tests}
-
-pub less_is : (a b : ℕ) → nat_cmp a b ≡ Less → a < b
-less_is a b e = grind (arith, nat_tests)
+pub use Rattle.acd_terms.proofs.Numbers.{less_is, no_less}
 
 pub greater_is : (g d : ℕ) → nat_cmp g d ≡ Less → nat_cmp d g ≡ Greater
 greater_is g d h = grind (arith, nat_tests)

@@ -18,9 +18,7 @@ use Rattle.acd_program.specs.declared.auditing.Finding.TheVariants.{Sound, Count
 use Rattle.acd_program.specs.Found.{IsFinding, IsFindingOf}
 use Rattle.acd_program.specs.Work.{WasAsked, IsFindingIfOrdered}
 use Rattle.acd_program.specs.Taking.{IsOf}
-
-no_error : {A : Type 0} {found : A} {e : DeskFault} → ◌≡◌ {A = Result A DeskFault} (Ok found) (Err e) → ⊥
-no_error h = cc
+use Rattle.acd_terms.proofs.Results.{ok_err}
 
 -- a desk that was opened was asked; of a sound content the answer is that of the read
 pub asked_by : {A : Type 0} (old : BookState) (d e : Standing) (x : A) (P : Content → A → Type 0) → Opened old d → Told d e (Ok x) P → WasAsked old (λ (c : Content) (y : A). IsSound c → P c y) x e.book
@@ -37,7 +35,7 @@ asked_by old d e x P o t =
           let starts : Starts d = o.starts (t.clean clean) sound whole in
           subst (λ (c : Content). P c x) (same clean sound) (t.value clean starts.0 starts.2 starts.1);
       stops = λ clean sound c at. o.stops (t.clean clean) sound c (t.stops clean (o.sound (t.clean clean) sound) c at);
-      quiet = t.quiet (λ h. no_error h) ∙ o.quiet;
+      quiet = t.quiet (λ h. ok_err h) ∙ o.quiet;
     }
 
 -- what follows from an answer is an answer

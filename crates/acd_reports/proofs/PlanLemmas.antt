@@ -4,19 +4,19 @@ use Rattle.std.proofs.lemmas.List.{append-nil}
 use Rattle.acd_terms.specs.declared.command.Request.{Request}
 use Rattle.acd_terms.specs.Results.{◌>>=◌}
 use Rattle.acd_reports.specs.PlanRows.{command_in}
-use Rattle.acd_reports.specs.Plan.{IsFault, request_of, requests_from}
+use Rattle.acd_reports.specs.Plan.{IsPlanFault, request_of, requests_from}
 use Rattle.acd_reports.specs.PlanReading.{after}
 use Rattle.acd_reports.specs.declared.fault.PlanFault.{PlanFault}
 use Rattle.acd_reports.specs.declared.fault.PlanFault.TheVariants.{TooLong, Header, Row, NoMemory}
 
 -- the fault of a plan is its fault
-pub is_fault : (fault : PlanFault) (wanted : Result (List Request) PlanFault) → wanted ≡ Err fault → IsFault fault wanted
+pub is_fault : (fault : PlanFault) (wanted : Result (List Request) PlanFault) → wanted ≡ Err fault → IsPlanFault fault wanted
 is_fault TooLong wanted e = e
 is_fault Header wanted e = e
 is_fault (Row row m) wanted e = e
 is_fault NoMemory wanted e = tt
 
-pub no_memory : (fault : PlanFault) (wanted : Result (List Request) PlanFault) → fault ≡ NoMemory → IsFault fault wanted
+pub no_memory : (fault : PlanFault) (wanted : Result (List Request) PlanFault) → fault ≡ NoMemory → IsPlanFault fault wanted
 no_memory fault wanted e = rw e tt
 
 -- no row is left

@@ -4,7 +4,7 @@ use Rattle.csv.specs.Machine.{Read, next_record, start_field, start_record, step
 use Rattle.csv.specs.Reading.{NextIs, ReadRecord, ReadsNext, ReadsOn, default_config, is_bom, pending_of, records_from, records_next, source_of, strip_bom}
 use Rattle.std.specs.Prelude.{unwrap_or}
 use Rattle.std.specs.Option.{IsSome}
-use Rattle.acd_reports.specs.PlanReading.{IsPlain, PlanReader, Reads, known, rows_left, unread}
+use Rattle.acd_reports.specs.PlanReading.{IsPlain, PlanReader, ReadsPlan, known, rows_left, unread}
 use Rattle.csv.specs.declared.parser.State.{State}
 use Rattle.csv.specs.declared.parser.State.TheVariants as st
 use Rattle.csv.specs.declared.parser.Action.{Action}
@@ -116,12 +116,12 @@ source_known : (reader : PlanReader) → reader.bom_checked ≡ true → pending
 source_known reader checked = rw checked refl
 
 found_row : (old new : PlanReader) (fields : List (List ℕ)) → IsPlain old → ReadRecord known old new true fields → ReadsOn old new
-    → ReadsRows true old.state (source_of known old) fields new.state (source_of known new) → Reads true old fields new
+    → ReadsRows true old.state (source_of known old) fields new.state (source_of known new) → ReadsPlan true old fields new
 unfolding rows_left
 found_row old new fields plain read on rows =
     (rows.0, rows.1, record { trim = read.3 ∙ plain.trim; ready = (on.4 plain.ready).0; config = read.2 ∙ plain.config; between = rows.2; has = rows.3 })
 
-no_row : (old new : PlanReader) (fields : List (List ℕ)) → ReadsRows false old.state (source_of known old) fields new.state (source_of known new) → Reads false old fields new
+no_row : (old new : PlanReader) (fields : List (List ℕ)) → ReadsRows false old.state (source_of known old) fields new.state (source_of known new) → ReadsPlan false old fields new
 unfolding rows_left
 no_row old new fields rows = rows
 
@@ -129,7 +129,7 @@ rows_of_read : (old new : PlanReader) (found : Bool) (fields : List (List ℕ)) 
 rows_of_read old new found fields plain read =
     reads_rows old.state new.state (source_of known old) (source_of known new) fields found plain.between plain.has (rw (plain.config, source_known new read.1) at read.0)
 
-pub next_rows : (old new : PlanReader) (found : Bool) (fields : List (List ℕ)) → IsPlain old → ReadRecord known old new found fields → (found ≡ true → ReadsOn old new) → Reads found old fields new
+pub next_rows : (old new : PlanReader) (found : Bool) (fields : List (List ℕ)) → IsPlain old → ReadRecord known old new found fields → (found ≡ true → ReadsOn old new) → ReadsPlan found old fields new
 next_rows old new true fields plain read on = found_row old new fields plain read (on refl) (rows_of_read old new true fields plain read)
 next_rows old new false fields plain read on = no_row old new fields (rows_of_read old new false fields plain read)
 
@@ -156,10 +156,10 @@ strip_short (x ∷ y ∷ []) = omega arith
 strip_short (x ∷ y ∷ z ∷ rest) = strip_by (is_bom x y z) x y z rest
 
 -- whether a read took a record
-pub read_none : (old new : PlanReader) (fields : List (List ℕ)) (found : Bool) → found ≡ false → Reads found old fields new → rows_left old ≡ []
+pub read_none : (old new : PlanReader) (fields : List (List ℕ)) (found : Bool) → found ≡ false → ReadsPlan found old fields new → rows_left old ≡ []
 read_none old new fields false e r = r
 read_none old new fields true e r = absurd cc
 
-pub read_some : (old new : PlanReader) (fields : List (List ℕ)) (found : Bool) → found ≡ true → Reads found old fields new → Reads true old fields new
+pub read_some : (old new : PlanReader) (fields : List (List ℕ)) (found : Bool) → found ≡ true → ReadsPlan found old fields new → ReadsPlan true old fields new
 read_some old new fields true e r = r
 read_some old new fields false e r = absurd cc

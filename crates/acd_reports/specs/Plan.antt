@@ -48,13 +48,13 @@ unfoldable pub plan_requests : List ℕ → Result (List Request) PlanFault
 plan_requests bytes = if nat_lt 1048576 (length bytes) then Err TooLong else requests_of (records_of (without_mark bytes))
 
 -- the fault is this one, or memory ran out
-abbrev pub IsFault : PlanFault → Result (List Request) PlanFault → Type 0
-IsFault NoMemory wanted = Unit {0}
-IsFault TooLong wanted = wanted ≡ Err TooLong
-IsFault Header wanted = wanted ≡ Err Header
-IsFault (Row row m) wanted = wanted ≡ Err (Row row m)
+abbrev pub IsPlanFault : PlanFault → Result (List Request) PlanFault → Type 0
+IsPlanFault NoMemory wanted = Unit {0}
+IsPlanFault TooLong wanted = wanted ≡ Err TooLong
+IsPlanFault Header wanted = wanted ≡ Err Header
+IsPlanFault (Row row m) wanted = wanted ≡ Err (Row row m)
 
 -- what was returned is this, unless memory ran out
-abbrev pub Gives : {Z : Type 0} → Result (Vec Request Z) PlanFault → Result (List Request) PlanFault → Type 0
-Gives (Ok requests) wanted = wanted ≡ Ok requests.items
-Gives (Err fault) wanted = IsFault fault wanted
+abbrev pub GivesPlan : {Z : Type 0} → Result (Vec Request Z) PlanFault → Result (List Request) PlanFault → Type 0
+GivesPlan (Ok requests) wanted = wanted ≡ Ok requests.items
+GivesPlan (Err fault) wanted = IsPlanFault fault wanted

@@ -31,9 +31,9 @@ pub record IsPlain (reader : PlanReader) : Type 0 where
   pub has : IsSome (source_of known reader)
 
 -- a read took the first record, or there is none
-abbrev pub Reads : Bool → PlanReader → List (List ℕ) → PlanReader → Type 0
-Reads false old fields new = rows_left old ≡ []
-Reads true old fields new = (rows_left old ≡ fields ∷ rows_left new) × (length (unread new) < length (unread old)) × IsPlain new
+abbrev pub ReadsPlan : Bool → PlanReader → List (List ℕ) → PlanReader → Type 0
+ReadsPlan false old fields new = rows_left old ≡ []
+ReadsPlan true old fields new = (rows_left old ≡ fields ∷ rows_left new) × (length (unread new) < length (unread old)) × IsPlain new
 
 -- what is read after some requests
 abbrev pub after : List Request → Result (List Request) PlanFault → Result (List Request) PlanFault

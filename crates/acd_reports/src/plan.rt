@@ -4,8 +4,8 @@ ghost use Rattle.std.specs.Prelude.{◌≡◌, ◌≤◌, ◌+◌, ◌++◌, ◌
 ghost use Rattle.csv.specs.Records.{fields_of};
 ghost use Rattle.csv.specs.Reading.{records, default_config, strip_bom};
 ghost use Rattle.acd_reports.specs.PlanRows.{command_in};
-ghost use Rattle.acd_reports.specs.Plan.{request_of, requests_from, requests_of, records_of, without_mark, plan_requests, Gives};
-ghost use Rattle.acd_reports.specs.PlanReading.{IsPlain, Reads, rows_left, unread};
+ghost use Rattle.acd_reports.specs.Plan.{request_of, requests_from, requests_of, records_of, without_mark, plan_requests, GivesPlan};
+ghost use Rattle.acd_reports.specs.PlanReading.{IsPlain, ReadsPlan, rows_left, unread};
 
 use crate::fault::PlanFault;
 use crate::rows::{command_in, names_columns};
@@ -39,10 +39,10 @@ fn reader_of(alloc: Global, text: &[u8]) -> Reader<&[u8]>
         .from_reader(alloc, text)
 }
 
-// Reads the next record, if there is one.
+// ReadsPlan the next record, if there is one.
 fn read_row(reader: &mut Reader<&[u8]>, row: &mut ByteRecord) -> Result<bool, PlanFault>
     requires { IsPlain reader.old }
-    ensures reads { IfOk result (λ found. Reads found reader.old (fields_of row.new) reader.new) }
+    ensures reads { IfOk result (λ found. ReadsPlan found reader.old (fields_of row.new) reader.new) }
     ensures fault { IfErr result (λ e. e ≡ PlanFault.NoMemory) }
 {
     let Ok(found) = reader.read_byte_record(row) else {
@@ -94,7 +94,7 @@ fn requests_in(
     requires plain { IsPlain reader.old }
     requires short { length (unread reader.old) ≤ most }
     requires bound { most ≤ 1048576 }
-    ensures { Gives result (requests_from 1 (rows_left reader.old)) }
+    ensures { GivesPlan result (requests_from 1 (rows_left reader.old)) }
 {
     let mut row = ByteRecord::new(alloc);
     let mut requests = Vec::new(alloc);
@@ -119,7 +119,7 @@ fn requests_of(
     requires plain { IsPlain reader.old }
     requires short { length (unread reader.old) ≤ most }
     requires bound { most ≤ 1048576 }
-    ensures { Gives result (requests_of (rows_left reader.old)) }
+    ensures { GivesPlan result (requests_of (rows_left reader.old)) }
 {
     let mut header = ByteRecord::new(alloc);
     if !read_row(reader, &mut header)? {
@@ -135,7 +135,7 @@ fn requests_of(
 /// requester `plan`, and a row's number, from 1, is the request's invoke number.
 #[tactic(auto, unfolding(crate::specs::Plan::plan_requests))]
 pub fn plan_requests(alloc: Global, bytes: &[u8]) -> Result<Vec<Request>, PlanFault>
-    ensures { Gives result (plan_requests bytes.now) }
+    ensures { GivesPlan result (plan_requests bytes.now) }
 {
     if bytes.len() > LONGEST {
         return Err(PlanFault::TooLong);

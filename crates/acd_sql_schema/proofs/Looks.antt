@@ -28,7 +28,7 @@ use Rattle.acd_sql_schema.specs.declared.verdict.Told.TheVariants.{Of, Faulty}
 use Rattle.acd_sql_schema.specs.declared.verdict.Page.{Page}
 use Rattle.acd_sql_schema.specs.declared.verdict.Page.TheVariants.{Bad, Last, More}
 use Rattle.acd_sql_columns.specs.AnyRows.{is_good, is_good_in, are_good, rows_in, table_of_log, has_meta, Numbered, AreNumbered, AreSameFirst, BeginsAsBook, schema_of, Covers, is_beside, is_ranked, IsFiledAs, TellsGood, TellsLow, IsPageRows}
-use Rattle.acd_sql_schema.specs.Inspecting.{is_good_behind, told_by, told_of, tables_of, TellsBehind, IsBadOf, IsPageOfLog, IsPageOf, IsVersionTold, IsToldIn, IsRowFound, IsPlaceFound, IsFound}
+use Rattle.acd_sql_schema.specs.Inspecting.{is_good_behind, told_by, told_of, tables_of, TellsBehind, IsBadOf, IsPageOfLog, IsLogPage, IsVersionTold, IsToldIn, IsRowFound, IsPlaceFound, IsFound}
 use Rattle.acd_sql_columns.specs.Draft.{NoStop}
 use Rattle.acd_sql_columns.specs.Values.{whole_at}
 use Rattle.acd_sql_columns.specs.declared.tables.Version.{Version}
@@ -125,7 +125,7 @@ rows_behind v other d old mid new r same first next =
 
 -- ---- tables that are read in pages
 
-pub page_told : (d : Database) (old new : State) (l : Log) (n : ℕ) (rows : Vec Row Global) (r : Result Page Error) → IfOk r (λ page. IsPageOf l n rows.items page)
+pub page_told : (d : Database) (old new : State) (l : Log) (n : ℕ) (rows : Vec Row Global) (r : Result Page Error) → IfOk r (λ page. IsLogPage l n rows.items page)
     → Sees d old new (Ok rows) (λ rows. IsPageRows l n 1000 d.trees rows.items) → Sees d old new r (λ page. IsPageOfLog l n d.trees page)
 page_told d old new l n rows (Ok page) is h =
     sees_on d old new rows (λ rows. IsPageRows l n 1000 d.trees rows.items) (λ page. IsPageOfLog l n d.trees page) (Ok page) h (λ had are. page_is l n d rows.items page are is)

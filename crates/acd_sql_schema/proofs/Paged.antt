@@ -23,7 +23,7 @@ use Rattle.acd_sql_columns.specs.declared.tables.Log.TheVariants as log
 use Rattle.acd_sql_schema.specs.declared.verdict.Page.{Page}
 use Rattle.acd_sql_schema.specs.declared.verdict.Page.TheVariants.{Bad, Last, More}
 use Rattle.acd_sql_columns.specs.AnyRows.{is_good, are_good, is_good_in, rows_in, values_in, table_of_log, Numbered, AreNumbered, FromOne, TellsGood, IsPageRows}
-use Rattle.acd_sql_schema.specs.Inspecting.{is_good_behind, number_if_good, last_good, TellsBehind, IsPageOf, IsPageOfLog}
+use Rattle.acd_sql_schema.specs.Inspecting.{is_good_behind, number_if_good, last_good, TellsBehind, IsLogPage, IsPageOfLog}
 use Rattle.acd_sql_columns.specs.declared.tables.Version.TheVariants as version
 use Rattle.acd_sql_columns.specs.Content.{tree_of, IsIn}
 use Rattle.acd_sql_columns.specs.Values.{option_in, ◌>>=◌, whole_at}
@@ -102,7 +102,7 @@ module _ {R : Type 0} (l : Log) (key : R → ℕ) (values : R → Row) (keyed : 
   Leaves n xs Last = all_good (behind n xs) ≡ true
   Leaves n xs (More m) = all_good (behind n xs) ≡ all_good (behind m xs)
 
-  page_leaves : (k n : ℕ) (xs : List R) (rows : List Row) (page : Page) → IsAscending (by_key key) xs → rows ≡ map values (take (suc k) (behind n xs)) → IsPageOf l n rows page → Leaves n xs page
+  page_leaves : (k n : ℕ) (xs : List R) (rows : List Row) (page : Page) → IsAscending (by_key key) xs → rows ≡ map values (take (suc k) (behind n xs)) → IsLogPage l n rows page → Leaves n xs page
   unfolding are_good
   page_leaves k n xs rows Bad up are is = subst (Tells n (behind n xs)) (ap (last_good l n) (sym are) ∙ is) (page_tells (suc k) n (behind n xs) (λ x a. (filter_among (λ y. nat_lt n (key y)) xs x a).1) (ascending-filter (by_key key) (λ y. nat_lt n (key y)) xs up))
   page_leaves k n xs rows Last up are is = ap all_good (none_taken k (behind n xs) (sym are ∙ is))
@@ -168,12 +168,12 @@ number_at log.Events x = ap option_in x.is
 number_at log.Kept x = ap option_in x.is
 
 module _ (l : Log) (n : ℕ) (d : Database) (rows : List Row) (page : IsPageRows l n 1000 d.trees rows) (xs : List Numbered) (are : AreNumbered l d.trees xs) where
-  page_left : (p : Page) → IsPageOf l n rows p → Leaves l number_key (number_values l) (number_at l) n xs p
+  page_left : (p : Page) → IsLogPage l n rows p → Leaves l number_key (number_values l) (number_at l) n xs p
   page_left p is =
       page_leaves l number_key (number_values l) (number_at l) 999 n xs rows p (numbers_ascend l d xs are) (page.paged xs are ∙ take-map (number_values l) 1000 (filter (λ (x : Numbered). nat_lt n x.key) xs)) is
 
 -- what a page leaves of a database
-pub page_is : (l : Log) (n : ℕ) (d : Database) (rows : List Row) (p : Page) → IsPageRows l n 1000 d.trees rows → IsPageOf l n rows p → IsPageOfLog l n d.trees p
+pub page_is : (l : Log) (n : ℕ) (d : Database) (rows : List Row) (p : Page) → IsPageRows l n 1000 d.trees rows → IsLogPage l n rows p → IsPageOfLog l n d.trees p
 unfolding is_good_behind
 page_is l n d rows Bad page is = page_bad l n 1000 d.trees rows page is
 page_is l n d rows Last page is = λ (xs : List Numbered) (are : AreNumbered l d.trees xs). page_left l n d rows page xs are Last is

@@ -55,10 +55,10 @@ last_good l n [] = Some n
 last_good l n (row ∷ rows) = number_if_good l row >>= (λ m. last_good l m rows)
 
 -- what the rows of a page tell
-abbrev pub IsPageOf : Log → ℕ → List Row → Page → Type 0
-IsPageOf l n rows Bad = last_good l n rows ≡ None
-IsPageOf l n rows Last = rows ≡ []
-IsPageOf l n rows (More m) = last_good l n rows ≡ Some m
+abbrev pub IsLogPage : Log → ℕ → List Row → Page → Type 0
+IsLogPage l n rows Bad = last_good l n rows ≡ None
+IsLogPage l n rows Last = rows ≡ []
+IsLogPage l n rows (More m) = last_good l n rows ≡ Some m
 
 -- what is left behind a page
 abbrev pub IsPageOfLog : Log → ℕ → Trees → Page → Type 0

@@ -7,7 +7,7 @@ ghost use Rattle.sqlite.specs.Held.{state};
 ghost use Rattle.acd_sql_columns.specs.declared.tables.Table.TheVariants as table;
 ghost use Rattle.acd_sql_columns.specs.AnyRows.{is_beside, table_of_log, are_good, schema_of, BeginsAsBook, Covers, TellsGood};
 ghost use Rattle.acd_sql_columns.specs.Content.{number_of};
-ghost use Rattle.acd_sql_schema.specs.Inspecting.{number_if_good, last_good, tables_of, told_by, IsLike, TellsBehind, IsBadOf, IsPageOfLog, IsPageOf, PageFits, IsFound, IsRowFound, IsPlaceFound, IsVersionTold, IsToldIn, IsAdoptStoreFault, adopt_fault_of};
+ghost use Rattle.acd_sql_schema.specs.Inspecting.{number_if_good, last_good, tables_of, told_by, IsLike, TellsBehind, IsBadOf, IsPageOfLog, IsLogPage, PageFits, IsFound, IsRowFound, IsPlaceFound, IsVersionTold, IsToldIn, IsAdoptStoreFault, adopt_fault_of};
 ghost use Rattle.acd_sql_columns.specs.Draft.{Fits};
 ghost use Rattle.acd_sql_columns.specs.Schema.{nine, old_schema, book_schema, BeginsSchema};
 ghost use Rattle.acd_sql_columns.specs.Seeing.{Sees, HasLooked};
@@ -121,7 +121,7 @@ fn last_good(
 
 // What the rows above a number tell.
 fn page_of(kept: &mut KeptReader, log: Log, number: u64, rows: &[Row]) -> Result<Page, Error>
-    ensures tells { IfOk result (λ page. IsPageOf log number rows.now page) }
+    ensures tells { IfOk result (λ page. IsLogPage log number rows.now page) }
     ensures fits { IfOk result (λ page. PageFits page) }
 {
     if rows.is_empty() {

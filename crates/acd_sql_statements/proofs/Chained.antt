@@ -17,6 +17,9 @@ use Rattle.acd_sql_columns.specs.Draft.{HoldsContent, Quiet, NoStop}
 use Rattle.acd_sql_columns.specs.Rows.{meta_shown}
 use Rattle.acd_sql_columns.specs.Finding.{Finds, joined_rows}
 
+pub quiet_still : (s : State) → Quiet s s
+quiet_still s = record { clean = λ k. k; was_open = λ k up. up; same = λ k c h up. h }
+
 pub quiet_on : (a b c : State) → Quiet a b → Quiet b c → Quiet a c
 quiet_on a b c p q = record {
   clean = λ k. p.clean (q.clean k);

@@ -26,6 +26,7 @@ use Rattle.acd_sql_columns.proofs.Reported.{kept_exact}
 use Rattle.acd_book.proofs.Numbered.{kept_after_more}
 use Rattle.acd_lemmas.proofs.Lists.{head_is}
 use Rattle.acd_lemmas.proofs.Numbers.{below_is}
+use Rattle.acd_terms.proofs.Numbers.{no_less}
 
 module _ {R : Type 0} (in_row : Row → Option R) (values : R → Row) (IsGood : R → Type 0) (exact : (row : Row) (x y : R) → IsGood y → in_row row ≡ Some x → row ≡ values y → x ≡ y) where
   same_one : (found one : Option R) (rows : List Row) → IfSome one IsGood → rows ≡ map values (option_to_list one) → map Some (option_to_list found) ≡ map in_row (take 1 rows) → found ≡ one
@@ -63,9 +64,6 @@ found_readable s p c held = found_every IsReadable p c.kept (held.encodes table.
 less_is : (a b : ℕ) → nat_cmp a b ≡ Less → a ≤ b
 less_is a b e = grind (arith, nat_tests)
 
-not_behind : (a b : ℕ) → nat_lt a b ≡ false → b ≤ a
-not_behind a b e = grind (arith, nat_tests)
-
 no_less : (a : ℕ) → a ≤ a
 no_less a = omega arith
 
@@ -78,7 +76,7 @@ after_found stamp [] h = tt
 after_found stamp (k ∷ kept) h =
     (elim (nat_lt stamp k.stamp) as (λ t. nat_lt stamp k.stamp ≡ t → IsKeptAfter (k ∷ kept) stamp (cond t (Some k) (find (λ (k : Kept). nat_lt stamp k.stamp) kept))) [
       | true ↦ λ e. (inl refl, below_is stamp k.stamp e, ((λ above. no_less k.stamp), all_above stamp k kept h.0))
-      | false ↦ λ e. kept_after_more k kept stamp (find (λ (k : Kept). nat_lt stamp k.stamp) kept) (not_behind stamp k.stamp e) (after_found stamp kept h.1)
+      | false ↦ λ e. kept_after_more k kept stamp (find (λ (k : Kept). nat_lt stamp k.stamp) kept) (no_less stamp k.stamp e) (after_found stamp kept h.1)
     ]) refl
 
 -- in ascending order the first one above a stamp is the one of the least stamp

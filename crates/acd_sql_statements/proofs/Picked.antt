@@ -1,5 +1,5 @@
 -- Events that are read by their numbers, one after the other.
-use Rattle.std.proofs.Common.{◌≡◌, ℕ, ◌+◌, ◌-◌, ◌<◌, ◌≤◌, List, [], ◌∷◌, ◌++◌, length, take, get_or, Result, Ok, Err, refl, sym, ap, subst, ◌∙◌, arith}
+use Rattle.std.proofs.Common.{◌≡◌, ℕ, ◌+◌, ◌-◌, ◌<◌, ◌≤◌, List, [], ◌∷◌, ◌++◌, length, take, get_or, Result, Ok, Err, refl, sym, ap, subst, ◌∙◌, arith, append_assoc, append-nil}
 use Rattle.std.specs.Prelude.{Vec}
 use Rattle.std.specs.declared.alloc.Global.{Global}
 use Rattle.std.proofs.lemmas.Grind.{common_steps}
@@ -10,15 +10,7 @@ use Rattle.acd_book.specs.Content.{Content, events_behind}
 use Rattle.acd_sql_columns.specs.Draft.{Quiet}
 use Rattle.acd_sql_columns.specs.Finding.{Finds}
 use Rattle.acd_sql_statements.specs.Picking.{picked, Serves}
-use Rattle.acd_sql_statements.proofs.Chained.{chained, broken}
-
-append_assoc : {X : Type 0} (xs ys zs : List X) → (xs ++ ys) ++ zs ≡ xs ++ (ys ++ zs)
-append_assoc [] ys zs = refl
-append_assoc (x ∷ xs) ys zs = ap (λ l. x ∷ l) (append_assoc xs ys zs)
-
-append_nil : {X : Type 0} (xs : List X) → xs ++ [] ≡ xs
-append_nil [] = refl
-append_nil (x ∷ xs) = ap (λ l. x ∷ l) (append_nil xs)
+use Rattle.acd_sql_statements.proofs.Chained.{quiet_still, chained, broken}
 
 take_push : (i : ℕ) (xs : List ℕ) (d : ℕ) → i < length xs → take (i + 1) xs ≡ take i xs ++ get_or xs i d ∷ []
 take_push i xs d h = grind (arith, common_steps)
@@ -33,18 +25,15 @@ picked_next : (events : List Event) (ns : List ℕ) (i n d : ℕ) → n ≡ get_
 picked_next events ns i n d is low =
     ap (picked events) (take_push i ns d low ∙ ap (λ m. take i ns ++ m ∷ []) (sym is))
     ∙ picked_append events (take i ns) (n ∷ [])
-    ∙ ap (λ l. picked events (take i ns) ++ l) (append_nil (events_behind events (n - 1) 1))
+    ∙ ap (λ l. picked events (take i ns) ++ l) (append-nil (events_behind events (n - 1) 1))
 
 pub all_picked : (i : ℕ) (ns : List ℕ) → length ns ≤ i → take i ns ≡ ns
 all_picked i ns h = grind (arith, common_steps)
 
 -- ---- over a connection
 
-still : (s : State) → Quiet s s
-still s = record { clean = λ k. k; was_open = λ k up. up; same = λ k c h up. h }
-
 pub picked_none : (s : State) (found : Vec Event Global) → found.items ≡ [] → Serves s → Finds {E = Error} s s (Ok found) (λ c events. events.items ≡ [])
-picked_none s found is serves = record { up = λ k. serves k; quiet = still s; stops = λ k c held db left. left; answer = λ k c held. is }
+picked_none s found is serves = record { up = λ k. serves k; quiet = quiet_still s; stops = λ k c held db left. left; answer = λ k c held. is }
 
 module _ (old mid new : State) (found next : Vec Event Global) (ns : List ℕ) (i n d : ℕ) (is : n ≡ get_or ns i d) (low : i < length ns)
     (first : Finds {E = Error} old mid (Ok found) (λ c events. events.items ≡ picked c.events (take i ns))) where

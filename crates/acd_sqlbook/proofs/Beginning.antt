@@ -12,7 +12,7 @@ use Rattle.sqlite.specs.State.{State, HasCleanDisk}
 use Rattle.acd_terms.specs.Lists.{Every, AllAfter}
 use Rattle.acd_terms.specs.declared.event.Event.{Event}
 use Rattle.acd_terms.specs.declared.rows.Rows.{Rows}
-use Rattle.acd_lemmas.proofs.Numbers.{less_is, below_is, same_number}
+use Rattle.acd_lemmas.proofs.Numbers.{less_is, no_less, below_is, same_number}
 use Rattle.acd_book.specs.Content.{Content, events_behind}
 use Rattle.acd_book.specs.Memory.{number_of}
 use Rattle.acd_book.specs.Order.{Rises}
@@ -21,17 +21,14 @@ use Rattle.acd_sql_columns.specs.Draft.{Quiet, NoStop}
 use Rattle.acd_sql_columns.specs.Finding.{Finds}
 use Rattle.acd_sql_columns.proofs.Recorded.{found_none}
 use Rattle.acd_sql_statements.specs.Picking.{Serves}
-use Rattle.acd_sql_statements.proofs.Chained.{behind, chained, broken, finds_on, finds_so}
+use Rattle.acd_sql_statements.proofs.Chained.{quiet_still, behind, chained, broken, finds_on, finds_so}
 use Rattle.acd_sqlbook.specs.Calls.{HasRead}
-use Rattle.acd_sqlbook.specs.Indexing.{Indexes, IsNoted, GoesOn, BeginsIndex, last_of}
+use Rattle.acd_sqlbook.specs.Indexing.{Indexes, IndexIsNoted, IndexGoesOn, BeginsIndex, last_of}
 use Rattle.acd_sqlbook.specs.declared.index.Index.{Index}
 use Rattle.acd_sqlbook.proofs.Indexed.{Ascends, ascending}
-use Rattle.acd_sqlbook.proofs.Standing.{quiet_still}
+use Rattle.acd_book.proofs.Left.{left_behind}
 
 -- ---- events up to a number, and those above it
-
-no_less : (n m : ℕ) → nat_lt n m ≡ false → m ≤ n
-no_less n m h = grind (arith, nat_tests)
 
 ascend_rise : (e : Event) (events : List Event) → AllAfter (λ (a b : Event). nat_cmp a.number b.number) e events → Ascends events → Rises number_of e.number events
 ascend_rise e [] after up = tt
@@ -60,26 +57,6 @@ begins_at i events after up =
 
 -- ---- a page of those that are left
 
-above_filter : (last m : ℕ) (events : List Event) → last ≤ m → Rises number_of m events → filter (λ (e : Event). nat_lt last e.number) events ≡ events
-above_filter last m [] low up = refl
-above_filter last m (e ∷ events) low up =
-    let here : m < e.number = up.0 in
-    let above : last < e.number = omega (arith, low, here) in
-    let next : last ≤ e.number = omega (arith, above) in
-    ap (λ (b : Bool). cond b (e ∷ filter (λ (x : Event). nat_lt last x.number) events) (filter (λ (x : Event). nat_lt last x.number) events)) (lt-ltb last e.number above)
-    ∙ ap (λ (l : List Event). e ∷ l) (above_filter last e.number events next up.1)
-
-past_filter : (last : ℕ) (events : List Event) → Every (λ (e : Event). e.number ≤ last) events → filter (λ (e : Event). nat_lt last e.number) events ≡ []
-past_filter last [] low = refl
-past_filter last (e ∷ events) low =
-    ap (λ (b : Bool). cond b (e ∷ filter (λ (x : Event). nat_lt last x.number) events) (filter (λ (x : Event). nat_lt last x.number) events)) (le-ltb last e.number low.0)
-    ∙ past_filter last events low.1
-
-left_behind : (last n : ℕ) (past left : List Event) → Every (λ (e : Event). e.number ≤ last) past → Rises number_of last left → events_behind (past ++ left) last n ≡ take n left
-left_behind last n past left low up =
-    let p : Event → Bool = λ (e : Event). nat_lt last e.number in
-    ap (take n) (filter-append p past left ∙ ap₂ (λ (a b : List Event). a ++ b) (past_filter last past low) (above_filter last last left (omega arith) up))
-
 page_front : (limit : ℕ) (i : Index) (page events : List Event) (b : BeginsIndex i events) → page ≡ events_behind events i.last limit → page ≡ take limit b.rest
 page_front limit i page events b is = is ∙ ap (λ (l : List Event). events_behind l i.last limit) b.all ∙ left_behind i.last limit b.seen b.rest b.indexes.last b.above
 
@@ -88,7 +65,7 @@ rises_left zero last events up = up
 rises_left (suc n) last [] up = tt
 rises_left (suc n) last (e ∷ events) up = rises_left n e.number events up.1
 
-goes_on : (limit : ℕ) (i next : Index) (page events : List Event) → BeginsIndex i events → page ≡ events_behind events i.last limit → GoesOn i page next → BeginsIndex next events
+goes_on : (limit : ℕ) (i next : Index) (page events : List Event) → BeginsIndex i events → page ≡ events_behind events i.last limit → IndexGoesOn i page next → BeginsIndex next events
 goes_on limit i next page events b is goes =
     let front = page_front limit i page events b is in
     record {
@@ -126,55 +103,55 @@ abbrev pub HasPassed : Index → Content → Index → Type 0
 HasPassed begun c i = BeginsIndex begun c.events → BeginsIndex i c.events
 
 abbrev HasNoted : Index → Content → Option Index → Type 0
-HasNoted begun c noted = BeginsIndex begun c.events → IsNoted noted c.events
+HasNoted begun c noted = BeginsIndex begun c.events → IndexIsNoted noted c.events
 
-abbrev IsPage : ℕ → ℕ → Content → Vec Event Global → Type 0
-IsPage last limit c events = events.items ≡ events_behind c.events last limit
+abbrev IsPageBeyond : ℕ → ℕ → Content → Vec Event Global → Type 0
+IsPageBeyond last limit c events = events.items ≡ events_behind c.events last limit
 
 pub pass_begins : (s : State) (begun : Index) → Serves s → Finds {E = Error} s s (Ok begun) (HasPassed begun)
 pass_begins s begun serves = record { up = λ k. serves k; quiet = quiet_still s; stops = λ k c held db left. left; answer = λ k c held b. b }
 
 module _ (old mid new : State) (begun i : Index) (limit : ℕ) (first : Finds {E = Error} old mid (Ok i) (HasPassed begun)) where
-  pub pass_more : (page : Vec Event Global) (next : Index) → GoesOn i page.items next → Finds {E = Error} mid new (Ok page) (IsPage i.last limit) → Finds {E = Error} old new (Ok next) (HasPassed begun)
+  pub pass_more : (page : Vec Event Global) (next : Index) → IndexGoesOn i page.items next → Finds {E = Error} mid new (Ok page) (IsPageBeyond i.last limit) → Finds {E = Error} old new (Ok next) (HasPassed begun)
   pass_more page next goes =
-      chained old mid new i (HasPassed begun) (IsPage i.last limit) first page next (HasPassed begun) (λ c p q b. goes_on limit i next page.items c.events (p b) q goes)
+      chained old mid new i (HasPassed begun) (IsPageBeyond i.last limit) first page next (HasPassed begun) (λ c p q b. goes_on limit i next page.items c.events (p b) q goes)
 
-  pub pass_all : (page : Vec Event Global) → page.items ≡ [] → 0 < limit → Finds {E = Error} mid new (Ok page) (IsPage i.last limit) → Finds {E = Error} old new (Ok (Some i)) (HasNoted begun)
+  pub pass_all : (page : Vec Event Global) → page.items ≡ [] → 0 < limit → Finds {E = Error} mid new (Ok page) (IsPageBeyond i.last limit) → Finds {E = Error} old new (Ok (Some i)) (HasNoted begun)
   pass_all page none some =
-      chained old mid new i (HasPassed begun) (IsPage i.last limit) first page (Some i) (HasNoted begun) (λ c p q b. ends limit i c.events some (p b) (sym none ∙ q))
+      chained old mid new i (HasPassed begun) (IsPageBeyond i.last limit) first page (Some i) (HasNoted begun) (λ c p q b. ends limit i c.events some (p b) (sym none ∙ q))
 
-  pub pass_not : (page : Vec Event Global) → Finds {E = Error} mid new (Ok page) (IsPage i.last limit) → Finds {E = Error} old new (Ok None) (HasNoted begun)
-  pass_not page = chained old mid new i (HasPassed begun) (IsPage i.last limit) first page None (HasNoted begun) (λ c p q b. tt)
+  pub pass_not : (page : Vec Event Global) → Finds {E = Error} mid new (Ok page) (IsPageBeyond i.last limit) → Finds {E = Error} old new (Ok None) (HasNoted begun)
+  pass_not page = chained old mid new i (HasPassed begun) (IsPageBeyond i.last limit) first page None (HasNoted begun) (λ c p q b. tt)
 
-  pub pass_fails : (e : Error) (r : Result (Option Index) Error) → r ≡ Err e → Finds {A = Vec Event Global} mid new (Err e) (IsPage i.last limit) → Finds old new r (HasNoted begun)
+  pub pass_fails : (e : Error) (r : Result (Option Index) Error) → r ≡ Err e → Finds {A = Vec Event Global} mid new (Err e) (IsPageBeyond i.last limit) → Finds old new r (HasNoted begun)
   pass_fails e r is second =
       subst (λ (r : Result (Option Index) Error). Finds old new r (HasNoted begun)) (sym is)
-      (broken old mid new i (HasPassed begun) (IsPage i.last limit) first e (HasNoted begun) second)
+      (broken old mid new i (HasPassed begun) (IsPageBeyond i.last limit) first e (HasNoted begun) second)
 
 pub pass_cut : (old new : State) (begun i : Index) → Finds {E = Error} old new (Ok i) (HasPassed begun) → Finds {E = Error} old new (Ok None) (HasNoted begun)
 pass_cut old new begun i first = finds_on old new i (Ok None) (HasPassed begun) (HasNoted begun) first (λ c p b. tt)
 
 -- from the rows that tell where it begins
 pub begins : (old mid new : State) (rows : Rows) (begun : Index) (r : Result (Option Index) Error) → WatchesAfter begun.last begun.watched → Finds {E = Error} old mid (Ok rows) (λ c found. found ≡ c.rows)
-    → (Serves mid → Finds mid new r (HasNoted begun)) → Finds old new r (λ c noted. IsNoted noted c.events)
+    → (Serves mid → Finds mid new r (HasNoted begun)) → Finds old new r (λ c noted. IndexIsNoted noted c.events)
 begins old mid new rows begun r after first second =
-    behind old mid new rows r (λ (c : Content) (found : Rows). Ascends c.events) (HasNoted begun) (λ (c : Content) (noted : Option Index). IsNoted noted c.events)
+    behind old mid new rows r (λ (c : Content) (found : Rows). Ascends c.events) (HasNoted begun) (λ (c : Content) (noted : Option Index). IndexIsNoted noted c.events)
     (finds_so old mid (Ok rows) (λ (c : Content) (found : Rows). found ≡ c.rows) (λ (c : Content) (found : Rows). Ascends c.events) (λ c held found is. ascending old c held) first)
     (λ c noted p q. q (begins_at begun c.events after p)) (second first.up)
 
-pub begins_never : (old new : State) (e : Error) (r : Result (Option Index) Error) → r ≡ Err e → Finds {A = Rows} old new (Err e) (λ c found. found ≡ c.rows) → Finds old new r (λ c noted. IsNoted noted c.events)
+pub begins_never : (old new : State) (e : Error) (r : Result (Option Index) Error) → r ≡ Err e → Finds {A = Rows} old new (Err e) (λ c found. found ≡ c.rows) → Finds old new r (λ c noted. IndexIsNoted noted c.events)
 begins_never old new e r is h =
-    subst (λ (r : Result (Option Index) Error). Finds old new r (λ c noted. IsNoted noted c.events)) (sym is)
-    (found_none old new e (λ (c : Content) (found : Rows). found ≡ c.rows) (λ (c : Content) (noted : Option Index). IsNoted noted c.events) h)
+    subst (λ (r : Result (Option Index) Error). Finds old new r (λ c noted. IndexIsNoted noted c.events)) (sym is)
+    (found_none old new e (λ (c : Content) (found : Rows). found ≡ c.rows) (λ (c : Content) (noted : Option Index). IndexIsNoted noted c.events) h)
 
 pub stays_noted : (old mid : State) (noted : Option Index) (index : Index) → noted ≡ Some index → Quiet old mid → (HasCleanDisk mid → IsTrue mid.is_open) → (HasCleanDisk mid → NoStop old mid)
-    → HasRead {A = Option Index} old mid (Ok (Some index)) (λ c next. IsNoted noted c.events → IsNoted next c.events)
+    → HasRead {A = Option Index} old mid (Ok (Some index)) (λ c next. IndexIsNoted noted c.events → IndexIsNoted next c.events)
 stays_noted old mid noted index is quiet live still = record {
   quiet = quiet;
   up = live;
   stops = λ k stands. still k;
-  value = λ k c held n. subst (λ (o : Option Index). IsNoted o c.events) is n;
+  value = λ k c held n. subst (λ (o : Option Index). IndexIsNoted o c.events) is n;
 }
 
-pub begins_anew : (old new : State) (noted : Option Index) (r : Result (Option Index) Error) → Finds old new r (λ c next. IsNoted next c.events) → Finds old new r (λ c next. IsNoted noted c.events → IsNoted next c.events)
-begins_anew old new noted r = finds_so old new r (λ (c : Content) (next : Option Index). IsNoted next c.events) (λ (c : Content) (next : Option Index). IsNoted noted c.events → IsNoted next c.events) (λ c held next is n. is)
+pub begins_anew : (old new : State) (noted : Option Index) (r : Result (Option Index) Error) → Finds old new r (λ c next. IndexIsNoted next c.events) → Finds old new r (λ c next. IndexIsNoted noted c.events → IndexIsNoted next c.events)
+begins_anew old new noted r = finds_so old new r (λ (c : Content) (next : Option Index). IndexIsNoted next c.events) (λ (c : Content) (next : Option Index). IndexIsNoted noted c.events → IndexIsNoted next c.events) (λ c held next is n. is)

@@ -20,7 +20,7 @@ use Rattle.acd_sql_statements.specs.InRange.{IsInRange}
 use Rattle.acd_sql_statements.specs.Reading.{FailsToRead, Blames}
 use Rattle.acd_sql_schema.specs.SettingUp.{FailsToSetUp}
 use Rattle.acd_sqlbook.specs.Commit.{counted}
-use Rattle.acd_sqlbook.specs.Stopping.{AllFit, Drops, IsBlamedOr, IsUncounted, RefusesInAll, StopsCommit, StopsReplace}
+use Rattle.acd_sqlbook.specs.Stopping.{AllNumbersFit, Drops, IsBlamedOr, IsUncounted, RefusesInAll, StopsCommit, StopsReplace}
 use Rattle.acd_sqlbook.specs.State.{IsSoundState, fault_of, answered, failures_after}
 use Rattle.acd_sqlbook.specs.Causes.{BookCall, StoreCause, IsCaused, IsLimited, IsUnreadable, create, read, failed, change, replace, shut, limited, unfit, unreadable, drops, refused}
 use Rattle.acd_sqlbook.proofs.BookStates.{held_is}
@@ -96,7 +96,7 @@ module _ (rows : Rows) (events : List Event) (kept : Kept) (old new : State) whe
   replace_stops c is (inr (inl gone)) = drops (subst (Drops rows old.step_limit) (sym is) gone)
   replace_stops c is (inr (inr stops)) =
       elim (parted (rows_differences c.rows rows) events kept (meta_of rows) old.step_limit c stops) [
-        | inl large ↦ unfit (inr (subst (λ (x : Content). ¬ (AllFit (rows_differences x.rows rows) events)) (sym is) large))
+        | inl large ↦ unfit (inr (subst (λ (x : Content). ¬ (AllNumbersFit (rows_differences x.rows rows) events)) (sym is) large))
         | inr refuses ↦ refused (subst (λ (x : Content). RefusesInAll (rows_differences x.rows rows) events kept (meta_of rows) old.step_limit x) (sym is) refuses)
       ]
 

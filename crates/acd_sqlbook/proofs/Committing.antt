@@ -13,7 +13,7 @@ use Rattle.acd_model.specs.declared.moves.Change.{Change}
 use Rattle.acd_model.specs.declared.moves.Change.TheVariants.{Nothing, PutGroup, PutStation, PutAgent, PutCall, PutConnection, PutMonitor, RemoveCall, RemoveConnection, RemoveMonitor}
 use Rattle.acd_book.specs.Memory.{number_of}
 use Rattle.acd_book.specs.Order.{Rises}
-use Rattle.acd_sqlbook.proofs.Indexed.{all_more}
+use Rattle.acd_book.proofs.Left.{events_raised}
 use Rattle.acd_book.specs.Content.{Content, GoOn, Follows, committed, FollowsBy, committed_by, rows_by}
 use Rattle.acd_book.specs.declared.kept.Kept.{Kept}
 use Rattle.acd_sql_columns.specs.declared.meta.Meta.{Meta}
@@ -93,7 +93,7 @@ rises_are last c [] up low = ap (λ l. record c { events = l }) (sym (append-nil
 rises_are last c (e ∷ es) up low =
     let put = put_last (λ (x : Event). x.number) e c.events (every_less (λ (x : Event). x.number) last e.number c.events up.0 low) in
     let next : Every (λ (x : Event). x.number ≤ e.number) (with_event c e).events =
-    subst (Every (λ (x : Event). x.number ≤ e.number)) (sym put) (every_push (λ (x : Event). x.number ≤ e.number) c.events e (all_more last e.number c.events (let k = up.0 in omega arith) low) (omega arith)) in
+    subst (Every (λ (x : Event). x.number ≤ e.number)) (sym put) (every_push (λ (x : Event). x.number ≤ e.number) c.events e (events_raised last e.number c.events (let k = up.0 in omega arith) low) (omega arith)) in
     rises_are e.number (with_event c e) es up.1 next
     ∙ ap (λ l. record c { events = l }) (ap (λ l. l ++ es) put ∙ append_assoc c.events (e ∷ []) es)
 

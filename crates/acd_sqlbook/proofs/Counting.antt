@@ -19,7 +19,7 @@ use Rattle.acd_sql_statements.specs.Failing.{IsMemory}
 use Rattle.acd_sql_statements.specs.Reading.{Blames, FailsToRead}
 use Rattle.acd_sqlbook.specs.Calls.{HasRead}
 use Rattle.acd_sqlbook.specs.Commit.{ChangeFits, EventFits, counted, filed, all_filed, with_event}
-use Rattle.acd_sqlbook.specs.Stopping.{AllFit, AreCounted, BlamesOr, Drops, IsBlamedOr, FailsToFile, IsUndone, IsUncounted, RefusesInAll, RefusesInChanges, RefusesInEvents, StopsInAll, StopsInChanges, StopsInEvents, StopsCommit, StopsReplace}
+use Rattle.acd_sqlbook.specs.Stopping.{AllNumbersFit, AreCounted, BlamesOr, Drops, IsBlamedOr, FailsToFile, IsUndone, IsUncounted, RefusesInAll, RefusesInChanges, RefusesInEvents, StopsInAll, StopsInChanges, StopsInEvents, StopsCommit, StopsReplace}
 use Rattle.acd_sqlbook.proofs.Replacing.{Leading}
 
 -- as a read fails
@@ -124,7 +124,7 @@ parted_events (e ∷ es) limit c (inl (inl large)) = inl (λ fit. large fit.0)
 parted_events (e ∷ es) limit c (inl (inr refuses)) = inr (inl refuses)
 parted_events (e ∷ es) limit c (inr h) = elim (parted_events es limit (with_event c e) h) [ inl large ↦ inl (λ fit. large fit.1) | inr refuses ↦ inr (inr refuses) ]
 
-pub parted : (changes : List Change) (events : List Event) (kept : Kept) (meta : Meta) (limit : Option ℕ) (c : Content) → StopsInAll changes events kept meta limit c → (¬ (AllFit changes events)) ⊎ RefusesInAll changes events kept meta limit c
+pub parted : (changes : List Change) (events : List Event) (kept : Kept) (meta : Meta) (limit : Option ℕ) (c : Content) → StopsInAll changes events kept meta limit c → (¬ (AllNumbersFit changes events)) ⊎ RefusesInAll changes events kept meta limit c
 parted changes events kept meta limit c (inl h) = elim (parted_changes changes limit c h) [ inl large ↦ inl (λ fit. large fit.0) | inr refuses ↦ inr (inl refuses) ]
 parted changes events kept meta limit c (inr (inl h)) = elim (parted_events events limit (all_filed c changes) h) [ inl large ↦ inl (λ fit. large fit.1) | inr refuses ↦ inr (inr (inl refuses)) ]
 parted changes events kept meta limit c (inr (inr h)) = inr (inr (inr h))

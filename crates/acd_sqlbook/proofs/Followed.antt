@@ -4,7 +4,7 @@ use Rattle.acd_terms.specs.declared.event.Event.{Event}
 use Rattle.acd_book.specs.Content.{Content}
 use Rattle.acd_book.specs.State.{BookState, Reads, Commits}
 use Rattle.acd_book.specs.declared.fault.BookFault.{BookFault}
-use Rattle.acd_sqlbook.specs.Indexing.{IsNoted, IsNotedBehind, SoundWith, followed}
+use Rattle.acd_sqlbook.specs.Indexing.{IndexIsNoted, IsNotedBehind, SoundWith, followed}
 use Rattle.sqlite.specs.declared.error.Error.{Error}
 use Rattle.sqlite.specs.State.{State, HasCleanDisk}
 use Rattle.acd_model.specs.declared.moves.Change.{Change}
@@ -19,14 +19,14 @@ use Rattle.acd_sqlbook.proofs.Committing.{written_events}
 use Rattle.acd_sqlbook.specs.declared.index.Index.{Index}
 
 -- one content is the other
-here : (noted : Option Index) (c d : Content) → c ≡ d → IsNoted noted d.events → IsNoted noted c.events
-here noted c d same = subst (λ (x : Content). IsNoted noted x.events) (sym same)
+here : (noted : Option Index) (c d : Content) → c ≡ d → IndexIsNoted noted d.events → IndexIsNoted noted c.events
+here noted c d same = subst (λ (x : Content). IndexIsNoted noted x.events) (sym same)
 
-pub apart : (noted : Option Index) (b : BookState) → SoundWith noted b → b.is_sound × (b.is_open → IsNoted noted b.content.events)
+pub apart : (noted : Option Index) (b : BookState) → SoundWith noted b → b.is_sound × (b.is_open → IndexIsNoted noted b.content.events)
 apart None b s = (s, λ up. tt)
 apart (Some i) b s = s
 
-both : (noted : Option Index) (b : BookState) → b.is_sound → (b.is_open → IsNoted noted b.content.events) → SoundWith noted b
+both : (noted : Option Index) (b : BookState) → b.is_sound → (b.is_open → IndexIsNoted noted b.content.events) → SoundWith noted b
 both None b s n = s
 both (Some i) b s n = (s, n)
 
@@ -36,13 +36,13 @@ on (Err e) f p = tt
 
 -- A read, where what was noted before and what is noted behind it are of the events that are held. Its answer may rest on what was noted.
 module _ {A : Type 0} (before behind : Option Index) (old new : BookState) (r : Result A BookFault) (IsFound IsAnswer : Content → A → Type 0) where
-  found_with : (r : Result A BookFault) → (old.is_open → IsNoted before old.content.events) → ((c : Content) (a : A) → IsNoted before c.events → IsFound c a → IsAnswer c a)
+  found_with : (r : Result A BookFault) → (old.is_open → IndexIsNoted before old.content.events) → ((c : Content) (a : A) → IndexIsNoted before c.events → IsFound c a → IsAnswer c a)
       → IfOk r (λ a. old.is_open × IsFound old.content a) → IfOk r (λ a. old.is_open × IsAnswer old.content a)
   found_with (Ok a) noted answers p = (p.0, answers old.content a (noted p.0) p.1)
   found_with (Err e) noted answers p = tt
 
-  pub reads_followed : (new.is_clean → old.is_sound → old.is_open → IsNoted before old.content.events → IsNoted behind old.content.events)
-      → ((c : Content) (a : A) → IsNoted before c.events → IsFound c a → IsAnswer c a)
+  pub reads_followed : (new.is_clean → old.is_sound → old.is_open → IndexIsNoted before old.content.events → IndexIsNoted behind old.content.events)
+      → ((c : Content) (a : A) → IndexIsNoted before c.events → IsFound c a → IsAnswer c a)
       → Reads old new r IsFound → Reads (followed before old) (followed behind new) r IsAnswer
   reads_followed goes answers h = record {
     clean = h.clean;
@@ -60,8 +60,8 @@ module _ {A : Type 0} (before behind : Option Index) (old new : BookState) (r : 
   }
 
 -- what is noted behind a page is of the events that are held, where what was noted before is
-pub page_goes : (before behind : Option Index) (old new : State) → (HasCleanDisk new → (c : Content) → HoldsContent old c → IsNoted before c.events → IsNoted behind c.events)
-    → HasCleanDisk new → IsSoundState old → IsTrue old.is_open → IsNoted before (content_of old.committed.trees).events → IsNoted behind (content_of old.committed.trees).events
+pub page_goes : (before behind : Option Index) (old new : State) → (HasCleanDisk new → (c : Content) → HoldsContent old c → IndexIsNoted before c.events → IndexIsNoted behind c.events)
+    → HasCleanDisk new → IsSoundState old → IsTrue old.is_open → IndexIsNoted before (content_of old.committed.trees).events → IndexIsNoted behind (content_of old.committed.trees).events
 page_goes before behind old new goes k sound up noted =
     let held = sound.stands up in
     let same = held_is old held.0 held.1 in
@@ -73,7 +73,7 @@ reads_kept noted old new r IsAnswer = reads_followed noted noted old new r IsAns
 
 -- A commit. What is noted behind it is of the events that it made or, where it failed, of those that were held.
 pub commits_followed : (before behind : Option Index) (old new : BookState) (r : Result (Unit {0}) BookFault) (Follows : Content → Type 0) (after : Content → Content)
-    → (new.is_clean → old.is_sound → new.is_open → (old.is_open → IsNoted before old.content.events) → IsNoted behind new.content.events)
+    → (new.is_clean → old.is_sound → new.is_open → (old.is_open → IndexIsNoted before old.content.events) → IndexIsNoted behind new.content.events)
     → Commits old new r Follows after → Commits (followed before old) (followed behind new) r Follows after
 commits_followed before behind old new r Follows after goes h = record {
   clean = h.clean;
@@ -89,8 +89,8 @@ commits_followed before behind old new r Follows after goes h = record {
 
 -- what is noted behind a commit of changes is of the events that it leaves
 pub changes_goes : (before behind : Option Index) (old new : State) (r : Result (Unit {0}) Error) (changes : List Change) (events : List Event) (kept : Kept) → IsNotedBehind before r events behind
-    → HasCommitted old new r (written_by changes events kept) → HasCleanDisk new → IsSoundState old → IsTrue new.is_open → (IsTrue old.is_open → IsNoted before (content_of old.committed.trees).events)
-    → IsNoted behind (content_of new.committed.trees).events
+    → HasCommitted old new r (written_by changes events kept) → HasCleanDisk new → IsSoundState old → IsTrue new.is_open → (IsTrue old.is_open → IndexIsNoted before (content_of old.committed.trees).events)
+    → IndexIsNoted behind (content_of new.committed.trees).events
 changes_goes before None old new r changes events kept on h k sound up noted = tt
 changes_goes before (Some next) old new (Err e) changes events kept on h k sound up noted = absurd (let apart = on.0 in cc)
 changes_goes before (Some next) old new (Ok a) changes events kept on h k sound up noted =
@@ -98,8 +98,8 @@ changes_goes before (Some next) old new (Ok a) changes events kept on h k sound 
     let held = sound.stands was in
     let i = on.1.0 in
     let goes = on.1.2 in
-    let of_old = subst (λ (o : Option Index). IsNoted o (content_of old.committed.trees).events) on.1.1 (noted was) in
-    let of_held = subst (λ (c : Content). IsNoted (Some i) c.events) (held_is old held.0 held.1) of_old in
+    let of_old = subst (λ (o : Option Index). IndexIsNoted o (content_of old.committed.trees).events) on.1.1 (noted was) in
+    let of_held = subst (λ (c : Content). IndexIsNoted (Some i) c.events) (held_is old held.0 held.1) of_old in
     let made = held_is new (written_by changes events kept held.0) (h.made k held.0 held.1) in
-    subst (λ (l : List Event). IsNoted (Some next) l) (sym (ap (λ (c : Content). c.events) made ∙ written_events changes events kept held.0 i.last goes.rise of_held.last))
+    subst (λ (l : List Event). IndexIsNoted (Some next) l) (sym (ap (λ (c : Content). c.events) made ∙ written_events changes events kept held.0 i.last goes.rise of_held.last))
     (goes.of_both held.0.events of_held)

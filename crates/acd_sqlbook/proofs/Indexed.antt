@@ -14,6 +14,9 @@ use Rattle.acd_sql_columns.specs.declared.tables.Table.TheVariants as table
 use Rattle.acd_sql_statements.specs.Picking.{picked}
 use Rattle.acd_lemmas.proofs.Numbers.{less_is}
 use Rattle.acd_sqlbook.specs.Indexing.{last_of}
+use Rattle.acd_book.proofs.Left.{events_raised}
+use Rattle.acd_lemmas.proofs.Lists.{every-append}
+use Rattle.std.proofs.lemmas.Bool.{and_parts}
 
 -- ---- a page of the numbers
 
@@ -57,10 +60,6 @@ all_there events (e ∷ some) up all = ap₂ (λ (l m : List Event). l ++ m) (on
 over_zero : (n m : ℕ) → nat_lt n m ≡ true → 0 < m
 over_zero n m h = grind (arith, nat_tests)
 
-right_part : (a b : Bool) → (a && b) ≡ true → b ≡ true
-right_part true b h = h
-right_part false b h = absurd (true≢false (sym h))
-
 more_there : (x : Event) (events some : List Event) → Every (IsThere events) some → Every (IsThere (x ∷ events)) some
 more_there x events [] all = tt
 more_there x events (y ∷ some) all = ((inr all.0.0, all.0.1), more_there x events some all.1)
@@ -68,7 +67,7 @@ more_there x events (y ∷ some) all = ((inr all.0.0, all.0.1), more_there x eve
 told_next : (device n : ℕ) (x : Event) (events : List Event) (b : Bool) → is_told (Some device) n x ≡ b → Every (IsThere events) (filter (is_told (Some device) n) events)
     → Every (IsThere (x ∷ events)) (cond b (x ∷ filter (is_told (Some device) n) events) (filter (is_told (Some device) n) events))
 told_next device n x events true told rest =
-    ((inl refl, over_zero n x.number (right_part (is_at (Some device) x) (nat_lt n x.number) told)), more_there x events (filter (is_told (Some device) n) events) rest)
+    ((inl refl, over_zero n x.number (and_parts (is_at (Some device) x) (nat_lt n x.number) told).1), more_there x events (filter (is_told (Some device) n) events) rest)
 told_next device n x events false told rest = more_there x events (filter (is_told (Some device) n) events) rest
 
 told_there : (device n : ℕ) (events : List Event) → Every (IsThere events) (filter (is_told (Some device) n) events)
@@ -88,14 +87,6 @@ page_picked device n limit events numbers up is =
     ap (picked events) is ∙ all_there events page up (taken_there (IsThere events) limit (filter (is_told (Some device) n) events) (told_there device n events))
 
 -- ---- events that go on
-
-pub all_more : (low high : ℕ) (events : List Event) → low ≤ high → Every (λ (e : Event). e.number ≤ low) events → Every (λ (e : Event). e.number ≤ high) events
-all_more low high [] h all = tt
-all_more low high (e ∷ events) h all = (omega (arith, h, all.0), all_more low high events h all.1)
-
-pub all_both : (P : Event → Type 0) (xs ys : List Event) → Every P xs → Every P ys → Every P (xs ++ ys)
-all_both P [] ys a b = b
-all_both P (x ∷ xs) ys a b = (a.0, all_both P xs ys a.1 b)
 
 pub take_push : (i : ℕ) (xs : List Event) (d : Event) → i < length xs → take (i + 1) xs ≡ take i xs ++ get_or xs i d ∷ []
 take_push i xs d h = grind (arith, common_steps)
@@ -120,4 +111,4 @@ pub below_on : (top i : ℕ) (events : List Event) (e : Event) → i < length ev
     → Every (λ (x : Event). x.number ≤ e.number) (take (i + 1) events)
 below_on top i events e low is up all =
     subst (Every (λ (x : Event). x.number ≤ e.number)) (sym (take_push i events e low ∙ ap (λ (x : Event). take i events ++ x ∷ []) (sym is)))
-    (all_both (λ (x : Event). x.number ≤ e.number) (take i events) (e ∷ []) (all_more top e.number (take i events) (omega (arith, up)) all) (omega arith, tt))
+    (every-append (λ (x : Event). x.number ≤ e.number) (take i events) (e ∷ []) (events_raised top e.number (take i events) (omega (arith, up)) all) (omega arith, tt))

@@ -12,12 +12,12 @@ use Rattle.acd_book.specs.Watched.{IsPage}
 use Rattle.acd_sql_columns.specs.Draft.{HoldsContent}
 use Rattle.acd_sql_columns.specs.Finding.{Finds}
 use Rattle.acd_sql_statements.specs.Picking.{picked}
-use Rattle.acd_sql_statements.proofs.Chained.{behind, finds_so}
+use Rattle.acd_sql_statements.proofs.Chained.{quiet_still, behind, finds_so}
 use Rattle.acd_sqlbook.specs.Calls.{HasRead}
-use Rattle.acd_sqlbook.specs.Indexing.{Indexes, IsNoted}
+use Rattle.acd_sqlbook.specs.Indexing.{Indexes, IndexIsNoted}
 use Rattle.acd_sqlbook.specs.declared.index.Index.{Index}
 use Rattle.acd_sqlbook.proofs.Indexed.{ascending, page_picked}
-use Rattle.acd_sqlbook.proofs.Standing.{quiet_still, reads_behind, reads_two, reads_fail}
+use Rattle.acd_sqlbook.proofs.Standing.{reads_behind, reads_two, reads_fail}
 
 pub page_by_numbers : (old new : State) (index : Index) (device number limit : ℕ) (numbers : List ℕ) (r : Result (Vec Event Global) Error) → IsPage index.watched device number limit numbers
     → Finds old new r (λ c events. events.items ≡ picked c.events numbers)
@@ -47,33 +47,33 @@ page_of old mid new index monitor number above limit o w r there h is =
 -- by what is noted
 pub page_noted : (old new : State) (noted : Option Index) (index : Index) (monitor number limit : ℕ) (r : Result (Vec Event Global) Error) → noted ≡ Some index
     → Finds old new r (λ c events. Indexes index c.events → events.items ≡ events_of_monitor c monitor number limit)
-    → Finds old new r (λ c events. IsNoted noted c.events → events.items ≡ events_of_monitor c monitor number limit)
+    → Finds old new r (λ c events. IndexIsNoted noted c.events → events.items ≡ events_of_monitor c monitor number limit)
 page_noted old new noted index monitor number limit r is h =
-    subst (λ (o : Option Index). Finds old new r (λ c events. IsNoted o c.events → events.items ≡ events_of_monitor c monitor number limit)) (sym is) h
+    subst (λ (o : Option Index). Finds old new r (λ c events. IndexIsNoted o c.events → events.items ≡ events_of_monitor c monitor number limit)) (sym is) h
 
 pub page_unnoted : (old new : State) (noted : Option Index) (monitor number limit : ℕ) (r : Result (Vec Event Global) Error)
     → Finds old new r (λ c events. events.items ≡ events_of_monitor c monitor number limit)
-    → Finds old new r (λ c events. IsNoted noted c.events → events.items ≡ events_of_monitor c monitor number limit)
+    → Finds old new r (λ c events. IndexIsNoted noted c.events → events.items ≡ events_of_monitor c monitor number limit)
 page_unnoted old new noted monitor number limit r =
     finds_so old new r (λ (c : Content) (events : Vec Event Global). events.items ≡ events_of_monitor c monitor number limit)
-    (λ (c : Content) (events : Vec Event Global). IsNoted noted c.events → events.items ≡ events_of_monitor c monitor number limit) (λ c held events is n. is)
+    (λ (c : Content) (events : Vec Event Global). IndexIsNoted noted c.events → events.items ≡ events_of_monitor c monitor number limit) (λ c held events is n. is)
 
 -- what was noted before, what is noted next, and a page by that
-module _ (old mid new : State) (before took next : Option Index) (monitor number limit : ℕ) (taken : took ≡ before) (first : HasRead {A = Option Index} old mid (Ok next) (λ c n. IsNoted took c.events → IsNoted n c.events)) where
-  pub page_next : (r : Result (Vec Event Global) Error) → Finds mid new r (λ c events. IsNoted next c.events → events.items ≡ events_of_monitor c monitor number limit)
-      → HasRead old new r (λ c events. IsNoted before c.events → events.items ≡ events_of_monitor c monitor number limit)
+module _ (old mid new : State) (before took next : Option Index) (monitor number limit : ℕ) (taken : took ≡ before) (first : HasRead {A = Option Index} old mid (Ok next) (λ c n. IndexIsNoted took c.events → IndexIsNoted n c.events)) where
+  pub page_next : (r : Result (Vec Event Global) Error) → Finds mid new r (λ c events. IndexIsNoted next c.events → events.items ≡ events_of_monitor c monitor number limit)
+      → HasRead old new r (λ c events. IndexIsNoted before c.events → events.items ≡ events_of_monitor c monitor number limit)
   page_next r second =
-      reads_two old mid new next r (λ (c : Content) (n : Option Index). IsNoted took c.events → IsNoted n c.events)
-      (λ (c : Content) (events : Vec Event Global). IsNoted next c.events → events.items ≡ events_of_monitor c monitor number limit)
-      (λ (c : Content) (events : Vec Event Global). IsNoted before c.events → events.items ≡ events_of_monitor c monitor number limit) first
-      (λ c events p q n. q (p (subst (λ (o : Option Index). IsNoted o c.events) (sym taken) n)))
-      (reads_behind mid mid new r (λ (c : Content) (events : Vec Event Global). IsNoted next c.events → events.items ≡ events_of_monitor c monitor number limit) (quiet_still mid) first.up (λ k db left. left) second)
+      reads_two old mid new next r (λ (c : Content) (n : Option Index). IndexIsNoted took c.events → IndexIsNoted n c.events)
+      (λ (c : Content) (events : Vec Event Global). IndexIsNoted next c.events → events.items ≡ events_of_monitor c monitor number limit)
+      (λ (c : Content) (events : Vec Event Global). IndexIsNoted before c.events → events.items ≡ events_of_monitor c monitor number limit) first
+      (λ c events p q n. q (p (subst (λ (o : Option Index). IndexIsNoted o c.events) (sym taken) n)))
+      (reads_behind mid mid new r (λ (c : Content) (events : Vec Event Global). IndexIsNoted next c.events → events.items ≡ events_of_monitor c monitor number limit) (quiet_still mid) first.up (λ k db left. left) second)
 
-  pub next_noted : (HasCleanDisk new → HasCleanDisk mid) → HasCleanDisk new → (c : Content) → HoldsContent old c → IsNoted before c.events → IsNoted next c.events
-  next_noted clean k c held n = first.value (clean k) c held (subst (λ (o : Option Index). IsNoted o c.events) (sym taken) n)
+  pub next_noted : (HasCleanDisk new → HasCleanDisk mid) → HasCleanDisk new → (c : Content) → HoldsContent old c → IndexIsNoted before c.events → IndexIsNoted next c.events
+  next_noted clean k c held n = first.value (clean k) c held (subst (λ (o : Option Index). IndexIsNoted o c.events) (sym taken) n)
 
-pub page_never : (old new : State) (before took : Option Index) (monitor number limit : ℕ) (e : Error) (r : Result (Vec Event Global) Error) → r ≡ Err e → HasRead {A = Option Index} old new (Err e) (λ c n. IsNoted took c.events → IsNoted n c.events)
-    → HasRead old new r (λ c events. IsNoted before c.events → events.items ≡ events_of_monitor c monitor number limit)
+pub page_never : (old new : State) (before took : Option Index) (monitor number limit : ℕ) (e : Error) (r : Result (Vec Event Global) Error) → r ≡ Err e → HasRead {A = Option Index} old new (Err e) (λ c n. IndexIsNoted took c.events → IndexIsNoted n c.events)
+    → HasRead old new r (λ c events. IndexIsNoted before c.events → events.items ≡ events_of_monitor c monitor number limit)
 page_never old new before took monitor number limit e r is h =
-    subst (λ (r : Result (Vec Event Global) Error). HasRead old new r (λ c events. IsNoted before c.events → events.items ≡ events_of_monitor c monitor number limit)) (sym is)
-    (reads_fail old new e (λ (c : Content) (n : Option Index). IsNoted took c.events → IsNoted n c.events) (λ (c : Content) (events : Vec Event Global). IsNoted before c.events → events.items ≡ events_of_monitor c monitor number limit) h)
+    subst (λ (r : Result (Vec Event Global) Error). HasRead old new r (λ c events. IndexIsNoted before c.events → events.items ≡ events_of_monitor c monitor number limit)) (sym is)
+    (reads_fail old new e (λ (c : Content) (n : Option Index). IndexIsNoted took c.events → IndexIsNoted n c.events) (λ (c : Content) (events : Vec Event Global). IndexIsNoted before c.events → events.items ≡ events_of_monitor c monitor number limit) h)

@@ -22,7 +22,8 @@ use Rattle.acd_sql_columns.proofs.Decoded.{groups_rise, agents_rise}
 use Rattle.acd_sql_differences.specs.Leading.{rows_differences}
 use Rattle.acd_sql_differences.specs.Transition.{HasTables}
 use Rattle.acd_sqlbook.proofs.Committing.{rows_made}
-use Rattle.acd_sqlbook.proofs.Standing.{quiet_still, reads_not, reads_on, commits_not, commits_behind}
+use Rattle.acd_sqlbook.proofs.Standing.{reads_not, reads_on, commits_not, commits_behind}
+use Rattle.acd_sql_statements.proofs.Chained.{quiet_still}
 
 -- what is held is in order
 held_in_order : (s : State) (c : Content) → HoldsContent s c → Orders c.rows

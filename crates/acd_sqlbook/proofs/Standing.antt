@@ -15,9 +15,6 @@ use Rattle.acd_sql_columns.specs.Draft.{HoldsContent, Quiet, NoStop, AddsStop}
 use Rattle.acd_sql_columns.specs.Finding.{Finds}
 use Rattle.acd_sql_statements.proofs.Chained.{quiet_on}
 
-pub quiet_still : (s : State) → Quiet s s
-quiet_still s = record { clean = λ k. k; was_open = λ k up. up; same = λ k c h up. h }
-
 ok_map : {A : Type 0} (P Q : A → Type 0) (r : Result A Error) → ((a : A) → P a → Q a) → IfOk r P → IfOk r Q
 ok_map P Q (Ok a) f h = f a h
 ok_map P Q (Err e) f h = tt

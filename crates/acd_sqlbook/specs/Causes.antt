@@ -18,7 +18,7 @@ use Rattle.acd_sql_statements.specs.InRange.{IsInRange}
 use Rattle.acd_sql_schema.specs.SettingUp.{IsUnstarted}
 use Rattle.acd_sqlbook.specs.State.{IsSoundState}
 use Rattle.acd_sqlbook.specs.Commit.{counted}
-use Rattle.acd_sqlbook.specs.Stopping.{AllFit, AreCounted, Drops, IsUncounted, RefusesInAll}
+use Rattle.acd_sqlbook.specs.Stopping.{AllNumbersFit, AreCounted, Drops, IsUncounted, RefusesInAll}
 
 -- what a book is asked
 pub data BookCall : Type 0 where
@@ -39,9 +39,9 @@ abbrev pub IsUnfit : BookCall → State → Type 0
 IsUnfit (create limits) s = ¬ (LimitsFit limits)
 IsUnfit read s = ⊥
 IsUnfit (change changes events kept) s =
-    IsUncounted changes (length events) kept s.step_limit (content_of s.committed.trees) ⊎ (¬ (AllFit changes events))
+    IsUncounted changes (length events) kept s.step_limit (content_of s.committed.trees) ⊎ (¬ (AllNumbersFit changes events))
 IsUnfit (replace rows events kept) s =
-    (¬ (AreCounted rows kept)) ⊎ (¬ (AllFit (rows_differences (content_of s.committed.trees).rows rows) events))
+    (¬ (AreCounted rows kept)) ⊎ (¬ (AllNumbersFit (rows_differences (content_of s.committed.trees).rows rows) events))
 
 -- it asks for a content with a value out of its range, which `adopt` would refuse
 abbrev pub IsUnreadable : BookCall → State → Type 0

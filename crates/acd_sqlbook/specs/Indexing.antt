@@ -6,18 +6,18 @@ use Rattle.acd_terms.specs.declared.event.Event.{Event}
 use Rattle.acd_book.specs.Memory.{number_of}
 use Rattle.acd_book.specs.Order.{Rises}
 use Rattle.acd_book.specs.State.{BookState}
-use Rattle.acd_book.specs.Watched.{IsWatched}
+use Rattle.acd_book.specs.Watched.{ListsEvents}
 use Rattle.acd_sqlbook.specs.declared.index.Index.{Index}
 
 -- each list is of these events, and none of them has a greater number than the last one that was noted
 pub record Indexes (i : Index) (events : List Event) : Type 0 where
-  pub lists : IsWatched events i.watched
+  pub lists : ListsEvents events i.watched
   pub last : Every (λ (e : Event). e.number ≤ i.last) events
 
 -- the same, where anything was noted
-abbrev pub IsNoted : Option Index → List Event → Type 0
-IsNoted None events = ⊤
-IsNoted (Some i) events = Indexes i events
+abbrev pub IndexIsNoted : Option Index → List Event → Type 0
+IndexIsNoted None events = ⊤
+IndexIsNoted (Some i) events = Indexes i events
 
 -- the number of the last of these events or, where there is none, the one before them
 abbrev pub last_of : ℕ → List Event → ℕ
@@ -25,7 +25,7 @@ last_of last [] = last
 last_of last (e ∷ events) = last_of e.number events
 
 -- the next index is of more events, which go on above all before
-pub record GoesOn (old : Index) (more : List Event) (new : Index) : Type 0 where
+pub record IndexGoesOn (old : Index) (more : List Event) (new : Index) : Type 0 where
   pub rise : Rises number_of old.last more
   pub end : new.last ≡ last_of old.last more
   pub of_both : (events : List Event) → Indexes old events → Indexes new (events ++ more)
@@ -50,4 +50,4 @@ followed noted b = record b { is_sound = SoundWith noted b }
 -- what is noted behind a commit: nothing or, where it succeeded, an index that goes on
 abbrev pub IsNotedBehind : Option Index → Result (Unit {0}) Error → List Event → Option Index → Type 0
 IsNotedBehind before done more None = ⊤
-IsNotedBehind before done more (Some next) = (is_ok done ≡ true) × ((old : Index) × (before ≡ Some old) × GoesOn old more next)
+IsNotedBehind before done more (Some next) = (is_ok done ≡ true) × ((old : Index) × (before ≡ Some old) × IndexGoesOn old more next)

@@ -68,8 +68,8 @@ StopsInAll changes events kept meta limit c =
 -- ---- what of it doesn't fit, and what the store refuses
 
 -- each number of the changes and of the events fits its column
-abbrev pub AllFit : List Change → List Event → Type 0
-AllFit changes events = Every ChangeFits changes × Every EventFits events
+abbrev pub AllNumbersFit : List Change → List Event → Type 0
+AllNumbersFit changes events = Every ChangeFits changes × Every EventFits events
 
 -- the store refuses one of them, where some of those before it are made
 abbrev pub RefusesInChanges : List Change → Option ℕ → Content → Type 0

@@ -7,7 +7,7 @@ ghost use Rattle.acd_sql_columns.specs.Finding.{Finds};
 ghost use Rattle.acd_sql_statements.specs.Picking.{Serves};
 ghost use Rattle.acd_sql_statements.specs.Reading.{Blames};
 ghost use Rattle.acd_sqlbook.specs.Calls.{HasRead};
-ghost use Rattle.acd_sqlbook.specs.Indexing.{BeginsIndex, IsNoted};
+ghost use Rattle.acd_sqlbook.specs.Indexing.{BeginsIndex, IndexIsNoted};
 
 use crate::index::{Index, noted_on};
 use crate::ready::serve;
@@ -40,7 +40,7 @@ fn noted_to_the_end<S: Alter>(
     ensures idle { conn.new.in_transaction ≡ false }
     ensures found { Serves (state S.Store conn.old)
         → Finds (state S.Store conn.old) (state S.Store conn.new) result
-        (λ c noted. BeginsIndex begun c.events → IsNoted noted c.events) }
+        (λ c noted. BeginsIndex begun c.events → IndexIsNoted noted c.events) }
     ensures blamed { Serves (state S.Store conn.old)
         → Blames (state S.Store conn.old) (state S.Store conn.new) result }
 {
@@ -63,7 +63,7 @@ fn begun<S: Alter>(alloc: Global, conn: &mut Connection<S>) -> Result<Option<Ind
     requires { conn.old.in_transaction ≡ false }
     ensures idle { conn.new.in_transaction ≡ false }
     ensures found { Finds (state S.Store conn.old) (state S.Store conn.new) result
-        (λ c noted. IsNoted noted c.events) }
+        (λ c noted. IndexIsNoted noted c.events) }
     ensures blamed { Blames (state S.Store conn.old) (state S.Store conn.new) result }
 {
     let rows = rows(alloc, conn)?;
@@ -85,7 +85,7 @@ pub(crate) fn noted_first<S: Alter>(
         → IsTrue (state S.Store conn.old).is_open }
     ensures idle { conn.new.in_transaction ≡ false }
     ensures read { HasRead (state S.Store conn.old) (state S.Store conn.new) result
-        (λ c next. IsNoted noted c.events → IsNoted next c.events) }
+        (λ c next. IndexIsNoted noted c.events → IndexIsNoted next c.events) }
     ensures blamed { Blames (state S.Store conn.old) (state S.Store conn.new) result }
 {
     serve(conn, fresh)?;

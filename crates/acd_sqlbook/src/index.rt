@@ -6,7 +6,7 @@ ghost use Rattle.acd_terms.specs.declared.event.Event.{Event};
 ghost use Rattle.acd_book.specs.Memory.{number_of};
 ghost use Rattle.acd_book.specs.Order.{Rises};
 ghost use Rattle.acd_book.specs.Watched.{IsPage};
-ghost use Rattle.acd_sqlbook.specs.Indexing.{GoesOn, IsNotedBehind, last_of};
+ghost use Rattle.acd_sqlbook.specs.Indexing.{IndexGoesOn, IsNotedBehind, last_of};
 
 use acd_book::Watched;
 use acd_model::Change;
@@ -63,7 +63,7 @@ fn rises(last: u64, events: &[Event]) -> Option<u64>
 
 /// What a commit leaves of it: nothing, where an event doesn't go on above all before.
 pub(crate) fn noted_on(index: Index, changes: &[Change], events: &[Event]) -> Option<Index>
-    ensures { IfSome result (λ next. GoesOn index events.now next) }
+    ensures { IfSome result (λ next. IndexGoesOn index events.now next) }
 {
     let top = rises(index.last, events)?;
     let Index { mut watched, last } = index;

@@ -9,7 +9,7 @@ ghost use Rattle.acd_sql_columns.specs.Finding.{Finds};
 ghost use Rattle.acd_sql_statements.specs.Picking.{Serves};
 ghost use Rattle.acd_sql_statements.specs.Reading.{Blames};
 ghost use Rattle.acd_sqlbook.specs.Calls.{HasRead};
-ghost use Rattle.acd_sqlbook.specs.Indexing.{Indexes, IsNoted};
+ghost use Rattle.acd_sqlbook.specs.Indexing.{Indexes, IndexIsNoted};
 
 use crate::begun::noted_first;
 use crate::index::Index;
@@ -80,7 +80,7 @@ fn noted_page<S: Alter>(
     requires { conn.old.in_transaction ≡ false }
     ensures idle { conn.new.in_transaction ≡ false }
     ensures found { Finds (state S.Store conn.old) (state S.Store conn.new) result
-        (λ c events. IsNoted noted.now c.events
+        (λ c events. IndexIsNoted noted.now c.events
         → events.items ≡ events_of_monitor c monitor number limit) }
     ensures blamed { Blames (state S.Store conn.old) (state S.Store conn.new) result }
 {
@@ -106,9 +106,9 @@ pub(crate) fn page_followed<S: Alter>(
     ensures idle { conn.new.in_transaction ≡ false }
     ensures noted { HasCleanDisk (state S.Store conn.new) → (c : Content)
         → HoldsContent (state S.Store conn.old) c
-        → IsNoted noted.old c.events → IsNoted noted.new c.events }
+        → IndexIsNoted noted.old c.events → IndexIsNoted noted.new c.events }
     ensures read { HasRead (state S.Store conn.old) (state S.Store conn.new) result
-        (λ c events. IsNoted noted.old c.events
+        (λ c events. IndexIsNoted noted.old c.events
         → events.items ≡ events_of_monitor c monitor number limit) }
     ensures blamed { Blames (state S.Store conn.old) (state S.Store conn.new) result }
 {

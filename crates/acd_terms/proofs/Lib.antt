@@ -1,3 +1,5 @@
+pub mod Numbers
+pub mod Results
 pub mod Texts
 pub mod Identifiers
 pub mod ReadBack

@@ -6,16 +6,10 @@ use Rattle.std.specs.declared.cmp.Ordering.TheVariants.{Less, Equal, Greater}
 use Rattle.std.proofs.lemmas.Bool.Decides.{nat_tests}
 use Rattle.std.proofs.lemmas.Bool.{and_parts, and_from}
 use Rattle.acd_terms.specs.Lists.{is_less, ascends, put_by}
+use Rattle.acd_terms.proofs.Numbers.{cmp_equal, tail_ascends}
 
 turned : (x y : ℕ) → nat_cmp x y ≡ Greater → nat_cmp y x ≡ Less
 turned x y e = grind (arith, nat_tests)
-
-same : (x y : ℕ) → nat_cmp x y ≡ Equal → x ≡ y
-same x y e = grind (arith, nat_tests)
-
-tail_ascends : (y : ℕ) (ys : List ℕ) → ascends nat_cmp (y ∷ ys) ≡ true → ascends nat_cmp ys ≡ true
-tail_ascends y [] a = refl
-tail_ascends y (z ∷ zs) a = (and_parts (is_less (nat_cmp y z)) (ascends nat_cmp (z ∷ zs)) a).1
 
 -- one that stands before the list and before the number stands before both together
 behind : (y x : ℕ) (xs : List ℕ) → ascends nat_cmp (y ∷ xs) ≡ true → nat_cmp y x ≡ Less → ascends nat_cmp (put_by (nat_cmp x) xs x) ≡ true
@@ -37,5 +31,5 @@ put_ascends x (y ∷ ys) a = by (nat_cmp x y) refl (put_ascends x ys (tail_ascen
     by : (o : Ordering) → nat_cmp x y ≡ o → ascends nat_cmp (put_by (nat_cmp x) ys x) ≡ true
         → ascends nat_cmp (match_ordering o (x ∷ y ∷ ys) (x ∷ ys) (y ∷ put_by (nat_cmp x) ys x)) ≡ true
     by Less q h = and_from (is_less (nat_cmp x y)) (ascends nat_cmp (y ∷ ys)) (ap is_less q) a
-    by Equal q h = subst (λ (z : ℕ). ascends nat_cmp (z ∷ ys) ≡ true) (sym (same x y q)) a
+    by Equal q h = subst (λ (z : ℕ). ascends nat_cmp (z ∷ ys) ≡ true) (sym (cmp_equal x y q)) a
     by Greater q h = behind y x ys a (turned x y q) h

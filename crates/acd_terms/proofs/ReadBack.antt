@@ -9,6 +9,7 @@ use Rattle.std.specs.Char.{is_ascii_digit}
 use Rattle.std.specs.Str.Parse.{AllDigits, digits_value}
 use Rattle.acd_terms.specs.Forms.{read_id, read_text, number_of, digits_of, number_between, IsNumberOf, IsText, IsBetween}
 use Rattle.acd_terms.proofs.Identifiers.{all_digits}
+use Rattle.acd_terms.proofs.Numbers.{not_zero}
 
 -- where each character passes, none fails
 none_after : (p : ℕ → Bool) (place : ℕ) (xs : List ℕ) → list_all p xs ≡ true → position_from (λ b. not (p b)) place xs ≡ None
@@ -19,9 +20,6 @@ none_after p place (x ∷ xs) all =
 
 none_fails : (p : ℕ → Bool) (xs : List ℕ) → list_all p xs ≡ true → position (λ b. not (p b)) xs ≡ None
 none_fails p xs all = position_from-zero (λ b. not (p b)) xs ∙ none_after p 0 xs all
-
-not_zero : (n : ℕ) → 0 < n → (n == 0) ≡ false
-not_zero n some = grind (arith, nat_tests)
 
 not_longer : (longest n : ℕ) → n ≤ longest → nat_lt longest n ≡ false
 not_longer longest n short = grind (arith, nat_tests)

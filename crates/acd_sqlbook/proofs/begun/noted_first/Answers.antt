@@ -1,7 +1,7 @@
 use Rattle.std.proofs.Common.{rules}
 use Rattle.sqlite.specs.Held.{state}
 use Rattle.acd_sql_statements.proofs.Blamed.{blames_as, blames_behind}
-use Rattle.acd_sqlbook.specs.Indexing.{IsNoted}
+use Rattle.acd_sqlbook.specs.Indexing.{IndexIsNoted}
 use Rattle.acd_sqlbook.proofs.Standing.{reads_behind}
 use Rattle.acd_sqlbook.proofs.Beginning.{stays_noted, begins_anew}
 use Rattle.acd_sqlbook.proofs.begun.noted_first.Goals as goal
@@ -12,7 +12,7 @@ returns-in-Some-clause-read g c =
 
 pub returns-in-None-clause-read : goal.returns-in-None-clause-read
 returns-in-None-clause-read g c =
-    reads_behind (state g.S.Store c.args.conn.now) (state g.S.Store c.serve.new.conn) (state g.S.Store c.begun.new.conn) c.begun.result (λ x next. IsNoted c.args.noted x.events → IsNoted next x.events)
+    reads_behind (state g.S.Store c.args.conn.now) (state g.S.Store c.serve.new.conn) (state g.S.Store c.begun.new.conn) c.begun.result (λ x next. IndexIsNoted c.args.noted x.events → IndexIsNoted next x.events)
     c.serve.ensures.quiet c.in_ok-serve.ensures.up c.serve.ensures.stops (begins_anew (state g.S.Store c.serve.new.conn) (state g.S.Store c.begun.new.conn) c.args.noted c.begun.result c.begun.ensures.found)
 
 pub returns-in_err-serve-clause-blamed : goal.returns-in_err-serve-clause-blamed

@@ -1,6 +1,7 @@
 use Rattle.std.proofs.Common.{◌≤◌}
 use Rattle.acd_terms.specs.declared.event.Event.{Event}
-use Rattle.acd_sqlbook.proofs.Indexed.{all_more, all_both}
+use Rattle.acd_book.proofs.Left.{events_raised}
+use Rattle.acd_lemmas.proofs.Lists.{every-append}
 use Rattle.acd_sqlbook.proofs.index.noted_on.Goals as goal
 
 pub returns : goal.returns
@@ -14,6 +15,6 @@ returns c =
       end = e.3;
       of_both = λ events indexes. record {
         lists = c.note_all.ensures events (c.change.ensures events indexes.last indexes.lists);
-        last = all_both (λ (x : Event). x.number ≤ top) events more (all_more i.last top events e.1 indexes.last) e.2;
+        last = every-append (λ (x : Event). x.number ≤ top) events more (events_raised i.last top events e.1 indexes.last) e.2;
       };
     }

@@ -1,13 +1,13 @@
 use Rattle.std.proofs.Common.{Option, rules, subst, sym}
 use Rattle.sqlite.specs.Held.{state}
 use Rattle.acd_sql_statements.proofs.Blamed.{blames_as, blames_behind}
-use Rattle.acd_sqlbook.specs.Indexing.{IsNoted}
+use Rattle.acd_sqlbook.specs.Indexing.{IndexIsNoted}
 use Rattle.acd_sqlbook.specs.declared.index.Index.{Index}
 use Rattle.acd_sqlbook.proofs.PageFound.{page_next, next_noted, page_never}
 use Rattle.acd_sqlbook.proofs.page.page_followed.Goals as goal
 
 pub returns-in_err-next-clause-noted : goal.returns-in_err-next-clause-noted
-returns-in_err-next-clause-noted g c clean x held noted = subst (λ (o : Option Index). IsNoted o x.events) (sym c.take.ensures.after) tt
+returns-in_err-next-clause-noted g c clean x held noted = subst (λ (o : Option Index). IndexIsNoted o x.events) (sym c.take.ensures.after) tt
 
 pub returns-in_err-next-clause-read : goal.returns-in_err-next-clause-read
 returns-in_err-next-clause-read g c =

@@ -1,5 +1,5 @@
 use Rattle.std.proofs.Common.{rules, ◌≡◌, ◌++◌, ◌∷◌, ◌+◌, [], length, sym, subst, true}
-use Rattle.acd_book.specs.Memory.{is_numbered, stamp_of, key_of, IsPlaced, IsPlacedNew}
+use Rattle.acd_book.specs.Memory.{is_numbered, stamp_of, key_of, HasPlaces, IsPlacedNew}
 use Rattle.acd_book.proofs.Numbered.{numbered-push}
 use Rattle.acd_book.proofs.Places.{placed_push, unkept}
 use Rattle.acd_book.proofs.replies.Replies.push.Goals as goal
@@ -18,4 +18,4 @@ invariant_of-self-2-clause-placed c =
     let new : IsPlacedNew s.places c.put_new.new.places (key_of kept) (length s.records.items) = search rules in
     let items : c.push.new.self.items ≡ s.records.items ++ kept ∷ [] = search rules in
     let unkept = unkept s.places s.records.items kept.request.requester kept.request.invoke s.placed new.unplaced in
-    subst (IsPlaced c.put_new.new.places) (sym items) (placed_push s.places c.put_new.new.places s.records.items kept s.placed unkept new.placed)
+    subst (HasPlaces c.put_new.new.places) (sym items) (placed_push s.places c.put_new.new.places s.records.items kept s.placed unkept new.placed)

@@ -1,6 +1,6 @@
 use Rattle.std.proofs.Common.{◌++◌, ◌∷◌, [], ◌∙◌, List, take, sym, subst, ap, append_assoc}
 use Rattle.acd_terms.specs.declared.event.Event.{Event}
-use Rattle.acd_book.specs.Watched.{IsWatched}
+use Rattle.acd_book.specs.Watched.{ListsEvents}
 use Rattle.acd_book.proofs.watched.Watched.note_all.Goals as goal
 use Rattle.acd_lemmas.proofs.Lists.{take-push}
 use Rattle.std.proofs.lemmas.List.{take_all}
@@ -12,8 +12,8 @@ loop-event-preserved c events h =
     let e = c.event-item.result in
     let longer = append_assoc events (take i more) (e ∷ [])
     ∙ ap (λ (l : List Event). events ++ l) (ap (λ (x : Event). take i more ++ x ∷ []) c.event-item.is ∙ sym (take-push i more e c.loop-event-test.true)) in
-    subst (λ (l : List Event). IsWatched l c.note.new.self) longer (c.note.ensures (events ++ take i more) (c.loop-event.invariant events h))
+    subst (λ (l : List Event). ListsEvents l c.note.new.self) longer (c.note.ensures (events ++ take i more) (c.loop-event.invariant events h))
 
 pub returns : goal.returns
 returns c events h =
-    subst (λ (l : List Event). IsWatched (events ++ l) c.loop-event.self) (take_all c.loop-event.event-index c.args.more.now c.loop-event-test.false) (c.loop-event.invariant events h)
+    subst (λ (l : List Event). ListsEvents (events ++ l) c.loop-event.self) (take_all c.loop-event.event-index c.args.more.now c.loop-event-test.false) (c.loop-event.invariant events h)

@@ -1,7 +1,7 @@
 use Rattle.std.proofs.Common.{◌++◌, List, take}
 use Rattle.acd_terms.specs.declared.event.Event.{Event}
-use Rattle.acd_book.specs.Watched.{IsWatched}
+use Rattle.acd_book.specs.Watched.{ListsEvents}
 use Rattle.acd_book.proofs.watched.Watched.note_all.Given as goal
 
 abbrev pub invariant-loop-event : goal.invariant-loop-event
-invariant-loop-event l = (events : List Event) → IsWatched events l.initial.self → IsWatched (events ++ take l.event-index l.more) l.self
+invariant-loop-event l = (events : List Event) → ListsEvents events l.initial.self → ListsEvents (events ++ take l.event-index l.more) l.self

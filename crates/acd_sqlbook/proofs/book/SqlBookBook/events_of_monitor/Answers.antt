@@ -4,7 +4,7 @@ use Rattle.acd_book.specs.Content.{events_of_monitor}
 use Rattle.acd_sqlbook.specs.Causes.{read}
 use Rattle.acd_sqlbook.proofs.BookStates.{reads_noted}
 use Rattle.acd_sqlbook.proofs.Caused.{reads_caused, noted_cause}
-use Rattle.acd_sqlbook.specs.Indexing.{IsNoted}
+use Rattle.acd_sqlbook.specs.Indexing.{IndexIsNoted}
 use Rattle.acd_sqlbook.proofs.Followed.{page_goes, reads_followed}
 use Rattle.acd_sqlbook.proofs.book.SqlBookBook.events_of_monitor.Goals as goal
 
@@ -13,7 +13,7 @@ returns-clause-reads g c =
     reads_followed c.args.self.now.noted c.page_followed-found.new.noted _ _ _ _ _
     (page_goes c.args.self.now.noted c.page_followed-found.new.noted (state g.S.Store c.args.self.now.conn) (state g.S.Store c.page_followed-found.new.conn) c.page_followed-found.ensures.noted) (λ x a n p. p n)
     (reads_noted (state g.S.Store c.args.self.now.conn) (state g.S.Store c.page_followed-found.new.conn) c.args.self.now.failures c.noted.new.failures c.page_followed-found.result c.noted.result
-    (λ x found. IsNoted c.args.self.now.noted x.events → found.items ≡ events_of_monitor x c.args.monitor c.args.number c.args.limit) (g.met.S.Store.settled c.args.self.now.conn.store) (g.met.S.Store.stays c.page_followed-found.new.conn.store)
+    (λ x found. IndexIsNoted c.args.self.now.noted x.events → found.items ≡ events_of_monitor x c.args.monitor c.args.number c.args.limit) (g.met.S.Store.settled c.args.self.now.conn.store) (g.met.S.Store.stays c.page_followed-found.new.conn.store)
     c.noted.ensures.answer c.noted.ensures.failures c.noted.ensures.counts c.page_followed-found.ensures.read)
 
 pub returns-clause-caused : goal.returns-clause-caused
