@@ -60,27 +60,6 @@ get_of k (json.string s) d e = subst (λ o. option_and_then (get k) o ≡ None) 
 get_of k (json.array js) d e = no_member (of_items js) array k d (λ a. refl) e
 get_of k (json.object ms) d e = within k (of_members ms no_members) d _ (λ after h. member_kept k ms no_members after h ∙ as_later (found.get_member k ms)) e
 
-no_number : {A : Type 0} (o : Option A) (make : A → Data) → ((a : A) → as_number (make a) ≡ None) → option_and_then as_number (option_map make o) ≡ None
-no_number None make h = refl
-no_number (Some a) make h = h a
-
-whole_of : (o : Option Num) → option_and_then as_u64 (option_and_then as_number (option_map number o)) ≡ option_and_then as_u64 o
-whole_of None = refl
-whole_of (Some n) = refl
-
--- the whole number that a text of JSON is
-abbrev pub whole : List ℕ → Option ℕ
-whole s = option_and_then as_u64 (number_of s)
-
--- a number is one in both
-pub number_is : (j : json.Json) → option_and_then as_u64 (option_and_then as_number (of_json j)) ≡ option_and_then whole (found.as_number j)
-number_is json.null = refl
-number_is (json.boolean b) = refl
-number_is (json.number s) = whole_of (number_of s)
-number_is (json.string s) = refl
-number_is (json.array js) = ap (option_and_then as_u64) (no_number (of_items js) array (λ a. refl))
-number_is (json.object ms) = ap (option_and_then as_u64) (no_number (of_members ms no_members) object (λ a. refl))
-
 -- numbers in range
 
 some_then : {A B : Type 0} (o : Option A) (f : A → Option B) (b : Bool) → ((a : A) → is_some (f a) ≡ b) → is_some (option_and_then f o) ≡ (is_some o && b)

@@ -118,10 +118,6 @@ begins_fitting a b limits first r fits is page =
       page = page c;
     })
 
-first_fits : (a b c d e f : Bool) → (a && b && c && d && e && f) ≡ true → a ≡ true
-first_fits true b c d e f h = refl
-first_fits false b c d e f h = h
-
 pub begins_empty : (limits : Limits) (s : Rows) → limits_fit limits ≡ true → s ≡ empty_rows limits → (s.last_stamp ≡ 0) × (s.limits.requests ≤ 1000000000)
 begins_empty limits s fits is = subst (λ (r : Rows). (r.last_stamp ≡ 0) × (r.limits.requests ≤ 1000000000)) (sym is) (refl, requests_few limits fits)
 

@@ -21,14 +21,6 @@ pub record Undone (old : Standing) (a : Arrival) (new : BookState) : Type 0 wher
   pub same : new.is_clean → old.book.is_sound → new.is_open → old.book.is_open × (new.content ≡ old.book.content)
   pub stops : new.is_clean → old.book.is_sound → InStep old → (c : Content) → new.stops c → old.book.stops c ⊎ ((old.failed ≡ false) × old.book.is_open × (c ≡ after old.book.content a))
 
-pub read : {A : Type 0} (s : Standing) (a : Arrival) (d : BookState) (result : Result A BookFault) (IsAnswer : Content → A → Type 0) → Reads s.book d result IsAnswer → Undone s a d
-read s a d result IsAnswer reads = record {
-  clean = reads.clean;
-  sound = reads.sound;
-  same = reads.same;
-  stops = λ clean sound step c at. inl (reads.stops clean sound c at);
-}
-
 -- no memory: what is left in memory mirrors what was there mirrored
 pub no_memory : (old : Standing) (a : Arrival) (d : BookState) (left : Option Rows) → Undone old a d → d.failures ≡ old.book.failures → old.failed ≡ false
     → ((s : Rows) → Mirrors old.switch s → Mirrors left s) → Took old a NoMemory (record { book = d; switch = left; failed = false })

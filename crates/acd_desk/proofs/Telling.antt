@@ -169,27 +169,6 @@ told_rows old new rows r is working = record {
 abbrev pub stands : BookState → Working → Standing
 stands b w = record { book = b; switch = switch_of w; failed = is_failed w }
 
--- a read of the book that gave an answer
-pub told_by_book : {A : Type 0} (b d : BookState) (w : Working) (x : A) (P : Content → A → Type 0) → Reads b d (Ok x) P → is_failed w ≡ false → Told (stands b w) (stands d w) (Ok x) P
-told_by_book b d w x P reads works = record {
-  clean = reads.clean;
-  sound = reads.sound;
-  in_step = λ clean sound step opened working.
-      let same = reads.same clean sound opened in
-      subst (λ (c : Content). Mirrors (switch_of w) c.rows × IsCounted c) (sym same.1) (step same.0 works);
-  value = λ clean sound step opened. (reads.value clean sound).1;
-  stays = λ clean sound opened. reads.stays clean sound;
-  same = reads.same;
-  stops = reads.stops;
-  shuts = λ h. absurd (ok_err h);
-  tells = λ h. absurd (true≢false (sym h ∙ works));
-  shut = λ h. absurd (true≢false (sym h ∙ works));
-  cause = λ h. absurd (ok_err h);
-  quiet = λ none. reads.quiet (λ h. ok_err h);
-  counts = reads.counts;
-  loads = λ working gone. gone;
-}
-
 -- a call of the book that did nothing, or nothing that is known
 pub record Spoiled (b d : BookState) : Type 0 where
   pub clean : d.is_clean → b.is_clean
@@ -260,25 +239,6 @@ untold_by_rows b d rows faults.Store Q reads broken =
           let told = reads.value honest.0 honest.1 in
           broken refl (subst BreaksNoRule (sym told.1) (honest.2 told.0 refl).0),
     ))
-
--- a desk that had failed
-pub untold_when_failed : {B : Type 0} (s : Standing) (Q : Content → B → Type 0) → s.failed ≡ true → Told s s (Err StoreFault) Q
-untold_when_failed s Q failed = record {
-  clean = λ clean. clean;
-  sound = λ clean sound. sound;
-  in_step = λ clean sound step. step;
-  value = λ clean sound step opened. tt;
-  stays = tt;
-  same = λ clean sound opened. (opened, refl);
-  stops = λ clean sound c at. at;
-  shuts = λ h. failed;
-  tells = λ h. refl;
-  shut = λ h. refl;
-  cause = λ h. inl (inl failed);
-  quiet = λ none. absurd (none refl);
-  counts = omega arith;
-  loads = λ working gone. gone;
-}
 
 -- what is taken by a desk that can't load its switch
 pub took_nothing : (old new : Standing) (a : Arrival) (f : DeskFault) → TellsNothing old f new → Took old a (taken_by f) new

@@ -83,10 +83,6 @@ find_none p [] e x a = absurd a
 find_none p (y ∷ ys) e x (inl q) = false_from_ne_true (p x) (λ r. none_head p y ys (subst (λ w. p w ≡ true) q r) e)
 find_none p (y ∷ ys) e x (inr a) = find_none p ys (none_tail p y ys e) x a
 
-pub none_found : {X : Type 0} (p : X → Bool) (xs : List X) → ((x : X) → Among x xs → p x ≡ false) → find p xs ≡ None
-none_found p [] h = refl
-none_found p (y ∷ ys) h = rw (h y (inl refl)) (none_found p ys (λ x a. h x (inr a)))
-
 pub some_found : {X : Type 0} (p : X → Bool) (xs : List X) (x : X) → Among x xs → p x ≡ true → is_some (find p xs) ≡ true
 some_found p [] x a e = absurd a
 some_found p (y ∷ ys) x (inl q) e = rw (← q, e) refl

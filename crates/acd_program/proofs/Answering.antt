@@ -19,14 +19,6 @@ use Rattle.acd_lines.specs.Lines.{LinesAnswered, FirstLines, ArrivalsAnswered}
 use Rattle.acd_io.specs.Sent.{Begins}
 use Rattle.acd_lines.proofs.Weaker.{arrivals_so}
 
-pub new_over : (old : BookState) (new : Standing) → new.book.is_clean → old.is_sound → old.content ≡ nothing → Opened old new → IsNewDesk new
-unfolding limits_fit
-new_over old new clean sound e o = record {
-  starts = o.starts clean sound (subst IsSound (sym e) (empty_sound greatest_limits refl));
-  works = o.working;
-  empty = (o.opened clean sound).2 ∙ e;
-}
-
 -- the book of the desk is clean behind the run, and has counted no failure
 pub record IsQuiet (old new : Standing) : Type 0 where
   pub clean : new.book.is_clean

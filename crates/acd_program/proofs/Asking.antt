@@ -105,16 +105,3 @@ audited_by old d e x o t found =
     of_desk Sound starts h = h
     of_desk (Counted count) starts h = λ ordered. let whole = (h ordered).0 in (whole, (h ordered).1 (starts whole).2)
     of_desk (Differs place) starts h = λ ordered. (h ordered, unsound d.book.content place (h ordered))
-
--- an audit that was told is told as what it found
-pub found_told : {A B : Type 0} (old new : Standing) (x : A) (y : B) → Told old new (Ok x) (λ (c : Content) (z : A). Unit {0}) → Told old new (Ok y) (λ (c : Content) (z : B). Unit {0})
-found_told {A} {B} old new x y t = told_so old new x y (λ (c : Content) (z : A). Unit {0}) (λ (c : Content) (z : B). Unit {0}) (λ c h. h) t
-
--- and so is a fault, alone or behind an audit
-pub fault_told : {A B : Type 0} (old new : Standing) (f : DeskFault) (P : Content → A → Type 0) → Told old new (Err f) P → Told old new (Err f) (λ (c : Content) (z : B). Unit {0})
-fault_told {A} {B} old new f P t = told_nothing old new f P (λ (c : Content) (z : B). Unit {0}) t
-
-pub told_behind : {A B : Type 0} (old mid new : Standing) (x : A) (r : Result B DeskFault) (Q : Content → B → Type 0) → Told old mid (Ok x) (λ (c : Content) (z : A). Unit {0}) → Told mid new r Q
-    → Told old new r (λ (c : Content) (z : B). Unit {0})
-told_behind {A} {B} old mid new x r Q first second =
-    told_then old mid new x r (λ (c : Content) (z : A). Unit {0}) Q (λ (c : Content) (z : B). Unit {0}) (λ c y p q. tt) first second

@@ -30,12 +30,6 @@ module _ {D : Type 0} {g : Ghosts D} where
   pub read_only : (old new : Files D) → new.log ≡ old.log → IsTrue (g.is_usable old.log) → OnlyReads g old.db new.db → AreReadOnly g old new
   read_only old new log usable db = record { log = subst (λ (x : D). OnlyReads g old.log x) (sym log) (reads_none old.log usable); db = db }
 
-  pub read_twice : (old mid new : Files D) → AreReadOnly g old mid → AreReadOnly g mid new → AreReadOnly g old new
-  read_twice old mid new a b = record { log = reads_then a.log b.log; db = reads_then a.db b.db }
-
-  pub begun_read : (old new : Files D) → AreReadOnly g old new → IsBegun g old new
-  begun_read old new h = record { large = λ clean big. h; small = inl h }
-
   pub begun_created : (old mid new : Files D) → AreReadOnly g old mid → (IsClean g mid.db → length (g.seen old.db) ≤ new_page) → (AreClean g new.log new.db → AreClean g mid.log mid.db)
       → IsCreated g mid new → IsBegun g old new
   begun_created old mid new read few clean made = record {

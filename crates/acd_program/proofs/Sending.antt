@@ -16,8 +16,5 @@ begins_behind a b c x y first h = record {
 pub second_err : (a b c : Option (List ℕ)) (x y z : List ℕ) → Appends a b x → Begins b c y → Begins a c (x ++ (y ++ z))
 second_err a b c x y z first h = begins_behind a b c x (y ++ z) first (begins_front b c y z h)
 
-pub third_ok : {A E : Type 0} (r : Result A E) (a b c d : Option (List ℕ)) (x y z : List ℕ) → Appends a b x → Appends b c y → OnOk r (Appends c d z) → OnOk r (Appends a d (x ++ (y ++ z)))
-third_ok r a b c d x y z first second = OnOk-weaker r (Appends c d z) (Appends a d (x ++ (y ++ z))) (λ h. Appends-trans a b d x (y ++ z) first (Appends-trans b c d y z second h))
-
 pub third_err : {A E : Type 0} (r : Result A E) (a b c d : Option (List ℕ)) (x y z : List ℕ) → Appends a b x → Appends b c y → OnErr r (Begins c d z) → OnErr r (Begins a d (x ++ (y ++ z)))
 third_err r a b c d x y z first second = OnErr-weaker r (Begins c d z) (Begins a d (x ++ (y ++ z))) (λ h. begins_behind a b d x (y ++ z) first (begins_behind b c d y z second h))

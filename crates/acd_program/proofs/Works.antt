@@ -59,32 +59,9 @@ work_of (Audit counts) old mid new before behind done of h = (audits_of counts o
 
 -- ---- over a book
 
--- the text that a desk over the book told is left to print
-pub tells_over : {Z : Type 0} (telling : Telling) (old : BookState) (d e : Standing) (text : Option (String Z)) (done : Done) → Opened old d
-    → Told d e (Ok text) (λ (c : Content) (t : Option (String Z)). IsSound c → told t ≡ Some (telling_text telling c)) → text_left done ≡ unwrap_or (told text) [] → status_left done ≡ 0
-    → TellsOver telling old done e.book
-tells_over {Z} telling old d e text done opened asked same status = record {
-  asked = asked_so old e.book text (text_left done) (λ (c : Content) (t : Option (String Z)). IsSound c → IsSound c → told t ≡ Some (telling_text telling c)) (IsTextOf telling)
-      (λ c h whole. same ∙ ap (λ (o : Option (List ℕ)). unwrap_or o []) (h whole whole))
-      (asked_by old d e text (λ (c : Content) (t : Option (String Z)). IsSound c → told t ≡ Some (telling_text telling c)) opened asked);
-  status = status;
-}
-
--- of a sound content the desk tells the report at the moment of the last executed request
-pub report_text : {Z : Type 0} (c : Content) (text : Option (String Z)) → told text ≡ report_read c.rows 0 → IsSound c → told text ≡ Some (telling_text Report c)
-report_text c text h whole = h ∙ ap (λ (m : ℕ). Some (queue_report c.rows m)) (zero-max c.rows.last_moment)
-
 -- and all events, which stand in order
 pub export_text : {Z : Type 0} (c : Content) (text : Option (String Z)) → (Rise 0 c.events → told text ≡ export_read c) → IsSound c → told text ≡ Some (telling_text Export c)
 export_text c text h whole = h (sound_rises c whole)
-
-pub both_ok : {A E : Type 0} (r : Result A E) (P : Type 0) (Q : A → Type 0) → OnOk r P → IfOk r Q → IfOk r (λ (x : A). P × Q x)
-both_ok (Ok x) P Q p q = (p, q)
-both_ok (Err e) P Q p q = tt
-
-pub ok_and : {A E : Type 0} (r : Result A E) (P : Type 0) (Q : A → Type 0) → P → IfOk r Q → IfOk r (λ (x : A). Q x × P)
-ok_and (Ok x) P Q p q = (q, p)
-ok_and (Err e) P Q p q = tt
 
 -- ---- over a connection
 

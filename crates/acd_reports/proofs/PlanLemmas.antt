@@ -16,9 +16,6 @@ is_fault Header wanted e = e
 is_fault (Row row m) wanted e = e
 is_fault NoMemory wanted e = tt
 
-pub no_memory : (fault : PlanFault) (wanted : Result (List Request) PlanFault) → fault ≡ NoMemory → IsPlanFault fault wanted
-no_memory fault wanted e = rw e tt
-
 -- no row is left
 pub all_done : (requests : List Request) (row : ℕ) (rows : List (List (List ℕ))) (wanted : Result (List Request) PlanFault) → wanted ≡ after requests (requests_from row rows) → rows ≡ [] → wanted ≡ Ok requests
 unfolding requests_from

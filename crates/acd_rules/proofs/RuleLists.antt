@@ -11,9 +11,6 @@ use Rattle.acd_model.specs.Rules.Occupied.{is_empty}
 use Rattle.acd_rules.specs.Groups.{number_or_none, those_with}
 use Rattle.acd_lemmas.proofs.Lists.{count_length, filter-filter}
 
-counted : {T : Type 0} (b : Bool) (x : T) (xs : List T) (n : ℕ) → n ≡ length xs → (if b then 1 else 0) + n ≡ length (cond b (x ∷ xs) xs)
-counted b x xs n e = elim b as (λ v. (if v then 1 else 0) + n ≡ length (cond v (x ∷ xs) xs)) [ true ↦ omega arith | false ↦ omega arith ]
-
 -- a filter leaves none where none passes
 pub none_left : {T : Type 0} (p : T → Bool) (xs : List T) → is_empty (filter p xs) ≡ not (list_any p xs)
 none_left p [] = refl

@@ -35,10 +35,6 @@ pub cast_null : cast Integer Null ≡ Null
 unfolding unary
 cast_null = either _ Null
 
-pub cast_maybe : {X : Type 0} (f : X → ℕ) (o : Option X) → cast Integer (or_null (λ x. id_value (f x)) o) ≡ or_null (λ x. id_value (f x)) o
-cast_maybe f None = cast_null
-cast_maybe f (Some x) = cast_id (f x)
-
 pub drafts : (sql : List ℕ) (params : Row) (change : Relations → Relations) (old new : State) (r : Result (Unit {0}) Error)
     → ((c : Relations) (count : ℕ) → Drafts old c → Executes sql params old new (Ok count) → Drafts new (change c))
     → OnOk r (RanStatement sql params old new) → OnOk r ((c : Relations) → Drafts old c → Drafts new (change c))

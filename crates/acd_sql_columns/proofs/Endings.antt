@@ -38,12 +38,6 @@ begins old begun c inside same h =
     let now = same ∙ h.idle in
     record { inside = inside; schema = ap (λ (d : Database). d.schema) now ∙ h.schema; tables = subst (λ (d : Database). Encodes d.trees c) (sym now) h.encodes }
 
-pub works_still : (s : State) → Works s s
-works_still s = record {
-  survives = record { clean = omega arith; shield = λ h. h; counts = omega arith; limit = refl; closes = λ clean up. inl up; crash = λ clean db left. inl left };
-  kept = λ clean. record { was_open = λ up. up; committed = λ up. refl };
-}
-
 pub works_on : (a b c : State) → Works a b → Works b c → Works a c
 works_on a b c p q = record {
   survives = survives_then a b c _ _ (λ _. ⊥) (λ _ db none. none) (λ _ db none. none) p.survives q.survives;

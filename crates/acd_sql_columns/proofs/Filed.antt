@@ -198,9 +198,6 @@ module _ {R : Type 0} (d : Description R) (f : Filed d) where
   held_by : (old : State) (c : Content) → HoldsContent old c → AreRows d.key (row_of d) (old.now.trees d.layout.tree) (d.records (relations_of c))
   held_by old c held = subst (λ (b : Database). AreRows d.key (row_of d) (b.trees d.layout.tree) (d.records (relations_of c))) (sym held.idle) (f.held (relations_of c) old.committed.trees held.encodes).0
 
-  pub all_read : (old : State) (c : Content) → HoldsContent old c → Every d.IsRead (d.records (relations_of c))
-  all_read old c held = (f.held (relations_of c) old.committed.trees held.encodes).1
-
   pub good : (row : Row) → is_good d.table row ≡ is_some (d.in_row row)
   good row = ap (λ (t : Row × Bool). t.1) (f.of_row row)
 

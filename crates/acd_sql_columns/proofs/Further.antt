@@ -28,21 +28,3 @@ further_listing = record {
 pub asks_further : AsksAll table.AgentGroups (nine ++ two) SELECT_STANDING_AGENT_GROUPS.now further_listing
 unfolding further_listing
 asks_further = record { tree = refl; all = refl; unlimited = refl; shows = λ r. refl }
-
-unfoldable pub priorities_listing : Listing (nine ++ two) SELECT_GROUP_PRIORITY.now
-unfolding understood everything
-priorities_listing = record {
-  tree = schema.group_priority.tree;
-  terms = [];
-  project = col 1 0 ∷ columns 2 (behind_first schema.group_priority);
-  order = by_number;
-  limit = no_limit;
-  names = names_of schema.group_priority;
-  command = λ rest s. refl;
-  plain = λ rest s. (refl, refl);
-  unlisted = λ rest s. refl;
-}
-
-pub asks_priorities : AsksAll table.GroupPriority (nine ++ two) SELECT_GROUP_PRIORITY.now priorities_listing
-unfolding priorities_listing
-asks_priorities = record { tree = refl; all = refl; unlimited = refl; shows = λ r. refl }

@@ -206,9 +206,6 @@ further_put a (x ∷ agents) own up = by (by_agent a x) refl (further_put a agen
         ap₂ pair_order mine.2 theirs.2 ∙ pair_above a.agent x.agent mine.0 theirs.0 e)
         ∙ ap (λ l. further_of x ++ l) more
 
-abbrev by_own : AgentRow → AgentRow → Ordering
-by_own a b = nat_cmp a.agent b.agent
-
 pub agents_put : (a : AgentRecord) (agents : List AgentRecord) → put_by (λ (x : AgentRow). nat_cmp a.agent x.agent) (map agent_part agents) (agent_part a) ≡ map agent_part (put_by (by_agent a) agents a)
 agents_put a [] = refl
 agents_put a (x ∷ agents) = by (by_agent a x) (agents_put a agents)

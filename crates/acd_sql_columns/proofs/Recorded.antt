@@ -12,12 +12,6 @@ use Rattle.acd_lemmas.proofs.Lists.{map-push, take-push, head_is, tail_is}
 
 -- ---- rows, one after the other
 
-pub one_more : {R : Type 0} (in_row : Row → Option R) (i : ℕ) (rows : List Row) (row d : Row) (found next : List R) (x : R) → map Some found ≡ map in_row (take i rows) → row ≡ get_or rows i d → i < length rows
-    → Some x ≡ in_row row → next ≡ found ++ x ∷ [] → map Some next ≡ map in_row (take (i + 1) rows)
-one_more in_row i rows row d found next x so_far at low is pushed =
-    ap (map Some) pushed ∙ map-push Some found x ∙ ap₂ (λ l o. l ++ o ∷ []) so_far (is ∙ ap in_row at)
-    ∙ sym (ap (map in_row) (take-push i rows d low) ∙ map-push in_row (take i rows) (get_or rows i d))
-
 -- ---- back to the records
 
 module _ {R : Type 0} (in_row : Row → Option R) (values : R → Row) (exact : (row : Row) (x y : R) → in_row row ≡ Some x → row ≡ values y → x ≡ y) where

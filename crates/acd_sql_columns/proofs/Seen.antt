@@ -92,9 +92,6 @@ module _ {A B : Type 0} (d : Database) where
 pub sees_here : {A : Type 0} (d : Database) (s : State) (a : A) (P : A → Type 0) → (HasDatabase s d → P a) → Sees d s s (Ok a) P
 sees_here d s a P here = record { clean = λ k. k; up = λ k had. had.is_open; was_open = λ k up. up; same = λ k had up. had; stops = λ k had db left. left; answer = λ k had. here had }
 
-pub sees_not : {A : Type 0} (d : Database) (s : State) (e : Error) (P : A → Type 0) → Sees d s s (Err e) P
-sees_not d s e P = record { clean = λ k. k; up = λ k had. tt; was_open = λ k up. up; same = λ k had up. had; stops = λ k had db left. left; answer = λ k had. tt }
-
 -- what was found is also what follows of it
 pub sees_so : {A : Type 0} (d : Database) (old new : State) (r : Result A Error) (P Q : A → Type 0) → (HasDatabase old d → (a : A) → P a → Q a) → Sees d old new r P → Sees d old new r Q
 sees_so d old new (Ok a) P Q so h = sees_on d old new a P Q (Ok a) h (λ had p. so had a p)

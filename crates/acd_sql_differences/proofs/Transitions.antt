@@ -279,12 +279,3 @@ traffic_exact held new connections c0 c1 c2 c3 c4 are none a1 a2 a3 a4 =
 pub both_exact : (held new : Rows) (plan traffic all : List Change) → all ≡ plan ++ traffic → plan ≡ plan_differences held new → traffic ≡ traffic_differences held new → all ≡ rows_differences held new
 unfolding rows_differences
 both_exact held new plan traffic all is first second = is ∙ ap₂ (λ a b. a ++ b) first second
-
--- ---- what is left of a list
-
-next_dropped : {T : Type 0} (i : ℕ) (xs : List T) (d : T) → i < length xs → drop i xs ≡ get_or xs i d ∷ drop (i + 1) xs
-next_dropped i xs d h = grind (arith, common_steps)
-
--- what is left is whole, and the next one is: so is what was left before
-pub whole_on : (changes : List Change) (i : ℕ) (d : Change) → i < length changes → (get_or changes i d ≡ Nothing → ⊥) → AreWhole (drop (i + 1) changes) → AreWhole (drop i changes)
-whole_on changes i d low one rest = subst AreWhole (sym (next_dropped i changes d low)) (one, rest)

@@ -374,9 +374,6 @@ pub as_first : (v : Version) (db : Trees) → IsFiledAs v db → IsFiledAs versi
 as_first v db h = record { rising = λ t old. h.rising t (old_in v t old); numbered = λ t old. h.numbered t (old_in v t old); whole = (h.whole.0, h.whole.1, h.whole.2, λ here. absurd here) }
 
 module _ (v : Version) (d : Database) (book : IsOfBook v d) (obeys : IsDatabase d) (filed : IsFiledAs v d.trees) where
-  abbrev table_rows : Table → List Row
-  table_rows t = d.trees (tree_of t)
-
   in_range : (t : Table) → IsIn v t → AllByRecursion (λ r. is_good t (values_in t r) ≡ true) (d.trees (tree_of t))
   in_range t here = good_rows t d.trees (book.in_range (as_first v d.trees filed) t here)
 

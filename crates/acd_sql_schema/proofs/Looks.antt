@@ -94,12 +94,6 @@ version_told d old new rows t b is h =
     let here = moved_all (Shows d.trees) _ rows.items same (mapped_all (Shows d.trees) (λ r. column r 2 ∷ []) (d.trees schema.meta.tree) (all_from (λ r. Shows d.trees (column r 2 ∷ [])) (d.trees schema.meta.tree) (λ r k. (r, k, refl)))) in
     subst (IsVersionTold d) (sym is) (version_found d b rows.items same here))
 
-pub not_made : (s : State) (f : Found) → f ≡ Fault (WrongVersion 0) → has_meta s.now.schema.tables ≡ false → Sees s.now s s (Ok f) (λ f. IsFound s.now f)
-not_made s f is none = sees_here s.now s f (λ f. IsFound s.now f) (λ had. subst (IsFound s.now) (sym is) (apart 0 1 refl, apart 0 2 refl, inl (none, refl)))
-
-pub other_made : (s : State) (f : Found) → f ≡ Fault Store → Sees s.now s s (Ok f) (λ f. IsFound s.now f)
-other_made s f is = sees_here s.now s f (λ f. IsFound s.now f) (λ had. subst (IsFound s.now) (sym is) tt)
-
 -- what was told of the version is a fault
 pub fault_told : (d : Database) (old new : State) (f : AdoptFault) → Sees d old new (Ok (Faulty f)) (λ t. IsVersionTold d t) → Sees d old new (Ok (Fault f)) (λ f. IsFound d f)
 fault_told d old new f h = sees_on d old new (Faulty f) (λ t. IsVersionTold d t) (λ f. IsFound d f) (Ok (Fault f)) h (λ had p. p)

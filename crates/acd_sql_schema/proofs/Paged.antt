@@ -39,9 +39,6 @@ above m n h = grind (arith, nat_tests)
 not_above : (n m k : ℕ) → n ≤ m → nat_lt n k ≡ false → nat_lt m k ≡ false
 not_above n m k low h = grind (arith, nat_tests)
 
-at_most : (n k : ℕ) → nat_lt n k ≡ true → n ≤ k
-at_most n k h = grind (arith, nat_tests)
-
 up_to : (n k m : ℕ) → nat_lt n k ≡ true → k ≤ m → n ≤ m
 up_to n k m h low = grind (arith, nat_tests)
 

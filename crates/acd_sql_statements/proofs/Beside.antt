@@ -40,10 +40,6 @@ all_like : {X : Type 0} (p q : X → Bool) → ((x : X) → p x ≡ q x) → (xs
 all_like p q like [] = refl
 all_like p q like (x ∷ xs) = ap₂ ◌&&◌ (like x) (all_like p q like xs)
 
-any_like : {X : Type 0} (p q : X → Bool) → ((x : X) → p x ≡ q x) → (xs : List X) → list_any p xs ≡ list_any q xs
-any_like p q like [] = refl
-any_like p q like (x ∷ xs) = ap₂ ◌||◌ (like x) (any_like p q like xs)
-
 beside_moved : (ps qs : List (ℕ × ℕ)) (n : ℕ) → IsPermutation ps qs → length (groups_beside ps n) ≡ length (groups_beside qs n)
 beside_moved ps qs n same =
     sym (length_permutation (groups_beside ps n) (groups_beside qs n) (IsPermutation-map (λ (p : ℕ × ℕ). p.1) (filter (λ (p : ℕ × ℕ). p.0 == n) ps) (filter (λ (p : ℕ × ℕ). p.0 == n) qs) (IsPermutation-filter (λ (p : ℕ × ℕ). p.0 == n) ps qs same)))

@@ -45,10 +45,6 @@ grouped_so old new ps parts qs (Err e) same h is = record { up = λ k. tt; quiet
 
 -- ---- loops
 
-pub mapped_more : {X Y : Type 0} (f : X → Y) (i : ℕ) (xs : List X) (x d : X) (found next : List Y) (y : Y) → found ≡ map f (take i xs) → x ≡ get_or xs i d → i < length xs → y ≡ f x → next ≡ found ++ y ∷ [] → next ≡ map f (take (i + 1) xs)
-mapped_more f i xs x d found next y so_far at low is pushed =
-    pushed ∙ ap₂ (λ l z. l ++ z ∷ []) so_far (is ∙ ap f at) ∙ sym (ap (map f) (take-push i xs d low) ∙ map-push f (take i xs) (get_or xs i d))
-
 all_put_more : (ps : List (ℕ × ℕ)) (p : ℕ × ℕ) (pairs : List (ℕ × ℕ)) → all_put (ps ++ p ∷ []) pairs ≡ put_by (pair_order p) (all_put ps pairs) p
 all_put_more [] p pairs = refl
 all_put_more (q ∷ ps) p pairs = all_put_more ps p (put_by (pair_order q) pairs q)
@@ -60,29 +56,6 @@ pairs_more agent i groups g d pairs at low =
     ap (λ (ks : List ℕ). all_put (map (λ (k : ℕ). (agent, k)) ks) pairs) (take-push i groups d low ∙ ap (λ k. take i groups ++ k ∷ []) (sym at))
     ∙ ap (λ ps. all_put ps pairs) (map-push (λ (k : ℕ). (agent, k)) (take i groups) g)
     ∙ all_put_more (map (λ (k : ℕ). (agent, k)) (take i groups)) (agent, g) pairs
-
--- the groups of an agent so far, and of those that are left
-pub first_begins : (group : Option ℕ) (beside : List ℕ) → option_to_list group ++ beside ≡ behind_first group beside
-first_begins None beside = refl
-first_begins (Some g) beside = refl
-
-pub beside_next : (further : List (ℕ × ℕ)) (i : ℕ) (d p : ℕ × ℕ) (agent : ℕ) (groups next : List ℕ) (b : Bool) (whole : List ℕ) → groups ++ groups_beside (drop i further) agent ≡ whole → p ≡ get_or further i d → i < length further
-    → b ≡ (p.0 == agent) → next ≡ cond b (groups ++ p.1 ∷ []) groups → next ++ groups_beside (drop (i + 1) further) agent ≡ whole
-beside_next further i d p agent groups next b whole h at low is pushed =
-    ap (λ l. next ++ groups_beside l agent) (ap (λ k. drop k further) (add-one i))
-    ∙ ap (λ l. l ++ rest) pushed ∙ sym (one b) ∙ ap (λ c. groups ++ cond c (p.1 ∷ rest) rest) is ∙ sym (spread (p.0 == agent))
-    ∙ ap (λ l. groups ++ groups_beside l agent) (ap (λ q. q ∷ drop (suc i) further) at ∙ sym (drop-cons further i d low)) ∙ h
-  where
-    rest : List ℕ
-    rest = groups_beside (drop (suc i) further) agent
-
-    one : (b : Bool) → groups ++ cond b (p.1 ∷ rest) rest ≡ cond b (groups ++ p.1 ∷ []) groups ++ rest
-    one true = sym (append_assoc groups (p.1 ∷ []) rest)
-    one false = refl
-
-    spread : (b : Bool) → groups ++ map (λ (q : ℕ × ℕ). q.1) (cond b (p ∷ filter (λ (q : ℕ × ℕ). q.0 == agent) (drop (suc i) further)) (filter (λ (q : ℕ × ℕ). q.0 == agent) (drop (suc i) further))) ≡ groups ++ cond b (p.1 ∷ rest) rest
-    spread true = refl
-    spread false = refl
 
 -- numbers that compare equal are the same
 pub same_numbers : (xs ys : List ℕ) → pointwise nat_eq xs ys ≡ true → xs ≡ ys

@@ -54,14 +54,6 @@ ok_kept : {A : Type 0} (P Q : A → Type 0) (r : Result A Error) → ((a : A) �
 ok_kept P Q (Ok a) f h = f a h
 ok_kept P Q (Err e) f h = tt
 
-on_ok : {A : Type 0} (P Q : Type 0) (r : Result A Error) → (P → Q) → OnOk r P → OnOk (answered r) Q
-on_ok P Q (Ok a) f h = f h
-on_ok P Q (Err e) f h = tt
-
-on_err : {A : Type 0} (P Q : Type 0) (r : Result A Error) → (P → Q) → OnErr r P → OnErr (answered r) Q
-on_err P Q (Ok a) f h = tt
-on_err P Q (Err e) f h = f h
-
 open_then : {A : Type 0} (P : A → Type 0) (Q : Type 0) (r : Result A Error) → OnOk r Q → IfOk r P → IfOk r (λ a. Q × P a)
 open_then P Q (Ok a) up h = (up, h)
 open_then P Q (Err e) up h = tt

@@ -106,10 +106,6 @@ connections_less s c d = refl
 pub removed_within : (s : Rows) (c d : ℕ) (z : ConnectionRecord) → Among z (without_connection s c d).connections → Among z s.connections
 removed_within s c d z a = among-remove (at_connection c d) s.connections z (subst (Among z) (connections_less s c d) a)
 
-pub ascending_put : (s : Rows) (y : ConnectionRecord) → IsAscending connection_order s.connections → IsAscending connection_order (with_connection s y).connections
-unfolding with_connection
-ascending_put s y h = ascending-put connection_order connections_total y s.connections h
-
 pub ascending_less : (s : Rows) (c d : ℕ) → IsAscending connection_order s.connections → IsAscending connection_order (without_connection s c d).connections
 unfolding without_connection
 ascending_less s c d h = ascending-remove connection_order (at_connection c d) s.connections h
