@@ -1,5 +1,5 @@
 -- Results that are told apart.
-use Rattle.std.proofs.Common.{◌≡◌, Result, Ok, Err, ⊥}
+use Rattle.std.proofs.Common.{◌≡◌, Result, Ok, Err}
 
 -- what was found is no error
 pub ok_err : {A E : Type 0} {found : A} {e : E} → ◌≡◌ {A = Result A E} (Ok found) (Err e) → ⊥
