@@ -64,8 +64,8 @@ found_readable s p c held = found_every IsReadable p c.kept (held.encodes table.
 less_is : (a b : ℕ) → nat_cmp a b ≡ Less → a ≤ b
 less_is a b e = grind (arith, nat_tests)
 
-no_less : (a : ℕ) → a ≤ a
-no_less a = omega arith
+no_greater : (a : ℕ) → a ≤ a
+no_greater a = omega arith
 
 all_above : (stamp : ℕ) (k : Kept) (kept : List Kept) → AllAfter (λ (a b : Kept). nat_cmp a.stamp b.stamp) k kept → Every (λ (other : Kept). stamp < other.stamp → k.stamp ≤ other.stamp) kept
 all_above stamp k [] h = tt
@@ -75,7 +75,7 @@ after_found : (stamp : ℕ) (kept : List Kept) → IsAscending (λ (a b : Kept).
 after_found stamp [] h = tt
 after_found stamp (k ∷ kept) h =
     (elim (nat_lt stamp k.stamp) as (λ t. nat_lt stamp k.stamp ≡ t → IsKeptAfter (k ∷ kept) stamp (cond t (Some k) (find (λ (k : Kept). nat_lt stamp k.stamp) kept))) [
-      | true ↦ λ e. (inl refl, below_is stamp k.stamp e, ((λ above. no_less k.stamp), all_above stamp k kept h.0))
+      | true ↦ λ e. (inl refl, below_is stamp k.stamp e, ((λ above. no_greater k.stamp), all_above stamp k kept h.0))
       | false ↦ λ e. kept_after_more k kept stamp (find (λ (k : Kept). nat_lt stamp k.stamp) kept) (no_less stamp k.stamp e) (after_found stamp kept h.1)
     ]) refl
 
