@@ -7,6 +7,7 @@ mod further;
 mod migrated;
 mod numbers;
 mod several;
+mod watching;
 
 use crate::comparing::same;
 use acd_book::BookFault;
