@@ -5,3 +5,4 @@ pub mod Left
 mod Watching
 mod Places
 mod Listing
+pub mod BookSteps

@@ -23,32 +23,38 @@ pub record BookState : Type 1 where
 abbrev pub IfHonest : BookState → BookState → Type 0 → Type 0
 IfHonest old new P = new.is_clean → old.is_sound → P
 
--- a read, where `IsAnswer c found` says that this is found in that content
-pub record Reads {A : Type 0} (old new : BookState) (result : Result A BookFault) (IsAnswer : Content → A → Type 0) : Type 0 where
+-- a step of a book, of one call or of many, where `Failed` says that its store failed in it
+pub record BookStep (Failed : Type 0) (old new : BookState) : Type 0 where
   pub clean : new.is_clean → old.is_clean
   pub sound : IfHonest old new new.is_sound
-  pub value : IfHonest old new (IfOk result (λ (found : A). old.is_open × IsAnswer old.content found))
-  pub same : IfHonest old new (new.is_open → old.is_open × (new.content ≡ old.content))
-  pub stays : OnOk result (IfHonest old new new.is_open)
-  -- no stop is new, and while it is open none is gone
-  pub stops : IfHonest old new (Within new.stops old.stops)
-  pub keeps : IfHonest old new (new.is_open → Within old.stops new.stops)
-  -- a failure is counted where the store has failed, and nowhere else
-  pub cause : IsErrOf result Store → HasRisen old.failures new.failures
-  pub quiet : ¬ (IsErrOf result Store) → new.failures ≡ old.failures
+  -- no failure is counted but where the store has failed
+  pub quiet : ¬ Failed → new.failures ≡ old.failures
   pub counts : old.failures ≤ new.failures
+
+-- a step that changes nothing: a book that is open was open, with the same content, and no stop is new
+pub record Unchanged (old new : BookState) : Type 0 where
+  pub same : IfHonest old new (new.is_open → old.is_open × (new.content ≡ old.content))
+  pub stops : IfHonest old new (Within new.stops old.stops)
+
+-- a read, where `IsAnswer c found` says that this is found in that content
+pub record Reads {A : Type 0} (old new : BookState) (result : Result A BookFault) (IsAnswer : Content → A → Type 0) : Type 0 where
+  pub step : BookStep (IsErrOf result Store) old new
+  pub unchanged : Unchanged old new
+  pub value : IfHonest old new (IfOk result (λ (found : A). old.is_open × IsAnswer old.content found))
+  pub stays : OnOk result (IfHonest old new new.is_open)
+  -- while it is open no stop is gone
+  pub keeps : IfHonest old new (new.is_open → Within old.stops new.stops)
+  -- a failure is counted where the store has failed
+  pub cause : IsErrOf result Store → HasRisen old.failures new.failures
 
 -- a commit, where `after c` is what it makes of a content that it follows
 pub record Commits (old new : BookState) (result : Result (Unit {0}) BookFault) (Follows : Content → Type 0) (after : Content → Content) : Type 0 where
-  pub clean : new.is_clean → old.is_clean
-  pub sound : IfHonest old new new.is_sound
+  pub step : BookStep (IsErrOf result Store) old new
   pub opened : IfHonest old new (OnOk result (old.is_open × new.is_open))
   pub made : IfHonest old new (Follows old.content → OnOk result (new.content ≡ after old.content))
   pub undone : IfHonest old new (new.is_open → OnErr result (old.is_open × (new.content ≡ old.content)))
   pub stops : IfHonest old new ((c : Content) → new.stops c → old.stops c ⊎ (old.is_open × (Follows old.content → c ≡ after old.content)))
   pub cause : IsErrOf result Store → HasRisen old.failures new.failures
-  pub quiet : ¬ (IsErrOf result Store) → new.failures ≡ old.failures
-  pub counts : old.failures ≤ new.failures
 
 -- a book whose store never fails
 abbrev pub unfailing : Content → BookState

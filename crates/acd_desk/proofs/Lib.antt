@@ -8,6 +8,7 @@ pub mod Sound
 pub mod ContentLaws
 pub mod SameRequests
 pub mod ByPlace
+pub mod DeskSteps
 pub mod Many
 pub mod Calls
 pub mod Faulty

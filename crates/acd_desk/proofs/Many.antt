@@ -1,21 +1,23 @@
 -- Many calls of a desk, one after the other.
-use Rattle.std.proofs.Common.{◌≡◌, ℕ, ◌+◌, ◌≤◌, List, [], ◌∷◌, ◌++◌, true, false, cond, refl, sym, ap, subst, ◌∙◌, arith, inl, inr, ◌⊎◌, Bool, length-append, true≢false, Result}
+use Rattle.std.proofs.Common.{◌≡◌, ℕ, ◌+◌, List, [], ◌∷◌, ◌++◌, true, false, cond, refl, sym, ap, subst, ◌∙◌, arith, inl, inr, ◌⊎◌, Bool, length-append, true≢false, Result}
 use Rattle.std.proofs.lemmas.List.Elements.{Contains-push_cases, Contains-push, Contains-append_left, Contains-append_right}
 use Rattle.std.specs.List.{Contains}
 use Rattle.acd_terms.specs.Lists.{Every}
 use Rattle.acd_terms.specs.declared.command.Arrival.{Arrival}
-use Rattle.acd_book.specs.Content.{Content, HasRisen, Within}
+use Rattle.acd_book.specs.Content.{Content, Within}
+use Rattle.acd_book.proofs.BookSteps.{no_step, step_so, step_then}
 use Rattle.acd_desk.specs.declared.taken.Taken.{Taken}
 use Rattle.acd_desk.specs.declared.taken.Taken.TheVariants.{Reply, InvokeReused, DeskFull, NoMemory, StoreFault}
 use Rattle.acd_desk.specs.Replies.{answer_in, after}
 use Rattle.acd_desk.specs.Served.{is_fault, is_rejection, is_reply, served, maybe_last}
 use Rattle.acd_desk.specs.Stands.{IsSound, ran_after, replies, StopsAt}
 use Rattle.acd_desk.specs.Standing.{Standing, InStep, Starts}
-use Rattle.acd_desk.specs.Ran.{IsCause, IsDeceived, WasUnloaded, EndsIn, IsFault, EndsUp, Took, Ran}
+use Rattle.acd_desk.specs.Ran.{WasUnloaded, EndsIn, IsFault, EndsUp, Took, Ran}
 use Rattle.acd_desk.specs.Attended.{Attended}
 use Rattle.acd_desk.specs.Told.{Told}
 use Rattle.acd_desk.specs.AnswerTexts.{Said, IsSaid, SaysOf}
 use Rattle.acd_desk.specs.declared.fault.DeskFault.{DeskFault}
+use Rattle.acd_desk.proofs.DeskSteps.{desk_so, desk_then}
 use Rattle.acd_desk.proofs.Longer.{ran_none, one_said, one_content, one_stop, served-push, maybe_stays, maybe_this}
 use Rattle.acd_desk.proofs.Sound.{ran_sound, stop_sound}
 use Rattle.acd_desk.proofs.ContentLaws.{sound_keeps_laws}
@@ -31,9 +33,8 @@ ran_nothing s settles =
     = λ clean start c at. settles c clean start.0 start.1 at ∙ ran_none s.book.content start.3 in
     record {
       even = refl;
-      clean = λ clean. clean;
-      sound = λ clean sound. sound;
-      in_step = λ clean sound step. step;
+      step = no_step s.book;
+      desk = record { in_step = λ clean sound step. step; shuts = λ h. absurd (omega (arith, h.1)); tells = λ h. inl h; lasts = λ h. h; cause = λ h. inl (inl h) };
       replies = λ clean start. refl;
       holds = λ clean start opened. record {
         content = ran_none s.book.content start.3;
@@ -46,31 +47,10 @@ ran_nothing s settles =
       stops = λ clean start c at. inl (stop clean start c at);
       sound_stops = λ clean start c at. subst IsSound (sym (settles c clean start.0 start.1 at)) start.3;
       still = λ clean sound shut c at. at;
-      cause = λ h. inl (inl h);
-      shuts = λ h. absurd (omega (arith, h.1));
-      tells = λ h. inl h;
       later = tt;
-      shut = λ h. (h, tt);
-      quiet = λ none. refl;
-      counts = omega arith;
+      shut = λ h. tt;
       unloads = λ working gone. inl gone;
     }
-
-rises : (a b c : ℕ) → a ≤ b → HasRisen b c → HasRisen a c
-rises a b c less h = elim h [
-  | inl more ↦ inl (omega (arith, less, more))
-  | inr top ↦ inr top
-]
-
-stays : (a b c : ℕ) → b ≤ c → HasRisen a b → HasRisen a c
-stays a b c less h = elim h [
-  | inl more ↦ inl (omega (arith, less, more))
-  | inr top ↦ inr (omega (arith, less, top))
-]
-
--- what a storeFault has behind it
-abbrev Caused : Standing → List Taken → Standing → Type 0
-Caused s ts n = IsCause s n ⊎ (WasUnloaded s ts × IsDeceived s n)
 
 -- the last answer is one of the answers
 at_end : (ts : List Taken) (t u : Taken) → t ≡ u → Contains (ts ++ t ∷ []) u
@@ -81,35 +61,6 @@ earlier s ts t h = elim h [
   | inl gone ↦ inl gone
   | inr answered ↦ inr (Contains-append_left ts (t ∷ []) NoMemory answered)
 ]
-
--- a cause lasts
-lasts : (s m n : Standing) (ts : List Taken) (a : Arrival) (t : Taken) → Took m a t n → Caused s ts m → Caused s (ts ++ t ∷ []) n
-lasts s m n ts a t took h = elim h [
-  | inl cause ↦ inl (elim cause [
-    | inl failed ↦ inl failed
-    | inr risen ↦ inr (stays s.book.failures m.book.failures n.book.failures took.counts risen)
-  ])
-  | inr told ↦ inr (earlier s ts t told.0, λ honest. told.1 (took.clean honest.0, honest.1, honest.2))
-]
-
--- the desk fails by the last call, or had failed before
-caused : (s m n : Standing) (l : List Arrival) (ts : List Taken) (a : Arrival) (t : Taken) → Ran s l ts m → Took m a t n → n.failed ≡ true → Caused s (ts ++ t ∷ []) n
-caused s m n l ts a t ran took failed =
-    let cases : (b : Bool) → m.failed ≡ b → Caused s (ts ++ t ∷ []) n
-    = λ b. elim b as (λ b. m.failed ≡ b → Caused s (ts ++ t ∷ []) n) [
-      | true ↦ λ before. lasts s m n ts a t took (ran.cause before)
-      | false ↦ λ working. elim (took.cause failed) [
-        | inl cause ↦ inl (elim cause [
-          | inl before ↦ absurd (true≢false (sym before ∙ working))
-          | inr risen ↦ inr (rises s.book.failures m.book.failures n.book.failures ran.counts risen)
-        ])
-        | inr told ↦ inr (
-          earlier s ts t (ran.unloads working told.0),
-          λ honest. told.1 (honest.0, ran.sound (took.clean honest.0) honest.1, ran.in_step (took.clean honest.0) honest.1 honest.2),
-        )
-      ]
-    ] in
-    cases m.failed refl
 
 pub every_push : (P : Taken → Type 0) (ts : List Taken) (t : Taken) → Every P ts → P t → Every P (ts ++ t ∷ [])
 every_push P [] t h last = (last, tt)
@@ -127,7 +78,7 @@ still : (m n : Standing) (a : Arrival) (t : Taken) → Took m a t n → n.failed
 still m n a t took working =
     let cases : (b : Bool) → m.failed ≡ b → m.failed ≡ false
     = λ b. elim b as (λ b. m.failed ≡ b → m.failed ≡ false) [
-      | true ↦ λ before. absurd (true≢false (sym (took.shut before).0 ∙ working))
+      | true ↦ λ before. absurd (true≢false (sym (took.desk.lasts before) ∙ working))
       | false ↦ λ before. before
     ] in
     cases m.failed refl
@@ -166,16 +117,16 @@ last_served s (u ∷ v ∷ ts) t h = last_served s (v ∷ ts) t h
 idle : (s m n : Standing) (l : List Arrival) (ts : List Taken) (a : Arrival) (t : Taken) → Ran s l ts m → Took m a t n
     → n.book.is_clean → s.book.is_sound → (¬ s.book.is_open) ⊎ (s.failed ≡ true) → Within n.book.stops s.book.stops
 idle s m n l ts a t ran took clean sound shut c at =
-    let before = took.clean clean in
+    let before = took.step.clean clean in
     let out_of_step : InStep s = λ opened working. elim shut [
       | inl closed ↦ absurd (closed opened)
       | inr failed ↦ absurd (true≢false (sym failed ∙ working))
     ] in
-    elim (took.stops clean (ran.sound before sound) (ran.in_step before sound out_of_step) c at) [
+    elim (took.stops clean (ran.step.sound before sound) (ran.desk.in_step before sound out_of_step) c at) [
       | inl old ↦ ran.still before sound shut c old
       | inr made ↦ elim shut [
         | inl closed ↦ absurd (closed (ran.opened before sound made.1))
-        | inr failed ↦ absurd (true≢false (sym (ran.shut failed).0 ∙ made.0))
+        | inr failed ↦ absurd (true≢false (sym (ran.desk.lasts failed) ∙ made.0))
       ]
     ]
 
@@ -183,13 +134,13 @@ idle s m n l ts a t ran took clean sound shut c at =
 pub attended_ran : (old new : Standing) (l : List Arrival) (ts : List Taken) → Ran old l ts new → Attended old l ts new
 attended_ran old new l ts ran = record {
   even = ran.even;
-  clean = ran.clean;
-  sound = ran.sound;
-  in_step = ran.in_step;
+  clean = ran.step.clean;
+  sound = ran.step.sound;
+  in_step = ran.desk.in_step;
   replies = ran.replies;
   content = λ clean starts opened. (ran.holds clean starts opened).content;
   stops = ran.stops;
-  shuts = ran.shuts;
+  shuts = ran.desk.shuts;
 }
 
 -- one more call
@@ -200,17 +151,17 @@ attended_more s m n l ts a t settles ran took =
     let maybe : List Arrival = maybe_last (l ++ a ∷ []) (ts ++ t ∷ []) in
     record {
       even = length-append l (a ∷ []) ∙ ap (λ (k : ℕ). k + 1) ran.even ∙ sym (length-append ts (t ∷ []));
-      clean = λ clean. ran.clean (took.clean clean);
-      sound = λ clean sound. took.sound clean (ran.sound (took.clean clean) sound);
-      in_step = λ clean sound step. took.in_step clean (ran.sound (took.clean clean) sound) (ran.in_step (took.clean clean) sound step);
+      clean = λ clean. ran.clean (took.step.clean clean);
+      sound = λ clean sound. took.step.sound clean (ran.sound (took.step.clean clean) sound);
+      in_step = λ clean sound step. took.desk.in_step clean (ran.sound (took.step.clean clean) sound) (ran.in_step (took.step.clean clean) sound step);
       replies = λ clean starts.
-          let before = took.clean clean in
+          let before = took.step.clean clean in
           let sound = ran.sound before starts.0 in
           one_said start (served l ts) ts a t (ran.replies before starts) (λ (fine : is_fault t ≡ false).
           (took.sent fine clean sound (ran.in_step before starts.0 starts.2)).0 ∙ ap (λ (x : Content). answer_in (after x a) a.request) (ran.content before starts (took.up fine clean sound).0))
           ∙ ap (replies start) (sym yes);
       content = λ clean starts opened.
-          let before = took.clean clean in
+          let before = took.step.clean clean in
           let sound = ran.sound before starts.0 in
           let step = ran.in_step before starts.0 starts.2 in
           one_content start (served l ts) a t n.book.content
@@ -218,13 +169,13 @@ attended_more s m n l ts a t settles ran took =
           (λ (bad : is_fault t ≡ true). (took.unmoved (fault_no_reply t bad) clean sound opened).1 ∙ ran.content before starts (took.unmoved (fault_no_reply t bad) clean sound opened).0)
           ∙ ap (ran_after start) (sym yes);
       stops = λ clean starts c stop.
-          let before = took.clean clean in
+          let before = took.step.clean clean in
           let sound = ran.sound before starts.0 in
           let step = ran.in_step before starts.0 starts.2 in
           subst (λ (y : List Arrival). StopsAt start y maybe c) (sym yes)
           (one_stop start (served l ts) (maybe_last l ts) maybe a t c (maybe_stays l ts a t)
           (λ (fine : is_fault t ≡ false).
-          settles c clean (took.sound clean sound) (took.up fine clean sound).1 stop
+          settles c clean (took.step.sound clean sound) (took.up fine clean sound).1 stop
           ∙ (took.sent fine clean sound step).1 ∙ ap (λ (x : Content). after x a) (ran.content before starts (took.up fine clean sound).0))
           (λ (bad : is_fault t ≡ true). elim (took.stops clean sound step c stop) [
             | inl old ↦ inl (ran.stops before starts c old)
@@ -234,8 +185,8 @@ attended_more s m n l ts a t settles ran took =
             )
           ]));
       shuts = λ h. elim (Contains-push_cases ts t StoreFault h) [
-        | inl old ↦ (took.shut (ran.shuts old)).0
-        | inr now ↦ took.shuts now
+        | inl old ↦ took.desk.lasts (ran.shuts old)
+        | inr now ↦ took.desk.shuts now
       ];
     }
 
@@ -246,9 +197,9 @@ ran_more s m n l ts a t settles ran took =
     let more : Attended s (l ++ a ∷ []) (ts ++ t ∷ []) n = attended_more s m n l ts a t settles (attended_ran s m l ts ran) took in
     record {
       even = more.even;
-      clean = more.clean;
-      sound = more.sound;
-      in_step = more.in_step;
+      step = step_then ran.step took.step (Contains-append_left ts (t ∷ []) StoreFault) (at_end ts t StoreFault);
+      desk = desk_then s m n ran.step took.step ran.desk took.desk (Contains-append_left ts (t ∷ []) StoreFault) (at_end ts t StoreFault) (Contains-push_cases ts t StoreFault)
+          (earlier s ts t) (λ working gone. earlier s ts t (ran.unloads working gone));
       replies = more.replies;
       holds = λ clean starts opened.
           let content = more.content clean starts opened in
@@ -259,27 +210,13 @@ ran_more s m n l ts a t settles ran took =
             laws = sound_keeps_laws n.book.content whole;
             alone = λ c stop. settles c clean (more.sound clean starts.0) opened stop;
           };
-      up = λ clean sound ended. (took.up (last_served s ts t ended) clean (ran.sound (took.clean clean) sound)).1;
-      opened = λ clean sound opened. ran.opened (took.clean clean) sound (was_open m n a t took clean (ran.sound (took.clean clean) sound) opened);
+      up = λ clean sound ended. (took.up (last_served s ts t ended) clean (ran.step.sound (took.step.clean clean) sound)).1;
+      opened = λ clean sound opened. ran.opened (took.step.clean clean) sound (was_open m n a t took clean (ran.step.sound (took.step.clean clean) sound) opened);
       stops = more.stops;
       sound_stops = λ clean starts c stop. stop_sound start yes (maybe_last (l ++ a ∷ []) (ts ++ t ∷ [])) c starts.3 (more.stops clean starts c stop);
       still = idle s m n l ts a t ran took;
-      cause = λ h. caused s m n l ts a t ran took h;
-      shuts = more.shuts;
-      tells = λ h. elim (took.tells h) [
-        | inl before ↦ elim (ran.tells before) [
-          | inl first ↦ inl first
-          | inr found ↦ inr (Contains-append_left ts (t ∷ []) StoreFault found)
-        ]
-        | inr now ↦ inr (at_end ts t StoreFault now)
-      ];
-      later = later_push IsFault ts t ran.later (λ old. (took.shut (ran.shuts old)).1);
-      shut = λ h.
-          let before = ran.shut h in
-          let now = took.shut before.0 in
-          (now.0, every_push IsFault ts t before.1 now.1);
-      quiet = λ none. took.quiet (λ now. none (at_end ts t StoreFault now)) ∙ ran.quiet (λ old. none (Contains-append_left ts (t ∷ []) StoreFault old));
-      counts = omega (arith, ran.counts, took.counts);
+      later = later_push IsFault ts t ran.later (λ old. took.shut (ran.desk.shuts old));
+      shut = λ failed. every_push IsFault ts t (ran.shut failed) (took.shut (ran.desk.lasts failed));
       unloads = λ working gone. elim (took.unloads working gone) [
         | inl before ↦ earlier s ts t (ran.unloads (still m n a t took working) before)
         | inr now ↦ inr (at_end ts t NoMemory now)
@@ -290,16 +227,16 @@ ran_more s m n l ts a t settles ran took =
 pub attended_told : {A : Type 0} (s m n : Standing) (l : List Arrival) (ts : List Taken) (r : Result A DeskFault) (P : Content → A → Type 0) → Attended s l ts m → Told m n r P → Attended s l ts n
 attended_told s m n l ts r P ran told = record {
   even = ran.even;
-  clean = λ clean. ran.clean (told.clean clean);
-  sound = λ clean sound. told.sound clean (ran.sound (told.clean clean) sound);
-  in_step = λ clean sound step. told.in_step clean (ran.sound (told.clean clean) sound) (ran.in_step (told.clean clean) sound step);
-  replies = λ clean starts. ran.replies (told.clean clean) starts;
+  clean = λ clean. ran.clean (told.step.clean clean);
+  sound = λ clean sound. told.step.sound clean (ran.sound (told.step.clean clean) sound);
+  in_step = λ clean sound step. told.desk.in_step clean (ran.sound (told.step.clean clean) sound) (ran.in_step (told.step.clean clean) sound step);
+  replies = λ clean starts. ran.replies (told.step.clean clean) starts;
   content = λ clean starts opened.
-      let before = told.clean clean in
-      let same = told.same clean (ran.sound before starts.0) opened in
+      let before = told.step.clean clean in
+      let same = told.unchanged.same clean (ran.sound before starts.0) opened in
       same.1 ∙ ran.content before starts same.0;
-  stops = λ clean starts c stop. let before = told.clean clean in ran.stops before starts c (told.stops clean (ran.sound before starts.0) c stop);
-  shuts = λ found. told.shuts (told.shut (ran.shuts found));
+  stops = λ clean starts c stop. let before = told.step.clean clean in ran.stops before starts c (told.unchanged.stops clean (ran.sound before starts.0) c stop);
+  shuts = λ found. told.desk.lasts (ran.shuts found);
 }
 
 -- one call alone
@@ -316,37 +253,23 @@ rejection_no_reply StoreFault h = refl
 rejection_no_store : (t : Taken) → is_rejection t ≡ true → ¬ (t ≡ StoreFault)
 rejection_no_store t rejected is = true≢false (sym rejected ∙ ap is_rejection is)
 
-rejection_no_fault : (t : Taken) → is_rejection t ≡ true → ¬ (is_fault t ≡ true)
-rejection_no_fault (Reply status body) h = absurd (true≢false (sym h))
-rejection_no_fault InvokeReused h = λ is. true≢false (sym is)
-rejection_no_fault DeskFull h = λ is. true≢false (sym is)
-rejection_no_fault NoMemory h = absurd (true≢false (sym h))
-rejection_no_fault StoreFault h = absurd (true≢false (sym h))
-
 pub no_store : NoMemory ≡ StoreFault → ⊥
 no_store h = cc
 
 -- the text of a rejection may not be made, and noMemory be answered
 pub forgets : (m n : Standing) (a : Arrival) (t : Taken) → is_rejection t ≡ true → Took m a t n → Took m a NoMemory n
-forgets m n a t rejected took = record {
-  clean = took.clean;
-  sound = took.sound;
-  in_step = took.in_step;
-  up = λ h. absurd (true≢false h);
-  sent = λ h. absurd (true≢false h);
-  unmoved = λ none. took.unmoved (rejection_no_reply t rejected);
-  stops = took.stops;
-  shuts = λ h. absurd (no_store h);
-  tells = λ h. elim (took.tells h) [
-    | inl before ↦ inl before
-    | inr now ↦ absurd (rejection_no_store t rejected now)
-  ];
-  shut = λ h. absurd (rejection_no_fault t rejected (took.shut h).1);
-  cause = took.cause;
-  quiet = λ none. took.quiet (rejection_no_store t rejected);
-  counts = took.counts;
-  unloads = λ working gone. inr refl;
-}
+forgets m n a t rejected took =
+    let none : ¬ (t ≡ StoreFault) = rejection_no_store t rejected in
+    record {
+      step = step_so took.step (λ is. absurd (none is));
+      desk = desk_so took.desk (λ is. absurd (none is)) (λ is. absurd (no_store is));
+      shut = λ h. refl;
+      up = λ h. absurd (true≢false h);
+      sent = λ h. absurd (true≢false h);
+      unmoved = λ is. took.unmoved (rejection_no_reply t rejected);
+      stops = took.stops;
+      unloads = λ working gone. inr refl;
+    }
 
 -- what is said of an answer, or noMemory in its place
 pub says_of : (s n : Standing) (a : Arrival) (t : Taken) (out : Said) → Settles s → Settles n → Took s a t n → Ran s (a ∷ []) (t ∷ []) n → IsSaid a.request t out → SaysOf s a out n

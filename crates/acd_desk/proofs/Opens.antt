@@ -5,6 +5,7 @@ use Rattle.acd_terms.specs.declared.rows.Rule.{Rule}
 use Rattle.acd_model.specs.Rules.First.{first_broken, BreaksNoRule}
 use Rattle.acd_book.specs.Content.{Content, IsCounted}
 use Rattle.acd_book.specs.State.{BookState, Reads}
+use Rattle.acd_book.proofs.BookSteps.{step_so}
 use Rattle.acd_switch.specs.RowFaults.{IsFaultOf}
 use Rattle.acd_switch.specs.declared.row_fault.RowFault.{RowFault}
 use Rattle.acd_switch.specs.declared.row_fault.RowFault.TheVariants as row
@@ -25,53 +26,43 @@ memory_store h = cc
 pub opens : (b d : BookState) (rows switch : Rows) → Reads b d (Ok rows) (λ (c : Content) (found : Rows). found ≡ c.rows) → switch ≡ rows → BreaksNoRule rows
     → Opened b (record { book = d; switch = Some switch; failed = false })
 opens b d rows switch reads is rules =
-    let same : d.is_clean → b.is_sound → d.content ≡ b.content = λ clean sound. (reads.same clean sound (reads.stays clean sound)).1 in
+    let same : d.is_clean → b.is_sound → d.content ≡ b.content = λ clean sound. (reads.unchanged.same clean sound (reads.stays clean sound)).1 in
     let loaded : d.is_clean → b.is_sound → b.content.rows ≡ switch = λ clean sound. sym (reads.value clean sound).1 ∙ sym is in
     record {
-      clean = reads.clean;
-      sound = reads.sound;
+      step = step_so reads.step (λ is. absurd (ok_err is));
       opened = λ clean sound. ((reads.value clean sound).0, reads.stays clean sound, same clean sound, ap Some (sym (loaded clean sound)));
       working = refl;
-      stops = reads.stops;
+      stops = reads.unchanged.stops;
       keeps = λ clean sound. reads.keeps clean sound (reads.stays clean sound);
       accepts = λ clean sound. subst BreaksNoRule (reads.value clean sound).1 rules;
       starts = λ clean sound whole.
           let is_same = same clean sound in (
-            reads.sound clean sound,
+            reads.step.sound clean sound,
             reads.stays clean sound,
             λ opened working. (ap (λ (x : Content). x.rows) is_same ∙ loaded clean sound, subst IsCounted (sym is_same) (sound_counted b.content whole)),
             subst IsSound (sym is_same) whole,
           );
-      quiet = reads.quiet (λ is. ok_err is);
     }
 
 -- the rows were read, and make no switch
 refuses : (b d : BookState) (rows : Rows) (f : RowFault) → Reads b d (Ok rows) (λ (c : Content) (found : Rows). found ≡ c.rows) → IsFaultOf rows f → Refused b (by_rows f) d
 refuses b d rows (row.Broken rule) reads broken = record {
-  clean = reads.clean;
-  sound = reads.sound;
-  stops = reads.stops;
+  step = step_so reads.step (λ is. absurd (ok_err is));
+  unchanged = reads.unchanged;
   keeps = reads.keeps;
-  same = reads.same;
   refuses = λ clean sound.
       let told = reads.value clean sound in
-      (told.0, reads.stays clean sound, (reads.same clean sound (reads.stays clean sound)).1, subst (λ (s : Rows). first_broken s ≡ Some rule) told.1 broken);
+      (told.0, reads.stays clean sound, (reads.unchanged.same clean sound (reads.stays clean sound)).1, subst (λ (s : Rows). first_broken s ≡ Some rule) told.1 broken);
   well = λ clean sound whole. some_none rule (sym (subst (λ (s : Rows). first_broken s ≡ Some rule) (reads.value clean sound).1 broken) ∙ sound_rules b.content whole);
   cause = λ h. absurd (rows_store rule h);
-  quiet = λ none. reads.quiet (λ is. ok_err is);
-  counts = reads.counts;
 }
 refuses b d rows row.NoMemory reads broken = record {
-  clean = reads.clean;
-  sound = reads.sound;
-  stops = reads.stops;
+  step = step_so reads.step (λ is. absurd (ok_err is));
+  unchanged = reads.unchanged;
   keeps = reads.keeps;
-  same = reads.same;
   refuses = λ clean sound. tt;
   well = λ clean sound whole. tt;
   cause = λ h. absurd (memory_store h);
-  quiet = λ none. reads.quiet (λ is. ok_err is);
-  counts = reads.counts;
 }
 
 pub rows_refused : (b d : BookState) (rows : Rows) (f : RowFault) (o : OpenFault) → Reads b d (Ok rows) (λ (c : Content) (found : Rows). found ≡ c.rows) → IsFaultOf rows f → o ≡ by_rows f → Refused b o d

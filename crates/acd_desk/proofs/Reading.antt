@@ -1,78 +1,50 @@
 -- Reads of a book, one after the other.
-use Rattle.std.proofs.Common.{◌≡◌, ◌≤◌, ℕ, Result, Ok, Err, IfOk, ap, sym, subst, ◌∙◌}
+use Rattle.std.proofs.Common.{◌≡◌, ℕ, Result, Ok, Err, ap, sym, subst, ◌∙◌}
+use Rattle.std.proofs.lemmas.Result.{IfOk-weaker, on_ok_weaker}
 use Rattle.acd_book.specs.Content.{Content, HasRisen}
-use Rattle.acd_book.specs.State.{BookState, Reads}
+use Rattle.acd_book.specs.State.{BookState, IfHonest, Reads}
 use Rattle.acd_book.specs.declared.fault.BookFault.{BookFault}
-use Rattle.acd_book.specs.declared.fault.BookFault.TheVariants.{Store}
-use Rattle.acd_terms.proofs.Results.{ok_err}
+use Rattle.acd_book.proofs.BookSteps.{step_so, step_then, unchanged_then, keeps_then}
+use Rattle.acd_terms.proofs.Results.{ok_err, same_error}
 
 -- what was read tells another answer
 pub then_ok : {A C : Type 0} {P : Content → A → Type 0} (Q : Content → C → Type 0) (a b : BookState) (x : A) (y : C) → Reads a b (Ok x) P → ((c : Content) → P c x → Q c y) → Reads a b (Ok y) Q
 then_ok Q a b x y r tells = record {
-  clean = r.clean;
-  sound = r.sound;
+  step = step_so r.step (λ is. absurd (ok_err is));
+  unchanged = r.unchanged;
   value = λ clean sound. let told = r.value clean sound in (told.0, tells a.content told.1);
-  same = r.same;
   stays = r.stays;
-  stops = r.stops;
   keeps = r.keeps;
   cause = λ is. absurd (ok_err is);
-  quiet = λ none. r.quiet (λ is. ok_err is);
-  counts = r.counts;
 }
 
 -- a read behind a read
 pub then_read : {A C : Type 0} {P : Content → A → Type 0} {Q : Content → C → Type 0} (R : Content → C → Type 0) (a b d : BookState) (x : A) (r : Result C BookFault)
     → Reads a b (Ok x) P → Reads b d r Q → ((c : Content) → P c x → (y : C) → Q c y → R c y) → Reads a d r R
-then_read {A = A} {C = C} {Q = Q} R a b d x r one two tells =
-    let same : d.is_clean → a.is_sound → b.content ≡ a.content = λ clean sound. (one.same (two.clean clean) sound (one.stays (two.clean clean) sound)).1 in
-    let quiet : b.failures ≡ a.failures = one.quiet (λ is. ok_err is) in
-    let value : (r : Result C BookFault) → (d.is_clean → b.is_sound → IfOk r (λ (y : C). b.is_open × Q b.content y)) → d.is_clean → a.is_sound → IfOk r (λ (y : C). a.is_open × R a.content y)
-    = λ r. elim r as (λ r. (d.is_clean → b.is_sound → IfOk r (λ (y : C). b.is_open × Q b.content y)) → d.is_clean → a.is_sound → IfOk r (λ (y : C). a.is_open × R a.content y)) [
-      | Ok y ↦ λ told clean sound.
-          let first = one.value (two.clean clean) sound in
-          let next = told clean (one.sound (two.clean clean) sound) in
-          (first.0, tells a.content first.1 y (subst (λ (c : Content). Q c y) (same clean sound) next.1))
-      | Err f ↦ λ told clean sound. tt
-    ] in
-    record {
-      clean = λ clean. one.clean (two.clean clean);
-      sound = λ clean sound. two.sound clean (one.sound (two.clean clean) sound);
-      value = value r two.value;
-      same = λ clean sound opened.
-          let told = two.same clean (one.sound (two.clean clean) sound) opened in
-          let first = one.same (two.clean clean) sound told.0 in
-          (first.0, told.1 ∙ first.1);
-      stays = stays_behind r two.stays (one.sound) two.clean;
-      stops = λ clean sound c at. one.stops (two.clean clean) sound c (two.stops clean (one.sound (two.clean clean) sound) c at);
-      keeps = λ clean sound opened c at.
-          two.keeps clean (one.sound (two.clean clean) sound) opened c (one.keeps (two.clean clean) sound (one.stays (two.clean clean) sound) c at);
-      cause = λ is. subst (λ (k : ℕ). HasRisen k d.failures) quiet (two.cause is);
-      quiet = λ none. two.quiet none ∙ quiet;
-      counts = subst (λ (k : ℕ). k ≤ d.failures) quiet two.counts;
-    }
-  where
-    stays_behind : (r : Result C BookFault) → IfOk r (λ _. d.is_clean → b.is_sound → d.is_open) → (b.is_clean → a.is_sound → b.is_sound) → (d.is_clean → b.is_clean) → IfOk r (λ _. d.is_clean → a.is_sound → d.is_open)
-    stays_behind (Ok y) h sound clean = λ is_clean is_sound. h is_clean (sound (clean is_clean) is_sound)
-    stays_behind (Err f) h sound clean = tt
+then_read {A = A} {C = C} {Q = Q} R a b d x r one two tells = record {
+  step = step_then one.step two.step (λ is. absurd (ok_err is)) (λ is. is);
+  unchanged = unchanged_then one.step two.step one.unchanged two.unchanged;
+  value = λ clean sound.
+      let before = two.step.clean clean in
+      let first = one.value before sound in
+      let same : b.content ≡ a.content = (one.unchanged.same before sound (one.stays before sound)).1 in
+      IfOk-weaker r (λ (y : C). b.is_open × Q b.content y) (λ (y : C). a.is_open × R a.content y)
+      (λ y next. (first.0, tells a.content first.1 y (subst (λ (c : Content). Q c y) same next.1))) (two.value clean (one.step.sound before sound));
+  stays = on_ok_weaker r (λ (up : IfHonest b d d.is_open). λ (clean : d.is_clean) (sound : a.is_sound). up clean (one.step.sound (two.step.clean clean) sound)) two.stays;
+  keeps = keeps_then one.step two.step two.unchanged one.keeps two.keeps;
+  cause = λ is. subst (λ (k : ℕ). HasRisen k d.failures) (one.step.quiet (λ is. ok_err is)) (two.cause is);
+}
 
 -- a fault tells as little of one thing as of another
 fault_alone : {A C : Type 0} {P : Content → A → Type 0} (Q : Content → C → Type 0) (a b : BookState) (f : BookFault) → Reads {A = A} a b (Err f) P → Reads {A = C} a b (Err f) Q
-fault_alone {A = A} {C = C} Q a b f r = record {
-  clean = r.clean;
-  sound = r.sound;
+fault_alone Q a b f r = record {
+  step = step_so r.step (λ is. ap Err (same_error is));
+  unchanged = r.unchanged;
   value = λ clean sound. tt;
-  same = r.same;
   stays = tt;
-  stops = r.stops;
   keeps = r.keeps;
-  cause = λ is. r.cause (ap Err (the_fault is));
-  quiet = λ none. r.quiet (λ is. none (ap Err (the_fault is)));
-  counts = r.counts;
+  cause = λ is. r.cause (ap Err (same_error is));
 }
-  where
-    the_fault : {B : Type 0} {g : BookFault} → ◌≡◌ {A = Result B BookFault} (Err f) (Err g) → f ≡ g
-    the_fault h = cc (h)
 
 -- a read that fails behind a read
 pub then_fault : {A C D : Type 0} {P : Content → A → Type 0} {Q : Content → C → Type 0} (R : Content → D → Type 0) (a b d : BookState) (x : A) (f : BookFault) (r : Result D BookFault)

@@ -1,8 +1,9 @@
 -- What a session leaves, by what opening a desk and running it left.
-use Rattle.std.proofs.Common.{◌≡◌, ℕ, ◌≤◌, List, [], ◌∷◌, sym, subst, ◌∙◌, inl, inr, true≢false}
+use Rattle.std.proofs.Common.{◌≡◌, ℕ, List, [], ◌∷◌, sym, subst, ◌∙◌, inl, inr, true≢false}
 use Rattle.acd_terms.specs.declared.command.Arrival.{Arrival}
 use Rattle.acd_book.specs.Content.{Content, HasRisen}
 use Rattle.acd_book.specs.State.{BookState}
+use Rattle.acd_book.proofs.BookSteps.{step_then}
 use Rattle.acd_desk.specs.declared.taken.Taken.{Taken}
 use Rattle.acd_desk.specs.Served.{served, maybe_last, sent}
 use Rattle.acd_desk.specs.Stands.{IsSound, replies, StopsAt}
@@ -18,29 +19,26 @@ ends_up s (_ ∷ t ∷ ts) opened last = ends_up s (t ∷ ts) opened last
 
 pub session_ran : (Behind : Taken → Type 0) (old : BookState) (d e : Standing) (l : List Arrival) (ts : List Taken) → Opened old d → Ran d l ts e → EndsIn Behind ts → Session Behind old l ts e.book
 session_ran Behind old d e l ts o ran later =
-    let starts : e.book.is_clean → old.is_sound → IsSound old.content → Starts d = λ clean sound whole. o.starts (ran.clean clean) sound whole in
-    let same : e.book.is_clean → old.is_sound → d.book.content ≡ old.content = λ clean sound. (o.opened (ran.clean clean) sound).2 in
+    let starts : e.book.is_clean → old.is_sound → IsSound old.content → Starts d = λ clean sound whole. o.starts (ran.step.clean clean) sound whole in
+    let same : e.book.is_clean → old.is_sound → d.book.content ≡ old.content = λ clean sound. (o.opened (ran.step.clean clean) sound).2 in
     let up : e.book.is_clean → old.is_sound → IsLastServed ts → EndsUp d ts
-    = λ clean sound last. ends_up d ts (o.opened (ran.clean clean) sound).1 last in
+    = λ clean sound last. ends_up d ts (o.opened (ran.step.clean clean) sound).1 last in
     record {
       even = ran.even;
-      clean = λ clean. o.clean (ran.clean clean);
-      sound = λ clean sound. ran.sound clean (o.sound (ran.clean clean) sound);
-      opened = λ clean sound. (o.opened (ran.clean clean) sound).0;
-      accepts = λ clean sound. o.accepts (ran.clean clean) sound;
+      step = step_then o.step ran.step (λ none. absurd none) (λ found. found);
+      opened = λ clean sound. (o.opened (ran.step.clean clean) sound).0;
+      accepts = λ clean sound. o.accepts (ran.step.clean clean) sound;
       replies = λ clean sound whole. subst (λ (c : Content). sent ts ≡ replies c (served l ts)) (same clean sound) (ran.replies clean (starts clean sound whole));
       holds = λ clean sound whole opened. subst (λ (c : Content). Holds c (served l ts) e.book) (same clean sound) (ran.holds clean (starts clean sound whole) opened);
-      up = λ clean sound last. ran.up clean (o.sound (ran.clean clean) sound) (up clean sound last);
+      up = λ clean sound last. ran.up clean (o.step.sound (ran.step.clean clean) sound) (up clean sound last);
       stops = λ clean sound whole c at. subst (λ (x : Content). StopsAt x (served l ts) (maybe_last l ts) c) (same clean sound) (ran.stops clean (starts clean sound whole) c at);
       sound_stops = λ clean sound whole c at. ran.sound_stops clean (starts clean sound whole) c at;
       later = later;
-      cause = λ clean sound whole found. elim (ran.cause (ran.shuts found)) [
+      cause = λ clean sound whole found. elim (ran.desk.cause (ran.desk.shuts found)) [
         | inl cause ↦ elim cause [
           | inl failed ↦ absurd (true≢false (sym failed ∙ o.working))
-          | inr risen ↦ subst (λ (k : ℕ). HasRisen k e.book.failures) o.quiet risen
+          | inr risen ↦ subst (λ (k : ℕ). HasRisen k e.book.failures) (o.step.quiet (λ none. none)) risen
         ]
         | inr told ↦ absurd (told.1 (clean, (starts clean sound whole).0, (starts clean sound whole).2))
       ];
-      quiet = λ none. ran.quiet none ∙ o.quiet;
-      counts = subst (λ (k : ℕ). k ≤ e.book.failures) o.quiet ran.counts;
     }

@@ -1,12 +1,12 @@
 -- What opening a desk over a book leaves.
-use Rattle.std.specs.Prelude.{◌≡◌, ◌≤◌, false, Some}
+use Rattle.std.specs.Prelude.{◌≡◌, false, Some}
 use Rattle.acd_model.specs.Rules.First.{first_broken, BreaksNoRule}
 use Rattle.acd_switch.specs.declared.row_fault.RowFault.{RowFault}
 use Rattle.acd_switch.specs.declared.row_fault.RowFault.TheVariants as row
 use Rattle.acd_book.specs.declared.fault.BookFault.{BookFault}
 use Rattle.acd_book.specs.declared.fault.BookFault.TheVariants as book
 use Rattle.acd_book.specs.Content.{Within, HasRisen}
-use Rattle.acd_book.specs.State.{BookState, IfHonest}
+use Rattle.acd_book.specs.State.{BookState, IfHonest, BookStep, Unchanged}
 use Rattle.acd_desk.specs.declared.open_fault.OpenFault.{OpenFault}
 use Rattle.acd_desk.specs.declared.open_fault.OpenFault.TheVariants as fault
 use Rattle.acd_desk.specs.Stands.{IsSound}
@@ -14,15 +14,14 @@ use Rattle.acd_desk.specs.Standing.{Standing, Starts}
 
 -- a desk with the rows of its book, which break no rule
 pub record Opened (old : BookState) (new : Standing) : Type 0 where
-  pub clean : new.book.is_clean → old.is_clean
-  pub sound : IfHonest old new.book new.book.is_sound
+  -- no failure was counted
+  pub step : BookStep ⊥ old new.book
   pub opened : IfHonest old new.book (old.is_open × new.book.is_open × (new.book.content ≡ old.content) × (new.switch ≡ Some old.content.rows))
   pub working : new.failed ≡ false
   pub stops : IfHonest old new.book (Within new.book.stops old.stops)
   pub keeps : IfHonest old new.book (Within old.stops new.book.stops)
   pub accepts : IfHonest old new.book (BreaksNoRule old.content.rows)
   pub starts : IfHonest old new.book (IsSound old.content → Starts new)
-  pub quiet : new.book.failures ≡ old.failures
 
 -- the book answered its rows: it is open, and they break this rule first
 abbrev pub RefusesBy : BookState → OpenFault → BookState → Type 0
@@ -48,15 +47,11 @@ IsNoRule fault.Store = Unit {0}
 
 -- no desk, and the book that comes back
 pub record Refused (old : BookState) (why : OpenFault) (new : BookState) : Type 0 where
-  pub clean : new.is_clean → old.is_clean
-  pub sound : IfHonest old new new.is_sound
-  pub stops : IfHonest old new (Within new.stops old.stops)
+  pub step : BookStep (why ≡ fault.Store) old new
+  pub unchanged : Unchanged old new
   pub keeps : IfHonest old new (new.is_open → Within old.stops new.stops)
-  pub same : IfHonest old new (new.is_open → old.is_open × (new.content ≡ old.content))
   pub refuses : IfHonest old new (RefusesBy old why new)
   -- a sound content is never refused
   pub well : IfHonest old new (IsSound old.content → IsNoRule why)
-  -- a failure was counted where the store has failed, and nowhere else
+  -- a failure was counted where the store has failed
   pub cause : why ≡ fault.Store → HasRisen old.failures new.failures
-  pub quiet : ¬ (why ≡ fault.Store) → new.failures ≡ old.failures
-  pub counts : old.failures ≤ new.failures

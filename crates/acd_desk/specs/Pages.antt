@@ -1,7 +1,7 @@
 -- Events that were read ahead.
 use Rattle.std.specs.Prelude.{◌≡◌, ◌⊎◌, ℕ, ◌≤◌, ◌<◌, length, Result, IfOk, OnOk, IsErrOf}
 use Rattle.acd_book.specs.Content.{Content, events_behind, Within, HasRisen}
-use Rattle.acd_book.specs.State.{BookState, IfHonest}
+use Rattle.acd_book.specs.State.{BookState, IfHonest, BookStep, Unchanged}
 use Rattle.acd_book.specs.declared.fault.BookFault.{BookFault}
 use Rattle.acd_book.specs.declared.fault.BookFault.TheVariants.{Store}
 use Rattle.acd_desk.specs.Tells.{above}
@@ -17,16 +17,12 @@ Reaches p number count = (p.above ≤ number) × ((length p.events.items < p.lim
 
 -- a read of an open book, or none where what was read before tells it: then nothing tells whether the book is open
 pub record ReadsIfOpen {A : Type 0} (old new : BookState) (result : Result A BookFault) (IsAnswer : Content → A → Type 0) : Type 0 where
-  pub clean : new.is_clean → old.is_clean
-  pub sound : IfHonest old new new.is_sound
+  pub step : BookStep (IsErrOf result Store) old new
+  pub unchanged : Unchanged old new
   pub value : IfHonest old new (old.is_open → IfOk result (IsAnswer old.content))
-  pub same : IfHonest old new (new.is_open → old.is_open × (new.content ≡ old.content))
   pub stays : OnOk result (IfHonest old new (old.is_open → new.is_open))
-  pub stops : IfHonest old new (Within new.stops old.stops)
   pub keeps : IfHonest old new (new.is_open → Within old.stops new.stops)
   pub cause : IsErrOf result Store → HasRisen old.failures new.failures
-  pub quiet : ¬ (IsErrOf result Store) → new.failures ≡ old.failures
-  pub counts : old.failures ≤ new.failures
 
 -- a page of this content that has the first events above a number, so many
 abbrev pub Has : Content → Page → ℕ → ℕ → Type 0

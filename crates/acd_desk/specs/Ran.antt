@@ -1,11 +1,11 @@
 -- What one call of a desk leaves, and what many calls leave, over any book.
-use Rattle.std.specs.Prelude.{◌≡◌, ◌⊎◌, ◌≤◌, true, false, List, [], ◌∷◌, length, None}
+use Rattle.std.specs.Prelude.{◌≡◌, ◌⊎◌, true, false, List, [], ◌∷◌, length, None}
 use Rattle.std.specs.List.{Contains}
 use Rattle.acd_terms.specs.Lists.{Every}
 use Rattle.acd_terms.specs.declared.command.Arrival.{Arrival}
 use Rattle.acd_book.specs.declared.book.Book.{Ghosts}
 use Rattle.acd_book.specs.Content.{Content, HasRisen, Within}
-use Rattle.acd_book.specs.State.{BookState, IfHonest}
+use Rattle.acd_book.specs.State.{BookState, IfHonest, BookStep}
 use Rattle.acd_desk.specs.declared.desk.Desk.{Desk}
 use Rattle.acd_desk.specs.declared.taken.Taken.{Taken}
 use Rattle.acd_desk.specs.declared.taken.Taken.TheVariants.{NoMemory, StoreFault}
@@ -28,11 +28,20 @@ IsDeceived old new = ¬ (new.book.is_clean × old.book.is_sound × InStep old)
 abbrev pub IfStarted : Standing → Standing → Type 0 → Type 0
 IfStarted old new P = new.book.is_clean → Starts old → P
 
--- one arrival, and its answer
-pub record Took (old : Standing) (a : Arrival) (t : Taken) (new : Standing) : Type 0 where
-  pub clean : new.book.is_clean → old.book.is_clean
-  pub sound : IfHonest old.book new.book new.book.is_sound
+-- a step of a desk, of one call or of many, where `Faulted` says that it answered storeFault, and `Unloaded` that it had no switch in memory
+pub record DeskStep (Faulted Unloaded : Type 0) (old new : Standing) : Type 0 where
   pub in_step : IfHonest old.book new.book (InStep old → InStep new)
+  -- the desk fails where it answers storeFault, and nowhere else; once failed it stays so
+  pub shuts : Faulted → new.failed ≡ true
+  pub tells : new.failed ≡ true → (old.failed ≡ true) ⊎ Faulted
+  pub lasts : old.failed ≡ true → new.failed ≡ true
+  -- it fails where a failure was counted, or where rows that an unloaded desk was given break a rule
+  pub cause : new.failed ≡ true → IsCause old new ⊎ (Unloaded × IsDeceived old new)
+
+-- one arrival, and its answer; where it is anything but storeFault, noMemory too, no failure was counted
+pub record Took (old : Standing) (a : Arrival) (t : Taken) (new : Standing) : Type 0 where
+  pub step : BookStep (t ≡ StoreFault) old.book new.book
+  pub desk : DeskStep (t ≡ StoreFault) (old.switch ≡ None) old new
   pub up : is_fault t ≡ false → IfHonest old.book new.book (old.book.is_open × new.book.is_open)
   pub sent : is_fault t ≡ false → IfHonest old.book new.book (InStep old
       → (t ≡ answer_in (after old.book.content a) a.request) × (new.book.content ≡ after old.book.content a))
@@ -40,15 +49,8 @@ pub record Took (old : Standing) (a : Arrival) (t : Taken) (new : Standing) : Ty
   -- a stop was one before; or the desk worked, its book was open, and the arrival is executed
   pub stops : IfHonest old.book new.book (InStep old → (c : Content) → new.book.stops c
       → old.book.stops c ⊎ ((old.failed ≡ false) × old.book.is_open × (c ≡ after old.book.content a)))
-  -- the desk fails where it answers storeFault, and nowhere else; once failed it stays so, and answers faults alone
-  pub shuts : t ≡ StoreFault → new.failed ≡ true
-  pub tells : new.failed ≡ true → (old.failed ≡ true) ⊎ (t ≡ StoreFault)
-  pub shut : old.failed ≡ true → (new.failed ≡ true) × (is_fault t ≡ true)
-  -- it fails where a failure was counted, or where rows that an unloaded desk was given break a rule
-  pub cause : new.failed ≡ true → IsCause old new ⊎ ((old.switch ≡ None) × IsDeceived old new)
-  -- where it answers anything but storeFault, noMemory too, no failure was counted
-  pub quiet : ¬ (t ≡ StoreFault) → new.book.failures ≡ old.book.failures
-  pub counts : old.book.failures ≤ new.book.failures
+  -- once failed it answers faults alone
+  pub shut : old.failed ≡ true → is_fault t ≡ true
   -- it drops its switch where it answers noMemory, or has failed
   pub unloads : new.failed ≡ false → new.switch ≡ None → (old.switch ≡ None) ⊎ (t ≡ NoMemory)
 
@@ -80,12 +82,11 @@ pub record Holds (start : Content) (list : List Arrival) (new : BookState) : Typ
   pub laws : KeepsLaws new.content
   pub alone : (c : Content) → new.stops c → c ≡ new.content
 
--- some arrivals, and their answers
+-- some arrivals, and their answers; where none is storeFault, no failure was counted
 pub record Ran (old : Standing) (arrivals : List Arrival) (answers : List Taken) (new : Standing) : Type 0 where
   pub even : length arrivals ≡ length answers
-  pub clean : new.book.is_clean → old.book.is_clean
-  pub sound : IfHonest old.book new.book new.book.is_sound
-  pub in_step : IfHonest old.book new.book (InStep old → InStep new)
+  pub step : BookStep (Contains answers StoreFault) old.book new.book
+  pub desk : DeskStep (Contains answers StoreFault) (WasUnloaded old answers) old new
   -- each answer but the faults is that of the abstract desk, at its place in the list of what was kept and served
   pub replies : IfStarted old new (sent answers ≡ replies old.book.content (served arrivals answers))
   -- an open book holds the run over the first arrivals of that list, and a reopening finds nothing else
@@ -99,15 +100,9 @@ pub record Ran (old : Standing) (arrivals : List Arrival) (answers : List Taken)
   pub sound_stops : IfStarted old new ((c : Content) → new.book.stops c → IsSound c)
   -- over a book that was shut, or by a desk that had failed, no stop is added
   pub still : IfHonest old.book new.book ((¬ old.book.is_open) ⊎ (old.failed ≡ true) → Within new.book.stops old.book.stops)
-  -- a desk that answers storeFault has failed, and that has a cause; behind it there are faults alone
-  pub shuts : Contains answers StoreFault → new.failed ≡ true
-  pub cause : new.failed ≡ true → IsCause old new ⊎ (WasUnloaded old answers × IsDeceived old new)
-  pub tells : new.failed ≡ true → (old.failed ≡ true) ⊎ Contains answers StoreFault
+  -- behind a storeFault there are faults alone
   pub later : EndsIn IsFault answers
-  pub shut : old.failed ≡ true → (new.failed ≡ true) × Every IsFault answers
-  -- where no storeFault was answered, no failure was counted
-  pub quiet : ¬ (Contains answers StoreFault) → new.book.failures ≡ old.book.failures
-  pub counts : old.book.failures ≤ new.book.failures
+  pub shut : old.failed ≡ true → Every IsFault answers
   pub unloads : new.failed ≡ false → new.switch ≡ None → WasUnloaded old answers
 
 -- ---- of a desk over a book, by the words of that book

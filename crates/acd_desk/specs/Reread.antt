@@ -1,18 +1,14 @@
 -- What a read of a desk's book leaves, where it gave an answer.
 use Rattle.std.specs.Prelude.{◌≡◌, None}
-use Rattle.acd_book.specs.Content.{Within}
-use Rattle.acd_book.specs.State.{IfHonest}
+use Rattle.acd_book.specs.State.{IfHonest, BookStep, Unchanged}
 use Rattle.acd_desk.specs.Standing.{Standing, InStep}
 
 -- the same content, and no failure
 pub record Reread (old new : Standing) : Type 0 where
-  pub clean : new.book.is_clean → old.book.is_clean
-  pub sound : IfHonest old.book new.book new.book.is_sound
-  pub opened : IfHonest old.book new.book (new.book.is_open → old.book.is_open)
+  pub step : BookStep ⊥ old.book new.book
+  pub unchanged : Unchanged old.book new.book
   pub stays : IfHonest old.book new.book (old.book.is_open → new.book.is_open)
   pub same : IfHonest old.book new.book (new.book.content ≡ old.book.content)
-  pub stops : IfHonest old.book new.book (Within new.book.stops old.book.stops)
   pub in_step : IfHonest old.book new.book (InStep old → InStep new)
   pub failed : new.failed ≡ old.failed
   pub loaded : new.switch ≡ None → old.switch ≡ None
-  pub quiet : new.book.failures ≡ old.book.failures

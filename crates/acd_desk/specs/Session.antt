@@ -1,10 +1,10 @@
 -- What a session over a book leaves: a desk is opened, runs and is closed.
-use Rattle.std.specs.Prelude.{◌≡◌, ◌≤◌, false, List, [], ◌∷◌, length}
+use Rattle.std.specs.Prelude.{◌≡◌, false, List, [], ◌∷◌, length}
 use Rattle.std.specs.List.{Contains}
 use Rattle.acd_terms.specs.declared.command.Arrival.{Arrival}
 use Rattle.acd_model.specs.Rules.First.{BreaksNoRule}
 use Rattle.acd_book.specs.Content.{Content, HasRisen}
-use Rattle.acd_book.specs.State.{BookState, IfHonest}
+use Rattle.acd_book.specs.State.{BookState, IfHonest, BookStep}
 use Rattle.acd_desk.specs.declared.taken.Taken.{Taken}
 use Rattle.acd_desk.specs.declared.taken.Taken.TheVariants.{StoreFault}
 use Rattle.acd_desk.specs.declared.open_fault.OpenFault.{OpenFault}
@@ -28,8 +28,8 @@ IsLastServed (_ ∷ t ∷ ts) = IsLastServed (t ∷ ts)
 -- the arrivals were taken in turn, and the book came back; of the answers behind a storeFault this is said
 pub record Session (Behind : Taken → Type 0) (old : BookState) (arrivals : List Arrival) (answers : List Taken) (new : BookState) : Type 0 where
   pub even : length arrivals ≡ length answers
-  pub clean : new.is_clean → old.is_clean
-  pub sound : IfHonest old new new.is_sound
+  -- no failure was counted but where a storeFault is among the answers
+  pub step : BookStep (Contains answers StoreFault) old new
   -- the book was open, with rows that break no rule
   pub opened : IfHonest old new old.is_open
   pub accepts : IfHonest old new (BreaksNoRule old.content.rows)
@@ -45,8 +45,6 @@ pub record Session (Behind : Taken → Type 0) (old : BookState) (arrivals : Lis
   -- a storeFault comes only where a failure was counted
   pub later : EndsIn Behind answers
   pub cause : IfWhole old new (Contains answers StoreFault → HasRisen old.failures new.failures)
-  pub quiet : ¬ (Contains answers StoreFault) → new.failures ≡ old.failures
-  pub counts : old.failures ≤ new.failures
 
 -- want of room for the answers is want of memory
 abbrev pub refusal : SessionFault → OpenFault

@@ -1,35 +1,28 @@
 -- What a read of a desk leaves.
-use Rattle.std.specs.Prelude.{◌≡◌, ◌⊎◌, ℕ, ◌≤◌, true, false, List, Option, None, Result, Err, IfOk, OnOk, IsErrOf, String}
+use Rattle.std.specs.Prelude.{◌≡◌, ℕ, true, false, List, Option, None, Result, Err, IfOk, OnOk, IsErrOf, String}
 use Rattle.acd_book.specs.declared.book.Book.{Ghosts}
-use Rattle.acd_book.specs.Content.{Content, Within}
-use Rattle.acd_book.specs.State.{IfHonest}
+use Rattle.acd_book.specs.Content.{Content}
+use Rattle.acd_book.specs.State.{IfHonest, BookStep, Unchanged}
 use Rattle.acd_desk.specs.declared.fault.DeskFault.{DeskFault}
 use Rattle.acd_desk.specs.declared.fault.DeskFault.TheVariants.{StoreFault}
 use Rattle.acd_desk.specs.declared.desk.Desk.{Desk}
 use Rattle.acd_desk.specs.Standing.{Standing, InStep, standing}
-use Rattle.acd_desk.specs.Ran.{IsCause, IsDeceived}
+use Rattle.acd_desk.specs.Ran.{DeskStep}
 use Rattle.acd_desk.specs.Tells.{told}
 
 -- a read, where `IsAnswer c found` says that this is told of that content
 pub record Told {A : Type 0} (old new : Standing) (result : Result A DeskFault) (IsAnswer : Content → A → Type 0) : Type 0 where
-  pub clean : new.book.is_clean → old.book.is_clean
-  pub sound : IfHonest old.book new.book new.book.is_sound
-  pub in_step : IfHonest old.book new.book (InStep old → InStep new)
+  -- where it answers anything but storeFault, no failure was counted
+  pub step : BookStep (IsErrOf result StoreFault) old.book new.book
+  -- its content is as before
+  pub unchanged : Unchanged old.book new.book
+  pub desk : DeskStep (IsErrOf result StoreFault) (old.switch ≡ None) old new
   -- where the book is open, what is told is told of its content
   pub value : IfHonest old.book new.book (InStep old → old.book.is_open → IfOk result (IsAnswer old.book.content))
-  -- it stays open, and its content is as before
+  -- it stays open
   pub stays : OnOk result (IfHonest old.book new.book (old.book.is_open → new.book.is_open))
-  pub same : IfHonest old.book new.book (new.book.is_open → old.book.is_open × (new.book.content ≡ old.book.content))
-  pub stops : IfHonest old.book new.book (Within new.book.stops old.book.stops)
-  -- the desk has failed where storeFault is answered, and nowhere else; once failed it answers nothing else
-  pub shuts : IsErrOf result StoreFault → new.failed ≡ true
-  pub tells : new.failed ≡ true → IsErrOf result StoreFault
+  -- once failed it answers nothing but storeFault
   pub shut : old.failed ≡ true → IsErrOf result StoreFault
-  -- it fails where a failure was counted, or where rows that an unloaded desk was given break a rule
-  pub cause : IsErrOf result StoreFault → IsCause old new ⊎ ((old.switch ≡ None) × IsDeceived old new)
-  -- where it answers anything but storeFault, no failure was counted
-  pub quiet : ¬ (IsErrOf result StoreFault) → new.book.failures ≡ old.book.failures
-  pub counts : old.book.failures ≤ new.book.failures
   -- it drops no switch, unless it has failed
   pub loads : new.failed ≡ false → new.switch ≡ None → old.switch ≡ None
 

@@ -37,7 +37,7 @@ from_nothing : (old new : Standing) → IsNewDesk old → IsQuiet old new → (a
 from_nothing old new first quiet arrivals answers ran = record {
   even = ran.even;
   replies = subst (λ (c : Content). sent answers ≡ replies c (served arrivals answers)) first.empty (ran.replies quiet.clean first.starts);
-  no_fault = λ found. elim (ran.cause (ran.shuts found)) [
+  no_fault = λ found. elim (ran.desk.cause (ran.desk.shuts found)) [
     | inl cause ↦ elim cause [
       | inl failed ↦ absurd (true≢false (sym failed ∙ first.works))
       | inr risen ↦ quiet.quiet risen

@@ -3,6 +3,7 @@ use Rattle.std.proofs.Common.{◌≡◌, ℕ, Result, Ok, Err, subst, ◌∙◌}
 use Rattle.acd_book.specs.Content.{Content}
 use Rattle.acd_book.specs.Order.{IsOrdered}
 use Rattle.acd_book.specs.State.{BookState}
+use Rattle.acd_book.proofs.BookSteps.{step_then}
 use Rattle.acd_desk.specs.declared.fault.DeskFault.{DeskFault}
 use Rattle.acd_desk.specs.declared.audit.Audit.{Audit}
 use Rattle.acd_desk.specs.declared.audit.Audit.TheVariants as audit
@@ -23,43 +24,37 @@ use Rattle.acd_terms.proofs.Results.{ok_err}
 -- a desk that was opened was asked; of a sound content the answer is that of the read
 pub asked_by : {A : Type 0} (old : BookState) (d e : Standing) (x : A) (P : Content → A → Type 0) → Opened old d → Told d e (Ok x) P → WasAsked old (λ (c : Content) (y : A). IsSound c → P c y) x e.book
 asked_by old d e x P o t =
-    let same : e.book.is_clean → old.is_sound → d.book.content ≡ old.content = λ clean sound. (o.opened (t.clean clean) sound).2 in
+    let same : e.book.is_clean → old.is_sound → d.book.content ≡ old.content = λ clean sound. (o.opened (t.step.clean clean) sound).2 in
     let up : e.book.is_clean → old.is_sound → e.book.is_open
-    = λ clean sound. t.stays clean (o.sound (t.clean clean) sound) (o.opened (t.clean clean) sound).1 in
+    = λ clean sound. t.stays clean (o.step.sound (t.step.clean clean) sound) (o.opened (t.step.clean clean) sound).1 in
     record {
-      clean = λ clean. o.clean (t.clean clean);
-      sound = λ clean sound. t.sound clean (o.sound (t.clean clean) sound);
-      opened = λ clean sound. ((o.opened (t.clean clean) sound).0, up clean sound);
-      same = λ clean sound. (t.same clean (o.sound (t.clean clean) sound) (up clean sound)).1 ∙ same clean sound;
+      step = step_then o.step t.step (λ none. none) (λ h. ok_err h);
+      opened = λ clean sound. ((o.opened (t.step.clean clean) sound).0, up clean sound);
+      same = λ clean sound. (t.unchanged.same clean (o.step.sound (t.step.clean clean) sound) (up clean sound)).1 ∙ same clean sound;
       answer = λ clean sound whole.
-          let starts : Starts d = o.starts (t.clean clean) sound whole in
+          let starts : Starts d = o.starts (t.step.clean clean) sound whole in
           subst (λ (c : Content). P c x) (same clean sound) (t.value clean starts.0 starts.2 starts.1);
-      stops = λ clean sound c at. o.stops (t.clean clean) sound c (t.stops clean (o.sound (t.clean clean) sound) c at);
-      quiet = t.quiet (λ h. ok_err h) ∙ o.quiet;
+      stops = λ clean sound c at. o.stops (t.step.clean clean) sound c (t.unchanged.stops clean (o.step.sound (t.step.clean clean) sound) c at);
     }
 
 -- what follows from an answer is an answer
 pub asked_so : {A B : Type 0} (old new : BookState) (x : A) (y : B) (P : Content → A → Type 0) (Q : Content → B → Type 0) → ((c : Content) → P c x → Q c y) → WasAsked old P x new → WasAsked old Q y new
 asked_so old new x y P Q follows a = record {
-  clean = a.clean;
-  sound = a.sound;
+  step = a.step;
   opened = a.opened;
   same = a.same;
   answer = λ clean sound. follows old.content (a.answer clean sound);
   stops = a.stops;
-  quiet = a.quiet;
 }
 
 -- of a book that came of another
 pub asked_of : {A : Type 0} (old mid new : BookState) (x : A) (P : Content → A → Type 0) → IsOf old mid → WasAsked mid P x new → WasAsked old P x new
 asked_of old mid new x P of a = record {
-  clean = λ clean. of.clean (a.clean clean);
-  sound = λ clean is. a.sound clean (of.sound (a.clean clean) is);
-  opened = λ clean is. (of.opened (a.clean clean) is, (a.opened clean (of.sound (a.clean clean) is)).1);
-  same = λ clean is. a.same clean (of.sound (a.clean clean) is) ∙ of.content (a.clean clean) is;
-  answer = λ clean is. subst (λ (c : Content). P c x) (of.content (a.clean clean) is) (a.answer clean (of.sound (a.clean clean) is));
-  stops = λ clean is c at. of.stops (a.clean clean) is c (a.stops clean (of.sound (a.clean clean) is) c at);
-  quiet = a.quiet ∙ of.failures;
+  step = step_then of.step a.step (λ none. none) (λ none. none);
+  opened = λ clean is. (of.opened (a.step.clean clean) is, (a.opened clean (of.step.sound (a.step.clean clean) is)).1);
+  same = λ clean is. a.same clean (of.step.sound (a.step.clean clean) is) ∙ of.content (a.step.clean clean) is;
+  answer = λ clean is. subst (λ (c : Content). P c x) (of.content (a.step.clean clean) is) (a.answer clean (of.step.sound (a.step.clean clean) is));
+  stops = λ clean is c at. of.stops (a.step.clean clean) is c (a.stops clean (of.step.sound (a.step.clean clean) is) c at);
 }
 
 -- its records stand in order
@@ -67,13 +62,11 @@ pub asked_in_order : (old mid new : BookState) (x : Finding) → IsOf old mid �
 asked_in_order old mid new x of a =
     let there = asked_of old mid new x IsFindingIfOrdered of a in
     record {
-      clean = there.clean;
-      sound = there.sound;
+      step = there.step;
       opened = there.opened;
       same = there.same;
-      answer = λ clean is. there.answer clean is (subst (λ (c : Content). IsOrdered c) (of.content (a.clean clean) is) (of.ordered (a.clean clean) is));
+      answer = λ clean is. there.answer clean is (subst (λ (c : Content). IsOrdered c) (of.content (a.step.clean clean) is) (of.ordered (a.step.clean clean) is));
       stops = there.stops;
-      quiet = there.quiet;
     }
 
 -- ---- an audit
@@ -91,14 +84,12 @@ pub audited_by : (old : BookState) (d e : Standing) (x : Finding) → Opened old
 audited_by old d e x o t found =
     let told = asked_by old d e x (λ (c : Content) (y : Finding). Unit {0}) o t in
     record {
-      clean = told.clean;
-      sound = told.sound;
+      step = told.step;
       opened = told.opened;
       same = told.same;
-      answer = λ clean sound. subst (λ (c : Content). IsFindingIfOrdered c x) (o.opened (t.clean clean) sound).2
-          (of_desk x (λ whole. o.starts (t.clean clean) sound (subst IsSound (o.opened (t.clean clean) sound).2 whole)) (found clean (o.sound (t.clean clean) sound)));
+      answer = λ clean sound. subst (λ (c : Content). IsFindingIfOrdered c x) (o.opened (t.step.clean clean) sound).2
+          (of_desk x (λ whole. o.starts (t.step.clean clean) sound (subst IsSound (o.opened (t.step.clean clean) sound).2 whole)) (found clean (o.step.sound (t.step.clean clean) sound)));
       stops = told.stops;
-      quiet = told.quiet;
     }
   where
     of_desk : (x : Finding) → (IsSound d.book.content → Starts d) → IsFinding d x → IsFindingIfOrdered d.book.content x

@@ -1,11 +1,12 @@
 -- What lines over a book leave, by what opening a desk and its run left; and over a connection, by what its book left.
-use Rattle.std.proofs.Common.{Option, ◌≡◌, ℕ, ◌≤◌, Bool, true, List, sym, subst, ◌∙◌, inl, inr, true≢false}
+use Rattle.std.proofs.Common.{Option, ◌≡◌, ℕ, Bool, true, List, sym, subst, ◌∙◌, inl, inr, true≢false}
 use Rattle.std.specs.List.{Contains}
 use Rattle.sqlite.specs.State.{State}
 use Rattle.acd_terms.specs.declared.command.Arrival.{Arrival}
 use Rattle.acd_model.specs.Rules.First.{BreaksNoRule}
 use Rattle.acd_book.specs.Content.{Content, HasRisen}
 use Rattle.acd_book.specs.State.{BookState}
+use Rattle.acd_book.proofs.BookSteps.{step_then}
 use Rattle.acd_sqlbook.specs.declared.index.Index.{Index}
 use Rattle.acd_sqlbook.specs.Indexing.{followed}
 use Rattle.acd_sqlbook.specs.State.{book_state}
@@ -30,7 +31,7 @@ lines_over P W old d e opened h = arrivals_so P (λ (l : List Arrival) (ts : Lis
 
 -- a desk that was just opened hadn't failed
 failed_since : (old : BookState) (d e : Standing) (l : List Arrival) (ts : List Taken) → Opened old d → Ran d l ts e → e.failed ≡ true → Contains ts StoreFault
-failed_since old d e l ts opened ran failed = elim (ran.tells failed) [
+failed_since old d e l ts opened ran failed = elim (ran.desk.tells failed) [
   | inl before ↦ absurd (true≢false (sym before ∙ opened.working))
   | inr told ↦ told
 ]
@@ -44,14 +45,13 @@ lines_failed P W old d e opened failed h =
 
 pub session_of : (P : Taken → Type 0) (old mid new : BookState) (l : List Arrival) (ts : List Taken) → IsOf old mid → Session P mid l ts new → Session P old l ts new
 session_of P old mid new l ts of s =
-    let sound : new.is_clean → old.is_sound → mid.is_sound = λ clean sound. of.sound (s.clean clean) sound in
-    let same : new.is_clean → old.is_sound → mid.content ≡ old.content = λ clean sound. of.content (s.clean clean) sound in
+    let sound : new.is_clean → old.is_sound → mid.is_sound = λ clean sound. of.step.sound (s.step.clean clean) sound in
+    let same : new.is_clean → old.is_sound → mid.content ≡ old.content = λ clean sound. of.content (s.step.clean clean) sound in
     let well : new.is_clean → old.is_sound → IsSound old.content → IsSound mid.content = λ clean sound whole. subst IsSound (sym (same clean sound)) whole in
     record {
       even = s.even;
-      clean = λ clean. of.clean (s.clean clean);
-      sound = λ clean is. s.sound clean (sound clean is);
-      opened = λ clean is. of.opened (s.clean clean) is;
+      step = step_then of.step s.step (λ none. absurd none) (λ found. found);
+      opened = λ clean is. of.opened (s.step.clean clean) is;
       accepts = λ clean is. subst (λ (c : Content). BreaksNoRule c.rows) (same clean is) (s.accepts clean (sound clean is));
       replies = λ clean is whole. subst (λ (c : Content). sent ts ≡ replies c (served l ts)) (same clean is) (s.replies clean (sound clean is) (well clean is whole));
       holds = λ clean is whole opened. subst (λ (c : Content). Holds c (served l ts) new) (same clean is) (s.holds clean (sound clean is) (well clean is whole) opened);
@@ -59,9 +59,7 @@ session_of P old mid new l ts of s =
       stops = λ clean is whole c at. subst (λ (x : Content). StopsAt x (served l ts) (maybe_last l ts) c) (same clean is) (s.stops clean (sound clean is) (well clean is whole) c at);
       sound_stops = λ clean is whole c at. s.sound_stops clean (sound clean is) (well clean is whole) c at;
       later = s.later;
-      cause = λ clean is whole found. subst (λ (k : ℕ). HasRisen k new.failures) of.failures (s.cause clean (sound clean is) (well clean is whole) found);
-      quiet = λ none. s.quiet none ∙ of.failures;
-      counts = subst (λ (k : ℕ). k ≤ new.failures) of.failures s.counts;
+      cause = λ clean is whole found. subst (λ (k : ℕ). HasRisen k new.failures) (of.step.quiet (λ none. none)) (s.cause clean (sound clean is) (well clean is whole) found);
     }
 
 pub lines_since : (P : List (List ℕ) → Type 0) (W : List ℕ → Type 0) (old mid new : BookState) → IsOf old mid → LinesAnswered P (ArrivalsAnswered (IsSession mid new)) W → LinesAnswered P (ArrivalsAnswered (IsSession old new)) W

@@ -55,20 +55,20 @@ told_for stands (Some many) d e a b h = (h.outcomes, h.out)
 told_for stands None d e a b h = (h.1.outcomes, h.1.out)
 
 pub opened_desk : (old : BookState) (new : Standing) → Opened old new → IsDeskOf old new
-opened_desk old new o = record { clean = o.clean; sound = o.sound; opened = o.opened; starts = o.starts; stops = o.stops; working = o.working }
+opened_desk old new o = record { clean = o.step.clean; sound = o.step.sound; opened = o.opened; starts = o.starts; stops = o.stops; working = o.working }
 
 -- a desk of a book that came of another is one of that
 pub desk_of : (old mid : BookState) (new : Standing) → IsOf old mid → IsDeskOf mid new → IsDeskOf old new
 desk_of old mid new of o = record {
-  clean = λ clean. of.clean (o.clean clean);
-  sound = λ clean sound. o.sound clean (of.sound (o.clean clean) sound);
+  clean = λ clean. of.step.clean (o.clean clean);
+  sound = λ clean sound. o.sound clean (of.step.sound (o.clean clean) sound);
   opened = λ clean sound.
-      let there = of.sound (o.clean clean) sound in
+      let there = of.step.sound (o.clean clean) sound in
       let h = o.opened clean there in
       let same = of.content (o.clean clean) sound in
       (of.opened (o.clean clean) sound, h.1, h.2 ∙ same, h.3 ∙ ap (λ c. Some c.rows) same);
-  starts = λ clean sound whole. o.starts clean (of.sound (o.clean clean) sound) (subst (λ c. IsSound c) (sym (of.content (o.clean clean) sound)) whole);
-  stops = λ clean sound c at. of.stops (o.clean clean) sound c (o.stops clean (of.sound (o.clean clean) sound) c at);
+  starts = λ clean sound whole. o.starts clean (of.step.sound (o.clean clean) sound) (subst (λ c. IsSound c) (sym (of.content (o.clean clean) sound)) whole);
+  stops = λ clean sound c at. of.stops (o.clean clean) sound c (o.stops clean (of.step.sound (o.clean clean) sound) c at);
   working = o.working;
 }
 

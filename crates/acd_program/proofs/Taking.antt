@@ -1,5 +1,5 @@
 -- The book over a connection, by what making it or taking it left.
-use Rattle.std.proofs.Common.{◌≡◌, ℕ, Bool, true, Option, None, Result, Ok, Err, IfOk, IfErr, IsTrue, inl, inr, refl, sym, ap, subst, ◌∙◌}
+use Rattle.std.proofs.Common.{◌≡◌, ℕ, Bool, true, Option, None, Result, Ok, Err, IfOk, IfErr, IsTrue, inl, inr, refl, sym, ap, subst, ◌∙◌, arith}
 use Rattle.sqlite.specs.State.{State, HasCleanDisk}
 use Rattle.acd_terms.specs.Limits.{greatest_limits}
 use Rattle.acd_book.specs.State.{BookState}
@@ -25,24 +25,20 @@ use Rattle.acd_program.specs.Taking.{IsOf, IsTaken}
 pub of_held : (s t : State) (noted : Option Index) (failures : ℕ) → (HasCleanDisk t → IsAdopted s.now (book_state s 0) (book_state t failures)) → noted ≡ None → failures ≡ 0 → (HasCleanDisk t → HasCleanDisk s)
     → IsOf (held s) (followed noted (book_state t failures))
 of_held s t noted failures adopted none counted clean = subst (λ (o : Option Index). IsOf (held s) (followed o (book_state t failures))) (sym none) (record {
-  clean = clean;
-  sound = λ here filed. (adopted here).sound filed;
+  step = record { clean = clean; sound = λ here filed. (adopted here).sound filed; quiet = λ none. counted; counts = omega arith };
   content = λ here filed. (adopted here).content filed;
   stops = λ here filed. (adopted here).stops filed;
   opened = λ here filed. (adopted here).was_open;
-  failures = counted;
   ordered = λ here filed. (adopted here).ordered filed;
 })
 
 pub of_unmade : (s t : State) (noted : Option Index) (failures : ℕ) → (HasCleanDisk t → IsNewBook (book_state t failures) greatest_limits) → noted ≡ None → failures ≡ 0 → (HasCleanDisk t → HasCleanDisk s)
     → IsOf (unmade s) (followed noted (book_state t failures))
 of_unmade s t noted failures made none counted clean = subst (λ (o : Option Index). IsOf (unmade s) (followed o (book_state t failures))) (sym none) (record {
-  clean = clean;
-  sound = λ here _. (made here).sound;
+  step = record { clean = clean; sound = λ here _. (made here).sound; quiet = λ none. counted; counts = omega arith };
   content = λ here _. (made here).content;
   stops = λ here _. (made here).only;
   opened = λ here _. tt;
-  failures = counted;
   ordered = λ here _. subst IsOrdered (sym (made here).content) (record { kept = tt; events = tt });
 })
 
@@ -73,14 +69,14 @@ left_as t noted failures db c sound left is = let own = (apart noted (book_state
 -- what a book that makes no desk may leave
 pub unserved_refused : (makes : Bool) (s t : State) (mid : BookState) (noted : Option Index) (failures : ℕ) (why : OpenFault) → ((db : Trees) → IsTrue s.is_open → s.may_leave db → db ≡ s.committed.trees) → IsTaken makes s mid → Refused mid why (followed noted (book_state t failures)) → Unserved makes s t
 unserved_refused makes s t mid noted failures why settles (inl had) refused = λ clean filed db left.
-    let here = refused.clean clean in
-    let sound = had.sound here filed in
-    let before = had.stops here filed (content_of db) (refused.stops clean sound (content_of db) (db, left, refl)) in
+    let here = refused.step.clean clean in
+    let sound = had.step.sound here filed in
+    let before = had.stops here filed (content_of db) (refused.unchanged.stops clean sound (content_of db) (db, left, refl)) in
     let same : content_of db ≡ content_of s.committed.trees = before.2 ∙ ap content_of (settles before.0 (had.opened here filed) before.1) in
-    inr (inl (left_as t noted failures db (content_of s.committed.trees) (refused.sound clean sound) left same))
+    inr (inl (left_as t noted failures db (content_of s.committed.trees) (refused.step.sound clean sound) left same))
 unserved_refused makes s t mid noted failures why settles (inr made) refused = λ clean filed db left.
-    let here = refused.clean clean in
+    let here = refused.step.clean clean in
     let new = made.2 in
-    let sound = new.sound here tt in
-    let same = new.stops here tt (content_of db) (refused.stops clean sound (content_of db) (db, left, refl)) in
-    inr (inr (made.0, made.1, left_as t noted failures db nothing (refused.sound clean sound) left same))
+    let sound = new.step.sound here tt in
+    let same = new.stops here tt (content_of db) (refused.unchanged.stops clean sound (content_of db) (db, left, refl)) in
+    inr (inr (made.0, made.1, left_as t noted failures db nothing (refused.step.sound clean sound) left same))

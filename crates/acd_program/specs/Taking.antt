@@ -3,18 +3,16 @@ use Rattle.std.specs.Prelude.{◌≡◌, ◌⊎◌, Bool, true}
 use Rattle.sqlite.specs.State.{State}
 use Rattle.acd_book.specs.Content.{Within}
 use Rattle.acd_book.specs.Order.{IsOrdered}
-use Rattle.acd_book.specs.State.{BookState}
+use Rattle.acd_book.specs.State.{BookState, BookStep}
 use Rattle.acd_sql_columns.specs.Schema.{no_schema}
 use Rattle.acd_program.specs.Over.{held, unmade}
 
 -- a book that came of another and holds the same
 pub record IsOf (old new : BookState) : Type 0 where
-  pub clean : new.is_clean → old.is_clean
-  pub sound : new.is_clean → old.is_sound → new.is_sound
+  pub step : BookStep ⊥ old new
   pub content : new.is_clean → old.is_sound → new.content ≡ old.content
   pub stops : new.is_clean → old.is_sound → Within new.stops old.stops
   pub opened : new.is_clean → old.is_sound → old.is_open
-  pub failures : new.failures ≡ old.failures
   pub ordered : new.is_clean → old.is_sound → IsOrdered new.content
 
 -- the book that the database held or, where it had no tables and one was to be made, a new one

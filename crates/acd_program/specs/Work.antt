@@ -4,7 +4,7 @@ use Rattle.std.specs.Io.KnownBytes.{Appends}
 use Rattle.acd_terms.specs.declared.command.Request.{Request}
 use Rattle.acd_book.specs.Content.{Content, Within}
 use Rattle.acd_book.specs.Order.{IsOrdered}
-use Rattle.acd_book.specs.State.{BookState, IfHonest}
+use Rattle.acd_book.specs.State.{BookState, IfHonest, BookStep}
 use Rattle.acd_reports.specs.QueueReport.{queue_report}
 use Rattle.acd_reports.specs.Export.{events_csv}
 use Rattle.acd_desk.specs.Stands.{IsSound}
@@ -44,14 +44,12 @@ status_left (Audited found) = finding_status found
 
 -- a desk was opened over the book and asked, and the book came back as it was: this was found of what it holds
 pub record WasAsked {A : Type 0} (old : BookState) (IsAnswer : Content → A → Type 0) (found : A) (new : BookState) : Type 0 where
-  pub clean : new.is_clean → old.is_clean
-  pub sound : IfHonest old new new.is_sound
+  pub step : BookStep ⊥ old new
   pub opened : IfHonest old new (old.is_open × new.is_open)
   pub same : IfHonest old new (new.content ≡ old.content)
   pub answer : IfHonest old new (IsAnswer old.content found)
   -- a reopening finds nothing new
   pub stops : IfHonest old new (Within new.stops old.stops)
-  pub quiet : new.failures ≡ old.failures
 
 -- of a sound content this is told
 abbrev pub IsTextOf : Telling → Content → List ℕ → Type 0

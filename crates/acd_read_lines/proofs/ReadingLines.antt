@@ -91,7 +91,7 @@ module _ {D : Type 0} (stands : D → Standing) (settles : (d : D) → Settles (
   reads_tell_of_the_run d e f pieces outs h moment question out (inr a) =
       let run = lines_lead_to_the_run d e pieces outs h in
       λ clean starts opened.
-      let before = a.2.clean clean in
+      let before = a.2.step.clean clean in
       found_told (ran_after (stands d).book.content (served (arrivals_of stands d pieces outs e h) (answers_of stands d pieces outs e h))) moment question out a.0 a.1
       (subst (λ (c : Content). IfOk a.0 (λ (text : Option (List ℕ)). text ≡ told_of c moment question)) (run.content before starts opened)
       (a.2.value clean (run.sound before starts.0) (run.in_step before starts.0 starts.2) opened))

@@ -86,18 +86,14 @@ module _ {A : Type 0} (old new : State) (failures : ℕ) (r : Result A Error) (I
 
   pub reads : failures ≤ failures_after (answered r) failures → Settles old → Stays new → HasRead old new r IsAnswer → Reads (book_state old failures) (book_state new (failures_after (answered r) failures)) (answered r) IsAnswer
   reads low settles stays h = record {
-    clean = h.quiet.clean;
-    sound = still_sound h;
+    step = record { clean = h.quiet.clean; sound = still_sound h; quiet = quiet_count (answered r) failures; counts = low };
+    unchanged = record { same = same_content h; stops = λ k sound c stop. (stop.0, h.stops k sound.stands stop.0 stop.1, stop.2) };
     value = read_value h;
-    same = same_content h;
     stays = ok_imply (HasCleanDisk new) (IsSoundState old → IsTrue new.is_open) r (λ k. on_up k r (h.up k));
-    stops = λ k sound c stop. (stop.0, h.stops k sound.stands stop.0 stop.1, stop.2);
     keeps = λ k sound up c stop.
         let same = same_content h k sound up in
         (new.committed.trees, stays up, stop.2 ∙ ap content_of (settles stop.0 same.0 stop.1) ∙ sym same.1);
     cause = risen (answered r) failures;
-    quiet = quiet_count (answered r) failures;
-    counts = low;
   }
     where
       on_up : HasCleanDisk new → (r : Result A Error) → OnOk r (IsTrue new.is_open) → OnOk r (IsSoundState old → IsTrue new.is_open)
@@ -141,8 +137,7 @@ module _ (old new : State) (failures : ℕ) (r : Result (Unit {0}) Error) (writt
 
   pub commits : failures ≤ failures_after (answered r) failures → HasCommitted old new r written → Commits (book_state old failures) (book_state new (failures_after (answered r) failures)) (answered r) Follows after
   commits low h = record {
-    clean = h.clean;
-    sound = sound_after h;
+    step = record { clean = h.clean; sound = sound_after h; quiet = quiet_count (answered r) failures; counts = low };
     opened = λ k sound. opened_after r (h.up k);
     made = λ k sound follows. made_after k r sound follows (h.up k) (h.made k);
     undone = λ k sound up. let held = was_open h k sound up in undone_after r held.0 held.1 up (h.undone k);
@@ -152,8 +147,6 @@ module _ (old new : State) (failures : ℕ) (r : Result (Unit {0}) Error) (writt
           | inr new ↦ let held = sound.stands new.0 in inr (new.0, λ follows. stop.2 ∙ decoded stop.0 (written held.0) (new.1 held.0 held.1) ∙ followed k held.0 held.1 follows)
         ];
     cause = risen (answered r) failures;
-    quiet = quiet_count (answered r) failures;
-    counts = low;
   }
 
 -- ---- with the answer and the count as they are noted

@@ -2,7 +2,7 @@
 use Rattle.std.proofs.Common.{◌≡◌, List, Option, None, Some, Result, Ok, Err, IsTrue, IfOk, OnOk, sym, ap, subst, ◌∙◌}
 use Rattle.acd_terms.specs.declared.event.Event.{Event}
 use Rattle.acd_book.specs.Content.{Content}
-use Rattle.acd_book.specs.State.{BookState, Reads, Commits}
+use Rattle.acd_book.specs.State.{BookState, BookStep, Reads, Commits}
 use Rattle.acd_book.specs.declared.fault.BookFault.{BookFault}
 use Rattle.acd_sqlbook.specs.Indexing.{IndexIsNoted, IsNotedBehind, SoundWith, followed}
 use Rattle.sqlite.specs.declared.error.Error.{Error}
@@ -30,6 +30,16 @@ both : (noted : Option Index) (b : BookState) → b.is_sound → (b.is_open → 
 both None b s n = s
 both (Some i) b s n = (s, n)
 
+-- a step of the book is one of it with what was noted
+step_with : {F : Type 0} (before behind : Option Index) (old new : BookState) → BookStep F old new
+    → (new.is_clean → old.is_sound → (old.is_open → IndexIsNoted before old.content.events) → new.is_open → IndexIsNoted behind new.content.events) → BookStep F (followed before old) (followed behind new)
+step_with before behind old new step goes = record {
+  clean = step.clean;
+  sound = λ k w. let s = apart before old w in both behind new (step.sound k s.0) (goes k s.0 s.1);
+  quiet = step.quiet;
+  counts = step.counts;
+}
+
 on : {A P Q : Type 0} (r : Result A BookFault) → (P → Q) → OnOk r P → OnOk r Q
 on (Ok a) f p = f p
 on (Err e) f p = tt
@@ -45,18 +55,12 @@ module _ {A : Type 0} (before behind : Option Index) (old new : BookState) (r : 
       → ((c : Content) (a : A) → IndexIsNoted before c.events → IsFound c a → IsAnswer c a)
       → Reads old new r IsFound → Reads (followed before old) (followed behind new) r IsAnswer
   reads_followed goes answers h = record {
-    clean = h.clean;
-    sound = λ k w.
-        let s = apart before old w in
-        both behind new (h.sound k s.0) (λ up. let same = h.same k s.0 up in here behind new.content old.content same.1 (goes k s.0 same.0 (s.1 same.0)));
+    step = step_with before behind old new h.step (λ k s noted up. let same = h.unchanged.same k s up in here behind new.content old.content same.1 (goes k s same.0 (noted same.0)));
+    unchanged = record { same = λ k w. h.unchanged.same k (apart before old w).0; stops = λ k w. h.unchanged.stops k (apart before old w).0 };
     value = λ k w. let s = apart before old w in found_with r s.1 answers (h.value k s.0);
-    same = λ k w. h.same k (apart before old w).0;
     stays = on r (λ (f : new.is_clean → old.is_sound → new.is_open). λ (k : new.is_clean) (w : SoundWith before old). f k (apart before old w).0) h.stays;
-    stops = λ k w. h.stops k (apart before old w).0;
     keeps = λ k w. h.keeps k (apart before old w).0;
     cause = h.cause;
-    quiet = h.quiet;
-    counts = h.counts;
   }
 
 -- what is noted behind a page is of the events that are held, where what was noted before is
@@ -76,15 +80,12 @@ pub commits_followed : (before behind : Option Index) (old new : BookState) (r :
     → (new.is_clean → old.is_sound → new.is_open → (old.is_open → IndexIsNoted before old.content.events) → IndexIsNoted behind new.content.events)
     → Commits old new r Follows after → Commits (followed before old) (followed behind new) r Follows after
 commits_followed before behind old new r Follows after goes h = record {
-  clean = h.clean;
-  sound = λ k w. let s = apart before old w in both behind new (h.sound k s.0) (λ up. goes k s.0 up s.1);
+  step = step_with before behind old new h.step (λ k s noted up. goes k s up noted);
   opened = λ k w. h.opened k (apart before old w).0;
   made = λ k w. h.made k (apart before old w).0;
   undone = λ k w. h.undone k (apart before old w).0;
   stops = λ k w. h.stops k (apart before old w).0;
   cause = h.cause;
-  quiet = h.quiet;
-  counts = h.counts;
 }
 
 -- what is noted behind a commit of changes is of the events that it leaves

@@ -30,8 +30,8 @@ loop-i-preserved g c =
     record {
       count = search rules;
       room = search rules;
-      later = subst (EndsIn IsStoreFault) (sym c.in_ok-push.ensures.items) (later_push IsStoreFault ts t inv.later (λ found. c.take-answer.ensures.shut (inv.ran.shuts found)));
-      shut = λ failed. subst (Every IsStoreFault) (sym c.in_ok-push.ensures.items) (every_push IsStoreFault ts t (inv.shut failed) (c.take-answer.ensures.shut (inv.ran.shut failed).0));
+      later = subst (EndsIn IsStoreFault) (sym c.in_ok-push.ensures.items) (later_push IsStoreFault ts t inv.later (λ found. c.take-answer.ensures.shut (inv.ran.desk.shuts found)));
+      shut = λ failed. subst (Every IsStoreFault) (sym c.in_ok-push.ensures.items) (every_push IsStoreFault ts t (inv.shut failed) (c.take-answer.ensures.shut (inv.ran.desk.lasts failed)));
       ran = more old new (l ++ a ∷ []) (take (c.loop-i.i + 1) c.args.arrivals.now) (ts ++ t ∷ []) c.push.new.self.items longer c.in_ok-push.ensures.items
           (ran_more old mid new l ts a t settles inv.ran c.take-answer.ensures.took);
     }
