@@ -10,7 +10,7 @@ use Rattle.sqlite_store.specs.declared.store.FileStore.{FileStore}
 use Rattle.acd_book.specs.declared.book.Book as book
 use Rattle.acd_book.specs.State.{BookState}
 use Rattle.acd_sql_columns.specs.Schema.{no_schema}
-use Rattle.acd_sqlbook.specs.declared.book.SqlBook.{SqlBook}
+use Rattle.acd_sqlbook.specs.View.{BookView}
 use Rattle.acd_desk.specs.declared.desk.Desk.{Desk}
 use Rattle.acd_desk.specs.Opening.{Opened}
 use Rattle.acd_desk.specs.Standing.{standing}
@@ -39,12 +39,12 @@ reads_of says old mid had a b last of h = record { first = h.first; final = h.fi
 
 module _ {S : Type 0} (store : Ghosts S) where
   -- the book was the database's, or a new one
-  over_taken : (makes : Bool) (s : State) (mid : BookState) (had a b : Option (List ℕ)) (last : SqlBook S store) → IsTaken makes s mid → ReadsOver (in_database store) mid had a b last
+  over_taken : (makes : Bool) (s : State) (mid : BookState) (had a b : Option (List ℕ)) (last : BookView S) → IsTaken makes s mid → ReadsOver (in_database store) mid had a b last
       → ReadsOver (in_database store) (held s) had a b last ⊎ ((makes ≡ true) × (s.now.schema ≡ no_schema) × ReadsOver (in_database store) (unmade s) had a b last)
   over_taken makes s mid had a b last (inl its) h = inl (reads_of (in_database store) (held s) mid had a b last its h)
   over_taken makes s mid had a b last (inr made) h = inr (made.0, made.1, reads_of (in_database store) (unmade s) mid had a b last made.2 h)
 
-  pub reads_database : {F : Type 0} (r : Result (Unit {0}) F) (makes : Bool) (s : State) (mid : BookState) (had a b : Option (List ℕ)) (last : SqlBook S store) (conn : Held S) → IsTaken makes s mid → conn ≡ last.conn
+  pub reads_database : {F : Type 0} (r : Result (Unit {0}) F) (makes : Bool) (s : State) (mid : BookState) (had a b : Option (List ℕ)) (last : BookView S) (conn : Held S) → IsTaken makes s mid → conn ≡ last.conn
       → OnOk r (ReadsOver (in_database store) mid had a b last) → OnOk r (ReadsDatabase store makes s had a b conn)
   reads_database (Ok u) makes s mid had a b last conn taken back h = record { its = last; over = over_taken makes s mid had a b last taken h; back = back }
   reads_database (Err e) makes s mid had a b last conn taken back h = tt

@@ -10,7 +10,7 @@ use Rattle.sqlite_trees.specs.declared.store.Store.{Ghosts}
 use Rattle.sqlite_store.specs.declared.store.FileStore.{FileStore}
 use Rattle.acd_book.specs.declared.book.Book as book
 use Rattle.acd_book.specs.State.{BookState}
-use Rattle.acd_sqlbook.specs.declared.book.SqlBook.{SqlBook}
+use Rattle.acd_sqlbook.specs.View.{BookView}
 use Rattle.acd_desk.specs.declared.desk.Desk.{Desk}
 use Rattle.acd_desk.specs.Opening.{Opened}
 use Rattle.acd_desk.specs.Stands.{IsSound}
@@ -83,12 +83,12 @@ serves_over says (Err e) old span first final last a b opened back h = tt
 
 module _ {S : Type 0} (store : Ghosts S) where
   -- the book was the database's, or a new one
-  over_taken : (makes : Bool) (span : Option ℕ) (s : State) (mid : BookState) (a b : Option (List ℕ)) (last : SqlBook S store) → IsTaken makes s mid → ServesOver (in_database store) mid span a b last
+  over_taken : (makes : Bool) (span : Option ℕ) (s : State) (mid : BookState) (a b : Option (List ℕ)) (last : BookView S) → IsTaken makes s mid → ServesOver (in_database store) mid span a b last
       → ServesOver (in_database store) (held s) span a b last ⊎ ((makes ≡ true) × (s.now.schema ≡ no_schema) × ServesOver (in_database store) (unmade s) span a b last)
   over_taken makes span s mid a b last (inl had) h = inl (serves_of (in_database store) (held s) mid span a b last had h)
   over_taken makes span s mid a b last (inr made) h = inr (made.0, made.1, serves_of (in_database store) (unmade s) mid span a b last made.2 h)
 
-  pub serves_database : {F : Type 0} (r : Result (Unit {0}) F) (makes : Bool) (span : Option ℕ) (s : State) (mid : BookState) (a b : Option (List ℕ)) (last : SqlBook S store) (conn : Held S) → IsTaken makes s mid → conn ≡ last.conn
+  pub serves_database : {F : Type 0} (r : Result (Unit {0}) F) (makes : Bool) (span : Option ℕ) (s : State) (mid : BookState) (a b : Option (List ℕ)) (last : BookView S) (conn : Held S) → IsTaken makes s mid → conn ≡ last.conn
       → OnOk r (ServesOver (in_database store) mid span a b last) → OnOk r (ServesDatabase store makes span s a b conn)
   serves_database (Ok u) makes span s mid a b last conn taken back h = record { its = last; over = over_taken makes span s mid a b last taken h; back = back }
   serves_database (Err e) makes span s mid a b last conn taken back h = tt

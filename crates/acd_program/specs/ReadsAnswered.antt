@@ -8,7 +8,7 @@ use Rattle.acd_book.specs.declared.book.Book as book
 use Rattle.acd_book.specs.Content.{Content}
 use Rattle.acd_book.specs.State.{BookState}
 use Rattle.acd_sql_columns.specs.Schema.{no_schema}
-use Rattle.acd_sqlbook.specs.declared.book.SqlBook.{SqlBook}
+use Rattle.acd_sqlbook.specs.View.{BookView}
 use Rattle.acd_desk.specs.declared.desk.Desk.{Desk}
 use Rattle.acd_desk.specs.Standing.{standing}
 use Rattle.acd_lines.specs.Lines.{LinesAnswered, AllLines}
@@ -35,6 +35,6 @@ pub record ReadsOver {B : Type 0} (says : book.Ghosts B) (old : BookState) (had 
 module _ {S : Type 0} (store : Ghosts S) where
   -- over the book that the database held it was or, where it had no tables and one was to be made, over a new one
   pub record ReadsDatabase (makes : Bool) (old : State) (had before behind : Option (List ℕ)) (last : Held S) : Type 0 where
-    pub its : SqlBook S store
+    pub its : BookView S
     pub over : ReadsOver (in_database store) (held old) had before behind its ⊎ ((makes ≡ true) × (old.now.schema ≡ no_schema) × ReadsOver (in_database store) (unmade old) had before behind its)
     pub back : last ≡ its.conn

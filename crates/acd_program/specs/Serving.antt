@@ -1,15 +1,13 @@
 -- What serving connections over the book of a database leaves.
 use Rattle.std.specs.Prelude.{◌≡◌, ◌⊎◌, ℕ, Bool, true, false, List, Option, Some}
 use Rattle.sqlite.specs.State.{State}
-use Rattle.sqlite.specs.Held.{Held, state}
+use Rattle.sqlite.specs.Held.{Held}
 use Rattle.sqlite_trees.specs.declared.store.Store.{Ghosts}
 use Rattle.acd_book.specs.declared.book.Book as book
 use Rattle.acd_book.specs.Content.{Within}
 use Rattle.acd_book.specs.State.{BookState, IfHonest}
 use Rattle.acd_sql_columns.specs.Schema.{no_schema}
-use Rattle.acd_sqlbook.specs.declared.book.SqlBook.{SqlBook}
-use Rattle.acd_sqlbook.specs.Indexing.{followed}
-use Rattle.acd_sqlbook.specs.State.{book_state}
+use Rattle.acd_sqlbook.specs.View.{BookView, book_of}
 use Rattle.acd_desk.specs.declared.desk.Desk.{Desk}
 use Rattle.acd_desk.specs.Stands.{IsSound}
 use Rattle.acd_desk.specs.Standing.{Standing, Starts, standing}
@@ -36,11 +34,11 @@ pub record ServesOver {B : Type 0} (says : book.Ghosts B) (old : BookState) (spa
 
 module _ {S : Type 0} (store : Ghosts S) where
   -- what a book in a database says of itself
-  abbrev pub in_database : book.Ghosts (SqlBook S store)
-  in_database = record { state = λ b. followed b.noted (book_state (state store b.conn) b.failures) }
+  abbrev pub in_database : book.Ghosts (BookView S)
+  in_database = record { state = book_of store }
 
   -- so it was over the book that the database held or, where it had no tables and one was to be made, over a new one
   pub record ServesDatabase (makes : Bool) (span : Option ℕ) (old : State) (before behind : Option (List ℕ)) (last : Held S) : Type 0 where
-    pub its : SqlBook S store
+    pub its : BookView S
     pub over : ServesOver in_database (held old) span before behind its ⊎ ((makes ≡ true) × (old.now.schema ≡ no_schema) × ServesOver in_database (unmade old) span before behind its)
     pub back : last ≡ its.conn

@@ -6,8 +6,7 @@ ghost use Rattle.sqlite.specs.Held.{state};
 ghost use Rattle.sqlite.specs.State.{HasCleanDisk};
 ghost use Rattle.acd_terms.specs.Limits.{greatest_limits};
 ghost use Rattle.acd_sql_schema.specs.SettingUp.{MayMake};
-ghost use Rattle.acd_sqlbook.specs.Indexing.{followed};
-ghost use Rattle.acd_sqlbook.specs.State.{book_state};
+ghost use Rattle.acd_sqlbook.specs.View.{book_of};
 ghost use Rattle.acd_lines.specs.Lines.{LinesAnswered, AllLines, FirstLines, ArrivalsAnswered};
 ghost use Rattle.acd_io.specs.Sent.{Begins};
 ghost use Rattle.acd_program.specs.Over.{IsSession, IsFailedSession, OverConnection, Unserved, unmade};
@@ -40,8 +39,7 @@ fn create<S: Alter>(
     conn: Connection<S>,
 ) -> Result<SqlBook<S>, (AdoptFault, Connection<S>)>
     requires { conn.in_transaction ≡ false }
-    ensures made { IfOk result (λ b. IsOf (unmade (state S.Store conn))
-        (followed b.noted (book_state (state S.Store b.conn) b.failures))) }
+    ensures made { IfOk result (λ b. IsOf (unmade (state S.Store conn)) (book_of S.Store b)) }
     ensures idle { IfErr result (λ e. e.1.in_transaction ≡ false) }
     ensures stops { IfErr result (λ e. HasCleanDisk (state S.Store e.1) → MayMake (state S.Store conn) (state S.Store e.1) greatest_limits) }
 {
@@ -59,8 +57,7 @@ pub(crate) fn book_over<S: Alter>(
     makes: bool,
 ) -> Result<SqlBook<S>, (AdoptFault, Connection<S>)>
     requires { conn.in_transaction ≡ false }
-    ensures taken { IfOk result (λ b. IsTaken makes (state S.Store conn)
-        (followed b.noted (book_state (state S.Store b.conn) b.failures))) }
+    ensures taken { IfOk result (λ b. IsTaken makes (state S.Store conn) (book_of S.Store b)) }
     ensures idle { IfErr result (λ e. e.1.in_transaction ≡ false) }
     ensures unserved { IfErr result (λ e. Unserved makes (state S.Store conn) (state S.Store e.1)) }
 {

@@ -2,6 +2,7 @@ pub mod Commit
 pub mod Choosing
 pub mod Calls
 pub mod State
+pub mod View
 pub mod StoreLaws
 pub mod Adopting
 pub mod Stopping

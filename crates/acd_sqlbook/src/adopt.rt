@@ -11,6 +11,7 @@ ghost use Rattle.acd_sqlbook.specs.Adopting.{HasAllColumns, IsAdopted, IsHandedB
 ghost use Rattle.acd_sqlbook.specs.State.{book_state};
 
 use crate::book::SqlBook;
+use crate::ready::Ready;
 use acd_sql_columns::Version;
 use acd_sql_schema::{AdoptFault, Found, fault_of, look_over, migrate};
 use sqlite::{Alter, Connection};
@@ -59,16 +60,14 @@ impl<S: Alter> SqlBook<S> {
         match look_over(alloc, &mut conn) {
             Ok(Found::Book(Version::Second)) => Ok(SqlBook {
                 alloc,
-                conn,
-                fresh: true,
+                ready: Ready { conn, fresh: true },
                 failures: 0,
                 noted: None,
             }),
             Ok(Found::Book(Version::First)) => match migrate(&mut conn) {
                 Ok(()) => Ok(SqlBook {
                     alloc,
-                    conn,
-                    fresh: true,
+                    ready: Ready { conn, fresh: true },
                     failures: 0,
                     noted: None,
                 }),

@@ -1,7 +1,6 @@
 //! The index of a book that holds some events already.
 
-ghost use Rattle.std.specs.Prelude.{◌≡◌, false, IsTrue};
-ghost use Rattle.sqlite.specs.State.{HasCleanDisk};
+ghost use Rattle.std.specs.Prelude.{◌≡◌, false};
 ghost use Rattle.sqlite.specs.Held.{state};
 ghost use Rattle.acd_sql_columns.specs.Finding.{Finds};
 ghost use Rattle.acd_sql_statements.specs.Picking.{Serves};
@@ -10,7 +9,7 @@ ghost use Rattle.acd_sqlbook.specs.Calls.{HasRead};
 ghost use Rattle.acd_sqlbook.specs.Indexing.{BeginsIndex, IndexIsNoted};
 
 use crate::index::{Index, noted_on};
-use crate::ready::serve;
+use crate::ready::Ready;
 use acd_book::Watched;
 use acd_sql_statements::{events_behind, rows};
 use acd_terms::MonitorRecord;
@@ -76,21 +75,16 @@ fn begun<S: Alter>(alloc: Global, conn: &mut Connection<S>) -> Result<Option<Ind
 /// What is noted of a book, which begins here where nothing is noted yet.
 pub(crate) fn noted_first<S: Alter>(
     alloc: Global,
-    conn: &mut Connection<S>,
-    fresh: bool,
+    ready: &mut Ready<S>,
     noted: Option<Index>,
 ) -> Result<Option<Index>, Error>
-    requires idle { conn.old.in_transaction ≡ false }
-    requires fresh { IsTrue fresh → HasCleanDisk (state S.Store conn.old)
-        → IsTrue (state S.Store conn.old).is_open }
-    ensures idle { conn.new.in_transaction ≡ false }
-    ensures read { HasRead (state S.Store conn.old) (state S.Store conn.new) result
+    ensures read { HasRead (state S.Store ready.old.conn) (state S.Store ready.new.conn) result
         (λ c next. IndexIsNoted noted c.events → IndexIsNoted next c.events) }
-    ensures blamed { Blames (state S.Store conn.old) (state S.Store conn.new) result }
+    ensures blamed { Blames (state S.Store ready.old.conn) (state S.Store ready.new.conn) result }
 {
-    serve(conn, fresh)?;
+    ready.serve()?;
     match noted {
         Some(index) => Ok(Some(index)),
-        None => begun(alloc, conn),
+        None => begun(alloc, &mut ready.conn),
     }
 }

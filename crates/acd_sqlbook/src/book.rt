@@ -5,8 +5,8 @@ ghost use Rattle.sqlite.specs.State.{HasCleanDisk};
 ghost use Rattle.sqlite.specs.Held.{state};
 ghost use Rattle.acd_sql_columns.specs.Schema.{no_schema};
 ghost use Rattle.acd_sql_columns.specs.Draft.{LimitsFit};
-ghost use Rattle.acd_sqlbook.specs.Indexing.{followed};
 ghost use Rattle.acd_sqlbook.specs.State.{book_state, IsNewBook, fault_of, answered, failures_after};
+ghost use Rattle.acd_sqlbook.specs.View.{book_of};
 ghost use Rattle.acd_sql_schema.specs.SettingUp.{MayMake};
 ghost use Rattle.acd_sqlbook.specs.Causes.{StoreCause, IsCaused, create as creating, read as reading, change as changing, replace as replacing};
 ghost use Rattle.acd_book.specs.Content.{IsKeptAfter, events_behind, events_of_monitor, kept_of, Follows, committed, FollowsBy, committed_by};
@@ -14,30 +14,39 @@ ghost use Rattle.acd_book.specs.State.{Reads, Commits};
 
 use crate::index::{Index, noted_behind};
 use crate::page::page_followed;
-use crate::ready::{
-    commit_ready, events_ready, kept_after_ready, kept_ready, limits_fit, limits_ready, rows_ready,
-};
-use crate::transition::commit_rows_ready;
+use crate::ready::{Ready, limits_fit};
+use crate::transition::commit_rows;
 use acd_book::{Book, BookFault, Kept};
 use acd_model::Change;
 use acd_sql_schema::{has_no_tables, set_up};
 use acd_terms::{Event, Invoke, Limits, Requester, Rows};
 use sqlite::{Alter, Connection, Error, ErrorCode};
 use std::alloc::Global;
+use std::marker::Model;
 use std::mem;
 
 /// A book in a database. Its tables are those of version 2.
 #[derive(Drop)]
 pub struct SqlBook<S: Alter> {
     pub(crate) alloc: Global,
-    pub(crate) conn: Connection<S>,
-    // Whether the last call succeeded, so that the store still serves.
-    pub(crate) fresh: bool,
+    pub(crate) ready: Ready<S>,
     pub(crate) failures: u64,
     // Which events are at the devices of the running monitors, where that is noted.
     pub(crate) noted: Option<Index>,
-    ghost idle: { conn.in_transaction ≡ false },
-    ghost serves: { IsTrue fresh → HasCleanDisk (state S.Store conn) → IsTrue (state S.Store conn).is_open },
+}
+
+impl<S: Alter> Model for SqlBook<S> {
+    ghost use Rattle.acd_sqlbook.specs.View.{BookView, view_code};
+
+    ghost Value = { BookView S };
+
+    ghost coded = { view_code S.code };
+
+    ghost view = { λ b. record {
+      conn = b.ready.conn;
+      failures = b.failures;
+      noted = b.noted;
+    } };
 }
 
 // Want of memory is no failure of the store.
@@ -110,8 +119,7 @@ impl<S: Alter> SqlBook<S> {
         match set_up(&mut conn, limits) {
             Ok(()) => Ok(SqlBook {
                 alloc,
-                conn,
-                fresh: true,
+                ready: Ready { conn, fresh: true },
                 failures: 0,
                 noted: None,
             }),
@@ -126,11 +134,11 @@ impl<S: Alter> SqlBook<S> {
     {
         let SqlBook {
             alloc: _,
-            conn,
-            fresh: _,
+            ready,
             failures: _,
             noted: _,
         } = self;
+        let Ready { conn, fresh: _ } = ready;
         conn
     }
 }
@@ -141,7 +149,7 @@ impl<S: Alter> Book for SqlBook<S> {
     ghost use Rattle.std.proofs.Math.Logic.{∥∥₁_map};
     ghost use Rattle.acd_sql_columns.specs.InTables.{content_of};
 
-    ghost state = { λ b. followed b.noted (book_state (state S.Store b.conn) b.failures) };
+    ghost state = { λ b. book_of S.Store b };
 
     ghost settled = { λ b c clean sound up stop. stop.2 ∙ ap content_of (S.settled b.conn.store stop.0 up stop.1) };
 
@@ -154,73 +162,58 @@ impl<S: Alter> Book for SqlBook<S> {
     }
 
     fn limits(&mut self) -> Result<Limits, BookFault>
-        ensures reads { Reads
-            (followed self.old.noted (book_state (state S.Store self.old.conn) self.old.failures))
-            (followed self.new.noted (book_state (state S.Store self.new.conn) self.new.failures))
-            result
+        ensures reads { Reads (book_of S.Store self.old) (book_of S.Store self.new) result
             (λ c found. found ≡ c.rows.limits) }
         ensures caused { IsCaused reading
             (state S.Store self.old.conn) (state S.Store self.new.conn)
             self.old.failures self.new.failures result }
     {
-        let found = limits_ready(&mut self.conn, self.fresh);
-        noted(found, &mut self.fresh, &mut self.failures)
+        let found = self.ready.limits();
+        noted(found, &mut self.ready.fresh, &mut self.failures)
     }
 
     fn rows(&mut self) -> Result<Rows, BookFault>
-        ensures reads { Reads
-            (followed self.old.noted (book_state (state S.Store self.old.conn) self.old.failures))
-            (followed self.new.noted (book_state (state S.Store self.new.conn) self.new.failures))
-            result
+        ensures reads { Reads (book_of S.Store self.old) (book_of S.Store self.new) result
             (λ c found. found ≡ c.rows) }
         ensures caused { IsCaused reading
             (state S.Store self.old.conn) (state S.Store self.new.conn)
             self.old.failures self.new.failures result }
     {
-        let found = rows_ready(self.alloc, &mut self.conn, self.fresh);
-        noted(found, &mut self.fresh, &mut self.failures)
+        let found = self.ready.rows(self.alloc);
+        noted(found, &mut self.ready.fresh, &mut self.failures)
     }
 
     fn kept(&mut self, requester: &Requester, invoke: Invoke) -> Result<Option<Kept>, BookFault>
-        ensures reads { Reads
-            (followed self.old.noted (book_state (state S.Store self.old.conn) self.old.failures))
-            (followed self.new.noted (book_state (state S.Store self.new.conn) self.new.failures))
-            result
+        ensures reads { Reads (book_of S.Store self.old) (book_of S.Store self.new) result
             (λ c found. found ≡ kept_of c.kept requester.now invoke) }
         ensures caused { IsCaused reading
             (state S.Store self.old.conn) (state S.Store self.new.conn)
             self.old.failures self.new.failures result }
     {
-        let found = kept_ready(self.alloc, &mut self.conn, self.fresh, requester, invoke);
-        noted(found, &mut self.fresh, &mut self.failures)
+        let found = self.ready.kept(self.alloc, requester, invoke);
+        noted(found, &mut self.ready.fresh, &mut self.failures)
     }
 
     fn kept_after(&mut self, stamp: u64) -> Result<Option<Kept>, BookFault>
-        ensures reads { Reads
-            (followed self.old.noted (book_state (state S.Store self.old.conn) self.old.failures))
-            (followed self.new.noted (book_state (state S.Store self.new.conn) self.new.failures))
-            result
+        ensures reads { Reads (book_of S.Store self.old) (book_of S.Store self.new) result
             (λ c found. IsKeptAfter c.kept stamp found) }
         ensures caused { IsCaused reading
             (state S.Store self.old.conn) (state S.Store self.new.conn)
             self.old.failures self.new.failures result }
     {
-        let found = kept_after_ready(self.alloc, &mut self.conn, self.fresh, stamp);
-        noted(found, &mut self.fresh, &mut self.failures)
+        let found = self.ready.kept_after(self.alloc, stamp);
+        noted(found, &mut self.ready.fresh, &mut self.failures)
     }
 
     fn events_after(&mut self, number: u64, limit: usize) -> Result<Vec<Event>, BookFault>
-        ensures reads { Reads
-            (followed self.old.noted (book_state (state S.Store self.old.conn) self.old.failures))
-            (followed self.new.noted (book_state (state S.Store self.new.conn) self.new.failures))
-            result
+        ensures reads { Reads (book_of S.Store self.old) (book_of S.Store self.new) result
             (λ c found. found.items ≡ events_behind c.events number limit) }
         ensures caused { IsCaused reading
             (state S.Store self.old.conn) (state S.Store self.new.conn)
             self.old.failures self.new.failures result }
     {
-        let found = events_ready(self.alloc, &mut self.conn, self.fresh, number, limit);
-        noted(found, &mut self.fresh, &mut self.failures)
+        let found = self.ready.events_after(self.alloc, number, limit);
+        noted(found, &mut self.ready.fresh, &mut self.failures)
     }
 
     fn events_of_monitor(
@@ -229,10 +222,7 @@ impl<S: Alter> Book for SqlBook<S> {
         number: u64,
         limit: usize,
     ) -> Result<Vec<Event>, BookFault>
-        ensures reads { Reads
-            (followed self.old.noted (book_state (state S.Store self.old.conn) self.old.failures))
-            (followed self.new.noted (book_state (state S.Store self.new.conn) self.new.failures))
-            result
+        ensures reads { Reads (book_of S.Store self.old) (book_of S.Store self.new) result
             (λ c found. found.items ≡ events_of_monitor c monitor number limit) }
         ensures caused { IsCaused reading
             (state S.Store self.old.conn) (state S.Store self.new.conn)
@@ -240,21 +230,17 @@ impl<S: Alter> Book for SqlBook<S> {
     {
         let found = page_followed(
             self.alloc,
-            &mut self.conn,
-            self.fresh,
+            &mut self.ready,
             &mut self.noted,
             monitor,
             number,
             limit,
         );
-        noted(found, &mut self.fresh, &mut self.failures)
+        noted(found, &mut self.ready.fresh, &mut self.failures)
     }
 
     fn commit(&mut self, rows: &Rows, events: &[Event], kept: &Kept) -> Result<(), BookFault>
-        ensures commits { Commits
-            (followed self.old.noted (book_state (state S.Store self.old.conn) self.old.failures))
-            (followed self.new.noted (book_state (state S.Store self.new.conn) self.new.failures))
-            result
+        ensures commits { Commits (book_of S.Store self.old) (book_of S.Store self.new) result
             (Follows rows.now events.now kept.now)
             (committed rows.now events.now kept.now) }
         ensures caused { IsCaused (replacing rows.now events.now kept.now)
@@ -262,8 +248,8 @@ impl<S: Alter> Book for SqlBook<S> {
             self.old.failures self.new.failures result }
     {
         self.noted = None;
-        let done = commit_rows_ready(self.alloc, &mut self.conn, self.fresh, rows, events, kept);
-        noted(done, &mut self.fresh, &mut self.failures)
+        let done = commit_rows(self.alloc, &mut self.ready, rows, events, kept);
+        noted(done, &mut self.ready.fresh, &mut self.failures)
     }
 
     fn commit_changes(
@@ -272,25 +258,15 @@ impl<S: Alter> Book for SqlBook<S> {
         events: &[Event],
         kept: &Kept,
     ) -> Result<(), BookFault>
-        ensures commits { Commits
-            (followed self.old.noted (book_state (state S.Store self.old.conn) self.old.failures))
-            (followed self.new.noted (book_state (state S.Store self.new.conn) self.new.failures))
-            result
+        ensures commits { Commits (book_of S.Store self.old) (book_of S.Store self.new) result
             (FollowsBy changes.now events.now kept.now)
             (committed_by changes.now events.now kept.now) }
         ensures caused { IsCaused (changing changes.now events.now kept.now)
             (state S.Store self.old.conn) (state S.Store self.new.conn)
             self.old.failures self.new.failures result }
     {
-        let done = commit_ready(
-            self.alloc,
-            &mut self.conn,
-            self.fresh,
-            changes,
-            events,
-            kept,
-        );
+        let done = self.ready.commit_changes(self.alloc, changes, events, kept);
         self.noted = noted_behind(mem::take(&mut self.noted), &done, changes, events);
-        noted(done, &mut self.fresh, &mut self.failures)
+        noted(done, &mut self.ready.fresh, &mut self.failures)
     }
 }

@@ -73,7 +73,10 @@ fn file_agent<S: Alter>(tx: &mut Transaction<'_, S>, agent: &AgentRecord) -> Res
     requires { Fits agent.now.stamp }
     ensures same { tx.new.conn.ghost_name ≡ tx.old.conn.ghost_name }
     ensures works { Works (state S.Store tx.old.conn.now) (state S.Store tx.new.conn.now) }
-    ensures put { HasCleanDisk (state S.Store tx.new.conn.now) → OnOk result ((c : Content) → Drafts (state S.Store tx.old.conn.now) (relations_of c) → Drafts (state S.Store tx.new.conn.now) (relations_of (filed c (Change.PutAgent agent.now)))) }
+    ensures put { HasCleanDisk (state S.Store tx.new.conn.now) → OnOk result ((c : Content)
+        → Drafts (state S.Store tx.old.conn.now) (relations_of c)
+        → Drafts (state S.Store tx.new.conn.now)
+        (relations_of (filed c (Change.PutAgent agent.now)))) }
     ensures failed { IsBlamed (RefusesAgent agent.now)
         (state S.Store tx.old.conn.now) (state S.Store tx.new.conn.now) result }
 {
@@ -90,7 +93,10 @@ fn make_change<S: Alter>(
     requires { ChangeFits change.now }
     ensures same { tx.new.conn.ghost_name ≡ tx.old.conn.ghost_name }
     ensures works { Works (state S.Store tx.old.conn.now) (state S.Store tx.new.conn.now) }
-    ensures put { HasCleanDisk (state S.Store tx.new.conn.now) → OnOk result ((c : Content) → Drafts (state S.Store tx.old.conn.now) (relations_of c) → Drafts (state S.Store tx.new.conn.now) (relations_of (filed c change.now))) }
+    ensures put { HasCleanDisk (state S.Store tx.new.conn.now) → OnOk result ((c : Content)
+        → Drafts (state S.Store tx.old.conn.now) (relations_of c)
+        → Drafts (state S.Store tx.new.conn.now)
+        (relations_of (filed c change.now))) }
     ensures failed { IsBlamed (RefusesChange change.now)
         (state S.Store tx.old.conn.now) (state S.Store tx.new.conn.now) result }
 {
@@ -117,7 +123,10 @@ fn write_change<S: Alter>(
 ) -> Result<(), Error>
     ensures same { tx.new.conn.ghost_name ≡ tx.old.conn.ghost_name }
     ensures works { Works (state S.Store tx.old.conn.now) (state S.Store tx.new.conn.now) }
-    ensures put { HasCleanDisk (state S.Store tx.new.conn.now) → OnOk result ((c : Content) → Drafts (state S.Store tx.old.conn.now) (relations_of c) → Drafts (state S.Store tx.new.conn.now) (relations_of (filed c change.now))) }
+    ensures put { HasCleanDisk (state S.Store tx.new.conn.now) → OnOk result ((c : Content)
+        → Drafts (state S.Store tx.old.conn.now) (relations_of c)
+        → Drafts (state S.Store tx.new.conn.now)
+        (relations_of (filed c change.now))) }
     ensures failed { IsStopped (StopsAtChange change.now)
         (state S.Store tx.old.conn.now) (state S.Store tx.new.conn.now) result }
 {
@@ -180,7 +189,8 @@ fn is_new(last: u64, changes: &[Change], change: &Change) -> bool
 
 // Whether the second change takes away the connection that the first one puts.
 fn is_taken_away(first: &Change, second: &Change) -> bool
-    ensures { IsTrue result → (c : Content) → IsAscending connection_order c.rows.connections → filed (filed c first.now) second.now ≡ filed c second.now }
+    ensures { IsTrue result → (c : Content) → IsAscending connection_order c.rows.connections
+        → filed (filed c first.now) second.now ≡ filed c second.now }
 {
     match (first, second) {
         (Change::PutConnection(connection), Change::RemoveConnection(call, device)) => {
@@ -192,7 +202,9 @@ fn is_taken_away(first: &Change, second: &Change) -> bool
 
 // The change that is written next, and those behind it: a connection that the very next change takes away isn't put.
 fn next_written(changes: &[Change]) -> Option<(&Change, &[Change])>
-    ensures some { IfSome result (λ p. (length p.1.now < length changes.now) × ((c : Content) → IsAscending connection_order c.rows.connections → all_filed c changes.now ≡ all_filed (filed c p.0.now) p.1.now)) }
+    ensures some { IfSome result (λ p. (length p.1.now < length changes.now)
+        × ((c : Content) → IsAscending connection_order c.rows.connections
+        → all_filed c changes.now ≡ all_filed (filed c p.0.now) p.1.now)) }
     ensures none { result ≡ None → changes.now ≡ [] }
     ensures stops { IfSome result (λ p. (limit : Option ℕ) (c : Content)
         → (StopsAtChange p.0.now limit c → StopsInChanges changes.now limit c)
@@ -213,7 +225,10 @@ fn write_changes<S: Alter>(
 ) -> Result<(), Error>
     ensures same { tx.new.conn.ghost_name ≡ tx.old.conn.ghost_name }
     ensures works { Works (state S.Store tx.old.conn.now) (state S.Store tx.new.conn.now) }
-    ensures put { HasCleanDisk (state S.Store tx.new.conn.now) → OnOk result ((c : Content) → Drafts (state S.Store tx.old.conn.now) (relations_of c) → Drafts (state S.Store tx.new.conn.now) (relations_of (all_filed c changes.now))) }
+    ensures put { HasCleanDisk (state S.Store tx.new.conn.now) → OnOk result ((c : Content)
+        → Drafts (state S.Store tx.old.conn.now) (relations_of c)
+        → Drafts (state S.Store tx.new.conn.now)
+        (relations_of (all_filed c changes.now))) }
     ensures failed { IsStopped (StopsInChanges changes.now)
         (state S.Store tx.old.conn.now) (state S.Store tx.new.conn.now) result }
 {
@@ -228,7 +243,10 @@ fn write_changes<S: Alter>(
 fn write_event<S: Alter>(tx: &mut Transaction<'_, S>, event: &Event) -> Result<(), Error>
     ensures same { tx.new.conn.ghost_name ≡ tx.old.conn.ghost_name }
     ensures works { Works (state S.Store tx.old.conn.now) (state S.Store tx.new.conn.now) }
-    ensures put { HasCleanDisk (state S.Store tx.new.conn.now) → OnOk result ((c : Content) → Drafts (state S.Store tx.old.conn.now) (relations_of c) → Drafts (state S.Store tx.new.conn.now) (relations_of (with_event c event.now))) }
+    ensures put { HasCleanDisk (state S.Store tx.new.conn.now) → OnOk result ((c : Content)
+        → Drafts (state S.Store tx.old.conn.now) (relations_of c)
+        → Drafts (state S.Store tx.new.conn.now)
+        (relations_of (with_event c event.now))) }
     ensures failed { IsStopped (StopsAtEvent event.now)
         (state S.Store tx.old.conn.now) (state S.Store tx.new.conn.now) result }
 {
@@ -241,7 +259,10 @@ fn write_event<S: Alter>(tx: &mut Transaction<'_, S>, event: &Event) -> Result<(
 fn write_events<S: Alter>(tx: &mut Transaction<'_, S>, events: &[Event]) -> Result<(), Error>
     ensures same { tx.new.conn.ghost_name ≡ tx.old.conn.ghost_name }
     ensures works { Works (state S.Store tx.old.conn.now) (state S.Store tx.new.conn.now) }
-    ensures put { HasCleanDisk (state S.Store tx.new.conn.now) → OnOk result ((c : Content) → Drafts (state S.Store tx.old.conn.now) (relations_of c) → Drafts (state S.Store tx.new.conn.now) (relations_of (with_events c events.now))) }
+    ensures put { HasCleanDisk (state S.Store tx.new.conn.now) → OnOk result ((c : Content)
+        → Drafts (state S.Store tx.old.conn.now) (relations_of c)
+        → Drafts (state S.Store tx.new.conn.now)
+        (relations_of (with_events c events.now))) }
     ensures failed { IsStopped (StopsInEvents events.now)
         (state S.Store tx.old.conn.now) (state S.Store tx.new.conn.now) result }
 {
@@ -338,8 +359,10 @@ fn write_all<S: Alter>(
     requires meta { MetaFits meta.now }
     ensures same { tx.new.conn.ghost_name ≡ tx.old.conn.ghost_name }
     ensures works { Works (state S.Store tx.old.conn.now) (state S.Store tx.new.conn.now) }
-    ensures put { HasCleanDisk (state S.Store tx.new.conn.now) → OnOk result ((c : Content) → Drafts (state S.Store tx.old.conn.now) (relations_of c)
-        → Drafts (state S.Store tx.new.conn.now) (relations_of (made_by changes.now events.now kept.now meta.now c))) }
+    ensures put { HasCleanDisk (state S.Store tx.new.conn.now) → OnOk result ((c : Content)
+        → Drafts (state S.Store tx.old.conn.now) (relations_of c)
+        → Drafts (state S.Store tx.new.conn.now)
+        (relations_of (made_by changes.now events.now kept.now meta.now c))) }
     ensures failed { IsStopped (StopsInAll changes.now events.now kept.now meta.now)
         (state S.Store tx.old.conn.now) (state S.Store tx.new.conn.now) result }
 {
@@ -366,14 +389,21 @@ pub(crate) fn commit_all<S: Alter>(
     requires meta { MetaFits meta.now }
     requires idle { conn.old.in_transaction ≡ false }
     ensures idle { conn.new.in_transaction ≡ false }
-    ensures done { HasCleanDisk (state S.Store conn.new) → OnOk result ((c : Content) → HoldsContent (state S.Store conn.old) c
-        → HoldsContent (state S.Store conn.new) (made_by changes.now events.now kept.now meta.now c)) }
+    ensures done { HasCleanDisk (state S.Store conn.new) → OnOk result ((c : Content)
+        → HoldsContent (state S.Store conn.old) c
+        → HoldsContent (state S.Store conn.new)
+        (made_by changes.now events.now kept.now meta.now c)) }
     ensures clean { HasCleanDisk (state S.Store conn.new) → HasCleanDisk (state S.Store conn.old) }
-    ensures up { HasCleanDisk (state S.Store conn.new) → OnOk result (IsTrue (state S.Store conn.old).is_open × IsTrue (state S.Store conn.new).is_open) }
-    ensures was { HasCleanDisk (state S.Store conn.new) → IsTrue (state S.Store conn.new).is_open → IsTrue (state S.Store conn.old).is_open }
-    ensures undone { HasCleanDisk (state S.Store conn.new) → OnErr result ((c : Content) → HoldsContent (state S.Store conn.old) c
+    ensures up { HasCleanDisk (state S.Store conn.new) → OnOk result
+        (IsTrue (state S.Store conn.old).is_open × IsTrue (state S.Store conn.new).is_open) }
+    ensures was { HasCleanDisk (state S.Store conn.new)
+        → IsTrue (state S.Store conn.new).is_open → IsTrue (state S.Store conn.old).is_open }
+    ensures undone { HasCleanDisk (state S.Store conn.new) → OnErr result ((c : Content)
+        → HoldsContent (state S.Store conn.old) c
         → IsTrue (state S.Store conn.new).is_open → HoldsContent (state S.Store conn.new) c) }
-    ensures stops { HasCleanDisk (state S.Store conn.new) → AddsStop (state S.Store conn.old) (state S.Store conn.new) (made_by changes.now events.now kept.now meta.now) }
+    ensures stops { HasCleanDisk (state S.Store conn.new)
+        → AddsStop (state S.Store conn.old) (state S.Store conn.new)
+        (made_by changes.now events.now kept.now meta.now) }
     ensures failed { IsUndone (StopsInAll changes.now events.now kept.now meta.now)
         (state S.Store conn.old) (state S.Store conn.new) result }
 {

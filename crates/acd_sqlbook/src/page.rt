@@ -1,6 +1,6 @@
 //! Pages of a monitor by the numbers that an index has of its events.
 
-ghost use Rattle.std.specs.Prelude.{◌≡◌, Some, false, filter, take, IsTrue};
+ghost use Rattle.std.specs.Prelude.{◌≡◌, Some, false, filter, take};
 ghost use Rattle.sqlite.specs.State.{HasCleanDisk};
 ghost use Rattle.sqlite.specs.Held.{state};
 ghost use Rattle.acd_book.specs.Content.{Content, events_of_monitor, is_told};
@@ -13,6 +13,7 @@ ghost use Rattle.acd_sqlbook.specs.Indexing.{Indexes, IndexIsNoted};
 
 use crate::begun::noted_first;
 use crate::index::Index;
+use crate::ready::Ready;
 use acd_sql_statements::{events_at, events_numbered, events_watched, monitor_at};
 use acd_terms::{DeviceId, Event};
 use sqlite::{Alter, Connection, Error};
@@ -93,27 +94,23 @@ fn noted_page<S: Alter>(
 /// The first events of a running monitor above a number, by what is noted, which begins here where nothing is.
 pub(crate) fn page_followed<S: Alter>(
     alloc: Global,
-    conn: &mut Connection<S>,
-    fresh: bool,
+    ready: &mut Ready<S>,
     noted: &mut Option<Index>,
     monitor: u64,
     number: u64,
     limit: usize,
 ) -> Result<Vec<Event>, Error>
-    requires idle { conn.old.in_transaction ≡ false }
-    requires fresh { IsTrue fresh → HasCleanDisk (state S.Store conn.old)
-        → IsTrue (state S.Store conn.old).is_open }
-    ensures idle { conn.new.in_transaction ≡ false }
-    ensures noted { HasCleanDisk (state S.Store conn.new) → (c : Content)
-        → HoldsContent (state S.Store conn.old) c
+    ensures noted { HasCleanDisk (state S.Store ready.new.conn) → (c : Content)
+        → HoldsContent (state S.Store ready.old.conn) c
         → IndexIsNoted noted.old c.events → IndexIsNoted noted.new c.events }
-    ensures read { HasRead (state S.Store conn.old) (state S.Store conn.new) result
+    ensures read { HasRead (state S.Store ready.old.conn) (state S.Store ready.new.conn) result
         (λ c events. IndexIsNoted noted.old c.events
         → events.items ≡ events_of_monitor c monitor number limit) }
-    ensures blamed { Blames (state S.Store conn.old) (state S.Store conn.new) result }
+    ensures blamed { Blames (state S.Store ready.old.conn) (state S.Store ready.new.conn) result }
 {
-    let next = noted_first(alloc, conn, fresh, noted.take())?;
-    let found = noted_page(alloc, conn, &next, monitor, number, limit);
+    let next = noted_first(alloc, ready, noted.take())?;
+    ready.fresh = false;
+    let found = noted_page(alloc, &mut ready.conn, &next, monitor, number, limit);
     *noted = next;
     found
 }

@@ -1,5 +1,5 @@
-//! Calls over a connection that may have failed before. It is tried first where it isn't known to serve,
-//! since a failure may have shut it.
+//! A connection that may have failed before. Its store is tried first where it isn't known to serve, since a failure
+//! may have shut it.
 
 ghost use Rattle.std.specs.Prelude.{◌≡◌, ◌↔◌, false, IsTrue, IfOk, IfErr, OnOk};
 ghost use Rattle.sqlite.specs.State.{HasCleanDisk};
@@ -24,20 +24,15 @@ use acd_terms::{Event, Invoke, Limits, Requester, Rows};
 use sqlite::{Alter, Connection, Error};
 use std::alloc::Global;
 
-/// Tries the store where it isn't known to serve.
-pub(crate) fn serve<S: Alter>(conn: &mut Connection<S>, fresh: bool) -> Result<(), Error>
-    requires idle { conn.old.in_transaction ≡ false }
-    requires fresh { IsTrue fresh → HasCleanDisk (state S.Store conn.old) → IsTrue (state S.Store conn.old).is_open }
-    ensures idle { conn.new.in_transaction ≡ false }
-    ensures up { HasCleanDisk (state S.Store conn.new) → OnOk result (IsTrue (state S.Store conn.new).is_open) }
-    ensures quiet { Quiet (state S.Store conn.old) (state S.Store conn.new) }
-    ensures stops { HasCleanDisk (state S.Store conn.new) → NoStop (state S.Store conn.old) (state S.Store conn.new) }
-    ensures blamed { Blames (state S.Store conn.old) (state S.Store conn.new) result }
-{
-    if fresh {
-        return Ok(());
-    }
-    probe(conn)
+/// A connection between transactions.
+#[derive(Drop)]
+pub(crate) struct Ready<S: Alter> {
+    pub(crate) conn: Connection<S>,
+    // Whether the last call succeeded, so that the store still serves. While a call runs it isn't known.
+    pub(crate) fresh: bool,
+    ghost idle: { conn.in_transaction ≡ false },
+    ghost serves: { IsTrue fresh → HasCleanDisk (state S.Store conn)
+        → IsTrue (state S.Store conn).is_open },
 }
 
 /// Whether each limit fits its column.
@@ -62,101 +57,6 @@ pub(crate) fn meta_fits(meta: &Meta) -> bool
         && fits(meta.last_event)
 }
 
-// The limits and the counters.
-fn meta_ready<S: Alter>(conn: &mut Connection<S>, fresh: bool) -> Result<Meta, Error>
-    requires idle { conn.old.in_transaction ≡ false }
-    requires fresh { IsTrue fresh → HasCleanDisk (state S.Store conn.old) → IsTrue (state S.Store conn.old).is_open }
-    ensures idle { conn.new.in_transaction ≡ false }
-    ensures read { HasRead (state S.Store conn.old) (state S.Store conn.new) result (λ c meta. meta ≡ meta_of c.rows) }
-    ensures blamed { Blames (state S.Store conn.old) (state S.Store conn.new) result }
-{
-    serve(conn, fresh)?;
-    read_meta(conn)
-}
-
-/// The limits.
-pub(crate) fn limits_ready<S: Alter>(conn: &mut Connection<S>, fresh: bool) -> Result<Limits, Error>
-    requires idle { conn.old.in_transaction ≡ false }
-    requires fresh { IsTrue fresh → HasCleanDisk (state S.Store conn.old) → IsTrue (state S.Store conn.old).is_open }
-    ensures idle { conn.new.in_transaction ≡ false }
-    ensures read { HasRead (state S.Store conn.old) (state S.Store conn.new) result (λ c limits. limits ≡ c.rows.limits) }
-    ensures blamed { Blames (state S.Store conn.old) (state S.Store conn.new) result }
-{
-    match meta_ready(conn, fresh) {
-        Ok(meta) => Ok(meta.limits),
-        Err(error) => Err(error),
-    }
-}
-
-/// The limits, the tables and the counters.
-pub(crate) fn rows_ready<S: Alter>(
-    alloc: Global,
-    conn: &mut Connection<S>,
-    fresh: bool,
-) -> Result<Rows, Error>
-    requires idle { conn.old.in_transaction ≡ false }
-    requires fresh { IsTrue fresh → HasCleanDisk (state S.Store conn.old) → IsTrue (state S.Store conn.old).is_open }
-    ensures idle { conn.new.in_transaction ≡ false }
-    ensures read { HasRead (state S.Store conn.old) (state S.Store conn.new) result (λ c found. found ≡ c.rows) }
-    ensures blamed { Blames (state S.Store conn.old) (state S.Store conn.new) result }
-{
-    serve(conn, fresh)?;
-    rows(alloc, conn)
-}
-
-/// What is kept under a key.
-pub(crate) fn kept_ready<S: Alter>(
-    alloc: Global,
-    conn: &mut Connection<S>,
-    fresh: bool,
-    requester: &Requester,
-    invoke: Invoke,
-) -> Result<Option<Kept>, Error>
-    requires idle { conn.old.in_transaction ≡ false }
-    requires fresh { IsTrue fresh → HasCleanDisk (state S.Store conn.old) → IsTrue (state S.Store conn.old).is_open }
-    ensures idle { conn.new.in_transaction ≡ false }
-    ensures read { HasRead (state S.Store conn.old) (state S.Store conn.new) result (λ c found. found ≡ kept_of c.kept requester.now invoke) }
-    ensures blamed { Blames (state S.Store conn.old) (state S.Store conn.new) result }
-{
-    serve(conn, fresh)?;
-    kept_under(alloc, conn, requester, invoke)
-}
-
-/// The kept record of the least greater stamp.
-pub(crate) fn kept_after_ready<S: Alter>(
-    alloc: Global,
-    conn: &mut Connection<S>,
-    fresh: bool,
-    stamp: u64,
-) -> Result<Option<Kept>, Error>
-    requires idle { conn.old.in_transaction ≡ false }
-    requires fresh { IsTrue fresh → HasCleanDisk (state S.Store conn.old) → IsTrue (state S.Store conn.old).is_open }
-    ensures idle { conn.new.in_transaction ≡ false }
-    ensures read { HasRead (state S.Store conn.old) (state S.Store conn.new) result (λ c found. IsKeptAfter c.kept stamp found) }
-    ensures blamed { Blames (state S.Store conn.old) (state S.Store conn.new) result }
-{
-    serve(conn, fresh)?;
-    kept_behind(alloc, conn, stamp)
-}
-
-/// The first events above a number.
-pub(crate) fn events_ready<S: Alter>(
-    alloc: Global,
-    conn: &mut Connection<S>,
-    fresh: bool,
-    number: u64,
-    limit: usize,
-) -> Result<Vec<Event>, Error>
-    requires idle { conn.old.in_transaction ≡ false }
-    requires fresh { IsTrue fresh → HasCleanDisk (state S.Store conn.old) → IsTrue (state S.Store conn.old).is_open }
-    ensures idle { conn.new.in_transaction ≡ false }
-    ensures read { HasRead (state S.Store conn.old) (state S.Store conn.new) result (λ c found. found.items ≡ events_behind c.events number limit) }
-    ensures blamed { Blames (state S.Store conn.old) (state S.Store conn.new) result }
-{
-    serve(conn, fresh)?;
-    events_behind(alloc, conn, number, limit)
-}
-
 // The counters after a commit of so many events, where their columns can hold them.
 fn next_meta(meta: &Meta, changes: &[Change], events: u64, kept: &Kept) -> Result<Meta, Error>
     ensures is { IfOk result (λ next. next ≡ counted meta.now changes.now events kept.now) }
@@ -170,49 +70,138 @@ fn next_meta(meta: &Meta, changes: &[Change], events: u64, kept: &Kept) -> Resul
     }
 }
 
-// The last call's number, and the counters that a commit writes.
-fn counters<S: Alter>(
-    conn: &mut Connection<S>,
-    fresh: bool,
-    changes: &[Change],
-    events: u64,
-    kept: &Kept,
-) -> Result<(u64, Meta), Error>
-    requires idle { conn.old.in_transaction ≡ false }
-    requires fresh { IsTrue fresh → HasCleanDisk (state S.Store conn.old) → IsTrue (state S.Store conn.old).is_open }
-    ensures idle { conn.new.in_transaction ≡ false }
-    ensures read { HasRead (state S.Store conn.old) (state S.Store conn.new) result (λ c found. found.1 ≡ counted (meta_of c.rows) changes.now events kept.now) }
-    ensures fits { IfOk result (λ found. MetaFits found.1) }
-    ensures stamp { OnOk result (Fits kept.now.stamp) }
-    ensures blamed { BlamesOr (IsUncounted changes.now events kept.now)
-        (state S.Store conn.old) (state S.Store conn.new) result }
-{
-    let meta = meta_ready(conn, fresh)?;
-    match next_meta(&meta, changes, events, kept) {
-        Ok(next) => Ok((meta.last_call, next)),
-        Err(error) => Err(error),
+impl<S: Alter> Ready<S> {
+    /// Tries the store where it isn't known to serve, as it isn't from here on until a call has succeeded.
+    pub(crate) fn serve(&mut self) -> Result<(), Error>
+        ensures doubted { self.new.fresh ≡ false }
+        ensures up { HasCleanDisk (state S.Store self.new.conn)
+            → OnOk result (IsTrue (state S.Store self.new.conn).is_open) }
+        ensures quiet { Quiet (state S.Store self.old.conn) (state S.Store self.new.conn) }
+        ensures stops { HasCleanDisk (state S.Store self.new.conn)
+            → NoStop (state S.Store self.old.conn) (state S.Store self.new.conn) }
+        ensures blamed { Blames (state S.Store self.old.conn) (state S.Store self.new.conn) result }
+    {
+        if self.fresh {
+            self.fresh = false;
+            return Ok(());
+        }
+        probe(&mut self.conn)
     }
-}
 
-/// Commits the changes, the events and the kept record, all or none.
-pub(crate) fn commit_ready<S: Alter>(
-    alloc: Global,
-    conn: &mut Connection<S>,
-    fresh: bool,
-    changes: &[Change],
-    events: &[Event],
-    kept: &Kept,
-) -> Result<(), Error>
-    requires idle { conn.old.in_transaction ≡ false }
-    requires fresh { IsTrue fresh → HasCleanDisk (state S.Store conn.old) → IsTrue (state S.Store conn.old).is_open }
-    ensures idle { conn.new.in_transaction ≡ false }
-    ensures commits { HasCommitted (state S.Store conn.old) (state S.Store conn.new) result (written_by changes.now events.now kept.now) }
-    ensures blamed { IsBlamedOr (StopsCommit changes.now events.now kept.now)
-        (state S.Store conn.old) (state S.Store conn.new) result }
-{
-    let request = request_text(alloc, &kept.request)?;
-    match counters(conn, fresh, changes, events.len() as u64, kept) {
-        Ok((last, meta)) => commit_all(conn, last, changes, events, kept, request.as_str(), &meta),
-        Err(error) => Err(error),
+    // The limits and the counters.
+    fn meta(&mut self) -> Result<Meta, Error>
+        ensures read { HasRead (state S.Store self.old.conn) (state S.Store self.new.conn) result
+            (λ c meta. meta ≡ meta_of c.rows) }
+        ensures blamed { Blames (state S.Store self.old.conn) (state S.Store self.new.conn) result }
+    {
+        self.serve()?;
+        read_meta(&mut self.conn)
+    }
+
+    /// The limits.
+    pub(crate) fn limits(&mut self) -> Result<Limits, Error>
+        ensures read { HasRead (state S.Store self.old.conn) (state S.Store self.new.conn) result
+            (λ c limits. limits ≡ c.rows.limits) }
+        ensures blamed { Blames (state S.Store self.old.conn) (state S.Store self.new.conn) result }
+    {
+        match self.meta() {
+            Ok(meta) => Ok(meta.limits),
+            Err(error) => Err(error),
+        }
+    }
+
+    /// The limits, the tables and the counters.
+    pub(crate) fn rows(&mut self, alloc: Global) -> Result<Rows, Error>
+        ensures read { HasRead (state S.Store self.old.conn) (state S.Store self.new.conn) result
+            (λ c found. found ≡ c.rows) }
+        ensures blamed { Blames (state S.Store self.old.conn) (state S.Store self.new.conn) result }
+    {
+        self.serve()?;
+        rows(alloc, &mut self.conn)
+    }
+
+    /// What is kept under a key.
+    pub(crate) fn kept(
+        &mut self,
+        alloc: Global,
+        requester: &Requester,
+        invoke: Invoke,
+    ) -> Result<Option<Kept>, Error>
+        ensures read { HasRead (state S.Store self.old.conn) (state S.Store self.new.conn) result
+            (λ c found. found ≡ kept_of c.kept requester.now invoke) }
+        ensures blamed { Blames (state S.Store self.old.conn) (state S.Store self.new.conn) result }
+    {
+        self.serve()?;
+        kept_under(alloc, &mut self.conn, requester, invoke)
+    }
+
+    /// The kept record of the least greater stamp.
+    pub(crate) fn kept_after(&mut self, alloc: Global, stamp: u64) -> Result<Option<Kept>, Error>
+        ensures read { HasRead (state S.Store self.old.conn) (state S.Store self.new.conn) result
+            (λ c found. IsKeptAfter c.kept stamp found) }
+        ensures blamed { Blames (state S.Store self.old.conn) (state S.Store self.new.conn) result }
+    {
+        self.serve()?;
+        kept_behind(alloc, &mut self.conn, stamp)
+    }
+
+    /// The first events above a number.
+    pub(crate) fn events_after(
+        &mut self,
+        alloc: Global,
+        number: u64,
+        limit: usize,
+    ) -> Result<Vec<Event>, Error>
+        ensures read { HasRead (state S.Store self.old.conn) (state S.Store self.new.conn) result
+            (λ c found. found.items ≡ events_behind c.events number limit) }
+        ensures blamed { Blames (state S.Store self.old.conn) (state S.Store self.new.conn) result }
+    {
+        self.serve()?;
+        events_behind(alloc, &mut self.conn, number, limit)
+    }
+
+    // The last call's number, and the counters that a commit writes.
+    fn counters(
+        &mut self,
+        changes: &[Change],
+        events: u64,
+        kept: &Kept,
+    ) -> Result<(u64, Meta), Error>
+        ensures read { HasRead (state S.Store self.old.conn) (state S.Store self.new.conn) result
+            (λ c found. found.1 ≡ counted (meta_of c.rows) changes.now events kept.now) }
+        ensures fits { IfOk result (λ found. MetaFits found.1) }
+        ensures stamp { OnOk result (Fits kept.now.stamp) }
+        ensures blamed { BlamesOr (IsUncounted changes.now events kept.now)
+            (state S.Store self.old.conn) (state S.Store self.new.conn) result }
+    {
+        let meta = self.meta()?;
+        match next_meta(&meta, changes, events, kept) {
+            Ok(next) => Ok((meta.last_call, next)),
+            Err(error) => Err(error),
+        }
+    }
+
+    /// Commits the changes, the events and the kept record, all or none.
+    pub(crate) fn commit_changes(
+        &mut self,
+        alloc: Global,
+        changes: &[Change],
+        events: &[Event],
+        kept: &Kept,
+    ) -> Result<(), Error>
+        ensures commits { HasCommitted (state S.Store self.old.conn) (state S.Store self.new.conn)
+            result (written_by changes.now events.now kept.now) }
+        ensures blamed { IsBlamedOr (StopsCommit changes.now events.now kept.now)
+            (state S.Store self.old.conn) (state S.Store self.new.conn) result }
+    {
+        let request = request_text(alloc, &kept.request)?;
+        match self.counters(changes, events.len() as u64, kept) {
+            Ok((last, meta)) => {
+                self.fresh = false;
+                let conn = &mut self.conn;
+                commit_all(conn, last, changes, events, kept, request.as_str(), &meta)
+            }
+            Err(error) => Err(error),
+        }
     }
 }

@@ -1,7 +1,6 @@
 //! A commit of whole tables, by the changes that lead to them.
 
-ghost use Rattle.std.specs.Prelude.{◌≡◌, ◌⊎◌, false, IfErr, IfOk, OnOk, IsTrue};
-ghost use Rattle.sqlite.specs.State.{HasCleanDisk};
+ghost use Rattle.std.specs.Prelude.{◌≡◌, ◌⊎◌, IfErr, IfOk, OnOk};
 ghost use Rattle.sqlite.specs.Held.{state};
 ghost use Rattle.acd_model.specs.Changes.{changed_by};
 ghost use Rattle.acd_book.specs.Content.{Follows, committed};
@@ -15,7 +14,7 @@ ghost use Rattle.acd_sql_differences.specs.Transition.{AreWhole, HasTables};
 ghost use Rattle.acd_sql_statements.specs.Failing.{IsMemory};
 
 use crate::commit::commit_all;
-use crate::ready::{meta_fits, rows_ready};
+use crate::ready::{Ready, meta_fits};
 use acd_book::Kept;
 use acd_codec::request_text;
 use acd_model::Change;
@@ -23,7 +22,7 @@ use acd_sql_columns::Meta;
 use acd_sql_differences::{are_whole, rows_changes};
 use acd_sql_statements::fitting::{fits, too_large};
 use acd_terms::{Event, Rows};
-use sqlite::{Alter, Connection, Constraint, Error, ErrorCode};
+use sqlite::{Alter, Constraint, Error, ErrorCode};
 use std::alloc::Global;
 
 // A record that is never taken out is gone.
@@ -49,19 +48,15 @@ fn whole_changes(alloc: Global, held: &Rows, new: &Rows) -> Result<Vec<Change>, 
 // The changes that lead from the tables that are held to those of the rows.
 fn changes_to<S: Alter>(
     alloc: Global,
-    conn: &mut Connection<S>,
-    fresh: bool,
+    ready: &mut Ready<S>,
     rows: &Rows,
 ) -> Result<Vec<Change>, Error>
-    requires idle { conn.old.in_transaction ≡ false }
-    requires fresh { IsTrue fresh → HasCleanDisk (state S.Store conn.old) → IsTrue (state S.Store conn.old).is_open }
-    ensures idle { conn.new.in_transaction ≡ false }
-    ensures read { HasRead (state S.Store conn.old) (state S.Store conn.new) result
+    ensures read { HasRead (state S.Store ready.old.conn) (state S.Store ready.new.conn) result
         (λ c changes. LeadsTo rows.now c changes.items) }
     ensures blamed { BlamesOr (Drops rows.now)
-        (state S.Store conn.old) (state S.Store conn.new) result }
+        (state S.Store ready.old.conn) (state S.Store ready.new.conn) result }
 {
-    match rows_ready(alloc, conn, fresh) {
+    match ready.rows(alloc) {
         Ok(held) => whole_changes(alloc, &held, rows),
         Err(error) => Err(error),
     }
@@ -93,34 +88,29 @@ fn meta_of(rows: &Rows, kept: &Kept) -> Result<Meta, Error>
 ///
 /// A group, a station or an agent that is held and isn't among the rows is a failure of the store: no
 /// request takes one out.
-pub(crate) fn commit_rows_ready<S: Alter>(
+pub(crate) fn commit_rows<S: Alter>(
     alloc: Global,
-    conn: &mut Connection<S>,
-    fresh: bool,
+    ready: &mut Ready<S>,
     rows: &Rows,
     events: &[Event],
     kept: &Kept,
 ) -> Result<(), Error>
-    requires idle { conn.old.in_transaction ≡ false }
-    requires fresh { IsTrue fresh → HasCleanDisk (state S.Store conn.old) → IsTrue (state S.Store conn.old).is_open }
-    ensures idle { conn.new.in_transaction ≡ false }
-    ensures commits { HasReplaced (state S.Store conn.old) (state S.Store conn.new) result (Follows rows.now events.now kept.now) (committed rows.now events.now kept.now) }
+    ensures commits { HasReplaced (state S.Store ready.old.conn) (state S.Store ready.new.conn)
+        result (Follows rows.now events.now kept.now)
+        (committed rows.now events.now kept.now) }
     ensures blamed { IsBlamedOr (StopsReplace rows.now events.now kept.now)
-        (state S.Store conn.old) (state S.Store conn.new) result }
+        (state S.Store ready.old.conn) (state S.Store ready.new.conn) result }
 {
     let request = request_text(alloc, &kept.request)?;
     let meta = meta_of(rows, kept)?;
-    match changes_to(alloc, conn, fresh, rows) {
-        // Calls of any number may have rows.
-        Ok(changes) => commit_all(
-            conn,
-            u64::MAX,
-            &changes,
-            events,
-            kept,
-            request.as_str(),
-            &meta,
-        ),
+    match changes_to(alloc, ready, rows) {
+        Ok(changes) => {
+            ready.fresh = false;
+            let conn = &mut ready.conn;
+            // Calls of any number may have rows.
+            let last = u64::MAX;
+            commit_all(conn, last, &changes, events, kept, request.as_str(), &meta)
+        }
         Err(error) => Err(error),
     }
 }

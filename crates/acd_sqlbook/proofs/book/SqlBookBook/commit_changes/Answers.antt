@@ -10,15 +10,17 @@ use Rattle.acd_sqlbook.proofs.book.SqlBookBook.commit_changes.Goals as goal
 
 pub returns-clause-commits : goal.returns-clause-commits
 returns-clause-commits g c =
-    let taken : c.take.result ≡ c.args.self.now.noted = search rules in
-    commits_followed c.args.self.now.noted c.noted_behind.result _ _ _ _ _
-    (changes_goes c.args.self.now.noted c.noted_behind.result (state g.S.Store c.args.self.now.conn) (state g.S.Store c.commit_ready-done.new.conn) c.commit_ready-done.result c.args.changes.now c.args.events.now c.args.kept.now (subst (λ (o : Option Index). IsNotedBehind o c.commit_ready-done.result c.args.events.now c.noted_behind.result) taken c.noted_behind.ensures) c.commit_ready-done.ensures.commits)
-    (changes_noted (state g.S.Store c.args.self.now.conn) (state g.S.Store c.commit_ready-done.new.conn) c.args.self.now.failures c.noted.new.failures c.commit_ready-done.result c.noted.result
-    c.args.changes.now c.args.events.now c.args.kept.now c.noted.ensures.answer c.noted.ensures.failures c.noted.ensures.counts c.commit_ready-done.ensures.commits)
+    let taken : c.take.result ≡ c.self.inside.noted = search rules in
+    rw (← c.self.view_is)
+    (commits_followed c.self.inside.noted c.noted_behind.result _ _ _ _ _
+    (changes_goes c.self.inside.noted c.noted_behind.result (state g.S.Store c.self.inside.ready.conn) (state g.S.Store c.commit_changes-done.new.self.conn) c.commit_changes-done.result c.args.changes.now c.args.events.now c.args.kept.now (subst (λ (o : Option Index). IsNotedBehind o c.commit_changes-done.result c.args.events.now c.noted_behind.result) taken c.noted_behind.ensures) c.commit_changes-done.ensures.commits)
+    (changes_noted (state g.S.Store c.self.inside.ready.conn) (state g.S.Store c.commit_changes-done.new.self.conn) c.self.inside.failures c.noted.new.failures c.commit_changes-done.result c.noted.result
+    c.args.changes.now c.args.events.now c.args.kept.now c.noted.ensures.answer c.noted.ensures.failures c.noted.ensures.counts c.commit_changes-done.ensures.commits))
 
 pub returns-clause-caused : goal.returns-clause-caused
 returns-clause-caused g c =
-    let old = state g.S.Store c.args.self.now.conn in
-    let new = state g.S.Store c.commit_ready-done.new.conn in
-    noted_cause (change c.args.changes.now c.args.events.now c.args.kept.now) old new c.args.self.now.failures c.noted.new.failures c.noted.result c.noted.ensures.failures
-    (changes_caused c.args.changes.now c.args.events.now c.args.kept.now old new c.commit_ready-done.result c.noted.result c.noted.ensures.answer c.commit_ready-done.ensures.blamed)
+    let old = state g.S.Store c.self.inside.ready.conn in
+    let new = state g.S.Store c.commit_changes-done.new.self.conn in
+    rw (← c.self.view_is)
+    (noted_cause (change c.args.changes.now c.args.events.now c.args.kept.now) old new c.self.inside.failures c.noted.new.failures c.noted.result c.noted.ensures.failures
+    (changes_caused c.args.changes.now c.args.events.now c.args.kept.now old new c.commit_changes-done.result c.noted.result c.noted.ensures.answer c.commit_changes-done.ensures.blamed))

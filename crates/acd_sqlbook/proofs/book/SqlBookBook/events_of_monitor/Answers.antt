@@ -10,13 +10,15 @@ use Rattle.acd_sqlbook.proofs.book.SqlBookBook.events_of_monitor.Goals as goal
 
 pub returns-clause-reads : goal.returns-clause-reads
 returns-clause-reads g c =
-    reads_followed c.args.self.now.noted c.page_followed-found.new.noted _ _ _ _ _
-    (page_goes c.args.self.now.noted c.page_followed-found.new.noted (state g.S.Store c.args.self.now.conn) (state g.S.Store c.page_followed-found.new.conn) c.page_followed-found.ensures.noted) (λ x a n p. p n)
-    (reads_noted (state g.S.Store c.args.self.now.conn) (state g.S.Store c.page_followed-found.new.conn) c.args.self.now.failures c.noted.new.failures c.page_followed-found.result c.noted.result
-    (λ x found. IndexIsNoted c.args.self.now.noted x.events → found.items ≡ events_of_monitor x c.args.monitor c.args.number c.args.limit) (g.met.S.Store.settled c.args.self.now.conn.store) (g.met.S.Store.stays c.page_followed-found.new.conn.store)
-    c.noted.ensures.answer c.noted.ensures.failures c.noted.ensures.counts c.page_followed-found.ensures.read)
+    rw (← c.self.view_is)
+    (reads_followed c.self.inside.noted c.page_followed-found.new.noted _ _ _ _ _
+    (page_goes c.self.inside.noted c.page_followed-found.new.noted (state g.S.Store c.self.inside.ready.conn) (state g.S.Store c.page_followed-found.new.ready.conn) c.page_followed-found.ensures.noted) (λ x a n p. p n)
+    (reads_noted (state g.S.Store c.self.inside.ready.conn) (state g.S.Store c.page_followed-found.new.ready.conn) c.self.inside.failures c.noted.new.failures c.page_followed-found.result c.noted.result
+    (λ x found. IndexIsNoted c.self.inside.noted x.events → found.items ≡ events_of_monitor x c.args.monitor c.args.number c.args.limit) (g.met.S.Store.settled c.self.inside.ready.conn.store) (g.met.S.Store.stays c.page_followed-found.new.ready.conn.store)
+    c.noted.ensures.answer c.noted.ensures.failures c.noted.ensures.counts c.page_followed-found.ensures.read))
 
 pub returns-clause-caused : goal.returns-clause-caused
 returns-clause-caused g c =
-    noted_cause read (state g.S.Store c.args.self.now.conn) (state g.S.Store c.page_followed-found.new.conn) c.args.self.now.failures c.noted.new.failures c.noted.result c.noted.ensures.failures
-    (reads_caused (state g.S.Store c.args.self.now.conn) (state g.S.Store c.page_followed-found.new.conn) c.page_followed-found.result c.noted.result c.noted.ensures.answer c.page_followed-found.ensures.blamed)
+    rw (← c.self.view_is)
+    (noted_cause read (state g.S.Store c.self.inside.ready.conn) (state g.S.Store c.page_followed-found.new.ready.conn) c.self.inside.failures c.noted.new.failures c.noted.result c.noted.ensures.failures
+    (reads_caused (state g.S.Store c.self.inside.ready.conn) (state g.S.Store c.page_followed-found.new.ready.conn) c.page_followed-found.result c.noted.result c.noted.ensures.answer c.page_followed-found.ensures.blamed))

@@ -8,12 +8,14 @@ use Rattle.acd_sqlbook.proofs.book.SqlBookBook.limits.Goals as goal
 
 pub returns-clause-reads : goal.returns-clause-reads
 returns-clause-reads g c =
-    reads_kept c.args.self.now.noted _ _ _ _
-    (reads_noted (state g.S.Store c.args.self.now.conn) (state g.S.Store c.limits_ready-found.new.conn) c.args.self.now.failures c.noted.new.failures c.limits_ready-found.result c.noted.result
-    (λ x found. found ≡ x.rows.limits) (g.met.S.Store.settled c.args.self.now.conn.store) (g.met.S.Store.stays c.limits_ready-found.new.conn.store)
-    c.noted.ensures.answer c.noted.ensures.failures c.noted.ensures.counts c.limits_ready-found.ensures.read)
+    rw (← c.self.view_is)
+    (reads_kept c.self.inside.noted _ _ _ _
+    (reads_noted (state g.S.Store c.self.inside.ready.conn) (state g.S.Store c.limits-found.new.self.conn) c.self.inside.failures c.noted.new.failures c.limits-found.result c.noted.result
+    (λ x found. found ≡ x.rows.limits) (g.met.S.Store.settled c.self.inside.ready.conn.store) (g.met.S.Store.stays c.limits-found.new.self.conn.store)
+    c.noted.ensures.answer c.noted.ensures.failures c.noted.ensures.counts c.limits-found.ensures.read))
 
 pub returns-clause-caused : goal.returns-clause-caused
 returns-clause-caused g c =
-    noted_cause read (state g.S.Store c.args.self.now.conn) (state g.S.Store c.limits_ready-found.new.conn) c.args.self.now.failures c.noted.new.failures c.noted.result c.noted.ensures.failures
-    (reads_caused (state g.S.Store c.args.self.now.conn) (state g.S.Store c.limits_ready-found.new.conn) c.limits_ready-found.result c.noted.result c.noted.ensures.answer c.limits_ready-found.ensures.blamed)
+    rw (← c.self.view_is)
+    (noted_cause read (state g.S.Store c.self.inside.ready.conn) (state g.S.Store c.limits-found.new.self.conn) c.self.inside.failures c.noted.new.failures c.noted.result c.noted.ensures.failures
+    (reads_caused (state g.S.Store c.self.inside.ready.conn) (state g.S.Store c.limits-found.new.self.conn) c.limits-found.result c.noted.result c.noted.ensures.answer c.limits-found.ensures.blamed))

@@ -7,45 +7,45 @@ use Rattle.acd_sqlbook.specs.Calls.{HasReplaced}
 use Rattle.acd_sqlbook.specs.Stopping.{StopsReplace}
 use Rattle.acd_sqlbook.proofs.Counting.{no_request, replace_unfit, replace_not_led, replace_undone}
 use Rattle.acd_sqlbook.proofs.Replacing.{Leading, replaces_not, replaces_still, replaces}
-use Rattle.acd_sqlbook.proofs.transition.commit_rows_ready.Goals as goal
+use Rattle.acd_sqlbook.proofs.transition.commit_rows.Goals as goal
 
 pub returns-in_err-request-clause-commits : goal.returns-in_err-request-clause-commits
 returns-in_err-request-clause-commits g c =
-    let s = state g.S.Store c.args.conn.now in
+    let s = state g.S.Store c.args.ready.now.conn in
     let is : c.from_residual.result ≡ Err (SqliteFailure OutOfMemory) = search rules in
     subst (λ r. HasReplaced s s r (Follows c.args.rows.now c.args.events.now c.args.kept.now) (committed c.args.rows.now c.args.events.now c.args.kept.now)) (sym is)
     (replaces_still s (SqliteFailure OutOfMemory) c.args.rows.now c.args.events.now c.args.kept.now)
 
 pub returns-in_err-meta-clause-commits : goal.returns-in_err-meta-clause-commits
 returns-in_err-meta-clause-commits g c =
-    let s = state g.S.Store c.args.conn.now in
+    let s = state g.S.Store c.args.ready.now.conn in
     let is : c.from_residual-in_err-meta.result ≡ Err c.in_err-meta.field-0.0 = search rules in
     subst (λ r. HasReplaced s s r (Follows c.args.rows.now c.args.events.now c.args.kept.now) (committed c.args.rows.now c.args.events.now c.args.kept.now)) (sym is)
     (replaces_still s c.in_err-meta.field-0.0 c.args.rows.now c.args.events.now c.args.kept.now)
 
 pub returns-clause-commits : goal.returns-clause-commits
 returns-clause-commits g c =
-    replaces_not (state g.S.Store c.args.conn.now) (state g.S.Store c.changes_to.new.conn) c.in-Err.error (Leading c.args.rows.now) c.args.rows.now c.args.events.now c.args.kept.now c.in-Err.ensures.read
+    replaces_not (state g.S.Store c.args.ready.now.conn) (state g.S.Store c.changes_to.new.ready.conn) c.in-Err.error (Leading c.args.rows.now) c.args.rows.now c.args.events.now c.args.kept.now c.in-Err.ensures.read
 
 pub returns-in-Ok-clause-commits : goal.returns-in-Ok-clause-commits
 returns-in-Ok-clause-commits g c =
     let e = c.commit_all.ensures in
-    replaces (state g.S.Store c.args.conn.now) (state g.S.Store c.changes_to.new.conn) (state g.S.Store c.commit_all.new.conn) c.commit_all.result c.in-Ok.changes
+    replaces (state g.S.Store c.args.ready.now.conn) (state g.S.Store c.changes_to.new.ready.conn) (state g.S.Store c.commit_all.new.conn) c.commit_all.result c.in-Ok.changes
     c.deref.result.now c.in_ok-meta.meta c.args.rows.now c.args.events.now c.args.kept.now c.deref.ensures.value c.in_ok-meta.ensures.is c.in-Ok.ensures.read e.clean e.up e.was e.done e.undone e.stops
 
 pub returns-in_err-request-clause-blamed : goal.returns-in_err-request-clause-blamed
 returns-in_err-request-clause-blamed g c =
-    no_request (StopsReplace c.args.rows.now c.args.events.now c.args.kept.now) (state g.S.Store c.args.conn.now) (SqliteFailure OutOfMemory) c.from_residual.result (search rules) refl
+    no_request (StopsReplace c.args.rows.now c.args.events.now c.args.kept.now) (state g.S.Store c.args.ready.now.conn) (SqliteFailure OutOfMemory) c.from_residual.result (search rules) refl
 
 pub returns-in_err-meta-clause-blamed : goal.returns-in_err-meta-clause-blamed
 returns-in_err-meta-clause-blamed g c =
-    replace_unfit c.args.rows.now c.args.events.now c.args.kept.now (state g.S.Store c.args.conn.now) c.in_err-meta.field-0.0 c.from_residual-in_err-meta.result (search rules) c.in_err-meta.ensures.unfit
+    replace_unfit c.args.rows.now c.args.events.now c.args.kept.now (state g.S.Store c.args.ready.now.conn) c.in_err-meta.field-0.0 c.from_residual-in_err-meta.result (search rules) c.in_err-meta.ensures.unfit
 
 pub returns-clause-blamed : goal.returns-clause-blamed
 returns-clause-blamed g c =
-    replace_not_led c.args.rows.now c.args.events.now c.args.kept.now (state g.S.Store c.args.conn.now) (state g.S.Store c.changes_to.new.conn) c.in-Err.error c.in-Err.ensures.blamed
+    replace_not_led c.args.rows.now c.args.events.now c.args.kept.now (state g.S.Store c.args.ready.now.conn) (state g.S.Store c.changes_to.new.ready.conn) c.in-Err.error c.in-Err.ensures.blamed
 
 pub returns-in-Ok-clause-blamed : goal.returns-in-Ok-clause-blamed
 returns-in-Ok-clause-blamed g c =
-    replace_undone c.args.rows.now c.args.events.now c.args.kept.now (state g.S.Store c.args.conn.now) (state g.S.Store c.changes_to.new.conn) (state g.S.Store c.commit_all.new.conn) c.commit_all.result c.in-Ok.changes
+    replace_undone c.args.rows.now c.args.events.now c.args.kept.now (state g.S.Store c.args.ready.now.conn) (state g.S.Store c.changes_to.new.ready.conn) (state g.S.Store c.commit_all.new.conn) c.commit_all.result c.in-Ok.changes
     c.deref.result.now c.in_ok-meta.meta c.deref.ensures.value c.in_ok-meta.ensures.is c.in-Ok.ensures.read c.in-Ok.ensures.blamed c.commit_all.ensures.clean c.commit_all.ensures.failed

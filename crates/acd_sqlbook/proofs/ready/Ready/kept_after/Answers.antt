@@ -3,18 +3,18 @@ use Rattle.acd_book.specs.Content.{IsKeptAfter}
 use Rattle.acd_sqlbook.proofs.Standing.{reads_behind}
 use Rattle.std.proofs.Common.{rules}
 use Rattle.acd_sql_statements.proofs.Blamed.{blames_as, blames_behind}
-use Rattle.acd_sqlbook.proofs.ready.kept_after_ready.Goals as goal
+use Rattle.acd_sqlbook.proofs.ready.Ready.kept_after.Goals as goal
 
 pub returns-clause-read : goal.returns-clause-read
 returns-clause-read g c =
-    reads_behind (state g.S.Store c.args.conn.now) (state g.S.Store c.serve.new.conn) (state g.S.Store c.kept_behind.new.conn) c.kept_behind.result (λ x found. IsKeptAfter x.kept c.args.stamp found)
+    reads_behind (state g.S.Store c.args.self.now.conn) (state g.S.Store c.serve.new.self.conn) (state g.S.Store c.kept_behind.new.conn) c.kept_behind.result (λ x found. IsKeptAfter x.kept c.args.stamp found)
     c.serve.ensures.quiet c.in_ok-serve.ensures.up c.serve.ensures.stops c.kept_behind.ensures.found
 
 pub returns-in_err-serve-clause-blamed : goal.returns-in_err-serve-clause-blamed
 returns-in_err-serve-clause-blamed g c =
-    blames_as (state g.S.Store c.args.conn.now) (state g.S.Store c.serve.new.conn) c.in_err-serve.field-0.0 c.from_residual.result (search rules) c.in_err-serve.ensures.blamed
+    blames_as (state g.S.Store c.args.self.now.conn) (state g.S.Store c.serve.new.self.conn) c.in_err-serve.field-0.0 c.from_residual.result (search rules) c.in_err-serve.ensures.blamed
 
 pub returns-clause-blamed : goal.returns-clause-blamed
 returns-clause-blamed g c =
-    blames_behind (state g.S.Store c.args.conn.now) (state g.S.Store c.serve.new.conn) (state g.S.Store c.kept_behind.new.conn) tt c.kept_behind.result
+    blames_behind (state g.S.Store c.args.self.now.conn) (state g.S.Store c.serve.new.self.conn) (state g.S.Store c.kept_behind.new.conn) tt c.kept_behind.result
     c.in_ok-serve.ensures.blamed c.serve.ensures.quiet c.in_ok-serve.ensures.up c.kept_behind.ensures.found.quiet.clean c.kept_behind.ensures.blamed
