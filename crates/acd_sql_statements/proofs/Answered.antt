@@ -1,5 +1,5 @@
 -- The texts of reads: the store never refuses to answer one.
-use Rattle.std.proofs.Common.{◌≡◌, inl, inr, ℕ, ◌≤◌, nat_le, List, [], ◌∷◌, length, true, false, Option, Some, None, Result, Ok, Err, refl, sym, ap, subst, ◌∙◌, append-nil, arith}
+use Rattle.std.proofs.Common.{◌≡◌, inl, inr, ℕ, ◌≤◌, nat_le, List, [], ◌∷◌, ◌++◌, length, true, false, Option, Some, None, Result, Ok, Err, refl, sym, ap, subst, ◌∙◌, append-nil, arith}
 use Rattle.std.proofs.lemmas.Bool.Decides.{nat_tests}
 use Rattle.sqlite_value.specs.declared.value.Value.TheVariants.{Text}
 use Rattle.sqlite_value.specs.Order.{Row}
@@ -12,6 +12,7 @@ use Rattle.sqlite_sql.proofs.QueryLemmas.{no_fold_overflows}
 use Rattle.sqlite_typing.specs.Types.{accepts_program}
 use Rattle.sqlite_schema.specs.Program.{lets_of}
 use Rattle.sqlite_schema.specs.declared.schema.Schema.{Schema}
+use Rattle.sqlite_schema.specs.declared.schema.Table.{Table}
 use Rattle.sqlite_schema.specs.declared.command.Command.{Command}
 use Rattle.sqlite_schema.specs.declared.command.Command.TheVariants.{Select, Rows}
 use Rattle.sqlite_resolve.specs.declared.compiled.Compiled.{Compiled}
@@ -20,11 +21,13 @@ use Rattle.sqlite_tied.specs.Compute.{everything}
 use Rattle.sqlite.specs.Clock.{timed}
 use Rattle.sqlite.specs.Effect.{Database}
 use Rattle.sqlite.specs.Listing.{understood, reads_listing, IsSourceOf}
-use Rattle.acd_sql_columns.specs.Schema.{book_schema}
+use Rattle.acd_sql_columns.specs.Schema.{book_schema, meta, nine, table_of, two, with_behind}
+use Rattle.acd_sql_columns.proofs.Listings.{begun, book_begins, whole_begins}
 use Rattle.acd_sql_columns.specs.Values.{id_value}
-use Rattle.acd_sql_columns.specs.declared.texts.TheConstants.{SELECT_META, SELECT_GROUPS, SELECT_GROUP_PRIORITY, SELECT_STATIONS, SELECT_AGENTS, SELECT_AGENT_GROUPS, SELECT_CALLS, SELECT_CONNECTIONS, SELECT_MONITORS, SELECT_MONITOR, SELECT_KEPT_OF_REQUEST, SELECT_KEPT_AFTER, SELECT_EVENTS_AFTER, SELECT_EVENTS_AT_DEVICE}
+use Rattle.acd_sql_columns.specs.declared.texts.TheConstants.{SELECT_META, SELECT_GROUPS, SELECT_GROUP_PRIORITY, SELECT_STATIONS, SELECT_AGENTS, SELECT_AGENT_GROUPS, SELECT_CALLS, SELECT_CONNECTIONS, SELECT_MONITORS, SELECT_MONITOR, SELECT_KEPT_OF_REQUEST, SELECT_KEPT_AFTER, SELECT_EVENTS_AFTER, SELECT_EVENTS_AT_DEVICE, SELECT_LOW_EVENT, SELECT_LOW_KEPT, SELECT_STANDING_AGENT_GROUPS, SELECT_STANDING_CONNECTIONS, SELECT_VERSION}
 use Rattle.acd_sql_statements.specs.Failing.{IsUnreadText}
 use Rattle.acd_sql_statements.specs.Reading.{IsUnanswered, RefusesToShow, IsAnswered}
+use Rattle.acd_sql_statements.specs.Looking.{IsAnsweredOver}
 
 no_sum : (g : Option Grouping) (all : List Env) → g ≡ None → Overflows g all → ⊥
 no_sum None all e h = h
@@ -80,55 +83,110 @@ module _ (s : Schema) (text : List ℕ) (params : Row) where
               never h.0.command run.1 (ap (λ (x : Database). x.schema) same ∙ is) own.4 (subst (IsUnanswered h.0.command run.1) bare run.3)
         ]
 
+-- whatever lies behind the tables
+pub over : (base : List Table) (text : List ℕ) (params : Row) → ((rest : List Table) (s : Schema) → (reads_listing (with_behind base rest s) text ≡ false) × IsWhole (with_behind base rest s) text params (understood (with_behind base rest s) text))
+    → IsAnsweredOver base text params
+over base text params whole d b = answered (with_behind base b.0 d.schema) text params (whole b.0 d.schema).0 (whole b.0 d.schema).1 d (begun base d.schema b)
+
 -- ---- the texts
 
-pub counters_answered : IsAnswered SELECT_META.now []
+pub counters_over : IsAnsweredOver nine SELECT_META.now []
 unfolding understood everything
-counters_answered = answered book_schema SELECT_META.now [] refl (refl, refl, refl, refl, (refl, refl, refl, refl))
+counters_over = over nine SELECT_META.now [] (λ rest s. (refl, (refl, refl, refl, refl, (refl, refl, refl, refl))))
+
+pub counters_answered : IsAnswered SELECT_META.now []
+counters_answered d is = counters_over d (book_begins d.schema is)
+
+pub groups_over : IsAnsweredOver nine SELECT_GROUPS.now []
+unfolding understood everything
+groups_over = over nine SELECT_GROUPS.now [] (λ rest s. (refl, (refl, refl, refl, refl, (refl, refl, refl, refl))))
+
+pub groups_answered : IsAnswered SELECT_GROUPS.now []
+groups_answered d is = groups_over d (book_begins d.schema is)
+
+pub priorities_over : IsAnsweredOver (nine ++ two) SELECT_GROUP_PRIORITY.now []
+unfolding understood everything
+priorities_over = over (nine ++ two) SELECT_GROUP_PRIORITY.now [] (λ rest s. (refl, (refl, refl, refl, refl, (refl, refl, refl, refl))))
+
+pub priorities_answered : IsAnswered SELECT_GROUP_PRIORITY.now []
+priorities_answered d is = priorities_over d (whole_begins d.schema is)
+
+pub stations_over : IsAnsweredOver nine SELECT_STATIONS.now []
+unfolding understood everything
+stations_over = over nine SELECT_STATIONS.now [] (λ rest s. (refl, (refl, refl, refl, refl, (refl, refl, refl, refl))))
+
+pub stations_answered : IsAnswered SELECT_STATIONS.now []
+stations_answered d is = stations_over d (book_begins d.schema is)
+
+pub agents_over : IsAnsweredOver nine SELECT_AGENTS.now []
+unfolding understood everything
+agents_over = over nine SELECT_AGENTS.now [] (λ rest s. (refl, (refl, refl, refl, refl, (refl, refl, refl, refl))))
+
+pub agents_answered : IsAnswered SELECT_AGENTS.now []
+agents_answered d is = agents_over d (book_begins d.schema is)
+
+pub calls_over : IsAnsweredOver nine SELECT_CALLS.now []
+unfolding understood everything
+calls_over = over nine SELECT_CALLS.now [] (λ rest s. (refl, (refl, refl, refl, refl, (refl, refl, refl, refl))))
+
+pub calls_answered : IsAnswered SELECT_CALLS.now []
+calls_answered d is = calls_over d (book_begins d.schema is)
+
+pub connections_over : IsAnsweredOver nine SELECT_CONNECTIONS.now []
+unfolding understood everything
+connections_over = over nine SELECT_CONNECTIONS.now [] (λ rest s. (refl, (refl, refl, refl, refl, (refl, refl, refl, refl))))
+
+pub connections_answered : IsAnswered SELECT_CONNECTIONS.now []
+connections_answered d is = connections_over d (book_begins d.schema is)
+
+pub monitors_over : IsAnsweredOver nine SELECT_MONITORS.now []
+unfolding understood everything
+monitors_over = over nine SELECT_MONITORS.now [] (λ rest s. (refl, (refl, refl, refl, refl, (refl, refl, refl, refl))))
+
+pub monitors_answered : IsAnswered SELECT_MONITORS.now []
+monitors_answered d is = monitors_over d (book_begins d.schema is)
+
+pub kept_after_over : (stamp limit : ℕ) → IsAnsweredOver nine SELECT_KEPT_AFTER.now (id_value stamp ∷ id_value limit ∷ [])
+unfolding understood everything
+kept_after_over stamp limit = over nine SELECT_KEPT_AFTER.now (id_value stamp ∷ id_value limit ∷ []) (λ rest s. (refl, (refl, refl, refl, refl, (refl, refl, refl, refl))))
+
+pub kept_after_answered : (stamp limit : ℕ) → IsAnswered SELECT_KEPT_AFTER.now (id_value stamp ∷ id_value limit ∷ [])
+kept_after_answered stamp limit d is = kept_after_over stamp limit d (book_begins d.schema is)
+
+pub events_after_over : (number limit : ℕ) → IsAnsweredOver nine SELECT_EVENTS_AFTER.now (id_value number ∷ id_value limit ∷ [])
+unfolding understood everything
+events_after_over number limit = over nine SELECT_EVENTS_AFTER.now (id_value number ∷ id_value limit ∷ []) (λ rest s. (refl, (refl, refl, refl, refl, (refl, refl, refl, refl))))
+
+pub events_after_answered : (number limit : ℕ) → IsAnswered SELECT_EVENTS_AFTER.now (id_value number ∷ id_value limit ∷ [])
+events_after_answered number limit d is = events_after_over number limit d (book_begins d.schema is)
+
+pub version_over : IsAnsweredOver (table_of meta ∷ []) SELECT_VERSION.now []
+unfolding understood everything
+version_over = over (table_of meta ∷ []) SELECT_VERSION.now [] (λ rest s. (refl, (refl, refl, refl, refl, (refl, refl, refl, refl))))
+
+pub standing_connections_over : IsAnsweredOver nine SELECT_STANDING_CONNECTIONS.now []
+unfolding understood everything
+standing_connections_over = over nine SELECT_STANDING_CONNECTIONS.now [] (λ rest s. (refl, (refl, refl, refl, refl, (refl, refl, refl, refl))))
+
+pub standing_further_over : IsAnsweredOver (nine ++ two) SELECT_STANDING_AGENT_GROUPS.now []
+unfolding understood everything
+standing_further_over = over (nine ++ two) SELECT_STANDING_AGENT_GROUPS.now [] (λ rest s. (refl, (refl, refl, refl, refl, (refl, refl, refl, refl))))
+
+pub low_events_over : IsAnsweredOver nine SELECT_LOW_EVENT.now []
+unfolding understood everything
+low_events_over = over nine SELECT_LOW_EVENT.now [] (λ rest s. (refl, (refl, refl, refl, refl, (refl, refl, refl, refl))))
+
+pub low_kept_over : IsAnsweredOver nine SELECT_LOW_KEPT.now []
+unfolding understood everything
+low_kept_over = over nine SELECT_LOW_KEPT.now [] (λ rest s. (refl, (refl, refl, refl, refl, (refl, refl, refl, refl))))
 
 pub kept_of_answered : (requester : List ℕ) (invoke : ℕ) → IsAnswered SELECT_KEPT_OF_REQUEST.now (Text requester ∷ id_value invoke ∷ [])
 unfolding understood everything
 kept_of_answered requester invoke = answered book_schema SELECT_KEPT_OF_REQUEST.now (Text requester ∷ id_value invoke ∷ []) refl (refl, refl, refl, refl, (refl, refl, refl, refl))
 
-pub kept_after_answered : (stamp limit : ℕ) → IsAnswered SELECT_KEPT_AFTER.now (id_value stamp ∷ id_value limit ∷ [])
-unfolding understood everything
-kept_after_answered stamp limit = answered book_schema SELECT_KEPT_AFTER.now (id_value stamp ∷ id_value limit ∷ []) refl (refl, refl, refl, refl, (refl, refl, refl, refl))
-
-pub events_after_answered : (number limit : ℕ) → IsAnswered SELECT_EVENTS_AFTER.now (id_value number ∷ id_value limit ∷ [])
-unfolding understood everything
-events_after_answered number limit = answered book_schema SELECT_EVENTS_AFTER.now (id_value number ∷ id_value limit ∷ []) refl (refl, refl, refl, refl, (refl, refl, refl, refl))
-
-pub groups_answered : IsAnswered SELECT_GROUPS.now []
-unfolding understood everything
-groups_answered = answered book_schema SELECT_GROUPS.now [] refl (refl, refl, refl, refl, (refl, refl, refl, refl))
-
-pub priorities_answered : IsAnswered SELECT_GROUP_PRIORITY.now []
-unfolding understood everything
-priorities_answered = answered book_schema SELECT_GROUP_PRIORITY.now [] refl (refl, refl, refl, refl, (refl, refl, refl, refl))
-
-pub stations_answered : IsAnswered SELECT_STATIONS.now []
-unfolding understood everything
-stations_answered = answered book_schema SELECT_STATIONS.now [] refl (refl, refl, refl, refl, (refl, refl, refl, refl))
-
-pub agents_answered : IsAnswered SELECT_AGENTS.now []
-unfolding understood everything
-agents_answered = answered book_schema SELECT_AGENTS.now [] refl (refl, refl, refl, refl, (refl, refl, refl, refl))
-
 pub further_answered : IsAnswered SELECT_AGENT_GROUPS.now []
 unfolding understood everything
 further_answered = answered book_schema SELECT_AGENT_GROUPS.now [] refl (refl, refl, refl, refl, (refl, refl, refl, refl))
-
-pub calls_answered : IsAnswered SELECT_CALLS.now []
-unfolding understood everything
-calls_answered = answered book_schema SELECT_CALLS.now [] refl (refl, refl, refl, refl, (refl, refl, refl, refl))
-
-pub connections_answered : IsAnswered SELECT_CONNECTIONS.now []
-unfolding understood everything
-connections_answered = answered book_schema SELECT_CONNECTIONS.now [] refl (refl, refl, refl, refl, (refl, refl, refl, refl))
-
-pub monitors_answered : IsAnswered SELECT_MONITORS.now []
-unfolding understood everything
-monitors_answered = answered book_schema SELECT_MONITORS.now [] refl (refl, refl, refl, refl, (refl, refl, refl, refl))
 
 pub monitor_answered : (monitor : ℕ) → IsAnswered SELECT_MONITOR.now (id_value monitor ∷ [])
 unfolding understood everything

@@ -60,7 +60,7 @@ module _ (sql : List ℕ) (params : Row) (old new : State) where
   ]
   shows e c it (Some what) is h = inr (inr (c, it.is, inl (what, is)))
 
-  query_failed : (e : Error) → FailsToQuery sql params old new e → FailsToShow old new sql params e
+  pub query_failed : (e : Error) → FailsToQuery sql params old new e → FailsToShow old new sql params e
   unfolding FailsToQuery RefusesToShow
   query_failed e (inl unrun) = elim (not_run old new sql params e unrun) [
     | inl memory ↦ inl memory
@@ -96,7 +96,7 @@ probe_unlisted : (s : Schema) → reads_listing s probe_text ≡ false
 unfolding understood everything
 probe_unlisted s = refl
 
-probe_answered : (d : Database) → ¬ (RefusesToShow d probe_text [])
+pub probe_answered : (d : Database) → ¬ (RefusesToShow d probe_text [])
 unfolding understood everything
 probe_answered d = answered d.schema probe_text [] refl (refl, refl, refl, refl, (refl, refl, refl, refl)) d refl
 
@@ -113,7 +113,7 @@ never_none old new h =
     let read = reads_as probe_text [] old new old.now.schema refl _ (probe_command old.now.schema) (probe_plain old.now.schema) (probe_unlisted old.now.schema) [] h in
     absurd (let apart = one_row old.now.trees [] read.answer in cc)
 
-row_failed : (old new : State) (e : Error) → QueriesRow probe_text [] old new (Err e) → FailsToShow old new probe_text [] e
+pub row_failed : (old new : State) (e : Error) → QueriesRow probe_text [] old new (Err e) → FailsToShow old new probe_text [] e
 unfolding QueriesRow
 row_failed old new e (inl h) = query_failed probe_text [] old new e h
 row_failed old new e (inr h) = absurd (never_none old new h.1)

@@ -9,7 +9,9 @@ pub mod Failures
 pub mod Refused
 pub mod Answered
 pub mod Blamed
+pub mod Lookings
 mod BlamedRows
 mod BlamedPlan
 mod Grouped
 mod Picked
+mod Compared

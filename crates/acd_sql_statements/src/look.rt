@@ -9,6 +9,7 @@ ghost use Rattle.acd_sql_columns.specs.AnyRows.{has_meta, rows_in, BeginsAsBook,
 ghost use Rattle.acd_sql_columns.specs.Content.{tree_of};
 ghost use Rattle.acd_sql_columns.specs.Schema.{nine, BeginsSchema};
 ghost use Rattle.acd_sql_statements.specs.Between.{LooksAt, IsBookSchema};
+ghost use Rattle.acd_sql_statements.specs.Looking.{BlamesOver};
 
 use crate::read::read;
 use acd_sql_columns::texts::{
@@ -35,9 +36,10 @@ pub fn has_meta(schema: &Schema) -> bool
 /// The versions that the table tells.
 pub fn version_rows<S: Alter>(conn: &mut Connection<S>) -> Result<Vec<Row>, Error>
     requires { conn.old.in_transaction ≡ false }
-    ensures { LooksAt BeginsAsBook S.Store conn.old conn.new result
+    ensures looks { LooksAt BeginsAsBook S.Store conn.old conn.new result
         (λ d rows. IsPermutation
         (map (λ r. column r 2 ∷ []) (d.trees (tree_of table.Meta))) rows.items) }
+    ensures looked { BlamesOver BeginsAsBook [] S.Store conn.old conn.new result }
 {
     read(conn, SELECT_VERSION, &[])
 }
@@ -45,8 +47,9 @@ pub fn version_rows<S: Alter>(conn: &mut Connection<S>) -> Result<Vec<Row>, Erro
 /// The rows of connections in the order in which they stand. Their key isn't the number of a row, so that to put them in its order takes longer than to read them.
 pub fn unordered_connection_rows<S: Alter>(conn: &mut Connection<S>) -> Result<Vec<Row>, Error>
     requires { conn.old.in_transaction ≡ false }
-    ensures { LooksAt (BeginsSchema nine) S.Store conn.old conn.new result
+    ensures looks { LooksAt (BeginsSchema nine) S.Store conn.old conn.new result
         (λ d rows. IsPermutation (rows_in table.Connections d.trees) rows.items) }
+    ensures looked { BlamesOver (BeginsSchema nine) [] S.Store conn.old conn.new result }
 {
     read(conn, SELECT_STANDING_CONNECTIONS, &[])
 }
@@ -54,8 +57,9 @@ pub fn unordered_connection_rows<S: Alter>(conn: &mut Connection<S>) -> Result<V
 /// The rows of further groups, in the order in which they stand.
 pub fn further_rows<S: Alter>(conn: &mut Connection<S>) -> Result<Vec<Row>, Error>
     requires { conn.old.in_transaction ≡ false }
-    ensures { LooksAt IsBookSchema S.Store conn.old conn.new result
+    ensures looks { LooksAt IsBookSchema S.Store conn.old conn.new result
         (λ d rows. IsPermutation (rows_in table.AgentGroups d.trees) rows.items) }
+    ensures looked { BlamesOver IsBookSchema [] S.Store conn.old conn.new result }
 {
     read(conn, SELECT_STANDING_AGENT_GROUPS, &[])
 }
@@ -63,8 +67,9 @@ pub fn further_rows<S: Alter>(conn: &mut Connection<S>) -> Result<Vec<Row>, Erro
 /// An event whose number is below 1.
 pub(crate) fn low_event_rows<S: Alter>(conn: &mut Connection<S>) -> Result<Vec<Row>, Error>
     requires { conn.old.in_transaction ≡ false }
-    ensures { LooksAt (BeginsSchema nine) S.Store conn.old conn.new result
+    ensures looks { LooksAt (BeginsSchema nine) S.Store conn.old conn.new result
         (λ d rows. TellsLow log.Events d.trees rows.items) }
+    ensures looked { BlamesOver (BeginsSchema nine) [] S.Store conn.old conn.new result }
 {
     read(conn, SELECT_LOW_EVENT, &[])
 }
@@ -72,8 +77,9 @@ pub(crate) fn low_event_rows<S: Alter>(conn: &mut Connection<S>) -> Result<Vec<R
 /// A kept record whose stamp is below 1.
 pub(crate) fn low_kept_rows<S: Alter>(conn: &mut Connection<S>) -> Result<Vec<Row>, Error>
     requires { conn.old.in_transaction ≡ false }
-    ensures { LooksAt (BeginsSchema nine) S.Store conn.old conn.new result
+    ensures looks { LooksAt (BeginsSchema nine) S.Store conn.old conn.new result
         (λ d rows. TellsLow log.Kept d.trees rows.items) }
+    ensures looked { BlamesOver (BeginsSchema nine) [] S.Store conn.old conn.new result }
 {
     read(conn, SELECT_LOW_KEPT, &[])
 }

@@ -3,39 +3,26 @@
 //! A number or a limit that no INTEGER column can hold is asked for as the greatest that one can. Nothing
 //! stands above that, and no answer is so long, which is seen to before the rows are handed on.
 
-ghost use Rattle.std.specs.Prelude.{◌≡◌, ◌⊎◌, ◌-◌, ◌^◌, ◌<◌, [], false, length, map, take, filter, Some, IfErr, IfOk, IfSome, OnOk};
+ghost use Rattle.std.specs.Prelude.{◌≡◌, ◌⊎◌, ◌-◌, ◌^◌, ◌<◌, [], false, length, map, take, filter, Some, IfErr, IfOk, OnOk};
 ghost use Rattle.acd_model.specs.Scans.{monitor_of};
 ghost use Rattle.acd_book.specs.Content.{IsKeptAfter, events_behind, events_of_monitor, is_told, kept_of};
 ghost use Rattle.acd_sql_columns.specs.Rows.{event_values, kept_values};
 ghost use Rattle.acd_sql_columns.specs.Draft.{Fits};
 ghost use Rattle.acd_sql_columns.specs.Finding.{kept_behind};
-ghost use Rattle.acd_sql_columns.specs.Values.{whole_at};
 ghost use Rattle.acd_sql_statements.specs.Failing.{IsMemory};
 ghost use Rattle.acd_sql_statements.specs.Reading.{HasFitting};
 ghost use Rattle.acd_sql_statements.specs.Between.{LooksUp};
 
-use crate::fitting::fits;
+use crate::fitting::{fits, number_of};
 use crate::query::{event_rows, event_rows_at, kept_row, kept_rows, monitor_row};
 use crate::reads::{first, records};
 use crate::select;
 use acd_book::Kept;
 use acd_terms::{DeviceId, Event, Invoke, MonitorRecord, Requester, find};
-use sqlite::types::ValueRef;
 use sqlite::{Alter, Connection, Error, ErrorCode, Row};
 use std::alloc::Global;
 
 const GREATEST: u64 = i64::MAX as u64;
-
-// The number that a row begins with, which its column holds.
-fn number_of(row: &Row) -> Option<u64>
-    ensures value { result ≡ whole_at row.now 0 }
-    ensures fits { IfSome result Fits }
-{
-    match row.get_ref(0) {
-        Ok(ValueRef::Int(number)) => u64::try_from(number).ok(),
-        _ => None,
-    }
-}
 
 // The rows of a query that was asked for the least of each number and the greatest, where they are those of
 // the numbers themselves.

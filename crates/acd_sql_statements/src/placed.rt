@@ -1,6 +1,6 @@
 //! Whether further groups and priorities belong to what stands beside them.
 
-ghost use Rattle.std.specs.Prelude.{◌≡◌, ◌==◌, false, nat_le, length, map, IsPermutation};
+ghost use Rattle.std.specs.Prelude.{◌≡◌, ◌==◌, ◌∷◌, [], false, nat_le, length, map, IsPermutation};
 ghost use Rattle.std.specs.List.{list_any, list_all};
 ghost use Rattle.acd_sql_columns.specs.declared.tables.Table.TheVariants as table;
 ghost use Rattle.acd_sql_columns.specs.AnyRows.{rows_in, is_beside, is_ranked};
@@ -8,6 +8,7 @@ ghost use Rattle.acd_sql_columns.specs.Decoding.{as_group, as_agent, as_further}
 ghost use Rattle.acd_sql_columns.specs.Relations.{groups_beside, is_above, is_behind, are_behind, are_of_groups};
 ghost use Rattle.acd_sql_columns.specs.Schema.{nine, BeginsSchema};
 ghost use Rattle.acd_sql_statements.specs.Between.{LooksAt, IsBookSchema};
+ghost use Rattle.acd_sql_statements.specs.Looking.{BlamesOver};
 
 use crate::look::further_rows;
 use crate::reads::records;
@@ -81,8 +82,10 @@ fn are_behind_agents<S: Alter>(
     pairs: &[(AgentId, DeviceId)],
 ) -> Result<bool, Error>
     requires { conn.old.in_transaction ≡ false }
-    ensures { LooksAt (BeginsSchema nine) S.Store conn.old conn.new result
+    ensures looks { LooksAt (BeginsSchema nine) S.Store conn.old conn.new result
         (λ d placed. placed ≡ are_behind (map as_agent (rows_in table.Agents d.trees)) pairs.now) }
+    ensures looked { BlamesOver (BeginsSchema nine) (table.Agents ∷ [])
+        S.Store conn.old conn.new result }
 {
     match select::records::<AgentRow, S>(alloc, conn) {
         Ok(agents) => Ok(are_behind(&agents, pairs)),
@@ -96,9 +99,11 @@ fn further_pairs<S: Alter>(
     conn: &mut Connection<S>,
 ) -> Result<Vec<(AgentId, DeviceId)>, Error>
     requires { conn.old.in_transaction ≡ false }
-    ensures { LooksAt IsBookSchema S.Store conn.old conn.new result
+    ensures looks { LooksAt IsBookSchema S.Store conn.old conn.new result
         (λ d pairs. IsPermutation
         (map as_further (rows_in table.AgentGroups d.trees)) pairs.items) }
+    ensures looked { BlamesOver IsBookSchema (table.AgentGroups ∷ [])
+        S.Store conn.old conn.new result }
 {
     match further_rows(conn) {
         Ok(rows) => records(alloc, &rows),
@@ -110,8 +115,10 @@ fn further_pairs<S: Alter>(
 /// failure of the store.
 pub fn are_further_placed<S: Alter>(alloc: Global, conn: &mut Connection<S>) -> Result<bool, Error>
     requires { conn.old.in_transaction ≡ false }
-    ensures { LooksAt IsBookSchema S.Store conn.old conn.new result
+    ensures looks { LooksAt IsBookSchema S.Store conn.old conn.new result
         (λ d placed. placed ≡ is_beside d.trees) }
+    ensures looked { BlamesOver IsBookSchema (table.AgentGroups ∷ table.Agents ∷ [])
+        S.Store conn.old conn.new result }
 {
     match further_pairs(alloc, conn) {
         Ok(pairs) => are_behind_agents(alloc, conn, &pairs),
@@ -140,9 +147,11 @@ fn are_of_groups_there<S: Alter>(
     priorities: &[GroupPriority],
 ) -> Result<bool, Error>
     requires { conn.old.in_transaction ≡ false }
-    ensures { LooksAt (BeginsSchema nine) S.Store conn.old conn.new result
+    ensures looks { LooksAt (BeginsSchema nine) S.Store conn.old conn.new result
         (λ d placed. placed
         ≡ are_of_groups (map as_group (rows_in table.Groups d.trees)) priorities.now) }
+    ensures looked { BlamesOver (BeginsSchema nine) (table.Groups ∷ [])
+        S.Store conn.old conn.new result }
 {
     match select::records::<GroupRow, S>(alloc, conn) {
         Ok(groups) => Ok(are_of_groups(&groups, priorities)),
@@ -156,8 +165,10 @@ pub fn are_priorities_placed<S: Alter>(
     conn: &mut Connection<S>,
 ) -> Result<bool, Error>
     requires { conn.old.in_transaction ≡ false }
-    ensures { LooksAt IsBookSchema S.Store conn.old conn.new result
+    ensures looks { LooksAt IsBookSchema S.Store conn.old conn.new result
         (λ d placed. placed ≡ is_ranked d.trees) }
+    ensures looked { BlamesOver IsBookSchema (table.GroupPriority ∷ table.Groups ∷ [])
+        S.Store conn.old conn.new result }
 {
     match select::records::<GroupPriority, S>(alloc, conn) {
         Ok(priorities) => are_of_groups_there(alloc, conn, &priorities),

@@ -1,6 +1,6 @@
 //! The queries between transactions, one a function: rows of one table, in the order of its key.
 
-ghost use Rattle.std.specs.Prelude.{◌≡◌, Some, false, map, take, filter, option_to_list, IsPermutation};
+ghost use Rattle.std.specs.Prelude.{◌≡◌, [], Some, false, map, take, filter, option_to_list, IsPermutation};
 ghost use Rattle.sqlite.specs.Held.{state};
 ghost use Rattle.acd_model.specs.Scans.{monitor_of};
 ghost use Rattle.acd_book.specs.Content.{events_behind, is_told, kept_of};
@@ -14,6 +14,7 @@ ghost use Rattle.acd_sql_columns.specs.Finding.{Finds, kept_behind};
 ghost use Rattle.acd_sql_columns.specs.Schema.{nine, BeginsSchema};
 ghost use Rattle.acd_sql_statements.specs.Reading.{Blames};
 ghost use Rattle.acd_sql_statements.specs.Between.{LooksUp, SeesOf};
+ghost use Rattle.acd_sql_statements.specs.Looking.{BlamesOver};
 
 use crate::read::read;
 use crate::{bind, select};
@@ -49,6 +50,7 @@ pub fn event_rows<S: Alter>(
     ensures seen { SeesOf (BeginsSchema nine) S.Store conn.old conn.new result
         (λ d rows. IsPageRows log.Events number limit d.trees rows.items) }
     ensures blamed { Blames (state S.Store conn.old) (state S.Store conn.new) result }
+    ensures looked { BlamesOver (BeginsSchema nine) [] S.Store conn.old conn.new result }
 {
     read(
         conn,
@@ -72,6 +74,7 @@ pub fn kept_rows<S: Alter>(
     ensures seen { SeesOf (BeginsSchema nine) S.Store conn.old conn.new result
         (λ d rows. IsPageRows log.Kept stamp limit d.trees rows.items) }
     ensures blamed { Blames (state S.Store conn.old) (state S.Store conn.new) result }
+    ensures looked { BlamesOver (BeginsSchema nine) [] S.Store conn.old conn.new result }
 {
     read(
         conn,

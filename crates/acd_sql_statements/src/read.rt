@@ -1,7 +1,8 @@
 //! Reads between transactions: they change nothing, but that a failure may shut the connection.
 
 ghost use Rattle.std.specs.Prelude.{◌≡◌, ◌∷◌, [], false, IfOk, IsPermutation, ⊤};
-ghost use Rattle.acd_sql_statements.specs.Reading.{IsAnswered, Blames};
+ghost use Rattle.acd_sql_statements.specs.Reading.{IsAnswered, RefusesToShow, Blames};
+ghost use Rattle.acd_sql_statements.specs.Looking.{BlamesLook, BlamesOver};
 ghost use Rattle.sqlite.specs.Given.{IsPlain};
 ghost use Rattle.sqlite.specs.Listing.{understood};
 ghost use Rattle.sqlite.specs.Effect.{Database};
@@ -34,6 +35,8 @@ pub fn probe<S: Alter>(conn: &mut Connection<S>) -> Result<(), Error>
     ensures seen { (d : Database)
         → Sees d (state S.Store conn.old) (state S.Store conn.new) result (λ _. ⊤) }
     ensures blamed { Blames (state S.Store conn.old) (state S.Store conn.new) result }
+    ensures looked { BlamesLook (λ _. ⊤)
+        (state S.Store conn.old) (state S.Store conn.new) result }
 {
     conn.query_row("SELECT 1", &[])?;
     Ok(())
@@ -60,6 +63,8 @@ pub(crate) fn read<S: Alter>(
         (state S.Store conn.old) (state S.Store conn.new) rows.items) }
     ensures blamed { IsAnswered sql.now (bound params.now)
         → Blames (state S.Store conn.old) (state S.Store conn.new) result }
+    ensures looked { BlamesLook (λ d. ¬ (RefusesToShow d sql.now (bound params.now)))
+        (state S.Store conn.old) (state S.Store conn.new) result }
 {
     conn.query_all(sql, params)
 }
@@ -73,6 +78,7 @@ pub fn meta_rows<S: Alter>(conn: &mut Connection<S>) -> Result<Vec<Row>, Error>
     ensures seen { SeesOf (BeginsSchema nine) S.Store conn.old conn.new result
         (λ d rows. IsPermutation (rows_in table.Meta d.trees) rows.items) }
     ensures blamed { Blames (state S.Store conn.old) (state S.Store conn.new) result }
+    ensures looked { BlamesOver (BeginsSchema nine) [] S.Store conn.old conn.new result }
 {
     read(conn, SELECT_META, &[])
 }

@@ -1,22 +1,32 @@
 //! Whether two schemas are the same. A default, a literal or a list that no table of a book has makes a table another one.
 
-ghost use Rattle.std.specs.Prelude.{◌≡◌, IsTrue};
+ghost use Rattle.std.specs.Prelude.{◌≡◌, ℕ, Bool, true, IsTrue};
+ghost use Rattle.std.specs.List.{list_all};
+ghost use Rattle.sqlite_sql.specs.Term.{Term};
+ghost use Rattle.sqlite_schema.specs.Code.{op_term, term_to, terms_in};
 ghost use Rattle.acd_sql_columns.specs.AnyRows.{AreSameFirst};
+ghost use Rattle.acd_sql_statements.specs.Comparing.{is_plain_value, is_plain_term, are_plain_terms, is_plain_column, is_plain_reference, is_plain_stamps, is_plain_table, is_plain_schema, is_plain_first, leaf_value, leaf_of, IsBinaryAt};
 
 use sqlite_items::Items;
 use sqlite_schema::code::{Op, Terms};
 use sqlite_schema::schema::{Column, Index, Reference, Schema, Stamps, Table};
+use sqlite_sql::ops::BinaryOp;
 use sqlite_value::keys::Order;
 use sqlite_value::value::Value;
 
 // What may be the same as another.
 trait Same {
+    // it has nothing that no table of a book has
+    ghost is_plain: { Self → Bool };
+
     fn is_same(&self, other: &Self) -> bool
-        ensures { IsTrue result → self.now ≡ other.now };
+        ensures same { IsTrue result → self.now ≡ other.now }
+        ensures back { IsTrue (is_plain other.now) → self.now ≡ other.now → IsTrue result };
 }
 
 fn are_same<T: Same>(a: &[T], b: &[T]) -> bool
-    ensures { IsTrue result → a.now ≡ b.now }
+    ensures same { IsTrue result → a.now ≡ b.now }
+    ensures back { IsTrue (list_all T.is_plain b.now) → a.now ≡ b.now → IsTrue result }
 {
     if a.len() != b.len() {
         return false;
@@ -30,7 +40,8 @@ fn are_same<T: Same>(a: &[T], b: &[T]) -> bool
 }
 
 fn is_same_value(a: &Value, b: &Value) -> bool
-    ensures { IsTrue result → a.now ≡ b.now }
+    ensures same { IsTrue result → a.now ≡ b.now }
+    ensures back { IsTrue (is_plain_value b.now) → a.now ≡ b.now → IsTrue result }
 {
     match (a, b) {
         (Value::Null, Value::Null) => true,
@@ -39,38 +50,131 @@ fn is_same_value(a: &Value, b: &Value) -> bool
     }
 }
 
-impl Same for Op {
-    fn is_same(&self, other: &Self) -> bool {
-        match (self, other) {
-            (Op::Literal(v), Op::Literal(w)) => is_same_value(v, w),
-            (Op::Column(p, q), Op::Column(r, s)) => *p == *r && *q == *s,
-            (Op::Binary(o, p, q), Op::Binary(u, r, s)) => *o == *u && *p == *r && *q == *s,
-            _ => false,
-        }
+// A value or a place of which a term consists.
+#[derive(Clone, Copy, PartialEq, Eq)]
+enum Leaf {
+    Nothing,
+    Number(i64),
+    Place(usize, usize),
+}
+
+fn leaf_value(value: &Value) -> Option<Leaf>
+    ensures { result ≡ leaf_value value.now }
+{
+    match value {
+        Value::Null => Some(Leaf::Nothing),
+        Value::Int(number) => Some(Leaf::Number(*number)),
+        _ => None,
     }
 }
 
+fn leaf_of(op: &Op) -> Option<Leaf>
+    ensures { (below : ℕ → Term) → result ≡ leaf_of (op_term below op.now) }
+{
+    match op {
+        Op::Literal(value) => leaf_value(value),
+        Op::Column(slot, at) => Some(Leaf::Place(*slot, *at)),
+        _ => None,
+    }
+}
+
+// What the term at a place is, if it is no term of others. Beyond the nodes, and where none may be read, it is NULL.
+fn leaf_at(ops: &[Op], depth: usize, at: usize) -> Option<Leaf>
+    ensures { result ≡ leaf_of (term_to ops.now depth at) }
+{
+    if depth == 0 {
+        return Some(Leaf::Nothing);
+    }
+    match ops.get(at) {
+        Some(op) => leaf_of(op),
+        None => Some(Leaf::Nothing),
+    }
+}
+
+// The operator of the term at a place, and its two terms.
+fn binary_at(ops: &[Op], depth: usize, at: usize) -> Option<(BinaryOp, (usize, usize))>
+    ensures { IsBinaryAt ops.now depth at result }
+{
+    if depth == 0 {
+        return None;
+    }
+    match ops.get(at) {
+        Some(Op::Binary(op, first, second)) => Some((*op, (*first, *second))),
+        _ => None,
+    }
+}
+
+// Whether two terms are the same, each read to a depth.
+fn is_same_term(a: &[Op], depth: usize, at: usize, b: &[Op], other: usize, there: usize) -> bool
+    ensures same { IsTrue result → term_to a.now depth at ≡ term_to b.now other there }
+    ensures back { IsTrue (is_plain_term (term_to b.now other there))
+        → term_to a.now depth at ≡ term_to b.now other there → IsTrue result }
+{
+    let own = leaf_at(b, other, there);
+    if own.is_some() {
+        return leaf_at(a, depth, at) == own;
+    }
+    match binary_at(b, other, there) {
+        None => false,
+        Some((op, (first, second))) => match binary_at(a, depth, at) {
+            None => false,
+            Some((same, (left, right))) => {
+                same == op
+                    && is_same_term(a, depth - 1, left, b, other - 1, first)
+                    && is_same_term(a, depth - 1, right, b, other - 1, second)
+            }
+        },
+    }
+}
+
+fn are_same_roots(a: &[Op], roots: &[usize], b: &[Op], others: &[usize]) -> bool
+    ensures same { IsTrue result → terms_in a.now roots.now ≡ terms_in b.now others.now }
+    ensures back { IsTrue (are_plain_terms (terms_in b.now others.now))
+        → terms_in a.now roots.now ≡ terms_in b.now others.now → IsTrue result }
+{
+    if roots.len() != others.len() {
+        return false;
+    }
+    for at in 0..roots.len() {
+        if !is_same_term(a, a.len(), roots[at], b, b.len(), others[at]) {
+            return false;
+        }
+    }
+    true
+}
+
 impl Same for Terms {
+    ghost is_plain = { are_plain_terms };
+
     fn is_same(&self, other: &Self) -> bool {
-        let nodes = are_same(self.nodes.as_slice(), other.nodes.as_slice());
-        let roots = self.roots.as_slice() == other.roots.as_slice();
-        nodes && roots
+        are_same_roots(
+            self.nodes.as_slice(),
+            self.roots.as_slice(),
+            other.nodes.as_slice(),
+            other.roots.as_slice(),
+        )
     }
 }
 
 impl Same for Order {
+    ghost is_plain = { λ _. true };
+
     fn is_same(&self, other: &Self) -> bool {
         self.digits == other.digits
     }
 }
 
 impl Same for Items<usize> {
+    ghost is_plain = { λ _. true };
+
     fn is_same(&self, other: &Self) -> bool {
         self.as_slice() == other.as_slice()
     }
 }
 
 impl Same for Column {
+    ghost is_plain = { is_plain_column };
+
     fn is_same(&self, other: &Self) -> bool {
         self.name.as_slice() == other.name.as_slice()
             && self.kind == other.kind
@@ -82,6 +186,8 @@ impl Same for Column {
 }
 
 impl Same for Reference {
+    ghost is_plain = { is_plain_reference };
+
     fn is_same(&self, other: &Self) -> bool {
         self.columns.as_slice() == other.columns.as_slice()
             && self.parent.as_slice() == other.parent.as_slice()
@@ -94,6 +200,8 @@ impl Same for Reference {
 }
 
 impl Same for Stamps {
+    ghost is_plain = { is_plain_stamps };
+
     fn is_same(&self, other: &Self) -> bool {
         self.places.is_empty()
             && other.places.is_empty()
@@ -109,11 +217,18 @@ fn are_same_rules(a: &Table, b: &Table) -> bool
     ensures orders { IsTrue result → a.now.orders ≡ b.now.orders }
     ensures checks { IsTrue result → a.now.checks ≡ b.now.checks }
     ensures references { IsTrue result → a.now.references ≡ b.now.references }
+    ensures back { IsTrue (is_plain_table b.now) → a.now ≡ b.now → IsTrue result }
 {
+    if !are_same(a.uniques.as_slice(), b.uniques.as_slice()) {
+        return false;
+    }
+    if !are_same(a.orders.as_slice(), b.orders.as_slice()) {
+        return false;
+    }
+    if !a.checks.is_same(&b.checks) {
+        return false;
+    }
     a.primary.as_slice() == b.primary.as_slice()
-        && are_same(a.uniques.as_slice(), b.uniques.as_slice())
-        && are_same(a.orders.as_slice(), b.orders.as_slice())
-        && a.checks.is_same(&b.checks)
         && are_same(a.references.as_slice(), b.references.as_slice())
 }
 
@@ -123,6 +238,7 @@ fn are_same_columns(a: &Table, b: &Table) -> bool
     ensures columns { IsTrue result → a.now.columns ≡ b.now.columns }
     ensures key { IsTrue result → a.now.key ≡ b.now.key }
     ensures computed { IsTrue result → a.now.computed ≡ b.now.computed }
+    ensures back { IsTrue (is_plain_table b.now) → a.now ≡ b.now → IsTrue result }
 {
     a.name.as_slice() == b.name.as_slice()
         && a.tree == b.tree
@@ -133,6 +249,8 @@ fn are_same_columns(a: &Table, b: &Table) -> bool
 }
 
 impl Same for Table {
+    ghost is_plain = { is_plain_table };
+
     fn is_same(&self, other: &Self) -> bool {
         are_same_columns(self, other)
             && are_same_rules(self, other)
@@ -142,6 +260,8 @@ impl Same for Table {
 }
 
 impl Same for Index {
+    ghost is_plain = { λ _. true };
+
     fn is_same(&self, other: &Self) -> bool {
         self.name.as_slice() == other.name.as_slice()
             && self.tree == other.tree
@@ -154,17 +274,22 @@ impl Same for Index {
 
 /// Whether the tables and their indexes are the same, and neither has a view.
 pub fn is_same_schema(a: &Schema, b: &Schema) -> bool
-    ensures { IsTrue result → a.now ≡ b.now }
+    ensures same { IsTrue result → a.now ≡ b.now }
+    ensures back { IsTrue (is_plain_schema b.now) → a.now ≡ b.now → IsTrue result }
 {
-    are_same(a.tables.as_slice(), b.tables.as_slice())
-        && are_same(a.indexes.as_slice(), b.indexes.as_slice())
-        && a.views.is_empty()
-        && b.views.is_empty()
+    if !are_same(a.tables.as_slice(), b.tables.as_slice()) {
+        return false;
+    }
+    if !are_same(a.indexes.as_slice(), b.indexes.as_slice()) {
+        return false;
+    }
+    a.views.is_empty() && b.views.is_empty()
 }
 
 /// Whether the first tables are the same.
 pub fn is_same_first(a: &[Table], b: &[Table]) -> bool
-    ensures { IsTrue result → AreSameFirst a.now b.now }
+    ensures same { IsTrue result → AreSameFirst a.now b.now }
+    ensures back { IsTrue (is_plain_first b.now) → AreSameFirst a.now b.now → IsTrue result }
 {
     match (a.first(), b.first()) {
         (Some(x), Some(y)) => x.is_same(y),

@@ -10,6 +10,7 @@ ghost use Rattle.acd_sql_columns.specs.Descriptions.{are_read};
 ghost use Rattle.acd_sql_statements.specs.Failing.{IsMemory};
 ghost use Rattle.acd_sql_statements.specs.Reading.{IsAnswered, IsToldOf, FailsToDecode, Blames};
 ghost use Rattle.acd_sql_statements.specs.Between.{LooksAt, SeesOf};
+ghost use Rattle.acd_sql_statements.specs.Looking.{BlamesOver, IsAnsweredOver};
 
 use crate::read::read;
 use crate::stored::Selected;
@@ -26,6 +27,8 @@ pub fn rows<R: Selected, S: Alter>(conn: &mut Connection<S>) -> Result<Vec<Row>,
         (λ d rows. IsPermutation (rows_in R.descr.table d.trees) rows.items) }
     ensures blamed { IsAnswered R.select []
         → Blames (state S.Store conn.old) (state S.Store conn.new) result }
+    ensures looked { IsAnsweredOver R.base R.select []
+        → BlamesOver (BeginsSchema R.base) [] S.Store conn.old conn.new result }
 {
     read(conn, R::select_text(), &[])
 }
@@ -77,6 +80,9 @@ pub fn records<R: Selected, S: Alter>(
         (rows_in R.descr.table d.trees) (map R.descr.values found.items)) }
     ensures blamed { IsAnswered R.select [] → IsToldOf R.descr
         → Blames (state S.Store conn.old) (state S.Store conn.new) result }
+    ensures looked { IsAnsweredOver R.base R.select []
+        → BlamesOver (BeginsSchema R.base) (R.descr.table ∷ [])
+        S.Store conn.old conn.new result }
 {
     match rows::<R, S>(conn) {
         Ok(rows) => records_of(alloc, &rows),
@@ -94,8 +100,10 @@ fn are_read<R: Selected>(rows: &[Row]) -> bool
 /// Whether each value of a table is in its range.
 pub fn is_good<R: Selected, S: Alter>(conn: &mut Connection<S>) -> Result<bool, Error>
     requires { conn.old.in_transaction ≡ false }
-    ensures { LooksAt (BeginsSchema R.base) S.Store conn.old conn.new result
+    ensures looks { LooksAt (BeginsSchema R.base) S.Store conn.old conn.new result
         (λ d good. TellsGood R.descr.table d.trees good) }
+    ensures looked { IsAnsweredOver R.base R.select []
+        → BlamesOver (BeginsSchema R.base) [] S.Store conn.old conn.new result }
 {
     match rows::<R, S>(conn) {
         Ok(rows) => Ok(are_read::<R>(&rows)),

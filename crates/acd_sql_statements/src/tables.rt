@@ -1,10 +1,11 @@
 //! The tables that grow with the history, and the queries that look at the rows of each.
 
-ghost use Rattle.std.specs.Prelude.{◌≡◌, false};
+ghost use Rattle.std.specs.Prelude.{◌≡◌, false, []};
 ghost use Rattle.acd_sql_columns.specs.Draft.{Fits};
 ghost use Rattle.acd_sql_columns.specs.AnyRows.{TellsLow, IsPageRows};
 ghost use Rattle.acd_sql_columns.specs.Schema.{nine, BeginsSchema};
 ghost use Rattle.acd_sql_statements.specs.Between.{LooksAt};
+ghost use Rattle.acd_sql_statements.specs.Looking.{BlamesOver};
 
 use crate::look::{low_event_rows, low_kept_rows};
 use crate::query::{event_rows, kept_rows};
@@ -14,8 +15,9 @@ use sqlite::{Alter, Connection, Error, Row};
 /// A row whose number is below 1.
 pub fn low_rows<S: Alter>(log: Log, conn: &mut Connection<S>) -> Result<Vec<Row>, Error>
     requires { conn.old.in_transaction ≡ false }
-    ensures { LooksAt (BeginsSchema nine) S.Store conn.old conn.new result
+    ensures looks { LooksAt (BeginsSchema nine) S.Store conn.old conn.new result
         (λ d rows. TellsLow log d.trees rows.items) }
+    ensures looked { BlamesOver (BeginsSchema nine) [] S.Store conn.old conn.new result }
 {
     match log {
         Log::Events => low_event_rows(conn),
@@ -31,8 +33,9 @@ pub fn rows_above<S: Alter>(
 ) -> Result<Vec<Row>, Error>
     requires idle { conn.old.in_transaction ≡ false }
     requires number { Fits number }
-    ensures { LooksAt (BeginsSchema nine) S.Store conn.old conn.new result
+    ensures looks { LooksAt (BeginsSchema nine) S.Store conn.old conn.new result
         (λ d rows. IsPageRows log number 1000 d.trees rows.items) }
+    ensures looked { BlamesOver (BeginsSchema nine) [] S.Store conn.old conn.new result }
 {
     match log {
         Log::Events => event_rows(conn, number, 1000),

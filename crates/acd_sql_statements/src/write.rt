@@ -12,10 +12,10 @@ ghost use Rattle.acd_sql_columns.specs.Making.{Builds, no_rows, TellsSecond};
 ghost use Rattle.acd_sql_columns.specs.Relations.{relations_of};
 ghost use Rattle.acd_sql_columns.specs.Content.{with_part};
 ghost use Rattle.acd_sql_columns.specs.Draft.{Drafts, Works, Fits, MetaFits};
-ghost use Rattle.acd_sql_columns.specs.declared.texts.TheConstants.{INSERT_KEPT, UPDATE_META, INSERT_CONNECTION, DELETE_CONNECTION};
+ghost use Rattle.acd_sql_columns.specs.declared.texts.TheConstants.{INSERT_KEPT, UPDATE_META, UPDATE_VERSION, INSERT_CONNECTION, DELETE_CONNECTION};
 ghost use Rattle.acd_sql_columns.specs.Rows.{kept_values, meta_shown, connection_values};
 ghost use Rattle.acd_sql_columns.specs.Values.{id_value};
-ghost use Rattle.acd_sql_statements.specs.Failing.{FailsToStart};
+ghost use Rattle.acd_sql_statements.specs.Failing.{FailsToStart, FailsToWrite};
 ghost use Rattle.acd_sql_statements.specs.Refusing.{RefusesOn, RefusesPutConnection};
 ghost use Rattle.acd_sql_statements.specs.Inside.{RunsText, CountsRows, WritesRow};
 ghost use Rattle.acd_sql_statements.specs.Writing.{with_kept_row, with_connection_row, without_connection_row};
@@ -149,6 +149,10 @@ pub fn tell_second<S: Alter>(tx: &mut Transaction<'_, S>) -> Result<(), Error>
     ensures told { HasCleanDisk (state S.Store tx.new.conn.now) → OnOk result
         ((state S.Store tx.old.conn.now).now.schema ≡ book_schema
         → TellsSecond (state S.Store tx.old.conn.now) (state S.Store tx.new.conn.now)) }
+    ensures failed { HasCleanDisk (state S.Store tx.new.conn.now)
+        → IsTrue (state S.Store tx.old.conn.now).in_transaction
+        → IfErr result (FailsToWrite (state S.Store tx.old.conn.now)
+        (state S.Store tx.new.conn.now) UPDATE_VERSION.now []) }
 {
     write(tx, UPDATE_VERSION, &[])
 }

@@ -1,4 +1,4 @@
-use Rattle.std.proofs.Common.{◌++◌, rules}
+use Rattle.std.proofs.Common.{◌++◌, [], rules}
 use Rattle.sqlite.specs.Held.{state}
 use Rattle.acd_sql_columns.specs.declared.tables.Table.TheVariants as table
 use Rattle.acd_sql_columns.specs.declared.texts.TheConstants.{SELECT_STANDING_AGENT_GROUPS}
@@ -6,13 +6,22 @@ use Rattle.acd_sql_columns.specs.Schema.{nine, two}
 use Rattle.acd_sql_columns.proofs.Further.{further_listing, asks_further}
 use Rattle.acd_sql_columns.proofs.Listings.{plain_of, whole_begins}
 use Rattle.acd_sql_columns.proofs.Seeing.{sees_all}
+use Rattle.acd_sql_statements.specs.Between.{IsBookSchema}
+use Rattle.acd_sql_statements.specs.Looking.{HasGood}
+use Rattle.acd_sql_statements.specs.Reading.{RefusesToShow}
+use Rattle.acd_sql_statements.proofs.Answered.{standing_further_over}
+use Rattle.acd_sql_statements.proofs.Lookings.{looks_so}
 use Rattle.acd_sql_statements.proofs.look.further_rows.Goals as goal
 
-pub returns : goal.returns
-returns g c = record {
+pub returns-clause-looks : goal.returns-clause-looks
+returns-clause-looks g c = record {
   idle = search rules;
   seen = λ d is.
       let whole = whole_begins d.schema is in
       sees_all d (state g.S.Store c.args.conn.now) (state g.S.Store c.read.new.conn) c.read.result table.AgentGroups (nine ++ two) SELECT_STANDING_AGENT_GROUPS.now further_listing asks_further whole
       (c.read.ensures.seen d (plain_of (nine ++ two) SELECT_STANDING_AGENT_GROUPS.now further_listing d.schema whole));
 }
+
+pub returns-clause-looked : goal.returns-clause-looked
+returns-clause-looked g c =
+    looks_so (HasGood IsBookSchema []) (λ d. ¬ (RefusesToShow d SELECT_STANDING_AGENT_GROUPS.now [])) (λ d h. standing_further_over d (whole_begins d.schema h.0)) (state g.S.Store c.args.conn.now) (state g.S.Store c.read.new.conn) c.read.result c.read.ensures.looked

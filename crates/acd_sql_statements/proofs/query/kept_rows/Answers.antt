@@ -1,7 +1,7 @@
 use Rattle.std.proofs.Common.{[], ◌∷◌}
 use Rattle.sqlite.specs.Held.{state}
 use Rattle.acd_sql_columns.specs.Values.{id_value}
-use Rattle.acd_sql_columns.specs.Schema.{nine, two, book_schema}
+use Rattle.acd_sql_columns.specs.Schema.{nine, two, book_schema, BeginsSchema}
 use Rattle.acd_sql_columns.proofs.Listings.{finds, plain_of}
 use Rattle.acd_sql_columns.specs.Tables.{kept}
 use Rattle.acd_sql_columns.proofs.Filed.{paging, shows_page}
@@ -9,7 +9,10 @@ use Rattle.acd_sql_columns.proofs.TablesFiled.{kept_filed, kept_pages}
 use Rattle.acd_sql_columns.specs.declared.texts.TheConstants.{SELECT_KEPT_AFTER}
 use Rattle.acd_sql_columns.specs.declared.tables.Log.TheVariants as log
 use Rattle.acd_sql_columns.proofs.Looked.{asks_kept, sees_page}
-use Rattle.acd_sql_statements.proofs.Answered.{kept_after_answered}
+use Rattle.acd_sql_statements.proofs.Answered.{kept_after_answered, kept_after_over}
+use Rattle.acd_sql_statements.specs.Looking.{HasGood}
+use Rattle.acd_sql_statements.specs.Reading.{RefusesToShow}
+use Rattle.acd_sql_statements.proofs.Lookings.{looks_so}
 use Rattle.acd_sql_statements.proofs.query.kept_rows.Goals as goal
 
 pub returns-clause-found : goal.returns-clause-found
@@ -25,3 +28,8 @@ returns-clause-seen g c d is =
 
 pub returns-clause-blamed : goal.returns-clause-blamed
 returns-clause-blamed g c = (rw (c.integer.ensures, c.integer-2.ensures) at c.read.ensures.blamed) (kept_after_answered c.args.stamp c.args.limit)
+
+pub returns-clause-looked : goal.returns-clause-looked
+returns-clause-looked g c =
+    looks_so (HasGood (BeginsSchema nine) []) (λ d. ¬ (RefusesToShow d SELECT_KEPT_AFTER.now (id_value c.args.stamp ∷ id_value c.args.limit ∷ []))) (λ d h. kept_after_over c.args.stamp c.args.limit d h.0) (state g.S.Store c.args.conn.now) (state g.S.Store c.read.new.conn) c.read.result
+    (rw (c.integer.ensures, c.integer-2.ensures) at c.read.ensures.looked)

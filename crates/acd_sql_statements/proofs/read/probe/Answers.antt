@@ -7,7 +7,9 @@ use Rattle.sqlite.proofs.Callers.{never_commits}
 use Rattle.acd_sql_columns.proofs.Queries.{probe_text, probe_plain, quiet_unchanged, quiet_failed, quiet_stops, row_same, row_fails}
 use Rattle.acd_sql_columns.proofs.Seen.{sees_failed, sees_shown}
 use Rattle.acd_sql_statements.specs.Reading.{Blames}
+use Rattle.acd_sql_statements.specs.Looking.{BlamesLook}
 use Rattle.acd_sql_statements.proofs.Blamed.{blames_none, blames_probe}
+use Rattle.acd_sql_statements.proofs.Lookings.{looks_none, looks_probe}
 use Rattle.acd_sql_statements.proofs.read.probe.Goals as goal
 
 pub returns-in_err-query_row-clause-quiet : goal.returns-in_err-query_row-clause-quiet
@@ -54,3 +56,12 @@ returns-in_err-query_row-clause-blamed g c =
 
 pub returns-clause-blamed : goal.returns-clause-blamed
 returns-clause-blamed g c = blames_none (state g.S.Store c.args.conn.now) (state g.S.Store c.query_row.new.self) tt c.query_row.ensures.survives
+
+pub returns-in_err-query_row-clause-looked : goal.returns-in_err-query_row-clause-looked
+returns-in_err-query_row-clause-looked g c =
+    let is : c.from_residual.result ≡ Err c.in_err-query_row.field-0.0 = search rules in
+    subst (λ r. BlamesLook {A = Unit {0}} (λ d. ⊤) (state g.S.Store c.args.conn.now) (state g.S.Store c.query_row.new.self) r) (sym is)
+    (looks_probe (λ d. ⊤) (state g.S.Store c.args.conn.now) (state g.S.Store c.query_row.new.self) c.in_err-query_row.field-0.0 c.query_row.ensures.survives c.in_err-query_row.ensures.row)
+
+pub returns-clause-looked : goal.returns-clause-looked
+returns-clause-looked g c = looks_none (λ d. ⊤) (state g.S.Store c.args.conn.now) (state g.S.Store c.query_row.new.self) tt c.query_row.ensures.survives

@@ -4,6 +4,7 @@ use Rattle.sqlite.proofs.Callers.{never_commits}
 use Rattle.acd_sql_columns.proofs.Queries.{quiet_query, quiet_stops, query_up, plain_at}
 use Rattle.acd_sql_columns.proofs.Seen.{sees_query}
 use Rattle.acd_sql_statements.proofs.Blamed.{blames_query}
+use Rattle.acd_sql_statements.proofs.Lookings.{looks_query}
 use Rattle.acd_sql_statements.proofs.read.read.Goals as goal
 
 pub returns-clause-up : goal.returns-clause-up
@@ -25,3 +26,7 @@ returns-clause-seen g c d plain =
 pub returns-clause-blamed : goal.returns-clause-blamed
 returns-clause-blamed g c asked =
     blames_query c.args.sql.now (bound c.args.params.now) (state g.S.Store c.args.conn.now) (state g.S.Store c.query_all.new.self) c.query_all.result asked c.query_all.ensures.survives c.query_all.ensures.err
+
+pub returns-clause-looked : goal.returns-clause-looked
+returns-clause-looked g c =
+    looks_query c.args.sql.now (bound c.args.params.now) (state g.S.Store c.args.conn.now) (state g.S.Store c.query_all.new.self) c.query_all.result c.query_all.ensures.survives c.query_all.ensures.err

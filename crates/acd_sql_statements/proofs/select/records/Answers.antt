@@ -1,4 +1,4 @@
-use Rattle.std.proofs.Common.{map, sym, subst}
+use Rattle.std.proofs.Common.{[], ◌∷◌, map, sym, subst}
 use Rattle.std.specs.Prelude.{Vec, IsPermutation}
 use Rattle.std.specs.declared.alloc.Global.{Global}
 use Rattle.acd_sql_columns.specs.AnyRows.{rows_in}
@@ -12,6 +12,9 @@ use Rattle.sqlite_rules.specs.Lists.{Has}
 use Rattle.acd_sql_columns.proofs.Filed.{good}
 use Rattle.acd_sql_statements.proofs.Blamed.{blames_fail}
 use Rattle.acd_sql_statements.proofs.BlamedRows.{blames_records}
+use Rattle.acd_sql_columns.specs.Schema.{BeginsSchema}
+use Rattle.acd_sql_statements.specs.Looking.{HasGood}
+use Rattle.acd_sql_statements.proofs.Lookings.{looks_decoded, looks_fail}
 use Rattle.acd_sql_statements.proofs.select.records.Goals as goal
 
 pub returns-in-Err-clause-found : goal.returns-in-Err-clause-found
@@ -38,3 +41,12 @@ pub returns-in-Ok-clause-blamed : goal.returns-in-Ok-clause-blamed
 returns-in-Ok-clause-blamed g c answers told =
     blames_records g.R.Described.descr.in_row g.R.Described.descr.table (good g.R.Described.descr g.R.Described.filed) (state g.S.Store c.args.conn.now) (state g.S.Store c.rows.new.conn) c.in-Ok.rows c.records_of.result (λ (x : Content). map g.R.Described.descr.values (g.R.Described.descr.records (relations_of x)))
     (λ x row has. subst (λ l. Has l row) (sym (told x)) has) (c.in-Ok.ensures.blamed answers) c.in-Ok.ensures.found (rw c.deref.ensures.value at c.records_of.ensures.bad)
+
+pub returns-in-Err-clause-looked : goal.returns-in-Err-clause-looked
+returns-in-Err-clause-looked g c answers =
+    looks_fail (HasGood (BeginsSchema g.R.Selected.base) (g.R.Described.descr.table ∷ [])) (HasGood (BeginsSchema g.R.Selected.base) []) (λ d h. (h.0, tt)) (state g.S.Store c.args.conn.now) (state g.S.Store c.rows.new.conn) c.in-Err.error (c.in-Err.ensures.looked answers)
+
+pub returns-in-Ok-clause-looked : goal.returns-in-Ok-clause-looked
+returns-in-Ok-clause-looked g c answers =
+    looks_decoded g.R.Described.descr.in_row g.R.Described.descr.table (good g.R.Described.descr g.R.Described.filed) (HasGood (BeginsSchema g.R.Selected.base) (g.R.Described.descr.table ∷ [])) (HasGood (BeginsSchema g.R.Selected.base) [])
+    (state g.S.Store c.args.conn.now) (state g.S.Store c.rows.new.conn) c.in-Ok.rows c.records_of.result (λ d h. h.1.0) (c.in-Ok.ensures.looked answers) (λ d h. c.in-Ok.ensures.seen d h.0) (rw c.deref.ensures.value at c.records_of.ensures.bad)

@@ -1,7 +1,10 @@
 use Rattle.sqlite.specs.Held.{state}
 use Rattle.acd_sql_columns.proofs.Selected.{rows_found, rows_seen}
 use Rattle.std.proofs.Common.{[], sym, subst}
-use Rattle.acd_sql_statements.specs.Reading.{IsAnswered}
+use Rattle.acd_sql_columns.specs.Schema.{BeginsSchema}
+use Rattle.acd_sql_statements.specs.Reading.{IsAnswered, RefusesToShow}
+use Rattle.acd_sql_statements.specs.Looking.{HasGood}
+use Rattle.acd_sql_statements.proofs.Lookings.{looks_so}
 use Rattle.acd_sql_statements.proofs.select.rows.Goals as goal
 
 pub returns-clause-found : goal.returns-clause-found
@@ -15,3 +18,8 @@ returns-clause-seen g c d is =
 
 pub returns-clause-blamed : goal.returns-clause-blamed
 returns-clause-blamed g c answers = c.read.ensures.blamed (subst (λ t. IsAnswered t []) (sym c.select_text.ensures) answers)
+
+pub returns-clause-looked : goal.returns-clause-looked
+returns-clause-looked g c answers =
+    looks_so (HasGood (BeginsSchema g.R.Selected.base) []) (λ d. ¬ (RefusesToShow d c.select_text.result.now [])) (λ d h. subst (λ t. ¬ (RefusesToShow d t [])) (sym c.select_text.ensures) (answers d h.0))
+    (state g.S.Store c.args.conn.now) (state g.S.Store c.read.new.conn) c.read.result c.read.ensures.looked

@@ -1,0 +1,39 @@
+-- Why a look at a database fails, whatever that holds.
+use Rattle.std.specs.Prelude.{◌≡◌, ◌⊎◌, ℕ, ◌≤◌, true, List, Result, IfErr, IsSome}
+use Rattle.sqlite_disk.specs.Disk.{MoreFaults}
+use Rattle.sqlite_value.specs.Order.{Row}
+use Rattle.sqlite_trees.specs.declared.store.Store.{Ghosts}
+use Rattle.sqlite_schema.specs.declared.schema.Schema.{Schema}
+use Rattle.sqlite_schema.specs.declared.schema.Table.{Table as Made}
+use Rattle.sqlite.specs.Effect.{Database}
+use Rattle.sqlite.specs.Held.{Held, state}
+use Rattle.sqlite.specs.State.{State, HasCleanDisk}
+use Rattle.sqlite.specs.declared.error.Error.{Error}
+use Rattle.acd_terms.specs.Lists.{Every}
+use Rattle.acd_sql_columns.specs.declared.tables.Table.{Table}
+use Rattle.acd_sql_columns.specs.AnyRows.{is_good_in}
+use Rattle.acd_sql_columns.specs.Schema.{BeginsSchema}
+use Rattle.acd_sql_columns.specs.Seeing.{HasDatabase}
+use Rattle.acd_sql_statements.specs.Failing.{IsMemory}
+use Rattle.acd_sql_statements.specs.Reading.{RefusesToShow}
+
+-- no memory, a fault of the store, or a limit of steps that was set
+abbrev pub FailsToLook : State → State → Error → Type 0
+FailsToLook old new e = IsMemory e ⊎ (MoreFaults old.faults new.faults ⊎ IsSome old.step_limit)
+
+-- what a look leaves of the store's count and of the limit of steps, and why it fails at a database of which this is so
+pub record BlamesLook {A : Type 0} (Is : Database → Type 0) (old new : State) (result : Result A Error) : Type 0 where
+  pub counts : old.faults ≤ new.faults
+  pub limit : new.step_limit ≡ old.step_limit
+  pub cause : HasCleanDisk new → (d : Database) → HasDatabase old d → Is d → IfErr result (FailsToLook old new)
+
+-- its schema is one of these, and each value of these tables is in its range
+abbrev pub HasGood : (Schema → Type 0) → List Table → Database → Type 0
+HasGood Has tables d = Has d.schema × Every (λ t. is_good_in t d.trees ≡ true) tables
+
+abbrev pub BlamesOver : {S A : Type 0} → (Schema → Type 0) → List Table → Ghosts S → Held S → Held S → Result A Error → Type 0
+BlamesOver Has tables g old new result = BlamesLook (HasGood Has tables) (state g old) (state g new) result
+
+-- over no database that begins with these tables the store refuses to answer the text
+abbrev pub IsAnsweredOver : List Made → List ℕ → Row → Type 0
+IsAnsweredOver base sql params = (d : Database) → BeginsSchema base d.schema → ¬ (RefusesToShow d sql params)
