@@ -16,10 +16,9 @@ use std::io;
 // written whole, so it takes half as long again with the store's own choice, 4,096. Not much less pays: few rows then lie in a page.
 const NEW_PAGE: usize = 1024;
 
-// The bytes of the pages that the store keeps in memory, at least: with fewer the requests of a new file take longer.
-const LEAST_CACHE: usize = 8_192_000;
-
-const MOST_CACHE: usize = 65_536_000;
+// The bytes of the pages that the store keeps in memory. More of them spare no request a read. An opening, which goes through the file
+// more than once, would read fewer pages anew only where more than half of all were kept.
+const CACHE: usize = 8_192_000;
 
 // What it takes to lay the first page.
 const ONE_PAGE: usize = 1;
@@ -103,12 +102,11 @@ pub(crate) fn begun<'a, D: Disk + Drop>(
     }
 }
 
-// How many pages of this size the store keeps of a file of so many bytes: all of them, within bounds. An opening goes through the file
-// three times, and a page that isn't kept is read and digested anew.
-fn kept_pages(len: usize, page: usize) -> usize
-    ensures most { result ≤ 65536000 }
+// How many pages of this size the store keeps. A page that isn't kept is read and digested anew.
+fn kept_pages(page: usize) -> usize
+    ensures most { result ≤ 8192000 }
 {
-    len.clamp(LEAST_CACHE, MOST_CACHE) / page.max(1)
+    CACHE / page.max(1)
 }
 
 fn cache_pages<D: Disk>(files: &mut Files<D>) -> io::Result<usize>
@@ -120,7 +118,7 @@ fn cache_pages<D: Disk>(files: &mut Files<D>) -> io::Result<usize>
         Some(size) => size.bytes(),
         None => NEW_PAGE,
     };
-    Ok(kept_pages(files.db.len()?, page))
+    Ok(kept_pages(page))
 }
 
 /// How the store treats the pages of these files.
