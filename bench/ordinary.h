@@ -1,6 +1,6 @@
 // The switch that the ordinary programs share (ordinary_desk.cc over memory, ordinary_store.cc over libsqlite3): the services that the
-// loads of bench/busy.py ask for, and deflectCall, singleStepTransfer, monitorStart and monitorStop, over the C++ library's maps and sets,
-// with a small reader of flat JSON. It proves nothing and refuses little: there is no makeCall, no agent of several groups, no priority.
+// loads of bench/busy.py and the course of bench/course.py ask for, over the C++ library's maps and sets, with a small reader of flat JSON.
+// It proves nothing and refuses little, and no agent serves several groups. The store knows neither makeCall nor priorities.
 #pragma once
 #include <array>
 #include <cstdint>
@@ -52,6 +52,7 @@ struct Group {
     unsigned ring, wrap;
     uint64_t entered = 0, answered = 0, abandoned = 0, moved = 0, waited = 0;
     std::set<std::pair<uint64_t, uint64_t>> waiting, ready;  // place and call, stamp and agent
+    unsigned priority = 0;
     bool operator==(const Group &) const = default;
 };
 struct Station {
@@ -143,7 +144,8 @@ template <class Notes> class Switch {
     std::unordered_map<uint64_t, Agent> agents;
     std::unordered_map<uint64_t, Call> calls;
     std::unordered_map<uint64_t, Monitor> monitors;
-    std::set<uint64_t> open, ringing, working;  // groups that may have an offer, calls that ring, agents in after-call work
+    std::set<std::pair<int, uint64_t>> open;    // groups that may have an offer, by priority from the highest, and number
+    std::set<uint64_t> ringing, working;        // calls that ring, agents in after-call work
     std::vector<Event> events;                  // all, or those of the last request where it was cleared before
     uint64_t stamp = 0, last_call = 0, last_event = 0, last_monitor = 0;
     unsigned moment = 0;
@@ -178,8 +180,12 @@ template <class Notes> class Switch {
     }
     bool planned(uint64_t device) const { return groups.count(device) || stations.count(device); }
     bool is_free(const Agent &a) const { return stations.at(a.station).calls.empty(); }
+    void may_offer(uint64_t number, const Group &g) { open.insert({-int(g.priority), number}); }
     void list_if_free(uint64_t number, Agent &a) {
-        if (a.state == AgentState::Ready && is_free(a)) groups.at(a.group).ready.insert({a.stamp, number}), open.insert(a.group);
+        if (a.state != AgentState::Ready || !is_free(a)) return;
+        Group &g = groups.at(a.group);
+        g.ready.insert({a.stamp, number});
+        may_offer(a.group, g);
     }
     void become(uint64_t number, Agent &a, AgentState state) {
         if (a.state == AgentState::Ready) groups.at(a.group).ready.erase({a.stamp, number});
@@ -213,7 +219,7 @@ template <class Notes> class Switch {
         Group &g = groups.at(c.device);
         c.state = ConnectionState::Queued;
         g.waiting.insert({c.place, number});
-        open.insert(c.device);
+        may_offer(c.device, g);
         report(Kind::Queued, number, c.device, 0, 0, 0, cause);
     }
     // The call comes to its destination.
@@ -227,9 +233,13 @@ template <class Notes> class Switch {
         Station &s = stations.at(device);
         c = {device, s.calls.empty() ? ConnectionState::Alerting : ConnectionState::Fail};
         if (c.state == ConnectionState::Fail) return report(Kind::Failed, number, device, 0, 0, 0, Cause::Busy);
+        occupy(number, s);
+        report(Kind::Delivered, number, device, 0, 0, 0, cause);
+    }
+    // A call that nobody distributed is at the station, whose agent takes no offer.
+    void occupy(uint64_t number, Station &s) {
         s.calls.insert(number);
         if (s.agent) groups.at(agents.at(s.agent).group).ready.erase({agents.at(s.agent).stamp, s.agent});
-        report(Kind::Delivered, number, device, 0, 0, 0, cause);
     }
     // The end of a connection at a station: its agent is released.
     void leave(uint64_t call, const Connection &c, bool tick = false) {
@@ -249,7 +259,7 @@ template <class Notes> class Switch {
     }
     void distribute() {
         while (!open.empty()) {
-            uint64_t number = *open.begin();
+            uint64_t number = open.begin()->second;
             Group &g = groups.at(number);
             if (g.waiting.empty() || g.ready.empty()) {
                 open.erase(open.begin());
@@ -303,6 +313,45 @@ template <class Notes> class Switch {
         call = {caller, called, moment, {{caller, ConnectionState::Connected}, {called, ConnectionState::Queued}}};
         arrive(last_call, call.connections[1], called, Cause::NewCall);
         result = "{\"call\":" + std::to_string(last_call) + "}";
+        return nullptr;
+    }
+    const char *make_call(const Members &m) {
+        uint64_t device = m.digits("device"), called = m.digits("called");
+        auto it = stations.find(device);
+        if (it == stations.end()) return planned(device) ? "notStation" : "unknownDevice";
+        if (!planned(called)) return "unknownDevice";
+        if (called == device) return "sameDevice";
+        for (uint64_t call : it->second.calls)
+            if (found(call, device)->state != ConnectionState::Hold) return "stationBusy";
+        if (calls.size() >= 2000) return "tooManyCalls";
+        notes.call(++last_call, nullptr);
+        calls[last_call] = {device, called, moment, {{device, ConnectionState::Initiated}}};
+        occupy(last_call, it->second);
+        report(Kind::ServiceInitiated, last_call, device);
+        result = "{\"call\":" + std::to_string(last_call) + "}";
+        return nullptr;
+    }
+    const char *phone_off_hook(const Members &m) {
+        uint64_t number;
+        Connection *c;
+        if (const char *refusal = taken(m, c, number)) return refusal;
+        if (c->state != ConnectionState::Initiated) return "wrongConnectionState";
+        Call &call = calls.at(number);
+        notes.call(number, &call);
+        c->state = ConnectionState::Connected;
+        report(Kind::Originated, number, c->device, 0, 0, call.called);
+        call.connections.push_back({call.called, ConnectionState::Fail});
+        arrive(number, call.connections.back(), call.called, Cause::NewCall);
+        return nullptr;
+    }
+    const char *set_group_priority(const Members &m) {
+        uint64_t device = m.digits("device");
+        auto it = groups.find(device);
+        if (it == groups.end()) return planned(device) ? "notGroup" : "unknownDevice";
+        bool offers = open.erase({-int(it->second.priority), device});
+        it->second.priority = m.number("priority");
+        if (offers) may_offer(device, it->second);
+        notes.group(device);
         return nullptr;
     }
     const char *answer_call(const Members &m) {
@@ -474,6 +523,9 @@ template <class Notes> class Switch {
         if (service == "addGroup") return add_group(m);
         if (service == "addStation") return add_station(m);
         if (service == "addAgent") return add_agent(m);
+        if (service == "makeCall") return make_call(m);
+        if (service == "phoneOffHook") return phone_off_hook(m);
+        if (service == "setGroupPriority") return set_group_priority(m);
         if (service == "monitorStart" || service == "monitorStop") return monitor(m, service == "monitorStart");
         return "unknownService";
     }

@@ -1,4 +1,4 @@
-// An ordinary program that answers the loads of bench/busy.py as the desk does: the switch of ordinary.h, kept replies, event reports and
+// An ordinary program that answers the loads of bench/busy.py and bench/course.py as the desk does: the switch of ordinary.h, kept replies, event reports and
 // figures, all over memory. It proves nothing and refuses little.
 //
 //   g++ -O2 -std=c++20 -o ordinary_desk bench/ordinary_desk.cc
