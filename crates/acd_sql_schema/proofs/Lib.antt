@@ -9,3 +9,4 @@ mod Migrated
 mod Taken
 mod Takings
 mod Steps
+mod Faults

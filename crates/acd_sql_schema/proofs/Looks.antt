@@ -28,7 +28,7 @@ use Rattle.acd_sql_schema.specs.declared.verdict.Told.TheVariants.{Of, Faulty}
 use Rattle.acd_sql_schema.specs.declared.verdict.Page.{Page}
 use Rattle.acd_sql_schema.specs.declared.verdict.Page.TheVariants.{Bad, Last, More}
 use Rattle.acd_sql_columns.specs.AnyRows.{is_good, is_good_in, are_good, rows_in, table_of_log, has_meta, Numbered, AreNumbered, AreSameFirst, BeginsAsBook, schema_of, Covers, is_beside, is_ranked, IsFiledAs, TellsGood, TellsLow, IsPageRows}
-use Rattle.acd_sql_schema.specs.Inspecting.{is_good_behind, told_by, told_of, tables_of, TellsBehind, IsBadOf, IsPageOfLog, IsLogPage, IsVersionTold, IsToldIn, IsRowFound, IsPlaceFound, IsFound}
+use Rattle.acd_sql_schema.specs.Inspecting.{is_good_behind, told_by, told_of, tables_of, TellsBehind, IsBadOf, IsPageOfLog, IsLogPage, IsVersionTold, IsToldIn, IsRowFound, IsPlaceFound, IsFound, IsUnlike}
 use Rattle.acd_sql_columns.specs.Draft.{NoStop}
 use Rattle.acd_sql_columns.specs.Values.{whole_at}
 use Rattle.acd_sql_columns.specs.declared.tables.Version.{Version}
@@ -99,8 +99,8 @@ pub fault_told : (d : Database) (old new : State) (f : AdoptFault) → Sees d ol
 fault_told d old new f h = sees_on d old new (Faulty f) (λ t. IsVersionTold d t) (λ f. IsFound d f) (Ok (Fault f)) h (λ had p. p)
 
 -- the version is that of other tables
-pub other_told : (d : Database) (old new : State) (v : Version) → Sees d old new (Ok (Of v)) (λ t. IsVersionTold d t) → Sees d old new (Ok (Fault Store)) (λ f. IsFound d f)
-other_told d old new v h = sees_on d old new (Of v) (λ t. IsVersionTold d t) (λ f. IsFound d f) (Ok (Fault Store)) h (λ had p. tt)
+pub other_told : (d : Database) (old new : State) (v : Version) → (IsToldIn d.trees (Some (number_of v)) → IsUnlike d) → Sees d old new (Ok (Of v)) (λ t. IsVersionTold d t) → Sees d old new (Ok (Fault Store)) (λ f. IsFound d f)
+other_told d old new v unlike h = sees_on d old new (Of v) (λ t. IsVersionTold d t) (λ f. IsFound d f) (Ok (Fault Store)) h (λ had p. unlike p)
 
 abbrev pub IsFoundIn : Version → Database → Found → Type 0
 IsFoundIn v d f = IsToldIn d.trees (Some (number_of v)) → IsFound d f
@@ -152,9 +152,6 @@ module _ (d : Database) (old mid new : State) (l : Log) (n : ℕ) (first : Sees 
   pages_fail e next =
       sees_then d old mid new tt (Left l n d.trees) first (λ good. TellsBehind l d.trees good) (λ good. TellsBehind l d.trees good) (Err e) (λ p b q. q)
       (sees_fail d mid new e (λ page. IsPageOfLog l n d.trees page) (λ good. TellsBehind l d.trees good) next)
-
-pub pages_end : (d : Database) (old new : State) (l : Log) (n : ℕ) (e : Error) → Sees d old new (Ok tt) (Left l n d.trees) → Sees d old new (Err e) (λ good. TellsBehind l d.trees good)
-pages_end d old new l n e h = sees_on d old new tt (Left l n d.trees) (λ good. TellsBehind l d.trees good) (Err e) h (λ had p. tt)
 
 module _ (d : Database) (old mid : State) (l : Log) (low : Vec Row Global) (first : Sees d old mid (Ok low) (λ rows. TellsLow l d.trees rows.items)) where
   pub log_low : (low.items ≡ [] → ⊥) → Sees d old mid (Ok false) (λ good. TellsGood (table_of_log l) d.trees good)
@@ -212,7 +209,7 @@ pub tables_end : (d : Database) (old new : State) (tables : List Table) (i : ℕ
 tables_end d old new tables i h all =
     sees_on d old new tt (Good (take i tables) d.trees) (λ bad. IsBadOf tables d bad) (Ok None) h (λ had p filed. subst (Every (λ t. is_good_in t d.trees ≡ true)) (taken tables i all) (p filed))
 
-each_good : (v : Version) (db : Trees) → Every (λ t. is_good_in t db ≡ true) (tables_of v) → (t : Table) → IsIn v t → is_good_in t db ≡ true
+pub each_good : (v : Version) (db : Trees) → Every (λ t. is_good_in t db ≡ true) (tables_of v) → (t : Table) → IsIn v t → is_good_in t db ≡ true
 each_good version.First db h table.Meta here = h.0
 each_good version.First db h table.Groups here = h.1.0
 each_good version.First db h table.Stations here = h.1.1.0
@@ -282,6 +279,14 @@ was_idle inside result is e = rw (e, is) refl
 begins_of_first : (tables : List Made) → AreSameFirst tables old_schema.tables → (rest : List Made) × (tables ≡ schema.table_of schema.meta ∷ rest)
 begins_of_first [] h = absurd h
 begins_of_first (t ∷ rest) h = (rest, ap (λ x. x ∷ rest) h)
+
+begins_back : (tables : List Made) → (rest : List Made) × (tables ≡ schema.table_of schema.meta ∷ rest) → AreSameFirst tables old_schema.tables
+begins_back [] h = absurd (cc h.1)
+begins_back (t ∷ rest) h = cc h.1
+
+-- and one whose first table isn't that of a book doesn't begin with it
+pub begins_not : (a b : List Made) (s own : Schema) → a ≡ s.tables → b ≡ own.tables → own ≡ old_schema → BeginsAsBook s → AreSameFirst a b
+begins_not a b s own first second is begins = subst₂ AreSameFirst (sym first) (sym (second ∙ ap (λ (x : Schema). x.tables) is)) (begins_back s.tables begins)
 
 pub begins_of : (a b : List Made) (s own : Schema) → AreSameFirst a b → a ≡ s.tables → b ≡ own.tables → own ≡ old_schema → BeginsAsBook s
 begins_of a b s own same first second is = begins_of_first s.tables (subst₂ AreSameFirst first (second ∙ ap (λ (x : Schema). x.tables) is) same)

@@ -1,5 +1,5 @@
 -- The new tables behind the nine, and the version told, inside a transaction and behind it.
-use Rattle.std.proofs.Common.{◌≡◌, ◌≢◌, inl, inr, List, [], ◌∷◌, ◌++◌, false, Result, Ok, Err, IsTrue, OnOk, OnErr, IfErr, refl, sym, ap, subst, ◌∙◌}
+use Rattle.std.proofs.Common.{◌≡◌, ◌≢◌, ◌≤◌, ℕ, inl, inr, List, [], ◌∷◌, ◌++◌, false, Result, Ok, Err, IsTrue, OnOk, OnErr, IfErr, refl, sym, ap, subst, ◌∙◌}
 use Rattle.sqlite_value.specs.Order.{Row}
 use Rattle.sqlite_trees.specs.Tree.{Trees}
 use Rattle.sqlite.specs.declared.error.Error.{Error}
@@ -12,7 +12,12 @@ use Rattle.acd_sql_columns.specs.declared.tables.Version.TheVariants as version
 use Rattle.acd_sql_columns.specs.Content.{tree_of, IsIn}
 use Rattle.acd_sql_columns.specs.Making.{Builds, TellsSecond}
 use Rattle.acd_sql_columns.specs.Schema.{old_schema, book_schema}
-use Rattle.acd_sql_schema.specs.Migrating.{IsMigration, IsAltered, IsMade, IsRestored, MayAlter}
+use Rattle.acd_sql_columns.specs.Draft.{Works}
+use Rattle.acd_sql_columns.specs.declared.texts.TheConstants.{UPDATE_VERSION}
+use Rattle.acd_sql_statements.specs.Failing.{Refuses, FailsToWrite}
+use Rattle.acd_sql_statements.proofs.Failures.{failed_after, failed_before}
+use Rattle.acd_sql_schema.specs.SettingUp.{FailsToMake}
+use Rattle.acd_sql_schema.specs.Migrating.{AreBeside, FailsToMigrate, IsMigration, IsAltered, IsMade, IsRestored, MayAlter}
 
 -- ---- rows
 
@@ -89,3 +94,45 @@ may_alter old begun mid new back first second a middle late db left = elim (seco
 -- nothing was begun that ends
 pub still_stops : (old begun mid : State) → ((db : Trees) → begun.may_leave db → old.may_leave db) → Survives begun mid (λ _. ⊥) → HasCleanDisk mid → MayAlter old mid
 still_stops old begun mid back first middle db left = elim (first.crash middle db left) [ inl older ↦ inl (back db older) | inr none ↦ absurd none ]
+
+-- ---- why it isn't made
+
+beside : (old : Trees) (mid : State) → Builds mid book_schema ((rows_of old ++ [] ∷ []) ++ [] ∷ []) → AreBeside old mid.now
+beside old mid b = record { schema_is = b.schema_is; kept = each; further = b.rows_are.1.1.1.1.1.1.1.1.1.0; priorities = b.rows_are.1.1.1.1.1.1.1.1.1.1.0 }
+  where
+    each : (t : Table) → IsIn version.First t → mid.now.trees (tree_of t) ≡ old (tree_of t)
+    each table.Meta here = b.rows_are.0
+    each table.Groups here = b.rows_are.1.0
+    each table.Stations here = b.rows_are.1.1.0
+    each table.Agents here = b.rows_are.1.1.1.0
+    each table.Calls here = b.rows_are.1.1.1.1.0
+    each table.Connections here = b.rows_are.1.1.1.1.1.0
+    each table.Monitors here = b.rows_are.1.1.1.1.1.1.0
+    each table.Events here = b.rows_are.1.1.1.1.1.1.1.0
+    each table.Kept here = b.rows_are.1.1.1.1.1.1.1.1.0
+    each table.AgentGroups here = absurd here
+    each table.GroupPriority here = absurd here
+
+-- for a cause that tables aren't made
+pub unmade : (old new : State) (e : Error) → FailsToMake old new e → FailsToMigrate old new e
+unmade old new e (inl memory) = inl memory
+unmade old new e (inr failed) = inr (inl failed)
+
+untold : (old mid new : State) (e : Error) → Works old mid → HasCleanDisk mid → mid.faults ≤ new.faults → Builds mid book_schema ((rows_of old.now.trees ++ [] ∷ []) ++ [] ∷ []) → FailsToWrite mid new UPDATE_VERSION.now [] e → FailsToMigrate old new e
+untold old mid new e w k counts b (inl memory) = inl memory
+untold old mid new e w k counts b (inr (inl failed)) = inr (inl (failed_after old mid new w.survives k counts failed))
+untold old mid new e w k counts b (inr (inr refused)) = inr (inr (mid.now, beside old.now.trees mid b, subst (λ l. Refuses l mid.now UPDATE_VERSION.now []) w.survives.limit refused))
+
+pub untold_if : (old mid new : State) (r : Result (Unit {0}) Error) → Works old mid → HasCleanDisk mid → mid.faults ≤ new.faults → Builds mid book_schema ((rows_of old.now.trees ++ [] ∷ []) ++ [] ∷ []) → IfErr r (FailsToWrite mid new UPDATE_VERSION.now [])
+    → IfErr r (FailsToMigrate old new)
+untold_if old mid new (Ok x) w k counts b h = tt
+untold_if old mid new (Err e) w k counts b h = untold old mid new e w k counts b h
+
+pub still_unmade : (old mid new : State) (e : Error) → mid.faults ≤ new.faults → FailsToMigrate old mid e → FailsToMigrate old new e
+still_unmade old mid new e counts (inl memory) = inl memory
+still_unmade old mid new e counts (inr (inl failed)) = inr (inl (failed_before old mid new failed counts))
+still_unmade old mid new e counts (inr (inr refused)) = inr (inr refused)
+
+pub unmade_if : (old new : State) (r : Result (Unit {0}) Error) → IfErr r (FailsToMake old new) → IfErr r (FailsToMigrate old new)
+unmade_if old new (Ok x) h = tt
+unmade_if old new (Err e) h = unmade old new e h

@@ -1,5 +1,5 @@
 -- A log that is read page by page: what is left behind a page tells of all.
-use Rattle.std.proofs.Common.{◌≡◌, ℕ, ◌+◌, ◌<◌, ◌≤◌, suc, length, drop, get_or, zero, take, filter, nat_lt, List, [], ◌∷◌, map, cond, Option, Some, None, Bool, true, false, IsTrue, refl, sym, ap, subst, ◌∙◌, inl, inr, arith}
+use Rattle.std.proofs.Common.{◌≡◌, ℕ, ◌+◌, ◌<◌, ◌≤◌, suc, length, drop, get_or, zero, take, ◌⊎◌, Result, Ok, Err, IfErr, IfSome, filter, nat_lt, List, [], ◌∷◌, map, cond, Option, Some, None, Bool, true, false, IsTrue, refl, sym, ap, subst, ◌∙◌, inl, inr, arith}
 use Rattle.std.specs.Prelude.{option_map}
 use Rattle.std.specs.List.{AllByRecursion}
 use Rattle.std.specs.Option.{is_some}
@@ -14,6 +14,8 @@ use Rattle.sqlite_rules.specs.Lists.{Has}
 use Rattle.sqlite_rules.proofs.ListLemmas.{all_has}
 use Rattle.sqlite_keyed.proofs.ListLemmas.{map-map}
 use Rattle.sqlite.specs.Effect.{Database}
+use Rattle.sqlite.specs.State.{State}
+use Rattle.sqlite.specs.declared.error.Error.{Error}
 use Rattle.acd_terms.specs.Lists.{Among, IsAscending}
 use Rattle.acd_terms.specs.declared.event.Event.{Event}
 use Rattle.acd_lemmas.proofs.Lists.{after_among, filter_all, filter_among, ascending-filter}
@@ -22,8 +24,11 @@ use Rattle.acd_sql_columns.specs.declared.tables.Log.{Log}
 use Rattle.acd_sql_columns.specs.declared.tables.Log.TheVariants as log
 use Rattle.acd_sql_schema.specs.declared.verdict.Page.{Page}
 use Rattle.acd_sql_schema.specs.declared.verdict.Page.TheVariants.{Bad, Last, More}
-use Rattle.acd_sql_columns.specs.AnyRows.{is_good, are_good, is_good_in, rows_in, values_in, table_of_log, Numbered, AreNumbered, FromOne, TellsGood, IsPageRows}
-use Rattle.acd_sql_schema.specs.Inspecting.{is_good_behind, number_if_good, last_good, TellsBehind, IsLogPage, IsPageOfLog}
+use Rattle.acd_sql_columns.specs.AnyRows.{is_good, are_good, is_good_in, rows_in, values_in, table_of_log, Numbered, AreNumbered, FromOne, IsFiledAs, TellsGood, IsPageRows}
+use Rattle.acd_sql_columns.specs.Draft.{Fits}
+use Rattle.acd_sql_schema.specs.Inspecting.{is_good_behind, number_if_good, last_good, TellsBehind, IsLogPage, IsPageOfLog, HasNoRise}
+use Rattle.acd_sql_statements.specs.Failing.{IsMemory}
+use Rattle.acd_sql_statements.specs.Looking.{FailsToLook}
 use Rattle.acd_sql_columns.specs.declared.tables.Version.TheVariants as version
 use Rattle.acd_sql_columns.specs.Content.{tree_of, IsIn}
 use Rattle.acd_sql_columns.specs.Values.{option_in, ◌>>=◌, whole_at}
@@ -89,6 +94,21 @@ module _ {R : Type 0} (l : Log) (key : R → ℕ) (values : R → Row) (keyed : 
         | true ↦ λ e. rw (keyed y) (good_first n y ys e (all y (inl refl)) (last_good l (key y) (map values (take k ys))) (page_tells k (key y) ys (λ x a. above (key y) (key x) (after_among (by_key key) y ys x up.0 a)) up.1))
         | false ↦ λ e. rw e refl
       ]) refl
+
+  up_from : (n k m : ℕ) → nat_lt n k ≡ true → k ≤ m → m ≤ n → ⊥
+  up_from n k m h low high = grind (arith, nat_tests)
+
+  -- the last number of a page that has a row
+  page_rises : (k n : ℕ) (ys : List R) (m : ℕ) → ((x : R) → Among x ys → nat_lt n (key x) ≡ true) → IsAscending (by_key key) ys → (map values (take (suc k) ys) ≡ [] → ⊥) → last_good l n (map values (take (suc k) ys)) ≡ Some m → m ≤ n → ⊥
+  unfolding last_good
+  page_rises k n [] m all up some is low = some refl
+  page_rises k n (y ∷ ys) m all up some is low =
+      (elim (good y) as (λ b. good y ≡ b → (cond b (whole_at (values y) 0) None >>= (λ m. last_good l m (map values (take k ys)))) ≡ Some m → ⊥) [
+        | true ↦ λ e at.
+            let told = page_tells k (key y) ys (λ x a. above (key y) (key x) (after_among (by_key key) y ys x up.0 a)) up.1 in
+            up_from n (key y) m (all y (inl refl)) (subst (Tells (key y) ys) (rw (keyed y) at at) told).0 low
+        | false ↦ λ e at. cc at
+      ]) refl is
 
   none_taken : (k : ℕ) (ys : List R) → map values (take (suc k) ys) ≡ [] → ys ≡ []
   none_taken k [] h = refl
@@ -169,6 +189,19 @@ module _ (l : Log) (n : ℕ) (d : Database) (rows : List Row) (page : IsPageRows
   page_left p is =
       page_leaves l number_key (number_values l) (number_at l) 999 n xs rows p (numbers_ascend l d xs are) (page.paged xs are ∙ take-map (number_values l) 1000 (filter (λ (x : Numbered). nat_lt n x.key) xs)) is
 
+  -- the number of its last row is above
+  page_above : HasNoRise l n rows → ⊥
+  page_above none =
+      let same = page.paged xs are ∙ take-map (number_values l) 1000 (filter (λ (x : Numbered). nat_lt n x.key) xs) in
+      page_rises l number_key (number_values l) (number_at l) 999 n (filter (λ (x : Numbered). nat_lt n x.key) xs) none.1.0 (λ x a. (filter_among (λ (y : Numbered). nat_lt n y.key) xs x a).1) (ascending-filter (by_key number_key) (λ (x : Numbered). nat_lt n x.key) xs (numbers_ascend l d xs are))
+      (λ e. none.0 (same ∙ e)) (sym (ap (last_good l n) same) ∙ none.1.1) none.1.2
+
+-- so a page fails for want of memory alone
+pub page_fails : (l : Log) (n : ℕ) (d : Database) (rows : List Row) (old new : State) (r : Result Page Error) → IsPageRows l n 1000 d.trees rows → (xs : List Numbered) × AreNumbered l d.trees xs → IfErr r (λ e. IsMemory e ⊎ HasNoRise l n rows) → IfErr r (FailsToLook old new)
+page_fails l n d rows old new (Ok p) page xs lacks = tt
+page_fails l n d rows old new (Err e) page xs (inl memory) = inl memory
+page_fails l n d rows old new (Err e) page xs (inr none) = absurd (page_above l n d rows page xs.0 xs.1 none)
+
 -- what a page leaves of a database
 pub page_is : (l : Log) (n : ℕ) (d : Database) (rows : List Row) (p : Page) → IsPageRows l n 1000 d.trees rows → IsLogPage l n rows p → IsPageOfLog l n d.trees p
 unfolding is_good_behind
@@ -196,6 +229,12 @@ each_from_one (r ∷ rows) ints h = (h.0 ints.0, each_from_one rows ints.1 h.1)
 old_log : (l : Log) → IsIn version.First (table_of_log l)
 old_log log.Events = tt
 old_log log.Kept = tt
+
+-- where its rows are filed, and no number is below 1, the numbers rise from 0
+pub numbers_of : (l : Log) (db : Trees) → AllByRecursion (λ r. IsTrue (is_int (rowid r)) → FromOne r) (db (tree_of (table_of_log l))) → IsFiledAs version.First db → (xs : List Numbered) × AreNumbered l db xs
+numbers_of l db low filed =
+    let xs = numbered_of (db (tree_of (table_of_log l))) (each_from_one (db (tree_of (table_of_log l))) (filed.numbered (table_of_log l) (old_log l)) low) in
+    (xs.0, record { rising = filed.rising (table_of_log l) (old_log l); rows = xs.1 })
 
 -- where no number is below 1, those above 0 tell of all
 pub log_told : (l : Log) (db : Trees) (good : Bool) → AllByRecursion (λ r. IsTrue (is_int (rowid r)) → FromOne r) (db (tree_of (table_of_log l))) → TellsBehind l db good → TellsGood (table_of_log l) db good
@@ -226,3 +265,11 @@ module _ (l : Log) (n last : ℕ) (rows : List Row) (i : ℕ) (left : last_good 
   pub last_end : length rows ≤ i → Some last ≡ last_good l n rows
   unfolding last_good
   last_end all = sym (ap (last_good l last) (drop_all i rows all)) ∙ left
+
+-- the number of a good row is one that its column holds
+pub number_fits : (l : Log) (row : Row) (o : Option ℕ) (n : ℕ) → o ≡ whole_at row 0 → IfSome o Fits → number_if_good l row ≡ Some n → Fits n
+number_fits l row o n is fits good =
+    (elim (is_good (table_of_log l) row) as (λ b. is_good (table_of_log l) row ≡ b → cond b (whole_at row 0) None ≡ Some n → Fits n) [
+      | true ↦ λ e at. subst (λ o. IfSome o Fits) (is ∙ at) fits
+      | false ↦ λ e at. absurd (cc at)
+    ]) refl good

@@ -32,6 +32,19 @@ pub make_later_if : (old mid new : State) (r : Result (Unit {0}) Error) → Work
 make_later_if old mid new (Ok x) w k counts h = tt
 make_later_if old mid new (Err e) w k counts h = make_later old mid new e w k counts h
 
+-- what is behind a failure changes nothing of it
+pub make_still : (old mid new : State) (e : Error) → mid.faults ≤ new.faults → FailsToMake old mid e → FailsToMake old new e
+make_still old mid new e counts (inl memory) = inl memory
+make_still old mid new e counts (inr failed) = inr (failed_before old mid new failed counts)
+
+-- the end of a transaction
+pub commit_fails : (old mid new : State) (r : Result (Unit {0}) Error) → Works old mid → HasCleanDisk mid → mid.faults ≤ new.faults → IsTrue mid.in_transaction → IfErr r (FailsToCommit mid new) → IfErr r (FailsToMake old new)
+commit_fails old mid new (Ok x) w k counts inside h = tt
+commit_fails old mid new (Err e) w k counts inside h = elim (commit_failed mid new e inside h) [
+  | inl memory ↦ inl memory
+  | inr failed ↦ inr (failed_after old mid new w.survives k counts failed)
+]
+
 -- ---- the whole
 
 module _ (limits : Limits) where

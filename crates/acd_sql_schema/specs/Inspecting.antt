@@ -1,5 +1,5 @@
 -- When a connection is taken for a book: its version is that of these tables, and each value is in its range.
-use Rattle.std.specs.Prelude.{◌==◌, ◌≡◌, ◌≢◌, ◌⊎◌, ℕ, Bool, true, false, List, [], ◌∷◌, Option, None, Some, if◌then◌else◌, ⊤}
+use Rattle.std.specs.Prelude.{◌==◌, ◌≡◌, ◌≢◌, ◌⊎◌, ◌<◌, ◌≤◌, ℕ, Bool, true, false, List, [], ◌∷◌, Option, None, Some, if◌then◌else◌, ⊤}
 use Rattle.sqlite_value.specs.Order.{Row}
 use Rattle.sqlite_trees.specs.Tree.{Trees}
 use Rattle.sqlite_rules.specs.Lists.{Has}
@@ -27,7 +27,7 @@ use Rattle.acd_sql_schema.specs.declared.verdict.Page.TheVariants.{Bad, Last, Mo
 use Rattle.acd_sql_columns.specs.Content.{IsIn, number_of}
 use Rattle.acd_sql_columns.specs.Draft.{Fits}
 use Rattle.acd_sql_columns.specs.AnyRows.{is_good, are_good, is_good_in, is_beside, is_ranked, IsFiledAs, table_of_log, Numbered, AreNumbered, values_behind, has_meta, BeginsAsBook, schema_of, Covers}
-use Rattle.acd_sql_columns.specs.Schema.{book_schema}
+use Rattle.acd_sql_columns.specs.Schema.{book_schema, nine, BeginsSchema}
 use Rattle.acd_sql_columns.specs.Schema as schema
 use Rattle.acd_sql_columns.specs.Values.{◌>>=◌, whole_at}
 
@@ -71,6 +71,16 @@ pub record TellsBehind (l : Log) (db : Trees) (good : Bool) : Type 0 where
   pub bad : good ≡ false → is_good_in (table_of_log l) db ≡ false
   pub filed : good ≡ true → (xs : List Numbered) → AreNumbered l db xs → is_good_behind l 0 xs ≡ true
 
+-- the number of its last row is above
+abbrev pub IsPageAbove : ℕ → Page → Type 0
+IsPageAbove n Bad = ⊤
+IsPageAbove n Last = ⊤
+IsPageAbove n (More m) = n < m
+
+-- there are rows, and the number of the last one isn't above
+abbrev pub HasNoRise : Log → ℕ → List Row → Type 0
+HasNoRise l n rows = (rows ≢ []) × ((m : ℕ) × (last_good l n rows ≡ Some m) × (m ≤ n))
+
 -- its number can be asked for
 abbrev pub PageFits : Page → Type 0
 PageFits Bad = ⊤
@@ -79,11 +89,15 @@ PageFits (More m) = Fits m
 
 -- ---- versions
 
+-- they are those of no version
+abbrev pub IsNoBook : Schema → Type 0
+IsNoBook s = (v : Version) → s ≢ schema_of v
+
 -- how far the tables are those of a book
 abbrev pub IsLike : Schema → Likeness → Type 0
 IsLike s (Whole v) = s ≡ schema_of v
-IsLike s First = BeginsAsBook s
-IsLike s Other = ⊤
+IsLike s First = BeginsAsBook s × IsNoBook s
+IsLike s Other = (¬ (BeginsAsBook s)) × IsNoBook s
 
 -- a row of the first table tells this version
 abbrev pub IsToldIn : Trees → Option ℕ → Type 0
@@ -116,6 +130,13 @@ abbrev pub told_by : List Row → Told
 told_by [] = Faulty (WrongVersion 0)
 told_by (r ∷ rows) = told_of (whole_at r 0)
 
+-- a version of a book is told, and the tables are those of no version; or they are those of another
+pub data IsUnlike (d : Database) : Type 0 where
+  -- a table has the name `meta`, and isn't the first one as a book has it
+  other : has_meta d.schema.tables ≡ true → ¬ (BeginsAsBook d.schema) → IsUnlike d
+  none : (v : Version) → IsToldIn d.trees (Some (number_of v)) → BeginsAsBook d.schema → IsNoBook d.schema → IsUnlike d
+  apart : (v told : Version) → d.schema ≡ schema_of v → told ≢ v → IsToldIn d.trees (Some (number_of told)) → IsUnlike d
+
 -- ---- faults
 
 -- the store refused
@@ -132,6 +153,13 @@ IsAdoptFaultOf d (BadRow t) = IsBadIn t d
 IsAdoptFaultOf d NoMemory = ⊤
 IsAdoptFaultOf d Store = ⊤
 
+-- the same of a fault that a look has found: the store hasn't failed, and where no other fault is told, the tables are unlike a book's
+abbrev pub IsFoundFaultOf : Database → AdoptFault → Type 0
+IsFoundFaultOf d (WrongVersion n) = IsAdoptFaultOf d (WrongVersion n)
+IsFoundFaultOf d (BadRow t) = IsAdoptFaultOf d (BadRow t)
+IsFoundFaultOf d NoMemory = ⊥
+IsFoundFaultOf d Store = IsUnlike d
+
 -- further groups and priorities belong to what stands beside them
 abbrev pub ArePlaced : Version → Trees → Type 0
 ArePlaced version.First db = ⊤
@@ -147,23 +175,37 @@ pub record IsOfBook (v : Version) (d : Database) : Type 0 where
 -- what the rows tell of tables that are a book's
 abbrev pub IsRowFound : Version → Database → Option AdoptFault → Type 0
 IsRowFound v d None = ArePlaced v d.trees × (IsFiledAs version.First d.trees → (t : Table) → IsIn v t → is_good_in t d.trees ≡ true)
-IsRowFound v d (Some f) = IsAdoptFaultOf d f
+IsRowFound v d (Some f) = IsFoundFaultOf d f
 
 -- what further groups and priorities tell
 abbrev pub IsPlaceFound : Version → Database → Option AdoptFault → Type 0
 IsPlaceFound v d None = ArePlaced v d.trees
-IsPlaceFound v d (Some f) = IsAdoptFaultOf d f
+IsPlaceFound v d (Some f) = IsFoundFaultOf d f
 
 abbrev pub IsFound : Database → Found → Type 0
 IsFound d (Book v) = IsOfBook v d
-IsFound d (Fault f) = IsAdoptFaultOf d f
+IsFound d (Fault f) = IsFoundFaultOf d f
 
 -- the version is that of a book, or a fault
 abbrev pub IsVersionTold : Database → Told → Type 0
 IsVersionTold d (Of v) = IsToldIn d.trees (Some (number_of v))
-IsVersionTold d (Faulty f) = IsAdoptFaultOf d f
+IsVersionTold d (Faulty f) = IsFoundFaultOf d f
 
 -- want of memory is no failure of the store
 abbrev pub adopt_fault_of : Error → AdoptFault
 adopt_fault_of (SqliteFailure OutOfMemory) = NoMemory
 adopt_fault_of _ = Store
+
+-- ---- why a look fails
+
+-- the schema is one of these, and the rows of the nine tables are filed
+abbrev pub HasFiled : (Schema → Type 0) → Database → Type 0
+HasFiled Has d = Has d.schema × IsFiledAs version.First d.trees
+
+-- the nine tables are there, and the numbers of the rows of this one rise from 0
+abbrev pub IsPaged : Log → Database → Type 0
+IsPaged l d = BeginsSchema nine d.schema × ((xs : List Numbered) × AreNumbered l d.trees xs)
+
+-- each value of the tables of this version is in its range
+abbrev pub HasGoodTables : Version → Database → Type 0
+HasGoodTables v d = (d.schema ≡ schema_of v) × ((t : Table) → IsIn v t → is_good_in t d.trees ≡ true)

@@ -1,14 +1,18 @@
 -- What a migration makes of version 1, and what a crash leaves of it.
-use Rattle.std.specs.Prelude.{◌≡◌, ◌≢◌, ◌⊎◌, true, [], ◌∷◌, IsTrue}
+use Rattle.std.specs.Prelude.{◌≡◌, ◌≢◌, ◌⊎◌, ℕ, true, [], ◌∷◌, Option, IsTrue}
 use Rattle.sqlite_trees.specs.Tree.{Trees}
+use Rattle.sqlite.specs.Effect.{Database}
 use Rattle.sqlite.specs.State.{State, HasCleanDisk}
+use Rattle.sqlite.specs.declared.error.Error.{Error}
 use Rattle.acd_sql_columns.specs.declared.meta.Meta.{Meta}
 use Rattle.acd_sql_columns.specs.declared.tables.Table.{Table}
 use Rattle.acd_sql_columns.specs.declared.tables.Table.TheVariants as table
 use Rattle.acd_sql_columns.specs.declared.tables.Version.TheVariants as version
+use Rattle.acd_sql_columns.specs.declared.texts.TheConstants.{UPDATE_VERSION}
 use Rattle.acd_sql_columns.specs.Content.{tree_of, IsIn}
 use Rattle.acd_sql_columns.specs.Rows.{meta_row, meta_row_as}
 use Rattle.acd_sql_columns.specs.Schema.{old_schema, book_schema}
+use Rattle.acd_sql_statements.specs.Failing.{IsMemory, StoreHasFailed, Refuses}
 
 -- the nine tables as they were but for the version, and two empty ones
 pub record IsMigration (old new : Trees) : Type 0 where
@@ -42,3 +46,20 @@ pub record IsRestored (old new : State) : Type 0 where
 -- a crash leaves what it left before, or a migration
 abbrev pub MayAlter : State → State → Type 0
 MayAlter old new = (db : Trees) → new.may_leave db → old.may_leave db ⊎ IsMigration old.now.trees db
+
+-- ---- failures
+
+-- the nine tables with these rows, and two empty ones behind them
+pub record AreBeside (old : Trees) (d : Database) : Type 0 where
+  pub schema_is : d.schema ≡ book_schema
+  pub kept : (t : Table) → IsIn version.First t → d.trees (tree_of t) ≡ old (tree_of t)
+  pub further : d.trees (tree_of table.AgentGroups) ≡ []
+  pub priorities : d.trees (tree_of table.GroupPriority) ≡ []
+
+-- the store refuses to tell version 2 in them
+abbrev pub IsUntold : Option ℕ → Trees → Type 0
+IsUntold limit old = (d : Database) × AreBeside old d × Refuses limit d UPDATE_VERSION.now []
+
+-- why version 2 isn't made
+abbrev pub FailsToMigrate : State → State → Error → Type 0
+FailsToMigrate old new e = IsMemory e ⊎ (StoreHasFailed old new ⊎ IsUntold old.step_limit old.now.trees)

@@ -109,9 +109,26 @@ pub(crate) fn set_up_old<S: Alter>(conn: &mut Connection<S>) -> Result<(), Error
     ensures idle { conn.new.in_transaction ≡ false }
     ensures made { HasCleanDisk (state S.Store conn.new)
         → OnOk result ((state S.Store conn.new).now.schema ≡ old_schema) }
+    ensures failed { HasCleanDisk (state S.Store conn.new) → IfErr result (FailsToMake
+        (state S.Store conn.old) (state S.Store conn.new)) }
 {
     let mut tx = conn.transaction();
     make_nine(&mut tx)?;
+    tx.commit()
+}
+
+/// Makes the tables of version 2 in one transaction, with no row.
+pub(crate) fn set_up_new<S: Alter>(conn: &mut Connection<S>) -> Result<(), Error>
+    requires idle { conn.old.in_transaction ≡ false }
+    requires empty { (state S.Store conn.old).now.schema ≡ no_schema }
+    ensures idle { conn.new.in_transaction ≡ false }
+    ensures made { HasCleanDisk (state S.Store conn.new)
+        → OnOk result ((state S.Store conn.new).now.schema ≡ book_schema) }
+    ensures failed { HasCleanDisk (state S.Store conn.new) → IfErr result (FailsToMake
+        (state S.Store conn.old) (state S.Store conn.new)) }
+{
+    let mut tx = conn.transaction();
+    make_tables(&mut tx)?;
     tx.commit()
 }
 

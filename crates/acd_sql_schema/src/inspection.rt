@@ -1,30 +1,33 @@
 //! Whether a database has the tables of a book, of version 1 or 2, with each value in its range.
 
-ghost use Rattle.std.specs.Prelude.{◌≡◌, true, false, None, Some, IfOk};
+ghost use Rattle.std.specs.Prelude.{◌≡◌, ◌≢◌, ◌⊎◌, [], true, false, None, Some, IfErr, IfOk, IfSome};
 ghost use Rattle.acd_terms.specs.Lists.{Every};
 ghost use Rattle.sqlite.specs.Effect.{Database};
 ghost use Rattle.sqlite.specs.Held.{state};
 ghost use Rattle.acd_sql_columns.specs.declared.tables.Table.TheVariants as table;
-ghost use Rattle.acd_sql_columns.specs.AnyRows.{is_beside, table_of_log, are_good, schema_of, BeginsAsBook, Covers, TellsGood};
+ghost use Rattle.acd_sql_columns.specs.AnyRows.{is_beside, table_of_log, are_good, schema_of, BeginsAsBook, Covers, IsFiled, TellsGood};
 ghost use Rattle.acd_sql_columns.specs.Content.{number_of};
-ghost use Rattle.acd_sql_schema.specs.Inspecting.{number_if_good, last_good, tables_of, told_by, IsLike, TellsBehind, IsBadOf, IsPageOfLog, IsLogPage, PageFits, IsFound, IsRowFound, IsPlaceFound, IsVersionTold, IsToldIn, IsAdoptStoreFault, adopt_fault_of};
+ghost use Rattle.acd_sql_schema.specs.Inspecting.{IsNoBook, HasNoRise, IsPageAbove, HasFiled, IsPaged, HasGoodTables, number_if_good, last_good, tables_of, told_by, IsLike, TellsBehind, IsBadOf, IsPageOfLog, IsLogPage, PageFits, IsFound, IsRowFound, IsPlaceFound, IsVersionTold, IsToldIn, IsAdoptStoreFault, adopt_fault_of};
 ghost use Rattle.acd_sql_columns.specs.Draft.{Fits};
 ghost use Rattle.acd_sql_columns.specs.Schema.{nine, old_schema, book_schema, BeginsSchema};
 ghost use Rattle.acd_sql_columns.specs.Seeing.{Sees, HasLooked};
+ghost use Rattle.acd_sql_statements.specs.Between.{IsBookSchema};
+ghost use Rattle.acd_sql_statements.specs.Failing.{IsMemory};
+ghost use Rattle.acd_sql_statements.specs.Looking.{BlamesLook, BlamesOver};
 
-use crate::create::{set_up, set_up_old};
+use crate::create::{set_up_new, set_up_old};
 use crate::fault::{AdoptFault, Found};
 use crate::verdict::{Likeness, Page, Told};
 use acd_sql_columns::decode::{KeptReader, connection_in, counters_in, event_number, further_in};
 use acd_sql_columns::{AgentRow, GroupPriority, GroupRow, Log, Table, Version, values};
-use acd_sql_statements::fitting::{fits, too_large};
+use acd_sql_statements::fitting::{number_of, too_large};
 use acd_sql_statements::look::{further_rows, has_meta, unordered_connection_rows, version_rows};
 use acd_sql_statements::placed::{are_further_placed, are_priorities_placed};
 use acd_sql_statements::read::{meta_rows, probe};
 use acd_sql_statements::same::{is_same_first, is_same_schema};
 use acd_sql_statements::select::is_good;
 use acd_sql_statements::tables::{low_rows, rows_above};
-use acd_terms::{CallRecord, Limits, MonitorRecord, StationRecord};
+use acd_terms::{CallRecord, MonitorRecord, StationRecord};
 use sqlite::{Alter, Connection, Error, ErrorCode, MemStore, Row};
 use sqlite_schema::schema::Schema;
 use std::alloc::Global;
@@ -48,6 +51,7 @@ fn is_good_meta<S: Alter>(conn: &mut Connection<S>) -> Result<bool, Error>
     requires { conn.old.in_transaction ≡ false }
     ensures idle { conn.new.in_transaction ≡ false }
     ensures seen { (d : Database) → BeginsSchema nine d.schema → Sees d (state S.Store conn.old) (state S.Store conn.new) result (λ good. TellsGood table.Meta d.trees good) }
+    ensures looked { BlamesOver (BeginsSchema nine) [] S.Store conn.old conn.new result }
 {
     match meta_rows(conn) {
         Ok(rows) => Ok(are_counters(&rows)),
@@ -60,6 +64,7 @@ fn are_good_connections<S: Alter>(conn: &mut Connection<S>) -> Result<bool, Erro
     requires { conn.old.in_transaction ≡ false }
     ensures idle { conn.new.in_transaction ≡ false }
     ensures seen { (d : Database) → BeginsSchema nine d.schema → Sees d (state S.Store conn.old) (state S.Store conn.new) result (λ good. TellsGood table.Connections d.trees good) }
+    ensures looked { BlamesOver (BeginsSchema nine) [] S.Store conn.old conn.new result }
 {
     match unordered_connection_rows(conn) {
         Ok(rows) => Ok(are_connections(&rows)),
@@ -79,6 +84,7 @@ fn are_good_further<S: Alter>(conn: &mut Connection<S>) -> Result<bool, Error>
     requires { conn.old.in_transaction ≡ false }
     ensures idle { conn.new.in_transaction ≡ false }
     ensures seen { (d : Database) → d.schema ≡ book_schema → Sees d (state S.Store conn.old) (state S.Store conn.new) result (λ good. TellsGood table.AgentGroups d.trees good) }
+    ensures looked { BlamesOver IsBookSchema [] S.Store conn.old conn.new result }
 {
     match further_rows(conn) {
         Ok(rows) => Ok(are_further(&rows)),
@@ -88,7 +94,8 @@ fn are_good_further<S: Alter>(conn: &mut Connection<S>) -> Result<bool, Error>
 
 // The number of a row where each of its values is in its range.
 fn number_if_good(kept: &mut KeptReader, log: Log, row: &Row) -> Result<Option<u64>, Error>
-    ensures { IfOk result (λ number. number ≡ number_if_good log row.now) }
+    ensures number { IfOk result (λ number. number ≡ number_if_good log row.now) }
+    ensures lacks { IfErr result IsMemory }
 {
     match log {
         Log::Events => Ok(event_number(row)),
@@ -106,10 +113,15 @@ fn last_good(
     number: u64,
     rows: &[Row],
 ) -> Result<Option<u64>, Error>
-    ensures { IfOk result (λ last. last ≡ last_good log number rows.now) }
+    requires { Fits number }
+    ensures last { IfOk result (λ last. last ≡ last_good log number rows.now) }
+    ensures fits { IfOk result (λ last. IfSome last Fits) }
+    ensures lacks { IfErr result IsMemory }
 {
     let mut last = number;
     for row in rows {
+        // It is read so that its range is known.
+        let _fits = number_of(row);
         let next = number_if_good(kept, log, row)?;
         match next {
             Some(next) => last = next,
@@ -121,15 +133,18 @@ fn last_good(
 
 // What the rows above a number tell.
 fn page_of(kept: &mut KeptReader, log: Log, number: u64, rows: &[Row]) -> Result<Page, Error>
+    requires { Fits number }
     ensures tells { IfOk result (λ page. IsLogPage log number rows.now page) }
     ensures fits { IfOk result (λ page. PageFits page) }
+    ensures rises { IfOk result (λ page. IsPageAbove number page) }
+    ensures lacks { IfErr result (λ e. IsMemory e ⊎ HasNoRise log number rows.now) }
 {
     if rows.is_empty() {
         return Ok(Page::Last);
     }
     let last = last_good(kept, log, number, rows)?;
     match last {
-        Some(last) if fits(last) => Ok(Page::More(last)),
+        Some(last) if last > number => Ok(Page::More(last)),
         Some(_) => Err(too_large()),
         None => Ok(Page::Bad),
     }
@@ -147,6 +162,8 @@ fn page_behind<S: Alter>(
     ensures idle { conn.new.in_transaction ≡ false }
     ensures seen { (d : Database) → BeginsSchema nine d.schema → Sees d (state S.Store conn.old) (state S.Store conn.new) result (λ page. IsPageOfLog log number d.trees page) }
     ensures fits { IfOk result (λ page. PageFits page) }
+    ensures rises { IfOk result (λ page. IsPageAbove number page) }
+    ensures looked { BlamesLook (IsPaged log) (state S.Store conn.old) (state S.Store conn.new) result }
 {
     match rows_above(log, conn, number) {
         Ok(rows) => page_of(kept, log, number, &rows),
@@ -163,9 +180,10 @@ fn are_pages_good<S: Alter>(
     requires idle { conn.old.in_transaction ≡ false }
     ensures idle { conn.new.in_transaction ≡ false }
     ensures seen { (d : Database) → BeginsSchema nine d.schema → Sees d (state S.Store conn.old) (state S.Store conn.new) result (λ good. TellsBehind log d.trees good) }
+    ensures looked { BlamesLook (IsPaged log) (state S.Store conn.old) (state S.Store conn.new) result }
 {
     let mut number = 0;
-    for _ in 0..u64::MAX {
+    loop {
         let page = page_behind(kept, conn, log, number)?;
         match page {
             Page::Bad => return Ok(false),
@@ -173,7 +191,6 @@ fn are_pages_good<S: Alter>(
             Page::More(last) => number = last,
         }
     }
-    Err(too_large())
 }
 
 // Whether each value of the log is in its range.
@@ -185,6 +202,7 @@ fn is_good_log<S: Alter>(
     requires { conn.old.in_transaction ≡ false }
     ensures idle { conn.new.in_transaction ≡ false }
     ensures seen { (d : Database) → BeginsSchema nine d.schema → Sees d (state S.Store conn.old) (state S.Store conn.new) result (λ good. TellsGood (table_of_log log) d.trees good) }
+    ensures looked { BlamesLook (HasFiled (BeginsSchema nine)) (state S.Store conn.old) (state S.Store conn.new) result }
 {
     let low = low_rows(log, conn)?;
     if low.is_empty() {
@@ -203,6 +221,7 @@ fn is_good_table<S: Alter>(
     requires { conn.old.in_transaction ≡ false }
     ensures idle { conn.new.in_transaction ≡ false }
     ensures seen { (d : Database) → Covers d.schema table → Sees d (state S.Store conn.old) (state S.Store conn.new) result (λ good. TellsGood table d.trees good) }
+    ensures looked { BlamesLook (HasFiled (λ s. Covers s table)) (state S.Store conn.old) (state S.Store conn.new) result }
 {
     match table {
         Table::Meta => is_good_meta(conn),
@@ -228,6 +247,7 @@ fn bad_table<S: Alter>(
     requires idle { conn.old.in_transaction ≡ false }
     ensures idle { conn.new.in_transaction ≡ false }
     ensures seen { (d : Database) → Every (Covers d.schema) tables.now → Sees d (state S.Store conn.old) (state S.Store conn.new) result (λ bad. IsBadOf tables.now d bad) }
+    ensures looked { BlamesLook (HasFiled (λ s. Every (Covers s) tables.now)) (state S.Store conn.old) (state S.Store conn.new) result }
 {
     for table in tables {
         let good = is_good_table(kept, conn, *table)?;
@@ -272,6 +292,7 @@ fn misplaced<S: Alter>(
     requires { conn.old.in_transaction ≡ false }
     ensures idle { conn.new.in_transaction ≡ false }
     ensures seen { (d : Database) → d.schema ≡ schema_of version → Sees d (state S.Store conn.old) (state S.Store conn.new) result (λ fault. IsPlaceFound version d fault) }
+    ensures looked { BlamesLook (HasGoodTables version) (state S.Store conn.old) (state S.Store conn.new) result }
 {
     match version {
         Version::First => Ok(None),
@@ -286,6 +307,7 @@ fn found_misplaced<S: Alter>(
     requires { conn.old.in_transaction ≡ false }
     ensures idle { conn.new.in_transaction ≡ false }
     ensures seen { (d : Database) → d.schema ≡ book_schema → Sees d (state S.Store conn.old) (state S.Store conn.new) result (λ fault. IsPlaceFound Version.Second d fault) }
+    ensures looked { BlamesLook (HasGoodTables Version.Second) (state S.Store conn.old) (state S.Store conn.new) result }
 {
     match are_further_placed(alloc, conn) {
         Ok(true) => ranks_misplaced(alloc, conn),
@@ -302,6 +324,7 @@ fn ranks_misplaced<S: Alter>(
     requires { conn.old.in_transaction ≡ false }
     ensures idle { conn.new.in_transaction ≡ false }
     ensures seen { (d : Database) → d.schema ≡ book_schema → Sees d (state S.Store conn.old) (state S.Store conn.new) result (λ fault. is_beside d.trees ≡ true → IsPlaceFound Version.Second d fault) }
+    ensures looked { BlamesLook (HasGoodTables Version.Second) (state S.Store conn.old) (state S.Store conn.new) result }
 {
     match are_priorities_placed(alloc, conn) {
         Ok(true) => Ok(None),
@@ -319,6 +342,7 @@ fn bad_row<S: Alter>(
     requires idle { conn.old.in_transaction ≡ false }
     ensures idle { conn.new.in_transaction ≡ false }
     ensures seen { (d : Database) → d.schema ≡ schema_of version → Sees d (state S.Store conn.old) (state S.Store conn.new) result (λ fault. IsRowFound version d fault) }
+    ensures looked { BlamesLook (HasFiled (λ s. s ≡ schema_of version)) (state S.Store conn.old) (state S.Store conn.new) result }
 {
     let mut kept = KeptReader::new(alloc);
     let bad = bad_table(&mut kept, conn, tables_of(version))?;
@@ -347,6 +371,7 @@ fn version_told<S: Alter>(conn: &mut Connection<S>) -> Result<Told, Error>
     requires { conn.old.in_transaction ≡ false }
     ensures idle { conn.new.in_transaction ≡ false }
     ensures seen { (d : Database) → BeginsAsBook d.schema → Sees d (state S.Store conn.old) (state S.Store conn.new) result (λ told. IsVersionTold d told) }
+    ensures looked { BlamesOver BeginsAsBook [] S.Store conn.old conn.new result }
 {
     match version_rows(conn) {
         Ok(rows) => Ok(told_by(&rows)),
@@ -356,11 +381,12 @@ fn version_told<S: Alter>(conn: &mut Connection<S>) -> Result<Told, Error>
 
 // The tables of a new book, in memory.
 fn new_tables(alloc: Global) -> Result<Connection<MemStore>, Error>
-    ensures { IfOk result (λ conn. conn.schema ≡ book_schema) }
+    ensures made { IfOk result (λ conn. conn.schema ≡ book_schema) }
+    ensures lacks { IfErr result IsMemory }
 {
     match Connection::open_in_memory(alloc) {
         Ok(mut conn) => {
-            set_up(&mut conn, Limits::GREATEST)?;
+            set_up_new(&mut conn)?;
             Ok(conn)
         }
         Err(_) => Err(Error::SqliteFailure(ErrorCode::OutOfMemory)),
@@ -369,7 +395,8 @@ fn new_tables(alloc: Global) -> Result<Connection<MemStore>, Error>
 
 // The tables of version 1, in memory.
 fn old_tables(alloc: Global) -> Result<Connection<MemStore>, Error>
-    ensures { IfOk result (λ conn. conn.schema ≡ old_schema) }
+    ensures made { IfOk result (λ conn. conn.schema ≡ old_schema) }
+    ensures lacks { IfErr result IsMemory }
 {
     match Connection::open_in_memory(alloc) {
         Ok(mut conn) => {
@@ -382,7 +409,9 @@ fn old_tables(alloc: Global) -> Result<Connection<MemStore>, Error>
 
 // How far the tables are those of an old book.
 fn compared_to_old(alloc: Global, schema: &Schema) -> Result<Likeness, Error>
-    ensures { IfOk result (λ likeness. IsLike schema.now likeness) }
+    ensures like { schema.now ≢ book_schema
+        → IfOk result (λ likeness. IsLike schema.now likeness) }
+    ensures lacks { IfErr result IsMemory }
 {
     let book = old_tables(alloc)?;
     let own = book.schema();
@@ -397,7 +426,8 @@ fn compared_to_old(alloc: Global, schema: &Schema) -> Result<Likeness, Error>
 
 // How far the tables are those of a new book, or of an old one.
 fn compared(alloc: Global, schema: &Schema) -> Result<Likeness, Error>
-    ensures { IfOk result (λ likeness. IsLike schema.now likeness) }
+    ensures like { IfOk result (λ likeness. IsLike schema.now likeness) }
+    ensures lacks { IfErr result IsMemory }
 {
     let book = new_tables(alloc)?;
     if is_same_schema(schema, book.schema()) {
@@ -410,7 +440,8 @@ fn compared(alloc: Global, schema: &Schema) -> Result<Likeness, Error>
 fn found_in_first<S: Alter>(conn: &mut Connection<S>) -> Result<Found, Error>
     requires { conn.old.in_transaction ≡ false }
     ensures idle { conn.new.in_transaction ≡ false }
-    ensures seen { (d : Database) → BeginsAsBook d.schema → Sees d (state S.Store conn.old) (state S.Store conn.new) result (λ found. IsFound d found) }
+    ensures seen { (d : Database) → BeginsAsBook d.schema → IsNoBook d.schema → Sees d (state S.Store conn.old) (state S.Store conn.new) result (λ found. IsFound d found) }
+    ensures looked { BlamesOver BeginsAsBook [] S.Store conn.old conn.new result }
 {
     match version_told(conn) {
         Ok(Told::Faulty(fault)) => Ok(Found::Fault(fault)),
@@ -428,6 +459,7 @@ fn found_in_rows<S: Alter>(
     requires { conn.old.in_transaction ≡ false }
     ensures idle { conn.new.in_transaction ≡ false }
     ensures seen { (d : Database) → d.schema ≡ schema_of version → Sees d (state S.Store conn.old) (state S.Store conn.new) result (λ found. IsToldIn d.trees (Some (number_of version)) → IsFound d found) }
+    ensures looked { BlamesLook (HasFiled (λ s. s ≡ schema_of version)) (state S.Store conn.old) (state S.Store conn.new) result }
 {
     match bad_row(alloc, conn, version) {
         Ok(Some(fault)) => Ok(Found::Fault(fault)),
@@ -445,6 +477,7 @@ fn found_in_whole<S: Alter>(
     requires { conn.old.in_transaction ≡ false }
     ensures idle { conn.new.in_transaction ≡ false }
     ensures seen { (d : Database) → d.schema ≡ schema_of version → Sees d (state S.Store conn.old) (state S.Store conn.new) result (λ found. IsFound d found) }
+    ensures looked { BlamesLook (HasFiled (λ s. s ≡ schema_of version)) (state S.Store conn.old) (state S.Store conn.new) result }
 {
     let told = version_told(conn)?;
     match told {
@@ -459,6 +492,7 @@ fn found_in<S: Alter>(alloc: Global, conn: &mut Connection<S>) -> Result<Found, 
     requires { conn.old.in_transaction ≡ false }
     ensures idle { conn.new.in_transaction ≡ false }
     ensures seen { Sees (state S.Store conn.old).now (state S.Store conn.old) (state S.Store conn.new) result (λ found. IsFound (state S.Store conn.old).now found) }
+    ensures looked { BlamesLook IsFiled (state S.Store conn.old) (state S.Store conn.new) result }
 {
     if !has_meta(conn.schema()) {
         return Ok(Found::Fault(AdoptFault::WrongVersion(0)));
@@ -477,6 +511,8 @@ pub fn look_over<S: Alter>(alloc: Global, conn: &mut Connection<S>) -> Result<Fo
     ensures idle { conn.new.in_transaction ≡ false }
     ensures looked { HasLooked (state S.Store conn.old) (state S.Store conn.new) result
         (λ d found. IsFound d found) }
+    ensures blamed { BlamesLook IsFiled
+        (state S.Store conn.old) (state S.Store conn.new) result }
 {
     // What these two promise holds of the connection before anything is read; their answers aren't needed.
     let _settled = conn.is_autocommit();

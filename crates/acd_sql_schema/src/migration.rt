@@ -1,11 +1,11 @@
 //! Makes version 2 of a book of version 1.
 
-ghost use Rattle.std.specs.Prelude.{◌≡◌, false, IsTrue, OnErr, OnOk};
+ghost use Rattle.std.specs.Prelude.{◌≡◌, ◌≤◌, false, IsTrue, IfErr, OnErr, OnOk};
 ghost use Rattle.sqlite.specs.State.{HasCleanDisk};
 ghost use Rattle.sqlite.specs.Held.{state};
 ghost use Rattle.acd_sql_columns.specs.Schema.{old_schema, book_schema};
 ghost use Rattle.acd_sql_columns.specs.Draft.{Works};
-ghost use Rattle.acd_sql_schema.specs.Migrating.{IfFirst, IsAltered, IsMade, IsRestored, MayAlter};
+ghost use Rattle.acd_sql_schema.specs.Migrating.{IfFirst, IsAltered, IsMade, IsRestored, MayAlter, FailsToMigrate};
 
 use crate::create::make_two;
 use acd_sql_statements::write::tell_second;
@@ -19,6 +19,11 @@ fn alter<S: Alter>(tx: &mut Transaction<'_, S>) -> Result<(), Error>
         (IsTrue (state S.Store tx.old.conn.now).in_transaction
         → (state S.Store tx.old.conn.now).now.schema ≡ old_schema
         → IsAltered (state S.Store tx.old.conn.now) (state S.Store tx.new.conn.now)) }
+    ensures failed { HasCleanDisk (state S.Store tx.new.conn.now)
+        → IsTrue (state S.Store tx.old.conn.now).in_transaction
+        → (state S.Store tx.old.conn.now).now.schema ≡ old_schema
+        → IfErr result (FailsToMigrate
+        (state S.Store tx.old.conn.now) (state S.Store tx.new.conn.now)) }
 {
     make_two(tx)?;
     tell_second(tx)
@@ -40,6 +45,9 @@ pub fn migrate<S: Alter>(conn: &mut Connection<S>) -> Result<(), Error>
         → IsRestored (state S.Store conn.old) (state S.Store conn.new))) }
     ensures stops { IfFirst (state S.Store conn.old) (state S.Store conn.new)
         (MayAlter (state S.Store conn.old) (state S.Store conn.new)) }
+    ensures counts { (state S.Store conn.old).faults ≤ (state S.Store conn.new).faults }
+    ensures failed { IfFirst (state S.Store conn.old) (state S.Store conn.new)
+        (IfErr result (FailsToMigrate (state S.Store conn.old) (state S.Store conn.new))) }
 {
     let mut tx = conn.transaction();
     alter(&mut tx)?;

@@ -3,8 +3,8 @@ use Rattle.acd_sql_schema.specs.Inspecting.{number_if_good}
 use Rattle.acd_sql_schema.proofs.Paged.{event_numbered, kept_numbered}
 use Rattle.acd_sql_schema.proofs.inspection.number_if_good.Goals as goal
 
-pub returns-in-Events : goal.returns-in-Events
-returns-in-Events c = c.event_number.ensures ∙ event_numbered c.args.row.now ∙ ap (λ l. number_if_good l c.args.row.now) (sym c.in-Events.is)
+pub returns-in-Events-clause-number : goal.returns-in-Events-clause-number
+returns-in-Events-clause-number c = c.event_number.ensures ∙ event_numbered c.args.row.now ∙ ap (λ l. number_if_good l c.args.row.now) (sym c.in-Events.is)
 
-pub returns-in-Ok : goal.returns-in-Ok
-returns-in-Ok c = c.in-Ok.ensures ∙ kept_numbered c.args.row.now ∙ ap (λ l. number_if_good l c.args.row.now) (sym c.in-Kept.is)
+pub returns-in-Ok-clause-number : goal.returns-in-Ok-clause-number
+returns-in-Ok-clause-number c = c.in-Ok.ensures ∙ kept_numbered c.args.row.now ∙ ap (λ l. number_if_good l c.args.row.now) (sym c.in-Kept.is)
