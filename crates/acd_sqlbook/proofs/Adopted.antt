@@ -1,5 +1,5 @@
 -- A connection that was looked over, as a book.
-use Rattle.std.proofs.Common.{◌≡◌, ◌≢◌, ◌⊎◌, inl, inr, ℕ, length, Result, Ok, Err, IsTrue, refl, sym, ap, subst, ◌∙◌}
+use Rattle.std.proofs.Common.{◌≡◌, ◌≢◌, ◌⊎◌, ◌≤◌, inl, inr, ℕ, length, Option, arith, Result, Ok, Err, IsTrue, refl, sym, ap, subst, ◌∙◌}
 use Rattle.sqlite_trees.specs.Tree.{Trees}
 use Rattle.sqlite_schema.specs.declared.schema.Schema.{Schema}
 use Rattle.sqlite_trees.specs.Objects.{catalog_tree, IsListed}
@@ -15,12 +15,15 @@ use Rattle.acd_sql_columns.specs.AnyRows.{IsFiled, IsFiledAs, HaveAllColumns}
 use Rattle.acd_sql_schema.specs.declared.fault.Found.{Found}
 use Rattle.acd_sql_schema.specs.declared.fault.Found.TheVariants.{Book, Fault}
 use Rattle.acd_sql_statements.specs.InRange.{IsInRange}
-use Rattle.acd_sql_schema.specs.Inspecting.{IsFound, IsOfBook, IsAdoptFaultOf, IsAdoptStoreFault}
-use Rattle.acd_sql_schema.specs.Migrating.{IsMigration, IsMade, IsRestored, MayAlter}
+use Rattle.acd_sql_schema.specs.Inspecting.{IsFound, IsOfBook, IsAdoptFaultOf, IsAdoptStoreFault, IsFoundFaultOf, adopt_fault_of}
+use Rattle.acd_sql_schema.specs.Migrating.{FailsToMigrate, IsMigration, IsMade, IsRestored, IsUntold, MayAlter}
+use Rattle.std.proofs.lemmas.Bool.{cases_Bool}
+use Rattle.acd_sql_statements.specs.Failing.{IsMemory}
+use Rattle.acd_sql_statements.specs.Looking.{BlamesLook, FailsToLook}
 use Rattle.acd_sql_columns.specs.declared.tables.Table.TheVariants as table
 use Rattle.acd_sql_columns.specs.declared.tables.Version.{Version}
 use Rattle.acd_sql_columns.specs.declared.tables.Version.TheVariants as version
-use Rattle.acd_sqlbook.specs.Adopting.{HasAllColumns, IsAdopted, IsHandedBack, IsUntouched, MayMigrate}
+use Rattle.acd_sqlbook.specs.Adopting.{AdoptCause, failed, shut, limited, unlike, refused, HasAllColumns, IsAdopted, IsHandedBack, IsUntouched, MayMigrate}
 use Rattle.acd_sql_columns.specs.Relations.{pair_order, meta_of, relations_of}
 use Rattle.acd_sql_columns.specs.Content.{Encodes, EncodesAs, Stores, part, tree_of}
 use Rattle.acd_sql_columns.specs.Rows.{further_row}
@@ -104,8 +107,14 @@ module _ (old mid : State) (settles : Settles old) (k : HasCleanDisk mid) where
   back : (r : Result Found Error) (f : AdoptFault) → HasLooked old mid r IsFound → IsAdoptFaultOf old.now f → IsHandedBack old.now (book_state old 0) (book_state mid 0) f
   back r f h fault = record { sound = still_sound r h; same = same_content r h; stops = λ filed c stop. (stop.0, h.stops k stop.0 stop.1, stop.2); cause = fault }
 
+  found_fault : (f : AdoptFault) → IsFoundFaultOf old.now f → IsAdoptFaultOf old.now f
+  found_fault (WrongVersion n) h = h
+  found_fault (BadRow t) h = h
+  found_fault NoMemory h = tt
+  found_fault Store h = tt
+
   pub back_found : (f : AdoptFault) → HasLooked old mid (Ok (Fault f)) IsFound → IsHandedBack old.now (book_state old 0) (book_state mid 0) f
-  back_found f h = back (Ok (Fault f)) f h (found_in (Fault f) h)
+  back_found f h = back (Ok (Fault f)) f h (found_fault f (found_in (Fault f) h))
 
   pub of_store : (f : AdoptFault) → IsAdoptStoreFault f → IsAdoptFaultOf old.now f
   of_store (WrongVersion n) h = absurd h
@@ -231,3 +240,36 @@ module _ (old mid new : State) (settles : Settles old) (stays : Stays old) (k : 
   pub not_alone : (f : AdoptFault) → IsAdoptStoreFault f → (old.now.schema ≢ old_schema) ⊎ (¬ (IsAdoptStoreFault f)) → IsUntouched old new
   not_alone f is (inl other) = absurd (other first.schema_is)
   not_alone f is (inr other) = absurd (other is)
+
+-- ---- why it answers that the store has failed
+
+-- want of memory is no failure of the store
+no_memory : (e : Error) (f : AdoptFault) → f ≡ adopt_fault_of e → f ≡ Store → IsMemory e → ⊥
+no_memory e f is store memory = absurd (let apart = sym store ∙ is ∙ ap adopt_fault_of memory in cc)
+
+module _ (old mid : State) (settles : Settles old) (k : HasCleanDisk mid) where
+  -- a fault that was found, where the store hasn't failed
+  pub found_cause : (f : AdoptFault) → HasLooked old mid (Ok (Fault f)) IsFound → f ≡ Store → AdoptCause old mid
+  found_cause f h is = unlike (subst (IsFoundFaultOf old.now) is (found_in old mid settles k (Fault f) h))
+
+  look_cause : (e : Error) (f : AdoptFault) → f ≡ adopt_fault_of e → f ≡ Store → FailsToLook old mid e → AdoptCause old mid
+  look_cause e f is store (inl memory) = absurd (no_memory e f is store memory)
+  look_cause e f is store (inr (inl more)) = failed more
+  look_cause e f is store (inr (inr steps)) = limited steps
+
+  -- the look failed
+  pub fail_cause : (e : Error) (f : AdoptFault) → f ≡ adopt_fault_of e → f ≡ Store → HasLooked old mid (Err e) IsFound → BlamesLook {A = Found} IsFiled old mid (Err e) → IsFiled old.now → AdoptCause old mid
+  fail_cause e f is store h blames filed = elim (cases_Bool old.is_open) [
+    | inl up ↦ look_cause e f is store (blames.cause k old.now (had_before old mid settles k (Err e) h up) filed)
+    | inr down ↦ shut down
+  ]
+
+-- the migration failed behind the look
+pub unmade_cause : (old mid new : State) (settles : Settles old) (k : HasCleanDisk mid) (e : Error) (f : AdoptFault) → f ≡ adopt_fault_of e → f ≡ Store → HasLooked old mid (Ok (Book version.First)) IsFound
+    → BlamesLook {A = Found} IsFiled old mid (Ok (Book version.First)) → mid.faults ≤ new.faults → FailsToMigrate mid new e → AdoptCause old new
+unmade_cause old mid new settles k e f is store h blames counts (inl memory) = absurd (no_memory e f is store memory)
+unmade_cause old mid new settles k e f is store h blames counts (inr (inl (inl more))) = failed (let first = blames.counts in omega (arith, more, first))
+unmade_cause old mid new settles k e f is store h blames counts (inr (inl (inr down))) = absurd (let up = h.up k in let apart = sym up ∙ down in cc)
+unmade_cause old mid new settles k e f is store h blames counts (inr (inr untold)) =
+    let same = (after_look old mid settles k (Book version.First) h).now in
+    refused ((found_in old mid settles k (Book version.First) h).schema_is) (subst (λ (l : Option ℕ). IsUntold l old.now.trees) blames.limit (subst (λ (d : Database). IsUntold mid.step_limit d.trees) same untold))

@@ -1,5 +1,6 @@
 -- What a connection is as a book, behind the look at it.
-use Rattle.std.specs.Prelude.{◌≡◌, ◌⊎◌, IsTrue}
+use Rattle.std.specs.Prelude.{◌≡◌, ◌⊎◌, false, IsSome, IsTrue}
+use Rattle.sqlite_disk.specs.Disk.{MoreFaults}
 use Rattle.sqlite_trees.specs.Tree.{Trees}
 use Rattle.sqlite.specs.Effect.{Database}
 use Rattle.sqlite.specs.State.{State}
@@ -14,9 +15,9 @@ use Rattle.acd_sql_columns.specs.AnyRows.{IsFiled, HaveAllColumns, schema_of}
 use Rattle.acd_sql_columns.specs.Seeing.{HasDatabase}
 use Rattle.acd_sql_columns.specs.declared.tables.Version.{Version}
 use Rattle.acd_sql_columns.specs.Schema.{old_schema}
-use Rattle.acd_sql_schema.specs.Migrating.{IsMigration}
+use Rattle.acd_sql_schema.specs.Migrating.{IsMigration, IsUntold}
 use Rattle.acd_sql_statements.specs.InRange.{IsInRange}
-use Rattle.acd_sql_schema.specs.Inspecting.{IsAdoptFaultOf, IsOfBook}
+use Rattle.acd_sql_schema.specs.Inspecting.{IsAdoptFaultOf, IsOfBook, IsUnlike}
 
 -- each row of its version's tables has its number, and a value for each column
 abbrev pub HasAllColumns : Database → Type 0
@@ -56,3 +57,16 @@ pub record IsHandedBack (d : Database) (old new : BookState) (fault : AdoptFault
   pub same : new.is_open → old.is_open × (new.content ≡ old.content)
   pub stops : IsFiled d → Within new.stops old.stops
   pub cause : IsAdoptFaultOf d fault
+
+-- why `adopt` answers that the store has failed, between these two states of its connection
+pub data AdoptCause (old new : State) : Type 0 where
+  -- the store's own count of faults rose
+  failed : MoreFaults old.faults new.faults → AdoptCause old new
+  -- the connection was shut before
+  shut : old.is_open ≡ false → AdoptCause old new
+  -- a query may take no more than so many steps
+  limited : IsSome old.step_limit → AdoptCause old new
+  -- the tables are those of no version, or of another than they tell
+  unlike : IsUnlike old.now → AdoptCause old new
+  -- by what it says of tables of version 1 with two more behind them, the store refuses to tell version 2 there
+  refused : old.now.schema ≡ old_schema → IsUntold old.step_limit old.now.trees → AdoptCause old new

@@ -7,7 +7,7 @@ ghost use Rattle.acd_sql_columns.specs.AnyRows.{IsFiled};
 ghost use Rattle.acd_sql_columns.specs.Schema.{old_schema, book_schema};
 ghost use Rattle.acd_sql_schema.specs.Inspecting.{IsAdoptStoreFault};
 ghost use Rattle.acd_sql_schema.specs.Migrating.{IsMade};
-ghost use Rattle.acd_sqlbook.specs.Adopting.{HasAllColumns, IsAdopted, IsHandedBack, IsUntouched, MayMigrate};
+ghost use Rattle.acd_sqlbook.specs.Adopting.{AdoptCause, HasAllColumns, IsAdopted, IsHandedBack, IsUntouched, MayMigrate};
 ghost use Rattle.acd_sqlbook.specs.State.{book_state};
 
 use crate::book::SqlBook;
@@ -56,6 +56,9 @@ impl<S: Alter> SqlBook<S> {
             → IsUntouched (state S.Store conn) (state S.Store e.1)) }
         ensures leaves_refused { IfErr result (λ e. HasCleanDisk (state S.Store e.1)
             → MayMigrate (state S.Store conn) (state S.Store e.1)) }
+        ensures caused { IfErr result (λ e. HasCleanDisk (state S.Store e.1)
+            → IsFiled (state S.Store conn).now → e.0 ≡ AdoptFault.Store
+            → AdoptCause (state S.Store conn) (state S.Store e.1)) }
     {
         match look_over(alloc, &mut conn) {
             Ok(Found::Book(Version::Second)) => Ok(SqlBook {

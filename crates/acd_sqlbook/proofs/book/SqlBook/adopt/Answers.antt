@@ -2,9 +2,11 @@ use Rattle.std.proofs.Common.{◌≡◌, Ok, rules, subst, refl}
 use Rattle.sqlite.specs.Held.{state}
 use Rattle.acd_sql_columns.specs.declared.tables.Version.TheVariants as version
 use Rattle.acd_sql_columns.specs.Seeing.{HasLooked}
-use Rattle.acd_sql_schema.specs.declared.fault.Found.TheVariants.{Book}
+use Rattle.acd_sql_columns.specs.AnyRows.{IsFiled}
+use Rattle.acd_sql_statements.specs.Looking.{BlamesLook}
+use Rattle.acd_sql_schema.specs.declared.fault.Found.TheVariants.{Book, Fault}
 use Rattle.acd_sql_schema.specs.Inspecting.{IsFound}
-use Rattle.acd_sqlbook.proofs.Adopted.{adopted, adopted_first, back_unmade, files, may_migrate, schema_there}
+use Rattle.acd_sqlbook.proofs.Adopted.{adopted, adopted_first, back_unmade, fail_cause, files, found_cause, may_migrate, schema_there, unmade_cause}
 use Rattle.acd_sqlbook.proofs.book.SqlBook.adopt.Goals as goal
 
 pub returns-in-Ok-Book-Second-clause-adopted : goal.returns-in-Ok-Book-Second-clause-adopted
@@ -60,3 +62,25 @@ returns-in-Err-migrate-clause-leaves_refused g c clean =
     let middle = c.migrate.ensures.clean clean in
     let is_old = schema_there (state g.S.Store c.args.conn) (state g.S.Store c.look_over.new.conn) (state g.S.Store c.migrate.new.conn) (g.met.S.Store.settled c.args.conn.store) (g.met.S.Store.stays c.args.conn.store) middle looked in
     may_migrate (state g.S.Store c.args.conn) (state g.S.Store c.look_over.new.conn) (state g.S.Store c.migrate.new.conn) (g.met.S.Store.settled c.args.conn.store) (g.met.S.Store.stays c.args.conn.store) middle looked (c.migrate.ensures.stops clean is_old)
+
+pub returns-in-Ok-Fault-clause-caused : goal.returns-in-Ok-Fault-clause-caused
+returns-in-Ok-Fault-clause-caused g c clean filed store =
+    let is : c.in-Ok-Fault.field-0 ≡ Fault c.in-Ok-Fault.fault = search rules in
+    let looked = subst (λ f. HasLooked (state g.S.Store c.args.conn) (state g.S.Store c.look_over.new.conn) (Ok f) (λ d f. IsFound d f)) is c.in-Ok-Fault.ensures.looked in
+    found_cause (state g.S.Store c.args.conn) (state g.S.Store c.look_over.new.conn) (g.met.S.Store.settled c.args.conn.store) clean c.in-Ok-Fault.fault looked store
+
+pub returns-in-Err-clause-caused : goal.returns-in-Err-clause-caused
+returns-in-Err-clause-caused g c clean filed store =
+    fail_cause (state g.S.Store c.args.conn) (state g.S.Store c.look_over.new.conn) (g.met.S.Store.settled c.args.conn.store) clean c.in-Err.error c.fault_of-in-Err.result c.fault_of-in-Err.ensures.cause store c.in-Err.ensures.looked c.in-Err.ensures.blamed filed
+
+pub returns-in-Err-migrate-clause-caused : goal.returns-in-Err-migrate-clause-caused
+returns-in-Err-migrate-clause-caused g c clean filed store =
+    let is : c.in-Ok-Book-First.field-0 ≡ Book version.First = search rules in
+    let old = state g.S.Store c.args.conn in
+    let mid = state g.S.Store c.look_over.new.conn in
+    let new = state g.S.Store c.migrate.new.conn in
+    let looked = subst (λ f. HasLooked old mid (Ok f) (λ d f. IsFound d f)) is c.in-Ok-Book-First.ensures.looked in
+    let blamed = subst (λ f. BlamesLook IsFiled old mid (Ok f)) is c.in-Ok-Book-First.ensures.blamed in
+    let middle = c.migrate.ensures.clean clean in
+    let is_old = schema_there old mid new (g.met.S.Store.settled c.args.conn.store) (g.met.S.Store.stays c.args.conn.store) middle looked in
+    unmade_cause old mid new (g.met.S.Store.settled c.args.conn.store) middle c.in-Err-migrate.error c.fault_of.result c.fault_of.ensures.cause store looked blamed c.migrate.ensures.counts (c.in-Err-migrate.ensures.failed clean is_old)
