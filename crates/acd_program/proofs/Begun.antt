@@ -35,6 +35,15 @@ module _ {D : Type 0} {g : Ghosts D} where
   begun_created old mid new read few clean made = record {
     large = λ still big. absurd (too_many (length (g.seen old.db)) big (few (and_parts (g.is_clean mid.log) (g.is_clean mid.db) (clean still)).1));
     small = inr (mid, read, made);
+    made = λ still short. (mid, read, made);
+  }
+
+  -- files that have more than a first page
+  pub begun_read : (old new : Files D) → AreReadOnly g old new → (IsClean g new.db → ¬ (length (g.seen old.db) ≤ new_page)) → IsBegun g old new
+  begun_read old new read more = record {
+    large = λ still big. read;
+    small = inl read;
+    made = λ still short. absurd (more (and_parts (g.is_clean new.log) (g.is_clean new.db) still).1 short);
   }
 
   -- the files of an unopened store, or of an open one, are clean where its state is

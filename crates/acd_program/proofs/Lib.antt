@@ -9,3 +9,4 @@ pub mod Begun
 pub mod Sending
 pub mod Served
 pub mod ReadsAnswered
+pub mod Plans

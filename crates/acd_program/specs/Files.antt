@@ -1,12 +1,12 @@
 -- What becomes of the two files before the store has them.
-use Rattle.std.specs.Prelude.{◌≡◌, ◌⊎◌, ℕ, ◌<◌, length, IsTrue}
+use Rattle.std.specs.Prelude.{◌≡◌, ◌⊎◌, ℕ, ◌<◌, ◌≤◌, [], length, IsTrue}
 use Rattle.sqlite_disk.specs.declared.Disk.{Ghosts}
 use Rattle.sqlite_disk.specs.declared.Files.{Files}
 use Rattle.sqlite_wal.specs.Reads.{AreClean, OnlyReads}
 use Rattle.sqlite_store.specs.declared.store.FileStore.{FileStore}
 use Rattle.sqlite_store.specs.declared.store.open.Unopened.{Unopened}
 use Rattle.sqlite_store.specs.FileStore as store
-use Rattle.sqlite_store.specs.Unopened.{state_of, files_of, CanCreate, Creates}
+use Rattle.sqlite_store.specs.Unopened.{state_of, files_of, wanted_by, CanCreate, Creates}
 use Rattle.sqlite.specs.State.{HasCleanDisk}
 use Rattle.sqlite.specs.Held.{Held}
 use Rattle.sqlite.specs.Files.{file_state, IsOpened, Finds}
@@ -40,12 +40,14 @@ module _ {D : Type 0} (g : Ghosts D) where
     pub before : Unopened D g
     pub of_old : files_of before ≡ (old.log, old.db)
     pub size : (state_of before).page_size ≡ new_page
+    pub schema : wanted_by before ≡ []
     pub after : IsMadeIn before new ⊎ IsRefusedIn before new
 
-  -- where there is more than a first page nothing but reading was done to them; else they may be new
+  -- where there is more than a first page nothing but reading was done to them; else a database was to be made in them
   pub record IsBegun (old new : Files D) : Type 0 where
     pub large : AreClean g new.log new.db → new_page < length (g.seen old.db) → AreReadOnly old new
     pub small : AreReadOnly old new ⊎ ((read : Files D) × AreReadOnly old read × IsCreated read new)
+    pub made : AreClean g new.log new.db → length (g.seen old.db) ≤ new_page → (read : Files D) × AreReadOnly old read × IsCreated read new
 
   -- a connection to such files, as the store opened them
   pub record IsOpenedIn (old : Files D) (conn : Held (FileStore D g)) : Type 0 where

@@ -3,6 +3,8 @@ use Rattle.std.specs.Prelude.{◌≡◌, ◌⊎◌, ℕ, List, Option}
 use Rattle.acd_io.specs.Sent.{Begins}
 use Rattle.acd_program.specs.declared.auditing.Finding.{Finding}
 use Rattle.acd_program.specs.declared.auditing.Finding.TheVariants.{Sound, Counted, Differs}
+use Rattle.acd_program.specs.declared.fault.Fault.{Fault}
+use Rattle.acd_program.specs.declared.fault.Fault.TheVariants.{CannotOpen, OpenElsewhere, WrongVersion, BadRow, BadRows, NoMemory, Store, Plan, Read, Write, CannotListen}
 use Rattle.acd_http.specs.Listening.{Outcome, outcome_lines}
 
 -- no fault: success, or the difference that an audit told
@@ -14,6 +16,20 @@ abbrev pub finding_status : Finding → ℕ
 finding_status Sound = 0
 finding_status (Counted count) = 0
 finding_status (Differs place) = 3
+
+-- the status that goes with a fault
+abbrev pub fault_status : Fault → ℕ
+fault_status (OpenElsewhere path) = 4
+fault_status (CannotOpen path) = 1
+fault_status (WrongVersion version) = 1
+fault_status (BadRow table) = 1
+fault_status (BadRows rule) = 1
+fault_status NoMemory = 1
+fault_status Store = 1
+fault_status (Plan why) = 1
+fault_status Read = 1
+fault_status Write = 1
+fault_status (CannotListen port) = 1
 
 -- the lines of the faults of connections were written, or a beginning of them
 abbrev pub TellsConnections : Option (List ℕ) → Option (List ℕ) → Type 0

@@ -1,6 +1,6 @@
 //! The file of a desk.
 
-ghost use Rattle.std.specs.Prelude.{◌≡◌, true, false, IsTrue, IfOk, OnOk};
+ghost use Rattle.std.specs.Prelude.{◌≡◌, ◌⊎◌, ℕ, true, false, IsTrue, Ok, IfOk, OnOk};
 ghost use Rattle.sqlite_std_file.specs.File.{file_is_usable, IsFresh};
 ghost use Rattle.acd_program.specs.Files.{IsOpenedIn};
 ghost use Rattle.acd_program.specs.Tasks.{IsOpenedFrom};
@@ -75,7 +75,12 @@ fn seed<'a>(rt: &HostRuntime, path: &'a str) -> Result<u64, Fault<'a>> {
 
 // Whether a desk is to be made in what there is, which it never is where only one that is there is looked at.
 fn is_new<'a>(found: Found, makes: bool, path: &'a str) -> Result<bool, Fault<'a>>
-    ensures { IfOk result (λ is_new. is_new ≡ true → makes ≡ true) }
+    ensures makes { IfOk result (λ is_new. is_new ≡ true → makes ≡ true) }
+    // not in a file that has bytes
+    ensures bytes { (len : ℕ) → found ≡ Found.Bytes len → result ≡ Ok false }
+    // where there is none, or one of no bytes, it is if it may, and else nothing is opened
+    ensures made { makes ≡ true → (found ≡ Found.Nothing) ⊎ (found ≡ Found.NoBytes) → result ≡ Ok true }
+    ensures none { makes ≡ false → (found ≡ Found.Nothing) ⊎ (found ≡ Found.NoBytes) → OnOk result ⊥ }
 {
     match found {
         Found::Bytes(_) => Ok(false),

@@ -1,34 +1,60 @@
 //! The plan of an import.
 
-ghost use Rattle.std.specs.Prelude.{◌≡◌, ℕ, List, Ok, IfOk};
+ghost use Rattle.std.specs.Prelude.{◌≡◌, ℕ, List, take, Ok, IfOk, IfSome};
 ghost use Rattle.acd_reports.specs.Plan.{plan_requests};
+ghost use Rattle.acd_io.specs.Read.{IsInput};
 
 use crate::fault::Fault;
 use acd_reports::plan_requests;
 use acd_terms::Request;
+use std::alloc::Global;
 use std::fs;
 use std::io::{self, Read};
 
 // One byte more than a plan may have, so that a longer one is seen to be too long.
 const ENOUGH: u64 = 1_048_577;
 
-fn bytes_of(rt: &HostRuntime, path: &str) -> io::Result<Vec<u8>> {
-    let mut bytes = Vec::new(rt.alloc());
-    fs::open(rt, path)?.take(ENOUGH).read_to_end(&mut bytes)?;
+// All bytes of a reader, or as many as are enough.
+fn bytes_from<R: Read + Drop>(alloc: Global, reader: R) -> io::Result<Vec<u8>>
+    ensures { IfOk result (λ bytes. IfSome (R.remaining reader) (λ all. bytes.items ≡ take 1048577 all)) }
+{
+    let mut bytes = Vec::new(alloc);
+    reader.take(ENOUGH).read_to_end(&mut bytes)?;
     Ok(bytes)
+}
+
+// What reading the plan met, as a fault.
+fn reading_fault<'a>(error: io::Error, path: &'a str) -> Fault<'a> {
+    match error.kind() {
+        io::ErrorKind::OutOfMemory => Fault::NoMemory,
+        _ => Fault::CannotOpen(path),
+    }
+}
+
+// The requests of the whole plan that a reader gives.
+fn plan_from<'a, R: Read + Drop>(
+    alloc: Global,
+    reader: R,
+    path: &'a str,
+) -> Result<Vec<Request>, Fault<'a>>
+    ensures { IfOk result (λ requests. (bytes : List ℕ) × IsInput (R.remaining reader) bytes × (plan_requests bytes ≡ Ok requests.items)) }
+{
+    let bytes = match bytes_from(alloc, reader) {
+        Ok(bytes) => bytes,
+        Err(error) => return Err(reading_fault(error, path)),
+    };
+    match plan_requests(alloc, &bytes) {
+        Ok(requests) => Ok(requests),
+        Err(fault) => Err(Fault::from(fault)),
+    }
 }
 
 /// The requests of the plan at a path.
 pub(crate) fn read_plan<'a>(rt: &HostRuntime, path: &'a str) -> Result<Vec<Request>, Fault<'a>>
     ensures { IfOk result (λ requests. (bytes : List ℕ) × (plan_requests bytes ≡ Ok requests.items)) }
 {
-    let bytes = match bytes_of(rt, path) {
-        Ok(bytes) => bytes,
-        Err(error) if error.kind() == io::ErrorKind::OutOfMemory => return Err(Fault::NoMemory),
-        Err(_) => return Err(Fault::CannotOpen(path)),
-    };
-    match plan_requests(rt.alloc(), &bytes) {
-        Ok(requests) => Ok(requests),
-        Err(fault) => Err(Fault::from(fault)),
+    match fs::open(rt, path) {
+        Ok(file) => plan_from(rt.alloc(), file, path),
+        Err(error) => Err(reading_fault(error, path)),
     }
 }

@@ -2,7 +2,7 @@
 
 ghost use Rattle.std.specs.Prelude.{◌≡◌, ◌≢◌, ◌≤◌, ◌⊎◌, false, IfOk, OnOk};
 ghost use Rattle.sqlite_std_file.specs.File.{IsFresh};
-ghost use Rattle.acd_program.specs.Statuses.{IsDone, TellsConnections};
+ghost use Rattle.acd_program.specs.Statuses.{IsDone, fault_status, TellsConnections};
 ghost use Rattle.acd_program.specs.Work.{IsPrinted};
 ghost use Rattle.acd_program.specs.InFiles.{WorkedOver};
 ghost use Rattle.acd_program.specs.Tasks.{WorkedIn, LinesDone, ReadIn, ReadingLinesDone, ImportedIn, ServedIn, TaskDone};
@@ -239,7 +239,8 @@ fn execute<'a, S: Start, R: Read, W: Write, E: Write>(
 
 // A fault is one line. That another program has the file is told by a status of its own.
 fn fail<E: Write>(fault: Fault<'_>, errors: &mut E) -> u8
-    ensures { (result ≡ 1) ⊎ (result ≡ 4) }
+    ensures known { (result ≡ 1) ⊎ (result ≡ 4) }
+    ensures status { result ≡ fault_status fault.entry }
 {
     let _ = writeln!(errors, "acd: {fault}");
     match fault {

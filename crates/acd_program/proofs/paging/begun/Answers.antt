@@ -1,5 +1,12 @@
-use Rattle.acd_program.proofs.Begun.{read_only, begun_created}
+use Rattle.std.proofs.Common.{sym, ◌∙◌, true≢false}
+use Rattle.acd_program.proofs.Begun.{read_only, begun_read, begun_created}
 use Rattle.acd_program.proofs.paging.begun.Goals as goal
+
+pub returns-in-Ok-false-clause-begun : goal.returns-in-Ok-false-clause-begun
+returns-in-Ok-false-clause-begun g c =
+    let new : _ = c.may_be_new.new.files in
+    begun_read c.args.files new (read_only c.args.files new c.may_be_new.ensures.log c.requires.log c.may_be_new.ensures.db)
+    (λ clean short. true≢false (sym ((c.in-Ok-false.ensures.few clean).1 short) ∙ c.in-Ok-false.field-0-test))
 
 pub returns-then-may_be_used-clause-begun : goal.returns-then-may_be_used-clause-begun
 returns-then-may_be_used-clause-begun g c =

@@ -8,6 +8,7 @@ returns-in-Ok-create-clause-created g c = record {
   before = c.in-Ok-new.unopened;
   of_old = c.in-Ok-new.ensures.files ∙ c.in-Ok.ensures.files;
   size = c.in-Ok-new.ensures.size ∙ c.in-Ok.ensures.size ∙ c.in-Some.ensures.value;
+  schema = c.in-Ok-new.ensures.schema;
   after = inl (record { made = c.in-Ok-create.store; of_made = sym c.close.ensures; creates = c.in-Ok-create.ensures.kept });
 }
 
@@ -21,6 +22,7 @@ returns-in-Err-Refused-default-clause-created g c = record {
   before = c.in-Ok-new.unopened;
   of_old = c.in-Ok-new.ensures.files ∙ c.in-Ok.ensures.files;
   size = c.in-Ok-new.ensures.size ∙ c.in-Ok.ensures.size ∙ c.in-Some.ensures.value;
+  schema = c.in-Ok-new.ensures.schema;
   after = inr (record {
     rest = c.in-Err-Refused-default.left;
     of_rest = sym c.close-in-Err-Refused-default.ensures;
