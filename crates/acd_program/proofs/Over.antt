@@ -1,5 +1,5 @@
 -- What lines over a book leave, by what opening a desk and its run left; and over a connection, by what its book left.
-use Rattle.std.proofs.Common.{Option, ◌≡◌, ℕ, Bool, true, List, sym, subst, ◌∙◌, inl, inr, true≢false}
+use Rattle.std.proofs.Common.{Option, ◌≡◌, ℕ, ◌≤◌, Bool, true, false, List, sym, subst, ◌∙◌, inl, inr, true≢false}
 use Rattle.std.specs.List.{Contains}
 use Rattle.sqlite.specs.State.{State}
 use Rattle.acd_terms.specs.declared.command.Arrival.{Arrival}
@@ -21,13 +21,20 @@ use Rattle.acd_desk.specs.Session.{Session}
 use Rattle.acd_desk.proofs.Sessions.{session_ran}
 use Rattle.acd_lines.specs.Lines.{LinesAnswered, ArrivalsAnswered}
 use Rattle.acd_lines.proofs.Weaker.{arrivals_so}
-use Rattle.acd_program.specs.Over.{IsSession, IsFailedSession, OverConnection}
+use Rattle.acd_program.specs.Over.{IsSession, IsSessionTo, IsFailedSession, OverConnection}
 use Rattle.acd_program.specs.Taking.{IsOf, IsTaken}
 
 -- lines over a desk of the book
 pub lines_over : (P : List (List ℕ) → Type 0) (W : List ℕ → Type 0) (old : BookState) (d e : Standing) → Opened old d → LinesAnswered P (ArrivalsAnswered (λ (l : List Arrival) (ts : List Taken). Ran d l ts e)) W
     → LinesAnswered P (ArrivalsAnswered (IsSession old e.book)) W
 lines_over P W old d e opened h = arrivals_so P (λ (l : List Arrival) (ts : List Taken). Ran d l ts e) (IsSession old e.book) W (λ l ts ran. session_ran IsFault old d e l ts opened ran ran.later) h
+
+-- without a storeFault, where the desk hasn't failed
+pub lines_well : (P : List (List ℕ) → Type 0) (W : List ℕ → Type 0) (ends : Bool) (old : BookState) (d e : Standing) → Opened old d → (ends ≡ true → e.failed ≡ false)
+    → LinesAnswered P (ArrivalsAnswered (λ (l : List Arrival) (ts : List Taken). Ran d l ts e)) W → LinesAnswered P (ArrivalsAnswered (IsSessionTo ends old e.book)) W
+lines_well P W ends old d e opened well h =
+    arrivals_so P (λ (l : List Arrival) (ts : List Taken). Ran d l ts e) (IsSessionTo ends old e.book) W
+    (λ l ts ran. (session_ran IsFault old d e l ts opened ran ran.later, λ asked found. true≢false (sym (ran.desk.shuts found) ∙ well asked))) h
 
 -- a desk that was just opened hadn't failed
 failed_since : (old : BookState) (d e : Standing) (l : List Arrival) (ts : List Taken) → Opened old d → Ran d l ts e → e.failed ≡ true → Contains ts StoreFault
@@ -64,6 +71,10 @@ session_of P old mid new l ts of s =
 
 pub lines_since : (P : List (List ℕ) → Type 0) (W : List ℕ → Type 0) (old mid new : BookState) → IsOf old mid → LinesAnswered P (ArrivalsAnswered (IsSession mid new)) W → LinesAnswered P (ArrivalsAnswered (IsSession old new)) W
 lines_since P W old mid new of h = arrivals_so P (IsSession mid new) (IsSession old new) W (λ l ts s. session_of IsFault old mid new l ts of s) h
+
+pub well_lines_since : (P : List (List ℕ) → Type 0) (W : List ℕ → Type 0) (ends : Bool) (old mid new : BookState) → IsOf old mid → LinesAnswered P (ArrivalsAnswered (IsSessionTo ends mid new)) W
+    → LinesAnswered P (ArrivalsAnswered (IsSessionTo ends old new)) W
+well_lines_since P W ends old mid new of h = arrivals_so P (IsSessionTo ends mid new) (IsSessionTo ends old new) W (λ l ts s. (session_of IsFault old mid new l ts of s.0, s.1)) h
 
 pub failed_lines_since : (P : List (List ℕ) → Type 0) (W : List ℕ → Type 0) (old mid new : BookState) → IsOf old mid → LinesAnswered P (ArrivalsAnswered (IsFailedSession mid new)) W → LinesAnswered P (ArrivalsAnswered (IsFailedSession old new)) W
 failed_lines_since P W old mid new of h = arrivals_so P (IsFailedSession mid new) (IsFailedSession old new) W (λ l ts s. (session_of IsFault old mid new l ts of s.0, s.1)) h

@@ -1,5 +1,5 @@
 -- What serving over a database leaves, step by step.
-use Rattle.std.proofs.Common.{◌≡◌, ◌⊎◌, ℕ, Bool, true, List, [], Option, Result, Ok, Err, OnOk, Some, None, sym, ap, subst, ◌∙◌, inl, inr, refl, append-nil}
+use Rattle.std.proofs.Common.{◌≡◌, ◌⊎◌, ℕ, Bool, true, false, List, [], Option, Result, Ok, Err, OnOk, Some, None, sym, ap, subst, ◌∙◌, inl, inr, refl, append-nil}
 use Rattle.std.specs.Io.KnownBytes.{Appends}
 use Rattle.sqlite.specs.State.{State}
 use Rattle.sqlite.specs.Held.{Held}
@@ -73,13 +73,13 @@ desk_of old mid new of o = record {
 }
 
 serves_of : {B : Type 0} (says : book.Ghosts B) (old mid : BookState) (span : Option ℕ) (a b : Option (List ℕ)) (last : B) → IsOf old mid → ServesOver says mid span a b last → ServesOver says old span a b last
-serves_of says old mid span a b last of h = record { first = h.first; final = h.final; opened = desk_of old mid (standing says h.first) of h.opened; served = h.served; back = h.back }
+serves_of says old mid span a b last of h = record { first = h.first; final = h.final; opened = desk_of old mid (standing says h.first) of h.opened; served = h.served; well = h.well; back = h.back }
 
 -- the book behind the serving of a desk over it
 pub serves_over : {B F : Type 0} (says : book.Ghosts B) (r : Result (Unit {0}) F) (old : BookState) (span : Option ℕ) (first final : Desk B) (last : B) (a b : Option (List ℕ)) → Opened old (standing says first) → last ≡ final.book
-    → OnOk r (ServedFor (standing says) span first final (Begins a b)) → OnOk r (ServesOver says old span a b last)
-serves_over says (Ok u) old span first final last a b opened back h = record { first = first; final = final; opened = opened_desk old (standing says first) opened; served = h; back = back }
-serves_over says (Err e) old span first final last a b opened back h = tt
+    → OnOk r (ServedFor (standing says) span first final (Begins a b)) → OnOk r (span ≡ None → (standing says final).failed ≡ false) → OnOk r (ServesOver says old span a b last)
+serves_over says (Ok u) old span first final last a b opened back h well = record { first = first; final = final; opened = opened_desk old (standing says first) opened; served = h; well = well; back = back }
+serves_over says (Err e) old span first final last a b opened back h well = tt
 
 module _ {S : Type 0} (store : Ghosts S) where
   -- the book was the database's, or a new one

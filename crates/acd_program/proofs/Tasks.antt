@@ -1,5 +1,5 @@
 -- That a task was done, by the work over a connection to files.
-use Rattle.std.proofs.Common.{◌≡◌, ℕ, Bool, true, false, Some, List, [], Option, Result, Ok, Err, IfOk, OnOk, sym, ap, subst, ◌∙◌, refl}
+use Rattle.std.proofs.Common.{◌≡◌, ◌⊎◌, inl, inr, arith, ℕ, Bool, true, false, Some, List, [], Option, Result, Ok, Err, IfOk, OnOk, sym, ap, subst, ◌∙◌, refl}
 use Rattle.std.specs.Io.KnownBytes.{Appends}
 use Rattle.sqlite_disk.specs.declared.Disk.{Ghosts}
 use Rattle.sqlite_store.specs.declared.store.FileStore.{FileStore}
@@ -16,10 +16,10 @@ use Rattle.acd_program.specs.declared.desk.Work.TheVariants.{Lines, Book}
 use Rattle.acd_program.specs.declared.desk.Done.{Done}
 use Rattle.acd_program.specs.declared.desk.Done.TheVariants.{Nothing, Told, Audited}
 use Rattle.acd_program.specs.Found.{IsFindingOf, HasCount, finding_line}
-use Rattle.acd_program.specs.Statuses.{finding_status}
+use Rattle.acd_program.specs.Statuses.{IsDone, finding_status}
 use Rattle.acd_lines.specs.Lines.{AllLines, AllRequests, ArrivalsAnswered, RequestsAnswered}
 use Rattle.acd_lines.proofs.Weaker.{out_so}
-use Rattle.acd_program.specs.Over.{IsSession, AnswersOver, OverConnection}
+use Rattle.acd_program.specs.Over.{IsSession, IsSessionTo, AnswersOver, OverConnection}
 use Rattle.acd_program.specs.Work.{WasAsked, IsTextOf, ImportsOver, AuditsOver, WorkDone, IsPrinted, text_left, status_left}
 use Rattle.acd_program.specs.InFiles.{IsLaidIn, WorkedOver}
 use Rattle.acd_program.specs.Files.{IsOpenedIn}
@@ -30,9 +30,9 @@ use Rattle.acd_program.specs.declared.desk.BookWork.{BookWork}
 use Rattle.sqlite_disk.specs.declared.Files.{Files}
 use Rattle.acd_program.proofs.InFiles.{over_so, over_fact, over_makes, appends_nothing}
 
-answers_printed : (old new : BookState) (had before between behind : Option (List ℕ)) → Appends between behind [] → AnswersOver old had before between new → AnswersOver old had before behind new
-answers_printed old new had before between behind none h =
-    out_so (AllLines had) (ArrivalsAnswered (IsSession old new)) (Appends before between) (Appends before behind) (λ text written. appends_nothing before between behind text written none) h
+answers_printed : (ends : Bool) (old new : BookState) (had before between behind : Option (List ℕ)) → Appends between behind [] → AnswersOver ends old had before between new → AnswersOver ends old had before behind new
+answers_printed ends old new had before between behind none h =
+    out_so (AllLines had) (ArrivalsAnswered (IsSessionTo ends old new)) (Appends before between) (Appends before behind) (λ text written. appends_nothing before between behind text written none) h
 
 imports_printed : (requests : List Request) (old new : BookState) (before between behind : Option (List ℕ)) → Appends between behind [] → ImportsOver requests old before between new → ImportsOver requests old before behind new
 imports_printed requests old new before between behind none h =
@@ -59,7 +59,7 @@ found_left counts before between makes s t (Audited found) h =
 
 module _ {D : Type 0} (disk : Ghosts D) (IsFresh : Bool → D → Type 0) (had before behind : Option (List ℕ)) (status : ℕ) where
   pub lines_done : (ends makes : Bool) → WorkedIn disk IsFresh makes (Lines ends) had before behind status
-      → InFile disk IsFresh (λ (old new : BookState). AnswersOver old had before behind new) makes × (status ≡ 0)
+      → InFile disk IsFresh (λ (old new : BookState). AnswersOver ends old had before behind new) makes × (status ≡ 0)
   lines_done ends makes h =
       let w = h.2 in
       let s = file_state h.0 in
@@ -70,8 +70,8 @@ module _ {D : Type 0} (disk : Ghosts D) (IsFresh : Bool → D → Type 0) (had b
           conn = h.0;
           last = w.last;
           opened = h.1;
-          done = over_so P (λ old new. AnswersOver old had before behind new) makes s t
-              (λ old new p. answers_printed old new had before w.between behind (nothing_left w.left w.between behind left w.printed) p.0) w.done;
+          done = over_so P (λ old new. AnswersOver ends old had before behind new) makes s t
+              (λ old new p. answers_printed ends old new had before w.between behind (nothing_left w.left w.between behind left w.printed) p.0) w.done;
           closed = w.closed;
         },
         w.told ∙ ap status_left left,
@@ -179,12 +179,12 @@ ok_so (Err e) P Q follows h = tt
 -- ---- by what the command line asks for
 
 pub lines_in_file : {Name D F : Type 0} (g : Ghosts D) (IsFresh : Bool → D → Type 0) (r : Result ℕ F) (named : Option Name) (file : Name) (ends : Bool) (had before behind : Option (List ℕ)) → named ≡ Some file
-    → IfOk r (λ (status : ℕ). WorkedIn g IsFresh true (Lines ends) had before behind status) → IfOk r (λ (status : ℕ). LinesDone g IsFresh named had before behind status)
+    → IfOk r (λ (status : ℕ). WorkedIn g IsFresh true (Lines ends) had before behind status) → IfOk r (λ (status : ℕ). LinesDone g IsFresh named ends had before behind status)
 lines_in_file {Name} g IsFresh r named file ends had before behind is = ok_so r _ _
-    (λ status h. subst (λ (n : Option Name). LinesDone g IsFresh n had before behind status) (sym is) (lines_done g IsFresh had before behind status ends true h))
+    (λ status h. subst (λ (n : Option Name). LinesDone g IsFresh n ends had before behind status) (sym is) (lines_done g IsFresh had before behind status ends true h))
 
 module _ {D F : Type 0} (disk : Ghosts D) (IsFresh : Bool → D → Type 0) (r : Result ℕ F) (asked : Task) (had before behind mute told : Option (List ℕ)) where
-  pub lines_task : (file : _) (ends : Bool) → asked ≡ task.Lines file ends → IfOk r (λ (status : ℕ). LinesDone disk IsFresh file had before behind status)
+  pub lines_task : (file : _) (ends : Bool) → asked ≡ task.Lines file ends → IfOk r (λ (status : ℕ). LinesDone disk IsFresh file ends had before behind status)
       → IfOk r (λ (status : ℕ). TaskDone disk IsFresh asked had before behind mute told status)
   lines_task file ends is = ok_so r _ _ (λ status h. subst (λ (t : Task). TaskDone disk IsFresh t had before behind mute told status) (sym is) h)
 
@@ -196,3 +196,20 @@ module _ {D F : Type 0} (disk : Ghosts D) (IsFresh : Bool → D → Type 0) (r :
   pub read_task : (file : _) (work : BookWork) → asked ≡ task.Read file work → IfOk r (λ (status : ℕ). WorkedIn disk IsFresh false (Book work) had before behind status)
       → IfOk r (λ (status : ℕ). TaskDone disk IsFresh asked had before behind mute told status)
   read_task file work is = ok_so r _ _ (λ status h. subst (λ (t : Task). TaskDone disk IsFresh t had before behind mute told status) (sym is) (read_done file work status h))
+
+-- ---- by the exit status
+
+-- a text was told, and nothing read
+pub told_done : (status : ℕ) (P Q : Type 0) → (status ≡ 3 → ⊥) → (status ≡ 0 → P) → IsDone status → ((status ≡ 0) × P) ⊎ Q
+told_done status P Q differs told done = elim done [ inl zero ↦ inl (zero, told zero) | inr three ↦ absurd (differs three) ]
+
+one_is_no : (status : ℕ) → status ≡ 1 → IsDone status → ⊥
+one_is_no status one done = elim done [ inl zero ↦ omega (arith, one, zero) | inr three ↦ omega (arith, one, three) ]
+
+four_is_no : (status : ℕ) → status ≡ 4 → IsDone status → ⊥
+four_is_no status four done = elim done [ inl zero ↦ omega (arith, four, zero) | inr three ↦ omega (arith, four, three) ]
+
+-- no fault has such a status
+pub fault_undone : (status : ℕ) (P : Type 0) → (status ≡ 1) ⊎ (status ≡ 4) → IsDone status → P
+fault_undone status P (inl one) done = absurd (one_is_no status one done)
+fault_undone status P (inr four) done = absurd (four_is_no status four done)

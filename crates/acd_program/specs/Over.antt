@@ -38,13 +38,17 @@ IsStoreFailed fault = fault ≡ Store
 abbrev pub IsSession : BookState → BookState → List Arrival → List Taken → Type 0
 IsSession old new arrivals answers = Session IsFault old arrivals answers new
 
+-- and none of them is a storeFault, where one was to end them
+abbrev pub IsSessionTo : Bool → BookState → BookState → List Arrival → List Taken → Type 0
+IsSessionTo ends old new arrivals answers = Session IsFault old arrivals answers new × (ends ≡ true → ¬ (Contains answers StoreFault))
+
 -- and one of them is a storeFault
 abbrev pub IsFailedSession : BookState → BookState → List Arrival → List Taken → Type 0
 IsFailedSession old new arrivals answers = Session IsFault old arrivals answers new × Contains answers StoreFault
 
--- the whole input, and one answer line for each of its lines; the arrivals among them are a session over the book
-abbrev pub AnswersOver : BookState → Option (List ℕ) → Option (List ℕ) → Option (List ℕ) → BookState → Type 0
-AnswersOver old had before behind new = LinesAnswered (AllLines had) (ArrivalsAnswered (IsSession old new)) (Appends before behind)
+-- the whole input, and one answer line for each of its lines; the arrivals among them are a session over the book, without a storeFault where one was to end them
+abbrev pub AnswersOver : Bool → BookState → Option (List ℕ) → Option (List ℕ) → Option (List ℕ) → BookState → Type 0
+AnswersOver ends old had before behind new = LinesAnswered (AllLines had) (ArrivalsAnswered (IsSessionTo ends old new)) (Appends before behind)
 
 -- ---- over a connection
 

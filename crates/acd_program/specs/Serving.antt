@@ -1,5 +1,5 @@
 -- What serving connections over the book of a database leaves.
-use Rattle.std.specs.Prelude.{◌≡◌, ◌⊎◌, ℕ, Bool, true, false, List, Option, Some}
+use Rattle.std.specs.Prelude.{◌≡◌, ◌⊎◌, ℕ, Bool, true, false, List, Option, Some, None}
 use Rattle.sqlite.specs.State.{State}
 use Rattle.sqlite.specs.Held.{Held}
 use Rattle.sqlite_trees.specs.declared.store.Store.{Ghosts}
@@ -30,6 +30,8 @@ pub record ServesOver {B : Type 0} (says : book.Ghosts B) (old : BookState) (spa
   pub final : Desk B
   pub opened : IsDeskOf old (standing says first)
   pub served : ServedFor (standing says) span first final (Begins before behind)
+  -- an endless service doesn't end so where its store has failed
+  pub well : span ≡ None → (standing says final).failed ≡ false
   pub back : last ≡ final.book
 
 module _ {S : Type 0} (store : Ghosts S) where

@@ -60,28 +60,28 @@ module _ {D : Type 0} (disk : Ghosts D) (IsFresh : Bool → D → Type 0) where
     pub served : ServesDatabase over_files true span (file_state conn) before behind last
     pub closed : IsLaidIn last
 
-  -- each line of the input was answered, over a desk in memory or over that of the file that was named
-  abbrev pub LinesDone : {Name : Type 0} → Option Name → Option (List ℕ) → Option (List ℕ) → Option (List ℕ) → ℕ → Type 0
-  LinesDone None had before behind status = AnswersAll had before behind × (status ≡ 0)
-  LinesDone (Some file) had before behind status = InFile (λ (old new : BookState). AnswersOver old had before behind new) true × (status ≡ 0)
+  -- each line of the input was answered, over a desk in memory or over that of the file that was named, there without a storeFault where one was to end them
+  abbrev pub LinesDone : {Name : Type 0} → Option Name → Bool → Option (List ℕ) → Option (List ℕ) → Option (List ℕ) → ℕ → Type 0
+  LinesDone None ends had before behind status = AnswersAll had before behind × (status ≡ 0)
+  LinesDone (Some file) ends had before behind status = InFile (λ (old new : BookState). AnswersOver ends old had before behind new) true × (status ≡ 0)
 
   -- a database in files was opened, the lines of the input and the reads among them were answered over its book, and it was closed into its file
-  pub record ReadIn (had before behind : Option (List ℕ)) : Type 0 where
+  pub record ReadIn (ends : Bool) (had before behind : Option (List ℕ)) : Type 0 where
     pub conn : OfFiles
     pub last : OfFiles
     pub opened : IsOpenedFrom conn
-    pub read : ReadsDatabase over_files true (file_state conn) had before behind last
+    pub read : ReadsDatabase over_files true ends (file_state conn) had before behind last
     pub closed : IsLaidIn last
 
   -- so they were, over a desk in memory or over that of the file that was named
-  abbrev pub ReadingLinesDone : {Name : Type 0} → Option Name → Option (List ℕ) → Option (List ℕ) → Option (List ℕ) → ℕ → Type 0
-  ReadingLinesDone None had before behind status = ReadsFromNothing had before behind × (status ≡ 0)
-  ReadingLinesDone (Some file) had before behind status = ReadIn had before behind × (status ≡ 0)
+  abbrev pub ReadingLinesDone : {Name : Type 0} → Option Name → Bool → Option (List ℕ) → Option (List ℕ) → Option (List ℕ) → ℕ → Type 0
+  ReadingLinesDone None ends had before behind status = ReadsFromNothing had before behind × (status ≡ 0)
+  ReadingLinesDone (Some file) ends had before behind status = ReadIn ends had before behind × (status ≡ 0)
 
   -- the task was done, from what was read to what was written, to what was told on the stream of errors, and to the exit status
   abbrev pub TaskDone : Task → Option (List ℕ) → Option (List ℕ) → Option (List ℕ) → Option (List ℕ) → Option (List ℕ) → ℕ → Type 0
-  TaskDone (Lines file ends_on_store_fault) had before behind mute told status = LinesDone file had before behind status
-  TaskDone (ReadingLines file ends_on_store_fault) had before behind mute told status = ReadingLinesDone file had before behind status
+  TaskDone (Lines file ends_on_store_fault) had before behind mute told status = LinesDone file ends_on_store_fault had before behind status
+  TaskDone (ReadingLines file ends_on_store_fault) had before behind mute told status = ReadingLinesDone file ends_on_store_fault had before behind status
   TaskDone (Serve file port connections) had before behind mute told status = ServedIn connections mute told × (status ≡ 0)
   TaskDone (Import file plan) had before behind mute told status = ImportedIn before behind status
   TaskDone (Read file (book.Import requests)) had before behind mute told status = InFile (λ (old new : BookState). ImportsOver requests.now old before behind new) false × (status ≡ 0)
@@ -89,3 +89,7 @@ module _ {D : Type 0} (disk : Ghosts D) (IsFresh : Bool → D → Type 0) where
       (text : List ℕ) × InFile (λ (old new : BookState). WasAsked old (IsTextOf telling) text new) false × Appends before behind text × (status ≡ 0)
   TaskDone (Read file (book.Audit counts)) had before behind mute told status =
       (found : Finding) × HasCount counts found × InFile (λ (old new : BookState). WasAsked old IsFindingOf found new) false × Appends before behind (finding_line found) × (status ≡ finding_status found)
+
+  -- one of the tasks was done so
+  abbrev pub SomeTaskDone : Option (List ℕ) → Option (List ℕ) → Option (List ℕ) → Option (List ℕ) → Option (List ℕ) → ℕ → Type 0
+  SomeTaskDone had before behind mute told status = (task : Task) × TaskDone task had before behind mute told status

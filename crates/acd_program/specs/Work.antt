@@ -82,7 +82,7 @@ BookDone IsAnswer (Audit counts) old before behind done new = AuditsOver IsAnswe
 
 -- the same over the book of a database, whose records stand in order
 abbrev pub WorkDone : Work → BookState → Option (List ℕ) → Option (List ℕ) → Option (List ℕ) → Done → BookState → Type 0
-WorkDone (Lines ends_on_store_fault) old had before behind done new = AnswersOver old had before behind new × (done ≡ Nothing)
+WorkDone (Lines ends_on_store_fault) old had before behind done new = AnswersOver ends_on_store_fault old had before behind new × (done ≡ Nothing)
 WorkDone (Book work) old had before behind done new = BookDone IsFindingOf work old before behind done new
 
 -- the work ended, so did the closing of its file, and what was left of it is printed

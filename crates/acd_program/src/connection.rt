@@ -9,7 +9,7 @@ ghost use Rattle.acd_sql_schema.specs.SettingUp.{MayMake};
 ghost use Rattle.acd_sqlbook.specs.View.{book_of};
 ghost use Rattle.acd_lines.specs.Lines.{LinesAnswered, AllLines, FirstLines, ArrivalsAnswered};
 ghost use Rattle.acd_io.specs.Sent.{Begins};
-ghost use Rattle.acd_program.specs.Over.{IsSession, IsFailedSession, OverConnection, Unserved, unmade};
+ghost use Rattle.acd_program.specs.Over.{IsSession, IsSessionTo, IsFailedSession, OverConnection, Unserved, unmade};
 ghost use Rattle.acd_program.specs.Taking.{IsOf, IsTaken};
 ghost use Rattle.acd_program.specs.Endings.{EndsLines, EndsOnStoreFault, EndsUnread};
 
@@ -81,10 +81,11 @@ pub fn lines_over_connection<S: Alter, R: Read, W: Write>(
     writer: &mut W,
 ) -> (Result<(), ConnectionFault>, Connection<S>)
     requires { conn.in_transaction ≡ false }
-    // one answer line for each line, and the arrivals among them are a session over what the database held
+    // one answer line for each line, and the arrivals among them are a session over what the database held; no answer is a storeFault
+    // that was to end them
     ensures ok { OnOk result.0 (OverConnection (λ old new.
         LinesAnswered (AllLines (R.remaining reader.old))
-        (ArrivalsAnswered (IsSession old new))
+        (ArrivalsAnswered (IsSessionTo ends_on_store_fault old new))
         (Appends (W.contents writer.old) (W.contents writer.new)))
         makes (state S.Store conn) (state S.Store result.1)) }
     // where reading or writing ended it, for a beginning of the input

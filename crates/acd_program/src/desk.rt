@@ -154,7 +154,7 @@ fn lines_over<'a, S: Alter, R: Read, W: Write>(
     writer: &mut W,
 ) -> (Result<Done, Fault<'a>>, Connection<S>)
     requires { conn.in_transaction ≡ false }
-    ensures over { OnOk result.0 (OverConnection (λ old new. AnswersOver old (R.remaining reader.old) (W.contents writer.old) (W.contents writer.new) new) makes (state S.Store conn) (state S.Store result.1)) }
+    ensures over { OnOk result.0 (OverConnection (λ old new. AnswersOver ends_on_store_fault old (R.remaining reader.old) (W.contents writer.old) (W.contents writer.new) new) makes (state S.Store conn) (state S.Store result.1)) }
     ensures nothing { IfOk result.0 (λ done. done ≡ Done.Nothing) }
 {
     let (done, conn) = lines_over_connection(

@@ -5,7 +5,7 @@ ghost use Rattle.sqlite_std_file.specs.File.{IsFresh};
 ghost use Rattle.acd_program.specs.Statuses.{IsDone, fault_status, TellsConnections};
 ghost use Rattle.acd_program.specs.Work.{IsPrinted};
 ghost use Rattle.acd_program.specs.InFiles.{WorkedOver};
-ghost use Rattle.acd_program.specs.Tasks.{WorkedIn, LinesDone, ReadIn, ReadingLinesDone, ImportedIn, ServedIn, TaskDone};
+ghost use Rattle.acd_program.specs.Tasks.{WorkedIn, LinesDone, ReadIn, ReadingLinesDone, ImportedIn, ServedIn, TaskDone, SomeTaskDone};
 
 use crate::desk::{BookWork, Done, Work, over_database};
 use crate::fault::Fault;
@@ -77,7 +77,7 @@ fn answer_lines<'a, S: Start, R: Read, W: Write>(
     writer: &mut W,
 ) -> Result<u8, Fault<'a>>
     ensures known { IfOk result IsDone }
-    ensures done { IfOk result (λ status. LinesDone ⟦<FileFrom<S> as Disk>⟧ IsFresh file.entry (R.remaining reader.old) (W.contents writer.old) (W.contents writer.new) status) }
+    ensures done { IfOk result (λ status. LinesDone ⟦<FileFrom<S> as Disk>⟧ IsFresh file.entry ends_on_store_fault (R.remaining reader.old) (W.contents writer.old) (W.contents writer.new) status) }
 {
     match file {
         None => {
@@ -102,7 +102,7 @@ fn read_lines_in<'a, S: Start, R: Read, W: Write>(
     reader: &mut R,
     writer: &mut W,
 ) -> Result<(), Fault<'a>>
-    ensures { OnOk result (ReadIn ⟦<FileFrom<S> as Disk>⟧ IsFresh (R.remaining reader.old) (W.contents writer.old) (W.contents writer.new)) }
+    ensures { OnOk result (ReadIn ⟦<FileFrom<S> as Disk>⟧ IsFresh ends_on_store_fault (R.remaining reader.old) (W.contents writer.old) (W.contents writer.new)) }
 {
     let (conn, is_new) = connect(rt, file, true, start)?;
     let (done, conn) = reading_lines_over_connection(
@@ -130,7 +130,7 @@ fn answer_reading_lines<'a, S: Start, R: Read, W: Write>(
     writer: &mut W,
 ) -> Result<u8, Fault<'a>>
     ensures known { IfOk result IsDone }
-    ensures done { IfOk result (λ status. ReadingLinesDone ⟦<FileFrom<S> as Disk>⟧ IsFresh file.entry (R.remaining reader.old) (W.contents writer.old) (W.contents writer.new) status) }
+    ensures done { IfOk result (λ status. ReadingLinesDone ⟦<FileFrom<S> as Disk>⟧ IsFresh file.entry ends_on_store_fault (R.remaining reader.old) (W.contents writer.old) (W.contents writer.new) status) }
 {
     match file {
         None => {
@@ -290,6 +290,12 @@ pub fn program<S: AsStr, R: Read, W: Write, E: Write>(
     // for a command line that is refused nothing is read, and nothing is written but why
     ensures refused { result ≡ 2 → (reader.new ≡ reader.old) × (writer.new ≡ writer.old) }
     ensures known { result ≤ 4 }
+    // such a status is that of a task which was done so, or help was asked for, and nothing was read
+    ensures done { IsDone result
+        → ((result ≡ 0) × (reader.new ≡ reader.old) × (errors.new ≡ errors.old))
+        ⊎ SomeTaskDone ⟦<FileFrom<Unknown> as Disk>⟧ IsFresh (R.remaining reader.old)
+        (W.contents writer.old) (W.contents writer.new)
+        (E.contents errors.old) (E.contents errors.new) result }
 {
     let task = match parse(rt.alloc(), words) {
         Ok(task) => task,

@@ -1,6 +1,6 @@
 //! The desk of a database, over HTTP.
 
-ghost use Rattle.std.specs.Prelude.{◌≡◌, false, OnOk};
+ghost use Rattle.std.specs.Prelude.{◌≡◌, false, None, OnOk};
 ghost use Rattle.sqlite.specs.Held.{state};
 ghost use Rattle.acd_desk.specs.Standing.{standing};
 ghost use Rattle.acd_io.specs.Sent.{Begins};
@@ -90,7 +90,8 @@ fn answer<'a, B: Book, E: Write>(
     connections: Option<u32>,
     errors: &mut E,
 ) -> Result<(), Fault<'a>>
-    ensures { OnOk result (ServedFor (standing B.Book) connections desk.old desk.new (Begins (E.contents errors.old) (E.contents errors.new))) }
+    ensures served { OnOk result (ServedFor (standing B.Book) connections desk.old desk.new (Begins (E.contents errors.old) (E.contents errors.new))) }
+    ensures well { OnOk result (connections ≡ None → (standing B.Book desk.new).failed ≡ false) }
 {
     match connections {
         Some(connections) => answer_some(rt, listener, desk, connections, errors),
@@ -106,7 +107,8 @@ fn serve_desk<'a, B: Book, W: Write, E: Write>(
     writer: &mut W,
     errors: &mut E,
 ) -> Result<(), Fault<'a>>
-    ensures { OnOk result (ServedFor (standing B.Book) connections desk.old desk.new (Begins (E.contents errors.old) (E.contents errors.new))) }
+    ensures served { OnOk result (ServedFor (standing B.Book) connections desk.old desk.new (Begins (E.contents errors.old) (E.contents errors.new))) }
+    ensures well { OnOk result (connections ≡ None → (standing B.Book desk.new).failed ≡ false) }
 {
     let listener = listen(rt, port)?;
     say(port, writer)?;

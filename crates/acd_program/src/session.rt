@@ -1,12 +1,13 @@
 //! Lines over a book, from the opening of its desk to the end.
 
-ghost use Rattle.std.specs.Prelude.{◌≡◌, true, OnOk, IfErr};
+ghost use Rattle.std.specs.Prelude.{◌≡◌, true, false, OnOk, IfErr};
 ghost use Rattle.std.specs.Io.KnownBytes.{Appends};
 ghost use Rattle.acd_desk.specs.Opening.{Refused};
 ghost use Rattle.acd_desk.specs.Ran.{HasFailed};
+ghost use Rattle.acd_desk.specs.Standing.{standing};
 ghost use Rattle.acd_lines.specs.Lines.{LinesAnswered, AllLines, FirstLines, ArrivalsAnswered, HasRun};
 ghost use Rattle.acd_io.specs.Sent.{Begins};
-ghost use Rattle.acd_program.specs.Over.{IsSession, IsFailedSession, IsOpenFault, IsLinesFault, IsStoreFailed};
+ghost use Rattle.acd_program.specs.Over.{IsSession, IsSessionTo, IsFailedSession, IsOpenFault, IsLinesFault, IsStoreFailed};
 
 use acd_book::Book;
 use acd_desk::{Desk, OpenFault};
@@ -49,6 +50,7 @@ fn answer<B: Book, R: Read, W: Write>(
         (ArrivalsAnswered (HasRun B.Book desk.old desk.new))
         (Appends (W.contents writer.old) (W.contents writer.new))) }
     ensures asked { IfErr result (λ fault. IsStoreFailed fault → ends_on_store_fault ≡ true) }
+    ensures well { OnOk result (ends_on_store_fault ≡ true → (standing B.Book desk.new).failed ≡ false) }
     ensures opened { IfErr result (λ fault. (why : OpenFault) → ¬ (IsOpenFault why fault)) }
 {
     if !ends_on_store_fault {
@@ -77,9 +79,9 @@ pub fn lines_over_book<B: Book, R: Read, W: Write>(
     reader: &mut R,
     writer: &mut W,
 ) -> (Result<(), BookLinesFault>, B)
-    // one answer line for each line, and the arrivals among them were taken in turn
+    // one answer line for each line, and the arrivals among them were taken in turn; no answer is a storeFault that was to end them
     ensures ok { OnOk result.0 (LinesAnswered (AllLines (R.remaining reader.old))
-        (ArrivalsAnswered (IsSession (B.state book) (B.state result.1)))
+        (ArrivalsAnswered (IsSessionTo ends_on_store_fault (B.state book) (B.state result.1)))
         (Appends (W.contents writer.old) (W.contents writer.new))) }
     // where reading or writing ended it, for a beginning of the input
     ensures stopped { IfErr result.0 (λ fault. IsLinesFault fault

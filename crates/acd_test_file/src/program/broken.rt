@@ -1,4 +1,4 @@
-//! Streams that fail.
+//! Streams that fail, or take little.
 
 use super::scripts::{is_marked, marked, words_of};
 use acd_program::program;
@@ -31,6 +31,40 @@ impl Write for Broken {
     fn flush(&mut self) -> io::Result<()> {
         Ok(())
     }
+}
+
+// An output that takes a byte at a time.
+#[derive(Drop)]
+struct Slow {
+    written: Vec<u8>,
+}
+
+impl Write for Slow {
+    fn write(&mut self, buf: &[u8]) -> io::Result<usize> {
+        match buf.first() {
+            Some(byte) => {
+                self.written.push(*byte)?;
+                Ok(1)
+            }
+            None => Ok(0),
+        }
+    }
+
+    fn flush(&mut self) -> io::Result<()> {
+        Ok(())
+    }
+}
+
+/// Whether the program, called with this line, succeeds, and writes the step's output to one that takes a byte at a time.
+pub fn writes_slowly(rt: &HostRuntime, line: &str, step: &str) -> io::Result<bool> {
+    let words = words_of(rt.alloc(), line)?;
+    let mut reader: &[u8] = b"";
+    let mut slow = Slow {
+        written: Vec::new(rt.alloc()),
+    };
+    let mut errors = Vec::new(rt.alloc());
+    let status = program(rt, &words, &mut reader, &mut slow, &mut errors);
+    Ok(status == 0 && is_marked(step, '<', &slow.written) && errors.is_empty())
 }
 
 /// Whether the program, called with this line, ends with the step's fault where its input fails at the end of the

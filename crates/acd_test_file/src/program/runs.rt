@@ -423,6 +423,11 @@ fn several_groups_in_a_file() -> &'static str {
 < 7,20,established,2,201,,110,,,9
 < 8,20,agentBusy,,201,7,,,,
 
+slowly acd report --file {file}
+< group           waiting ringing    entered   answered  abandoned      moved    average    longest name
+< 100                   1       0          1          0          0          0          -         10 Billing
+< 110                   0       0          1          1          0          0          9          - Claims
+
 0 acd audit --file {file} --count
 < sound
 < executed 10
@@ -445,6 +450,15 @@ cut acd audit --file {file}
 ! acd: cannot write
 
 zeros {file} 1
+
+1 acd lines --file {file}
+! acd: wrong version 0
+
+1 acd lines --reads --file {file}
+! acd: wrong version 0
+
+1 acd serve --file {file} --port 65535 --connections 1
+! acd: wrong version 0
 
 1 acd lines --file {file}
 ! acd: wrong version 0
@@ -521,6 +535,11 @@ patch {file} \x01\x01\x09\x08\x09 \x01\x01\x09\x08\x08
 > 20 {\"requester\":\"pbx\",\"invoke\":2,\"service\":\"arriveCall\",\"caller\":\"0301235\",\"called\":\"100\"}
 > 20 {\"requester\":\"plan\",\"invoke\":3,\"service\":\"addStation\",\"device\":\"202\"}
 < 503 {\"error\":{\"code\":34,\"name\":\"storeFault\"}}
+< 503 {\"error\":{\"code\":34,\"name\":\"storeFault\"}}
+! acd: store fault
+
+1 acd lines --reads --end-on-store-fault --file {file}
+> 20 {\"requester\":\"pbx\",\"invoke\":2,\"service\":\"arriveCall\",\"caller\":\"0301235\",\"called\":\"100\"}
 < 503 {\"error\":{\"code\":34,\"name\":\"storeFault\"}}
 ! acd: store fault
 

@@ -6,6 +6,7 @@
 //! | `STATUS WORD WORD` | the program, called with these words, ends with this status |
 //! | `cut WORD WORD` | the same with status 1; its input fails where it would end, its output at once |
 //! | `untold STATUS WORD WORD` | the same, and the stream of errors fails too |
+//! | `slowly WORD WORD` | the program, called with these words, succeeds, and its output takes a byte at a time |
 //! | `copied PATH PATH WORD WORD` | the program, called with these words, succeeds; when it asks for more input than the step's the file and the log at the first path are copied to the second one, while the desk is open |
 //! | `lines PATH LENGTH` | a file gets lines, and behind them empty ones up to a length |
 //! | `zeros PATH LENGTH` | a file gets so many bytes that are 0 |
@@ -17,7 +18,7 @@
 //! Behind it `>` begins a line that is read, `<` one that is written, and `!` one on the stream of errors. There are no
 //! others.
 
-use super::broken::{cannot_tell, cannot_write};
+use super::broken::{cannot_tell, cannot_write, writes_slowly};
 use super::copying::is_copied;
 use super::files::{free_path, patch, remove, state_of, write};
 use super::serving::{cannot_listen, serves};
@@ -128,6 +129,7 @@ fn happens(rt: &HostRuntime, step: &str) -> io::Result<bool> {
     match what {
         "cut" => cannot_write(rt, said, step),
         "untold" => cannot_tell(rt, said),
+        "slowly" => writes_slowly(rt, said, step),
         "copied" => is_copied(rt, said, step),
         "lines" => is_written(rt, said, step, b'\n'),
         "zeros" => is_written(rt, said, step, 0),

@@ -12,8 +12,8 @@ use Rattle.acd_program.specs.declared.connection.ConnectionFault.TheVariants.{Se
 use Rattle.acd_program.specs.Endings.{EndsUnread}
 use Rattle.acd_lines.specs.Lines.{LinesAnswered, AllLines, FirstLines, ArrivalsAnswered}
 use Rattle.acd_io.specs.Sent.{Begins}
-use Rattle.acd_program.specs.Over.{IsSession, IsFailedSession, OverConnection, Unserved, IsOpenFault, IsLinesFault, IsStoreFailed}
-use Rattle.acd_program.proofs.Over.{lines_since, failed_lines_since, over_connection}
+use Rattle.acd_program.specs.Over.{IsSession, IsSessionTo, IsFailedSession, OverConnection, Unserved, IsOpenFault, IsLinesFault, IsStoreFailed}
+use Rattle.acd_program.proofs.Over.{lines_since, well_lines_since, failed_lines_since, over_connection}
 use Rattle.acd_program.proofs.Taking.{unserved_refused}
 use Rattle.acd_program.proofs.connection.lines_over_connection.Goals as goal
 
@@ -22,13 +22,14 @@ returns-in-Ok-done-clause-ok g c =
     let had : _ = g.R.Read.remaining c.args.reader.now in
     let before : _ = g.W.Write.contents c.args.writer.now in
     let behind : _ = g.W.Write.contents c.lines_over_book-done.new.writer in
-    let P : BookState → BookState → Type 0 = λ old new. LinesAnswered (AllLines had) (ArrivalsAnswered (IsSession old new)) (Appends before behind) in
+    let ends : _ = c.args.ends_on_store_fault in
+    let P : BookState → BookState → Type 0 = λ old new. LinesAnswered (AllLines had) (ArrivalsAnswered (IsSessionTo ends old new)) (Appends before behind) in
     let mid : BookState = followed c.in-Ok.book.noted (book_state (state g.S.Store c.in-Ok.book.conn) c.in-Ok.book.failures) in
     let last : _ = c.lines_over_book-done.result.1 in
     let new : BookState = followed last.noted (book_state (state g.S.Store last.conn) last.failures) in
     let said : P mid new = subst (λ (r : _). OnOk r (P mid new)) c.in-Ok-done.is c.lines_over_book-done.ensures.ok in
     subst (λ (x : _). OverConnection P c.args.makes (state g.S.Store c.args.conn) (state g.S.Store x)) (sym c.into_connection.ensures.same)
-    (over_connection P c.args.makes (state g.S.Store c.args.conn) (state g.S.Store last.conn) mid last.noted last.failures (λ old of h. lines_since (AllLines had) (Appends before behind) old mid new of h) c.in-Ok.ensures.taken said)
+    (over_connection P c.args.makes (state g.S.Store c.args.conn) (state g.S.Store last.conn) mid last.noted last.failures (λ old of h. well_lines_since (AllLines had) (Appends before behind) ends old mid new of h) c.in-Ok.ensures.taken said)
 
 pub returns-in-Err-done-clause-stopped : goal.returns-in-Err-done-clause-stopped
 returns-in-Err-done-clause-stopped g c is =

@@ -14,7 +14,7 @@ returns-in-Lines g c =
     let before : _ = g.W.Write.contents c.args.writer.now in
     let behind : _ = g.W.Write.contents c.lines_over.new.writer in
     subst (λ (w : _). IfOk c.lines_over.result.0 (λ (done : _). OverConnection (λ (old new : BookState). WorkDone w old had before behind done new) c.args.makes (state g.S.Store c.args.conn) (state g.S.Store c.lines_over.result.1))) (sym c.in-Lines.is)
-    (lines_left c.lines_over.result.0 (λ (old new : BookState). AnswersOver old had before behind new) c.args.makes (state g.S.Store c.args.conn) (state g.S.Store c.lines_over.result.1) c.lines_over.ensures.over c.lines_over.ensures.nothing)
+    (lines_left c.lines_over.result.0 (λ (old new : BookState). AnswersOver c.in-Lines.ends_on_store_fault old had before behind new) c.args.makes (state g.S.Store c.args.conn) (state g.S.Store c.lines_over.result.1) c.lines_over.ensures.over c.lines_over.ensures.nothing)
 
 pub returns : goal.returns
 returns g c =

@@ -6,8 +6,8 @@ use Rattle.acd_lines.specs.Lines.{LinesAnswered, AllLines}
 use Rattle.acd_read_lines.specs.ReadingLines.{ReadInTurn}
 use Rattle.acd_program.proofs.reading_lines.answer.Goals as goal
 
-pub returns-in-Ok : goal.returns-in-Ok
-returns-in-Ok g c =
+pub returns-in-Ok-clause-answered : goal.returns-in-Ok-clause-answered
+returns-in-Ok-clause-answered g c =
     let had : _ = g.R.Read.remaining c.args.reader.now in
     let a : _ = g.W.Write.contents c.args.writer.now in
     let b : _ = g.W.Write.contents c.lines_with_reads.new.writer in

@@ -4,8 +4,8 @@ use Rattle.acd_book.specs.State.{BookState}
 use Rattle.acd_desk.specs.Standing.{standing}
 use Rattle.acd_lines.specs.Lines.{LinesAnswered, AllLines, FirstLines, ArrivalsAnswered}
 use Rattle.acd_io.specs.Sent.{Begins}
-use Rattle.acd_program.specs.Over.{IsSession, IsFailedSession}
-use Rattle.acd_program.proofs.Over.{lines_over, lines_failed}
+use Rattle.acd_program.specs.Over.{IsSession, IsSessionTo, IsFailedSession}
+use Rattle.acd_program.proofs.Over.{lines_over, lines_well, lines_failed}
 use Rattle.acd_program.proofs.session.lines_over_book.Goals as goal
 
 pub returns-in-Ok-answer-clause-ok : goal.returns-in-Ok-answer-clause-ok
@@ -14,8 +14,9 @@ returns-in-Ok-answer-clause-ok g c =
     let had : _ = g.R.Read.remaining c.args.reader.now in
     let before : _ = g.W.Write.contents c.args.writer.now in
     let behind : _ = g.W.Write.contents c.answer.new.writer in
-    subst (λ (b : _). LinesAnswered (AllLines had) (ArrivalsAnswered (IsSession old (g.B.Book.state b))) (Appends before behind)) (sym c.close.ensures)
-    (lines_over (AllLines had) (Appends before behind) old (standing g.B.Book c.in-Ok.desk) (standing g.B.Book c.answer.new.desk) c.in-Ok.ensures c.in-Ok-answer.ensures.ok)
+    let ends : _ = c.args.ends_on_store_fault in
+    subst (λ (b : _). LinesAnswered (AllLines had) (ArrivalsAnswered (IsSessionTo ends old (g.B.Book.state b))) (Appends before behind)) (sym c.close.ensures)
+    (lines_well (AllLines had) (Appends before behind) ends old (standing g.B.Book c.in-Ok.desk) (standing g.B.Book c.answer.new.desk) c.in-Ok.ensures c.in-Ok-answer.ensures.well c.in-Ok-answer.ensures.ok)
 
 pub returns-in-Err-answer-clause-stopped : goal.returns-in-Err-answer-clause-stopped
 returns-in-Err-answer-clause-stopped g c is =
