@@ -10,7 +10,9 @@ use Rattle.acd_desk.specs.Served.{served, sent}
 use Rattle.acd_desk.specs.Stands.{IsSound, replies}
 use Rattle.acd_desk.specs.Standing.{Standing, standing}
 use Rattle.acd_desk.specs.declared.desk.Desk.{Desk}
-use Rattle.acd_desk.specs.Opening.{Opened}
+use Rattle.acd_desk.specs.Opening.{Opened, Refused}
+use Rattle.acd_desk.specs.declared.open_fault.OpenFault.TheVariants.{Rows}
+use Rattle.acd_terms.specs.declared.rows.Rule.{Rule}
 use Rattle.acd_desk.specs.Ran.{Ran}
 use Rattle.acd_desk.proofs.ContentLaws.{empty_sound}
 use Rattle.acd_io.specs.Read.{IsInput}
@@ -18,6 +20,19 @@ use Rattle.acd_program.specs.Answered.{nothing, in_memory, IsNewDesk, AnsweredFr
 use Rattle.acd_lines.specs.Lines.{LinesAnswered, FirstLines, ArrivalsAnswered}
 use Rattle.acd_io.specs.Sent.{Begins}
 use Rattle.acd_lines.proofs.Weaker.{arrivals_so}
+
+pub new_over : (old : BookState) (new : Standing) → new.book.is_clean → old.is_sound → old.content ≡ nothing → Opened old new → IsNewDesk new
+unfolding limits_fit
+new_over old new clean sound e o = record {
+  starts = o.starts clean sound (subst IsSound (sym e) (empty_sound greatest_limits refl));
+  works = o.working;
+  empty = (o.opened clean sound).2 ∙ e;
+}
+
+-- no rule is broken by a new book's rows
+pub new_refused : (old new : BookState) (rule : Rule) → new.is_clean → old.is_sound → old.content ≡ nothing → Refused old (Rows rule) new → ⊥
+unfolding limits_fit
+new_refused old new rule clean sound e r = r.well clean sound (subst IsSound (sym e) (empty_sound greatest_limits refl))
 
 -- the book of the desk is clean behind the run, and has counted no failure
 pub record IsQuiet (old new : Standing) : Type 0 where
