@@ -6,12 +6,13 @@ ghost use Rattle.acd_http.specs.Asking.{IsHeadOf, IsAsked, IsUnknown, body_asks,
 ghost use Rattle.acd_codec.specs.Reading.{reads_as};
 
 use crate::input::{Input, ReadStopped};
-use crate::receive::{CALLS, LONGEST_HEAD, read_head, read_up_to};
+use crate::receive::{LONGEST_HEAD, read_head, read_up_to};
 use crate::refused::Refused;
 use crate::routes::Routes;
 use crate::wanted::{Wanted, head_asked};
 use acd_codec::{ReadFault, read_request};
 use acd_desk::Question;
+use acd_io::most_calls;
 use acd_terms::Request;
 use std::alloc::{AllocError, Global};
 use std::io::Read;
@@ -113,7 +114,7 @@ pub(crate) fn asked_by<R: Read>(
     requires { input.old ≡ [] }
     ensures { MatchResult result (IsAsked (R.remaining reader.old)) (IsUnknown (R.remaining reader.old)) }
 {
-    let mut calls = CALLS;
+    let mut calls = most_calls();
     match read_head(reader, &mut calls, input) {
         Ok(Some(len)) => asked_behind(alloc, routes, reader, &mut calls, input, len),
         Ok(None) => Ok(headless(input.as_slice().len())),

@@ -7,12 +7,11 @@ ghost use Rattle.acd_desk.specs.Ran.{standing};
 ghost use Rattle.acd_http.specs.Listening.{ServedOne, ServedAll, ServedUntilFailed, WasSent, fault_text, outcome_line};
 
 use crate::head_text::HeadText;
-use crate::receive::CALLS;
 use crate::routes::Routes;
 use crate::serving::{ExchangeFault, exchange};
 use acd_book::Book;
 use acd_desk::Desk;
-use acd_io::{Stopped, send};
+use acd_io::{Stopped, most_calls, send};
 use itoa::Buffer;
 use std::alloc::Global;
 use std::io::{Read, Write};
@@ -139,7 +138,7 @@ fn note<E: Write>(
     match outcome {
         Ok(()) => Ok(()),
         Err(fault) => {
-            let mut calls = CALLS;
+            let mut calls = most_calls();
             let line = fault_line(number, fault);
             send(errors, &mut calls, line.as_slice())
         }

@@ -7,10 +7,8 @@ ghost use Rattle.std.specs.Io.KnownBytes.{Consumes};
 
 use crate::head::head_len;
 use crate::input::{Input, ReadStopped, fill};
+use acd_io::most_calls;
 use std::io::Read;
-
-/// How often the reader is called at most.
-pub(crate) const CALLS: u64 = 1_000_000_000_000;
 
 /// How many bytes a head has at most.
 pub(crate) const LONGEST_HEAD: usize = 8192;
@@ -35,7 +33,7 @@ pub(crate) fn read_head<R: Read>(
     requires { input.old ≡ [] }
     ensures { IfOk result (λ found. Found found input.new (R.remaining reader.old) (R.remaining reader.new)) }
 {
-    for _ in 0..CALLS {
+    for _ in 0..most_calls() {
         match front_len(input.as_slice()) {
             Some(n) => return Ok(Some(n)),
             None => {}
@@ -60,7 +58,7 @@ pub(crate) fn read_up_to<R: Read>(
     requires { len ≤ 12288 }
     ensures { IfOk result (λ whole. BodyFound whole len input.old input.new (R.remaining reader.old) (R.remaining reader.new)) }
 {
-    for _ in 0..CALLS {
+    for _ in 0..most_calls() {
         if input.as_slice().len() >= len {
             return Ok(true);
         }

@@ -12,13 +12,12 @@ use crate::answer::{Reply, answered, fixed};
 use crate::asked::{Unknown, asked_by};
 use crate::head_text::HeadText;
 use crate::input::Input;
-use crate::receive::CALLS;
 use crate::reply::reply_head;
 use crate::routes::Routes;
 use acd_book::Book;
 use acd_codec::FixedAnswer;
 use acd_desk::Desk;
-use acd_io::{Stopped, send};
+use acd_io::{Stopped, most_calls, send};
 use std::alloc::{AllocError, Global};
 use std::io::{Read, Write};
 use thiserror::Error;
@@ -73,7 +72,7 @@ fn respond<W: Write>(writer: &mut W, bodiless: bool, reply: &Reply) -> Result<()
     ensures err { IfErr result (λ fault. (fault ≡ ExchangeFault.Write) × Begins (W.contents writer.old) (W.contents writer.new) (reply_out bodiless reply.now)) }
     ensures short { IfErr result (λ fault. (fault ≡ ExchangeFault.Write) × Breaks (W.contents writer.old) (W.contents writer.new) (reply_out bodiless reply.now)) }
 {
-    let mut calls = CALLS;
+    let mut calls = most_calls();
     let body = reply.answer.body();
     let mut head = reply_head(reply.answer.status(), reply.kind, body.len(), reply.allow);
     match send_both(writer, &mut calls, &mut head, body_sent(bodiless, body)) {

@@ -3,15 +3,12 @@
 ghost use Rattle.std.specs.Prelude.{◌≡◌, ◌++◌, [], IfOk, OnOk, OnErr};
 ghost use Rattle.acd_io.specs.Sent.{Passes, Breaks};
 
-use acd_io::{Stopped, send};
+use acd_io::{Stopped, most_calls, send};
 use std::alloc::{AllocError, Global};
 use std::io::Write;
 
 /// How many bytes wait at most.
 const ROOM: usize = 65_536;
-
-/// How often the writer is called at most.
-const CALLS: u64 = 1_000_000_000_000;
 
 /// Bytes that wait to be written. Its room never grows: where a text doesn't fit, what waits goes
 /// out first.
@@ -27,7 +24,7 @@ impl Outbox {
     {
         Ok(Outbox {
             waiting: Vec::with_capacity(alloc, ROOM)?,
-            calls: CALLS,
+            calls: most_calls(),
         })
     }
 
@@ -37,7 +34,7 @@ impl Outbox {
     {
         Outbox {
             waiting: Vec::new(alloc),
-            calls: CALLS,
+            calls: most_calls(),
         }
     }
 

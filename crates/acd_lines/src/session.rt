@@ -14,7 +14,7 @@ use crate::partial::Partial;
 use crate::serve::{feed, finish};
 use acd_book::Book;
 use acd_desk::Desk;
-use acd_io::{Stopped, retried};
+use acd_io::{Stopped, most_calls, retried};
 use std::alloc::{AllocError, Global};
 use std::io::{Read, Write};
 use thiserror::Error;
@@ -55,9 +55,6 @@ impl From<Stopped> for LinesFault {
     }
 }
 
-/// How often the reader is called at most.
-const CALLS: u64 = 1_000_000_000_000;
-
 /// How many bytes are read at once.
 const CHUNK: usize = 65_536;
 
@@ -95,7 +92,7 @@ pub fn answer_lines<B: Book, A: Answering<B>, R: Read, W: Write>(
     let mut chunk = vec![in alloc; 0u8; CHUNK]?;
     let mut partial = Partial::new(alloc)?;
     let mut outbox = Outbox::new(alloc)?;
-    for _ in 0..CALLS {
+    for _ in 0..most_calls() {
         if ends && desk.has_failed() {
             return Ok(());
         }

@@ -196,20 +196,3 @@ module _ {D F : Type 0} (disk : Ghosts D) (IsFresh : Bool → D → Type 0) (r :
   pub read_task : (file : _) (work : BookWork) → asked ≡ task.Read file work → IfOk r (λ (status : ℕ). WorkedIn disk IsFresh false (Book work) had before behind status)
       → IfOk r (λ (status : ℕ). TaskDone disk IsFresh asked had before behind mute told status)
   read_task file work is = ok_so r _ _ (λ status h. subst (λ (t : Task). TaskDone disk IsFresh t had before behind mute told status) (sym is) (read_done file work status h))
-
--- ---- by the exit status
-
--- a text was told, and nothing read
-pub told_done : (status : ℕ) (P Q : Type 0) → (status ≡ 3 → ⊥) → (status ≡ 0 → P) → IsDone status → ((status ≡ 0) × P) ⊎ Q
-told_done status P Q differs told done = elim done [ inl zero ↦ inl (zero, told zero) | inr three ↦ absurd (differs three) ]
-
-one_is_no : (status : ℕ) → status ≡ 1 → IsDone status → ⊥
-one_is_no status one done = elim done [ inl zero ↦ omega (arith, one, zero) | inr three ↦ omega (arith, one, three) ]
-
-four_is_no : (status : ℕ) → status ≡ 4 → IsDone status → ⊥
-four_is_no status four done = elim done [ inl zero ↦ omega (arith, four, zero) | inr three ↦ omega (arith, four, three) ]
-
--- no fault has such a status
-pub fault_undone : (status : ℕ) (P : Type 0) → (status ≡ 1) ⊎ (status ≡ 4) → IsDone status → P
-fault_undone status P (inl one) done = absurd (one_is_no status one done)
-fault_undone status P (inr four) done = absurd (four_is_no status four done)

@@ -14,6 +14,8 @@ mod desk;
 #[cfg(test)]
 mod http;
 #[cfg(test)]
+mod io;
+#[cfg(test)]
 mod lines;
 #[cfg(test)]
 mod player;
