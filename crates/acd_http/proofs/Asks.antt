@@ -9,12 +9,12 @@ use Rattle.std.specs.declared.alloc.AllocError.{AllocError}
 use Rattle.acd_codec.specs.Reading.{reads_as}
 use Rattle.acd_io.specs.Read.{IsInput}
 use Rattle.acd_http.specs.Head.{head_len}
-use Rattle.acd_http.specs.Received.{Found, BodyFound, IsRead}
+use Rattle.acd_http.specs.Received.{Found, BodyFound, IsRead, StopsInBody, StopsInHead}
 use Rattle.acd_http.specs.declared.asked.Asked.{Asked}
 use Rattle.acd_http.specs.declared.asked.Asked.TheVariants.{Truncated, Refused}
 use Rattle.acd_http.specs.declared.refused.Refused.TheVariants as refused
 use Rattle.acd_http.specs.Wanting.{IsSmall}
-use Rattle.acd_http.specs.Asking.{HeadAsks, AsksBy, Asks, IsAsked, IsHeadOf, IsWanted, IsHeadAsked, IsUnknown, asked_by, headless, is_bodiless, body_in, body_asks}
+use Rattle.acd_http.specs.Asking.{HeadAsks, AsksBy, Asks, IsAsked, IsHeadOf, IsWanted, IsHeadAsked, IsUnasked, IsUnknown, asked_by, headless, is_bodiless, body_in, body_asks}
 use Rattle.acd_http.specs.declared.asked.Unknown.{Unknown}
 use Rattle.acd_http.specs.declared.asked.Unknown.TheVariants as unknown
 use Rattle.acd_http.specs.declared.wanted.Wanted.{Wanted}
@@ -45,6 +45,13 @@ too_short first left seen read none short last =
     let less : nat_le 8192 (length seen) ≡ false = grind (arith, nat_tests) in
     (seen, consumed_all first left seen read last, by_head seen None Truncated none (rw less refl))
 
+-- reading stopped within a head
+pub head_unasked : (first left : Option (List ℕ)) (seen : List ℕ) → StopsInHead seen first left → IsUnasked first left
+head_unasked first left seen h =
+    let few : length seen < 8192 = h.short in
+    let less : nat_le 8192 (length seen) ≡ false = grind (arith, nat_tests) in
+    (seen, h.read, by_head seen None Truncated h.none (rw less refl))
+
 pub too_large : (first left : Option (List ℕ)) (seen : List ℕ) → Consumes first left seen → head_len (take 8192 seen) ≡ None → 8192 ≤ length seen → IsAsked first (Refused refused.HeadTooLarge false)
 too_large first left seen read none full =
     let more = input_begun first left seen read in
@@ -71,14 +78,17 @@ body_tells first left seen n len body asked read e whole h is asks =
     let same : body_in len (drop n all) ≡ asked = body_of seen more.0 n len whole ∙ sym (asks ∙ ap (λ (l : List ℕ). body_asks (reads_as l)) is) in
     (all, more.1, by_head all (Some n) asked front.0 (subst (λ (a : Asked). HeadAsks (take n all) (drop n all) a) same told))
 
--- a body that is too short
-pub body_short : (first left : Option (List ℕ)) (seen : List ℕ) (n len : ℕ) → Consumes first left seen → head_len (take 8192 seen) ≡ Some n → n ≤ length seen → length seen < n + len → IsAtEnd left
-    → ((behind : List ℕ) → HeadAsks (take n seen) behind (body_in len behind)) → IsAsked first Truncated
-body_short first left seen n len read e fits short last h =
+short_asks : (seen : List ℕ) (n len : ℕ) → head_len (take 8192 seen) ≡ Some n → n ≤ length seen → length seen < n + len → ((behind : List ℕ) → HeadAsks (take n seen) behind (body_in len behind)) → Asks seen Truncated
+short_asks seen n len e fits short h =
     let size : length (drop n seen) < len = omega (arith, length-drop n seen) in
     let less : nat_le len (length (drop n seen)) ≡ false = grind (arith, nat_tests) in
     let same : body_in len (drop n seen) ≡ Truncated = rw less refl in
-    (seen, consumed_all first left seen read last, by_head seen (Some n) Truncated e (subst (λ (a : Asked). HeadAsks (take n seen) (drop n seen) a) same (h (drop n seen))))
+    by_head seen (Some n) Truncated e (subst (λ (a : Asked). HeadAsks (take n seen) (drop n seen) a) same (h (drop n seen)))
+
+-- a body that is too short
+pub body_short : (first left : Option (List ℕ)) (seen : List ℕ) (n len : ℕ) → Consumes first left seen → head_len (take 8192 seen) ≡ Some n → n ≤ length seen → length seen < n + len → IsAtEnd left
+    → ((behind : List ℕ) → HeadAsks (take n seen) behind (body_in len behind)) → IsAsked first Truncated
+body_short first left seen n len read e fits short last h = (seen, consumed_all first left seen read last, short_asks seen n len e fits short h)
 
 -- the head stays that of what was read, with more behind it
 pub head_stays : (was more now : List ℕ) (n : ℕ) → now ≡ was ++ more → IsHeadOf n was → (head_len (take 8192 now) ≡ Some n) × (take n was ≡ take n now) × (n ≤ length now)
@@ -167,3 +177,12 @@ part_tells first left later was s now n len bodiless whole head v same h asked s
     let all = subst (λ (l : List ℕ). Consumes first later l) (sym found.grown) (Consumes-trans first left later was found.more read found.read) in
     body_short first later now n len all stays.0 stays.2 ends.0 ends.1
     (λ behind. subst (λ (l : List ℕ). HeadAsks l behind (body_in len behind)) (ap (take n) same ∙ stays.1) (is behind))
+
+-- reading stopped within a body
+pub body_unasked : (first left later : Option (List ℕ)) (was s now : List ℕ) (n len : ℕ) (bodiless : Bool) (head : Result Wanted AllocError) (v : Wanted) → s ≡ was → IsHeadOf n was → IsHeadAsked (take n s) bodiless head → head ≡ Ok v → v ≡ want.Body len → Consumes first left was
+    → StopsInBody (n + len) was now left later → IsUnasked first later
+body_unasked first left later was s now n len bodiless head v same h asked so body read stops =
+    let is = (wants_so (take n s) bodiless head v (want.Body len) asked so body).1 in
+    let stays = head_stays was stops.more now n stops.grown h in
+    let all = subst (λ (l : List ℕ). Consumes first later l) (sym stops.grown) (Consumes-trans first left later was stops.more read stops.read) in
+    (now, all, short_asks now n len stays.0 stays.2 stops.short (λ behind. subst (λ (l : List ℕ). HeadAsks l behind (body_in len behind)) (ap (take n) same ∙ stays.1) (is behind)))

@@ -20,7 +20,7 @@ use Rattle.acd_http.specs.Fields.{count_named, first_named, length_of, length_or
 use Rattle.acd_http.specs.Lookups.{target_looked}
 use Rattle.acd_http.specs.Target.{path_of}
 use Rattle.acd_http.specs.Routing.{is_services, route_of}
-use Rattle.acd_http.specs.Wanting.{looked, by_length, posted, by_method, or_refused, wants, is_body, IsSmall, wanted_of, has_no_body, method_of, fields_of, IsHeadRead}
+use Rattle.acd_http.specs.Wanting.{looked, by_length, posted, by_method, or_refused, wants, is_body, IsSmall, wanted_of, method_of, fields_of, IsHeadRead}
 use Rattle.acd_http.specs.declared.asked.Asked.{Asked}
 use Rattle.acd_http.specs.declared.asked.Asked.TheVariants.{Truncated}
 use Rattle.acd_http.specs.Head.{lines_in}

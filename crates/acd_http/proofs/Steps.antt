@@ -1,5 +1,5 @@
 -- One byte further in a loop over bytes.
-use Rattle.std.proofs.Common.{◌≡◌, ◌==◌, ℕ, ◌+◌, ◌-◌, ◌*◌, ◌<◌, ◌≤◌, ◌++◌, true, false, List, [], ◌∷◌, length, drop, take, get_or, min, Some, None, inl, inr, refl, sym, ap, ◌∙◌, arith, add-one, drop-cons, ne_eqb, append_assoc, append-nil, length-drop}
+use Rattle.std.proofs.Common.{◌≡◌, ℕ, ◌+◌, ◌-◌, ◌<◌, ◌≤◌, ◌++◌, true, false, List, [], ◌∷◌, length, drop, take, get_or, refl, sym, ap, ◌∙◌, arith, add-one, drop-cons, ne_eqb, append_assoc, append-nil, length-drop}
 use Rattle.std.proofs.lemmas.List.{drop_all, take_all, take_more}
 use Rattle.acd_http.specs.declared.head.Place.{Place}
 use Rattle.acd_http.specs.Head.{lines_from, is_empty_at, place_after}

@@ -4,12 +4,12 @@ use Rattle.std.specs.Io.KnownBytes.{Appends}
 use Rattle.std.proofs.KnownBytes.{Appends-nil}
 use Rattle.acd_desk.specs.Ran.{Standing}
 use Rattle.acd_io.specs.declared.sending.Stopped.{Stopped}
-use Rattle.acd_io.specs.Sent.{Begins}
+use Rattle.acd_io.specs.Sent.{Breaks}
 use Rattle.acd_http.specs.Listening.{Outcome, ServedOne, ServesEach, ServedAll, EachWell, ServedWell, WasSent, outcome_line, outcome_lines}
 
-pub noted_by : (r : Result (Unit {0}) Stopped) (a b : Option (List ℕ)) (slice text : List ℕ) → slice ≡ text → OnOk r (Appends a b slice) → OnErr r (Begins a b slice) → WasSent r a b text
+pub noted_by : (r : Result (Unit {0}) Stopped) (a b : Option (List ℕ)) (slice text : List ℕ) → slice ≡ text → OnOk r (Appends a b slice) → OnErr r (Breaks a b slice) → WasSent r a b text
 noted_by (Ok u) a b slice text same ok err = subst (Appends a b) same ok
-noted_by (Err s) a b slice text same ok err = subst (Begins a b) same err
+noted_by (Err s) a b slice text same ok err = subst (Breaks a b) same err
 
 zero_more : (n : ℕ) → n ≡ n + 0
 zero_more n = omega arith

@@ -1,5 +1,6 @@
 -- What the bytes of a connection ask.
 use Rattle.std.specs.Prelude.{◌≡◌, ◌≢◌, ◌⊎◌, ℕ, ◌≤◌, List, length, take, drop, Bool, true, false, nat_lt, nat_le, if◌then◌else◌, Option, Some, None, Result, Ok, Err}
+use Rattle.std.specs.Io.KnownBytes.{Consumes}
 use Rattle.httparse.specs.Grammar.{RequestHead}
 use Rattle.std.specs.declared.alloc.AllocError.{AllocError}
 use Rattle.acd_terms.specs.declared.command.Request.{Request}
@@ -78,6 +79,10 @@ IsHeadOf len input = (head_len (take 8192 input) ≡ Some len) × (len ≤ 8192)
 -- the reader's bytes ask this
 abbrev pub IsAsked : Option (List ℕ) → Asked → Type 0
 IsAsked known asked = (input : List ℕ) × IsInput known input × Asks input asked
+
+-- what was read of the input, up to where reading stopped, asks nothing yet
+abbrev pub IsUnasked : Option (List ℕ) → Option (List ℕ) → Type 0
+IsUnasked known left = (read : List ℕ) × Consumes known left read × Asks read Truncated
 
 abbrev pub IsUnknown : Option (List ℕ) → Unknown → Type 0
 IsUnknown known unknown.Stopped = Unit {0}

@@ -17,8 +17,21 @@ abbrev pub IsRead : Bool → ℕ → List ℕ → Option (List ℕ) → Type 0
 IsRead true len now left = len ≤ length now
 IsRead false len now left = (length now < len) × IsAtEnd left
 
+-- reading stopped, and no head has ended in what was read, nor was so much read as a head may have
+pub record StopsInHead (now : List ℕ) (old new : Option (List ℕ)) : Type 0 where
+  pub read : Consumes old new now
+  pub none : head_len (take 8192 now) ≡ None
+  pub short : length now < 8192
+
 pub record BodyFound (whole : Bool) (len : ℕ) (was now : List ℕ) (old new : Option (List ℕ)) : Type 0 where
   pub more : List ℕ
   pub read : Consumes old new more
   pub grown : now ≡ was ++ more
   pub end : IsRead whole len now new
+
+-- reading stopped before so many bytes had come
+pub record StopsInBody (len : ℕ) (was now : List ℕ) (old new : Option (List ℕ)) : Type 0 where
+  pub more : List ℕ
+  pub read : Consumes old new more
+  pub grown : now ≡ was ++ more
+  pub short : length now < len

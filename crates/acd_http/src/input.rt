@@ -1,7 +1,7 @@
 //! What was read of a connection.
 
-ghost use Rattle.std.specs.Prelude.{◌≡◌, ℕ, ◌≤◌, ◌+◌, ◌++◌, [], List, length, IfOk, OnErr, false};
-ghost use Rattle.std.specs.Io.KnownBytes.{Consumes, IsAtEnd};
+ghost use Rattle.std.specs.Prelude.{◌≡◌, ℕ, ◌<◌, ◌≤◌, ◌+◌, ◌++◌, [], List, length, IfOk, OnOk, OnErr, false};
+ghost use Rattle.std.specs.Io.KnownBytes.{Consumes, IsAtEnd, Keeps};
 
 use acd_io::retried;
 use std::alloc::{AllocError, Global};
@@ -66,8 +66,11 @@ pub(crate) fn fill<R: Read>(
     input: &mut Input,
 ) -> Result<bool, ReadStopped>
     requires { length input.old ≤ 12288 }
-    ensures { IfOk result (λ more. (bytes : List ℕ) × Consumes (R.remaining reader.old) (R.remaining reader.new) bytes
+    ensures filled { IfOk result (λ more. (bytes : List ℕ) × Consumes (R.remaining reader.old) (R.remaining reader.new) bytes
         × (input.new ≡ input.old ++ bytes) × (more ≡ false → IsAtEnd (R.remaining reader.new) × (bytes ≡ []))) }
+    ensures called { OnOk result (calls.new < calls.old) }
+    ensures stopped { OnErr result ((input.new ≡ input.old)
+        × Keeps (R.remaining reader.old) (R.remaining reader.new)) }
 {
     let mut chunk = [0u8; CHUNK];
     while *calls > 0 {

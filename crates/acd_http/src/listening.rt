@@ -2,7 +2,7 @@
 
 ghost use Rattle.std.specs.Prelude.{◌≡◌, ◌≤◌, ℕ, List, ◌++◌, min, length, Option, Err, OnOk};
 ghost use Rattle.std.specs.Io.KnownBytes.{Appends};
-ghost use Rattle.acd_io.specs.Sent.{Begins};
+ghost use Rattle.acd_io.specs.Sent.{Begins, Breaks};
 ghost use Rattle.acd_desk.specs.Ran.{standing};
 ghost use Rattle.acd_http.specs.Listening.{ServedOne, ServedAll, ServedUntilFailed, WasSent, fault_text, outcome_line};
 
@@ -177,6 +177,10 @@ pub fn serve_on<B: Book, C: Clock, E: Write>(
     ensures write { result ≡ Err ServeFault.Write
         → ServedAll (standing B.Book) connections desk.old desk.new
         (Begins (E.contents errors.old) (E.contents errors.new)) }
+    // and not all of them
+    ensures short { result ≡ Err ServeFault.Write
+        → ServedAll (standing B.Book) connections desk.old desk.new
+        (Breaks (E.contents errors.old) (E.contents errors.new)) }
     ensures memory { result ≡ Err ServeFault.NoMemory
         → (desk.new ≡ desk.old) × (errors.new ≡ errors.old) }
 {
@@ -231,6 +235,10 @@ pub fn serve_until_failed<B: Book, C: Clock, E: Write>(
     ensures write { result ≡ Err ServeFault.Write
         → ServedUntilFailed (standing B.Book) desk.old desk.new
         (Begins (E.contents errors.old) (E.contents errors.new)) }
+    // and not all of them
+    ensures short { result ≡ Err ServeFault.Write
+        → ServedUntilFailed (standing B.Book) desk.old desk.new
+        (Breaks (E.contents errors.old) (E.contents errors.new)) }
     ensures memory { result ≡ Err ServeFault.NoMemory
         → (desk.new ≡ desk.old) × (errors.new ≡ errors.old) }
 {

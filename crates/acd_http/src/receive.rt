@@ -1,13 +1,12 @@
 //! A head and a body that are read as they come.
 
-ghost use Rattle.std.specs.Prelude.{◌≡◌, ℕ, ◌≤◌, ◌+◌, [], List, take, drop, length, IfOk};
+ghost use Rattle.std.specs.Prelude.{◌≡◌, ℕ, ◌≤◌, ◌+◌, [], List, take, drop, length, IfOk, OnErr};
 ghost use Rattle.acd_http.specs.Head.{head_len};
-ghost use Rattle.acd_http.specs.Received.{Found, BodyFound};
+ghost use Rattle.acd_http.specs.Received.{BodyFound, Found, StopsInBody, StopsInHead};
 ghost use Rattle.std.specs.Io.KnownBytes.{Consumes};
 
 use crate::head::head_len;
 use crate::input::{Input, ReadStopped, fill};
-use acd_io::most_calls;
 use std::io::Read;
 
 /// How many bytes a head has at most.
@@ -31,21 +30,20 @@ pub(crate) fn read_head<R: Read>(
     input: &mut Input,
 ) -> Result<Option<usize>, ReadStopped>
     requires { input.old ≡ [] }
-    ensures { IfOk result (λ found. Found found input.new (R.remaining reader.old) (R.remaining reader.new)) }
+    ensures found { IfOk result (λ found. Found found input.new (R.remaining reader.old) (R.remaining reader.new)) }
+    ensures stopped { OnErr result
+        (StopsInHead input.new (R.remaining reader.old) (R.remaining reader.new)) }
 {
-    for _ in 0..most_calls() {
+    while input.as_slice().len() < LONGEST_HEAD {
         match front_len(input.as_slice()) {
             Some(n) => return Ok(Some(n)),
             None => {}
-        }
-        if input.as_slice().len() >= LONGEST_HEAD {
-            return Ok(None);
         }
         if !fill(reader, calls, input)? {
             return Ok(None);
         }
     }
-    Err(ReadStopped)
+    Ok(front_len(input.as_slice()))
 }
 
 /// Reads until so many bytes have come, and answers whether they have.
@@ -56,15 +54,14 @@ pub(crate) fn read_up_to<R: Read>(
     len: usize,
 ) -> Result<bool, ReadStopped>
     requires { len ≤ 12288 }
-    ensures { IfOk result (λ whole. BodyFound whole len input.old input.new (R.remaining reader.old) (R.remaining reader.new)) }
+    ensures found { IfOk result (λ whole. BodyFound whole len input.old input.new (R.remaining reader.old) (R.remaining reader.new)) }
+    ensures stopped { OnErr result
+        (StopsInBody len input.old input.new (R.remaining reader.old) (R.remaining reader.new)) }
 {
-    for _ in 0..most_calls() {
-        if input.as_slice().len() >= len {
-            return Ok(true);
-        }
+    while input.as_slice().len() < len {
         if !fill(reader, calls, input)? {
             return Ok(false);
         }
     }
-    Err(ReadStopped)
+    Ok(true)
 }

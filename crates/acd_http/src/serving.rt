@@ -5,7 +5,7 @@ ghost use Rattle.std.specs.Io.KnownBytes.{Appends};
 ghost use Rattle.acd_io.specs.Sent.{Begins, Breaks};
 ghost use Rattle.acd_desk.specs.Ran.{standing};
 ghost use Rattle.acd_http.specs.declared.asked.Asked.{Asked};
-ghost use Rattle.acd_http.specs.Asking.{IsAsked};
+ghost use Rattle.acd_http.specs.Asking.{IsAsked, IsUnasked};
 ghost use Rattle.acd_http.specs.Exchanging.{reply_out, Exchanged};
 
 use crate::answer::{Reply, answered, fixed};
@@ -105,6 +105,9 @@ pub fn exchange<B: Book, R: Read, W: Write>(
         (Breaks (W.contents writer.old) (W.contents writer.new)) }
     ensures truncated { result ≡ Err ExchangeFault.Truncated
         → IsAsked (R.remaining reader.old) Asked.Truncated }
+    // what was read of the request is not all of it
+    ensures read { result ≡ Err ExchangeFault.Read
+        → IsUnasked (R.remaining reader.old) (R.remaining reader.new) }
     ensures quiet { IfErr result (λ fault. fault ≢ ExchangeFault.Write
         → (desk.new ≡ desk.old) × (writer.new ≡ writer.old)) }
     ensures memory { result ≡ Err ExchangeFault.NoMemory → reader.new ≡ reader.old }

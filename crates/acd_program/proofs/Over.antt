@@ -7,8 +7,8 @@ use Rattle.acd_model.specs.Rules.First.{BreaksNoRule}
 use Rattle.acd_book.specs.Content.{Content, HasRisen}
 use Rattle.acd_book.specs.State.{BookState}
 use Rattle.acd_book.proofs.BookSteps.{step_then}
-use Rattle.acd_sqlbook.specs.declared.index.Index.{Index}
-use Rattle.acd_sqlbook.specs.Indexing.{followed}
+use Rattle.acd_sqlbook.specs.declared.notes.Notes.{Notes}
+use Rattle.acd_sqlbook.specs.Noting.{followed}
 use Rattle.acd_sqlbook.specs.State.{book_state}
 use Rattle.acd_desk.specs.declared.taken.Taken.{Taken}
 use Rattle.acd_desk.specs.declared.taken.Taken.TheVariants.{StoreFault}
@@ -80,7 +80,7 @@ pub failed_lines_since : (P : List (List ℕ) → Type 0) (W : List ℕ → Type
 failed_lines_since P W old mid new of h = arrivals_so P (IsFailedSession mid new) (IsFailedSession old new) W (λ l ts s. (session_of IsFault old mid new l ts of s.0, s.1)) h
 
 -- whatever carries over to what a book came of is said of the database
-pub over_connection : (P : BookState → BookState → Type 0) (makes : Bool) (s t : State) (mid : BookState) (noted : Option Index) (failures : ℕ)
+pub over_connection : (P : BookState → BookState → Type 0) (makes : Bool) (s t : State) (mid : BookState) (noted : Notes) (failures : ℕ)
     → ((old : BookState) → IsOf old mid → P mid (followed noted (book_state t failures)) → P old (followed noted (book_state t failures))) → IsTaken makes s mid → P mid (followed noted (book_state t failures)) → OverConnection P makes s t
 over_connection P makes s t mid noted failures carries taken h = (
   failures,

@@ -15,32 +15,32 @@ use Rattle.acd_desk.specs.declared.open_fault.OpenFault.{OpenFault}
 use Rattle.acd_desk.specs.Opening.{Refused}
 use Rattle.acd_program.specs.Answered.{nothing}
 use Rattle.acd_sql_columns.specs.Schema.{no_schema}
-use Rattle.acd_sqlbook.specs.declared.index.Index.{Index}
-use Rattle.acd_sqlbook.specs.Indexing.{SoundWith, followed}
+use Rattle.acd_sqlbook.specs.declared.notes.Notes.{Notes}
+use Rattle.acd_sqlbook.specs.Noting.{IsBlank, SoundWith, followed}
 use Rattle.acd_sqlbook.specs.State.{book_state, IsNewBook}
-use Rattle.acd_sqlbook.proofs.Followed.{apart}
+use Rattle.acd_sqlbook.proofs.Followed.{blank_of}
 use Rattle.acd_program.specs.Over.{held, unmade, Unserved}
 use Rattle.acd_program.specs.Taking.{IsOf, IsTaken}
 
-pub of_held : (s t : State) (noted : Option Index) (failures : ℕ) → (HasCleanDisk t → IsAdopted s.now (book_state s 0) (book_state t failures)) → noted ≡ None → failures ≡ 0 → (HasCleanDisk t → HasCleanDisk s)
+pub of_held : (s t : State) (noted : Notes) (failures : ℕ) → (HasCleanDisk t → IsAdopted s.now (book_state s 0) (book_state t failures)) → IsBlank noted → failures ≡ 0 → (HasCleanDisk t → HasCleanDisk s)
     → IsOf (held s) (followed noted (book_state t failures))
-of_held s t noted failures adopted none counted clean = subst (λ (o : Option Index). IsOf (held s) (followed o (book_state t failures))) (sym none) (record {
-  step = record { clean = clean; sound = λ here filed. (adopted here).sound filed; quiet = λ none. counted; counts = omega arith };
+of_held s t noted failures adopted none counted clean = record {
+  step = record { clean = clean; sound = λ here filed. ((adopted here).sound filed, λ up. blank_of noted none _); quiet = λ none. counted; counts = omega arith };
   content = λ here filed. (adopted here).content filed;
   stops = λ here filed. (adopted here).stops filed;
   opened = λ here filed. (adopted here).was_open;
   ordered = λ here filed. (adopted here).ordered filed;
-})
+}
 
-pub of_unmade : (s t : State) (noted : Option Index) (failures : ℕ) → (HasCleanDisk t → IsNewBook (book_state t failures) greatest_limits) → noted ≡ None → failures ≡ 0 → (HasCleanDisk t → HasCleanDisk s)
+pub of_unmade : (s t : State) (noted : Notes) (failures : ℕ) → (HasCleanDisk t → IsNewBook (book_state t failures) greatest_limits) → IsBlank noted → failures ≡ 0 → (HasCleanDisk t → HasCleanDisk s)
     → IsOf (unmade s) (followed noted (book_state t failures))
-of_unmade s t noted failures made none counted clean = subst (λ (o : Option Index). IsOf (unmade s) (followed o (book_state t failures))) (sym none) (record {
-  step = record { clean = clean; sound = λ here _. (made here).sound; quiet = λ none. counted; counts = omega arith };
+of_unmade s t noted failures made none counted clean = record {
+  step = record { clean = clean; sound = λ here _. ((made here).sound, λ up. blank_of noted none _); quiet = λ none. counted; counts = omega arith };
   content = λ here _. (made here).content;
   stops = λ here _. (made here).only;
   opened = λ here _. tt;
   ordered = λ here _. subst IsOrdered (sym (made here).content) (record { kept = tt; events = tt });
-})
+}
 
 pub made_taken : {A E : Type 0} (r : Result A E) (stand : A → BookState) (makes : Bool) (s : State) → makes ≡ true → s.now.schema ≡ no_schema → IfOk r (λ (b : A). IsOf (unmade s) (stand b))
     → IfOk r (λ (b : A). IsTaken makes s (stand b))
@@ -63,11 +63,11 @@ none_made (Ok b) behind makes s asked empty h = tt
 none_made (Err e) behind makes s asked empty h = unserved_unmade makes s (behind e) asked empty h
 
 -- what a sound book may leave are tables of its contents
-left_as : (t : State) (noted : Option Index) (failures : ℕ) (db : Trees) (c : Content) → SoundWith noted (book_state t failures) → t.may_leave db → content_of db ≡ c → Encodes db c
-left_as t noted failures db c sound left is = let own = (apart noted (book_state t failures) sound).0.left db left in subst (Encodes db) (sym (decoded db own.0 own.1) ∙ is) own.1
+left_as : (t : State) (noted : Notes) (failures : ℕ) (db : Trees) (c : Content) → SoundWith noted (book_state t failures) → t.may_leave db → content_of db ≡ c → Encodes db c
+left_as t noted failures db c sound left is = let own = sound.0.left db left in subst (Encodes db) (sym (decoded db own.0 own.1) ∙ is) own.1
 
 -- what a book that makes no desk may leave
-pub unserved_refused : (makes : Bool) (s t : State) (mid : BookState) (noted : Option Index) (failures : ℕ) (why : OpenFault) → ((db : Trees) → IsTrue s.is_open → s.may_leave db → db ≡ s.committed.trees) → IsTaken makes s mid → Refused mid why (followed noted (book_state t failures)) → Unserved makes s t
+pub unserved_refused : (makes : Bool) (s t : State) (mid : BookState) (noted : Notes) (failures : ℕ) (why : OpenFault) → ((db : Trees) → IsTrue s.is_open → s.may_leave db → db ≡ s.committed.trees) → IsTaken makes s mid → Refused mid why (followed noted (book_state t failures)) → Unserved makes s t
 unserved_refused makes s t mid noted failures why settles (inl had) refused = λ clean filed db left.
     let here = refused.step.clean clean in
     let sound = had.step.sound here filed in

@@ -7,8 +7,8 @@ use Rattle.acd_terms.specs.declared.command.Request.{Request}
 use Rattle.acd_terms.specs.declared.command.Arrival.{Arrival}
 use Rattle.acd_book.specs.Content.{Content}
 use Rattle.acd_book.specs.State.{BookState}
-use Rattle.acd_sqlbook.specs.declared.index.Index.{Index}
-use Rattle.acd_sqlbook.specs.Indexing.{followed}
+use Rattle.acd_sqlbook.specs.declared.notes.Notes.{Notes}
+use Rattle.acd_sqlbook.specs.Noting.{followed}
 use Rattle.acd_sqlbook.specs.State.{book_state}
 use Rattle.sqlite.specs.State.{State}
 use Rattle.acd_desk.specs.declared.taken.Taken.{Taken}
@@ -66,7 +66,7 @@ export_text c text h whole = h (sound_rises c whole)
 -- ---- over a connection
 
 -- the work over the book that the database held, or over a new one
-pub database_done : {E : Type 0} (r : Result Done E) (work : BookWork) (makes : Bool) (s t : State) (mid : BookState) (noted : Option Index) (failures : ℕ) (before behind : Option (List ℕ)) → IsTaken makes s mid
+pub database_done : {E : Type 0} (r : Result Done E) (work : BookWork) (makes : Bool) (s t : State) (mid : BookState) (noted : Notes) (failures : ℕ) (before behind : Option (List ℕ)) → IsTaken makes s mid
     → IfOk r (λ (d : Done). BookDone IsFindingIfOrdered work mid before behind d (followed noted (book_state t failures)))
     → IfOk r (λ (d : Done). OverConnection (λ (old new : BookState). BookDone IsFindingOf work old before behind d new) makes s t)
 database_done (Err e) work makes s t mid noted failures before behind taken h = tt

@@ -10,8 +10,8 @@ use Rattle.acd_sql_columns.specs.AnyRows.{IsFiled}
 use Rattle.acd_sql_columns.specs.Content.{Encodes}
 use Rattle.acd_sql_columns.specs.InTables.{content_of}
 use Rattle.acd_sql_columns.specs.Schema.{no_schema}
-use Rattle.acd_sqlbook.specs.declared.index.Index.{Index}
-use Rattle.acd_sqlbook.specs.Indexing.{followed}
+use Rattle.acd_sqlbook.specs.declared.notes.Notes.{Notes}
+use Rattle.acd_sqlbook.specs.Noting.{followed}
 use Rattle.acd_sqlbook.specs.State.{book_state}
 use Rattle.acd_desk.specs.declared.open_fault.OpenFault.{OpenFault}
 use Rattle.acd_desk.specs.declared.taken.Taken.{Taken}
@@ -76,6 +76,6 @@ Unserved makes old new = HasCleanDisk new → IsFiled old.now → (db : Trees) �
 -- of its events
 abbrev pub OverConnection : (BookState → BookState → Type 0) → Bool → State → State → Type 0
 OverConnection P makes old new =
-    (failures : ℕ) × (noted : Option Index)
+    (failures : ℕ) × (noted : Notes)
     × (P (held old) (followed noted (book_state new failures))
     ⊎ ((makes ≡ true) × (old.now.schema ≡ no_schema) × P (unmade old) (followed noted (book_state new failures))))

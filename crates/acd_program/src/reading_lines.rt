@@ -89,7 +89,8 @@ pub(crate) fn reading_lines_over_connection<'a, S: Alter, R: Read, W: Write>(
     writer: &mut W,
 ) -> (Result<(), Fault<'a>>, Connection<S>)
     requires { conn.in_transaction ≡ false }
-    ensures { OnOk result.0 (ReadsDatabase S.Store makes ends_on_store_fault (state S.Store conn) (R.remaining reader.old) (W.contents writer.old) (W.contents writer.new) result.1) }
+    ensures idle { result.1.in_transaction ≡ false }
+    ensures answered { OnOk result.0 (ReadsDatabase S.Store makes ends_on_store_fault (state S.Store conn) (R.remaining reader.old) (W.contents writer.old) (W.contents writer.new) result.1) }
 {
     let book = match book_over(alloc, conn, makes) {
         Ok(book) => book,

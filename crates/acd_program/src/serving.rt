@@ -145,7 +145,8 @@ pub(crate) fn serve<'a, S: Alter, W: Write, E: Write>(
     errors: &mut E,
 ) -> (Result<(), Fault<'a>>, Connection<S>)
     requires { conn.in_transaction ≡ false }
-    ensures { OnOk result.0 (ServesDatabase S.Store makes connections (state S.Store conn) (E.contents errors.old) (E.contents errors.new) result.1) }
+    ensures idle { result.1.in_transaction ≡ false }
+    ensures served { OnOk result.0 (ServesDatabase S.Store makes connections (state S.Store conn) (E.contents errors.old) (E.contents errors.new) result.1) }
 {
     let book = match book_over(rt.alloc(), conn, makes) {
         Ok(book) => book,

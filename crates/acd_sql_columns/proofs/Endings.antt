@@ -1,5 +1,5 @@
 -- What the end of a transaction leaves.
-use Rattle.std.proofs.Common.{◌≡◌, [], inl, inr, true, false, Result, Ok, Err, IsTrue, IfErr, OnOk, OnErr, arith, refl, sym, ap, subst, ◌∙◌}
+use Rattle.std.proofs.Common.{◌≡◌, [], inl, inr, true, false, Result, Ok, Err, IsTrue, IfErr, OnOk, OnErr, arith, sym, ap, subst, ◌∙◌}
 use Rattle.sqlite_trees.specs.Tree.{Trees}
 use Rattle.sqlite.specs.declared.error.Error.{Error}
 use Rattle.sqlite.specs.Effect.{Database}

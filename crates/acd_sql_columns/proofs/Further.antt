@@ -1,13 +1,12 @@
 -- The queries of the tables of version 2 show all their rows.
-use Rattle.std.proofs.Common.{◌++◌, [], ◌∷◌, length, refl}
-use Rattle.sqlite_sql.specs.Term.{col}
+use Rattle.std.proofs.Common.{◌++◌, [], length, refl}
 use Rattle.sqlite.specs.Listing.{understood}
 use Rattle.sqlite_tied.specs.Compute.{everything}
 use Rattle.acd_sql_columns.specs.declared.tables.Table.TheVariants as table
-use Rattle.acd_sql_columns.specs.declared.texts.TheConstants.{SELECT_STANDING_AGENT_GROUPS, SELECT_GROUP_PRIORITY}
+use Rattle.acd_sql_columns.specs.declared.texts.TheConstants.{SELECT_STANDING_AGENT_GROUPS}
 use Rattle.acd_sql_columns.specs.Schema.{nine, two, names_of, behind_first}
 use Rattle.acd_sql_columns.specs.Schema as schema
-use Rattle.acd_sql_columns.proofs.Asked.{columns, by_number, no_limit}
+use Rattle.acd_sql_columns.proofs.Asked.{columns, no_limit}
 use Rattle.acd_sql_columns.proofs.Listings.{Listing}
 use Rattle.acd_sql_columns.proofs.Seeing.{AsksAll}
 

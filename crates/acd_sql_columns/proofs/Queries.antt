@@ -1,5 +1,5 @@
 -- A query changes nothing, but that a failure may shut the connection.
-use Rattle.std.proofs.Common.{◌≡◌, ◌⊎◌, inl, inr, ℕ, List, [], Result, Ok, Err, Option, Some, None, refl, sym, ap, subst, ◌∙◌, IsTrue, IfOk, IfErr, OnOk, arith}
+use Rattle.std.proofs.Common.{◌⊎◌, inl, inr, ℕ, List, [], Result, Ok, Err, Option, Some, None, refl, sym, subst, ◌∙◌, IsTrue, IfOk, IfErr, OnOk, arith}
 use Rattle.std.specs.Prelude.{Vec, codes}
 use Rattle.std.specs.declared.alloc.Global.{Global}
 use Rattle.sqlite_trees.specs.Tree.{Trees}
@@ -8,7 +8,6 @@ use Rattle.sqlite_schema.specs.declared.schema.Schema.{Schema}
 use Rattle.sqlite_schema.specs.declared.command.Returning.{Returning}
 use Rattle.sqlite_resolve.specs.declared.compiled.Compiled.{Compiled}
 use Rattle.sqlite.specs.declared.error.Error.{Error}
-use Rattle.sqlite.specs.Effect.{Database}
 use Rattle.sqlite.specs.Listing.{understood}
 use Rattle.sqlite.specs.State.{State, HasCleanDisk, Survives, QueriesRow, FailsToQuery, FailsToShow, Shown, ShowsRows, IsUnchanged, IsRolledBack, IsNotRun}
 use Rattle.sqlite.proofs.Callers.{IsPlain}

@@ -1,33 +1,49 @@
 -- What is read of rows are the records that the rows stand for.
-use Rattle.std.proofs.Common.{◌≡◌, ℕ, ◌+◌, ◌<◌, List, [], ◌∷◌, ◌++◌, length, map, take, get_or, Result, Ok, Err, Option, Some, IfOk, refl, sym, ap, ap₂, ◌∙◌, arith}
+use Rattle.std.proofs.Common.{◌≡◌, List, [], ◌∷◌, map, Result, Ok, Err, Option, Some, IfOk, refl, sym, ap, ap₂, ◌∙◌}
 use Rattle.std.specs.Prelude.{Vec}
 use Rattle.std.specs.declared.alloc.Global.{Global}
-use Rattle.std.proofs.lemmas.Grind.{common_steps}
 use Rattle.sqlite_value.specs.Order.{Row}
 use Rattle.sqlite.specs.declared.error.Error.{Error}
 use Rattle.sqlite.specs.State.{State}
+use Rattle.acd_terms.specs.Lists.{Every}
 use Rattle.acd_book.specs.Content.{Content}
+use Rattle.acd_sql_columns.specs.Draft.{HoldsContent}
 use Rattle.acd_sql_columns.specs.Finding.{Finds}
-use Rattle.acd_lemmas.proofs.Lists.{map-push, take-push, head_is, tail_is}
-
--- ---- rows, one after the other
+use Rattle.acd_lemmas.proofs.Lists.{head_is, tail_is}
 
 -- ---- back to the records
 
-module _ {R : Type 0} (in_row : Row → Option R) (values : R → Row) (exact : (row : Row) (x y : R) → in_row row ≡ Some x → row ≡ values y → x ≡ y) where
-  same_records : (found records : List R) (rows : List Row) → rows ≡ map values records → map Some found ≡ map in_row rows → found ≡ records
-  same_records [] [] rows are read = refl
-  same_records [] (y ∷ records) rows are read = absurd (let k = read ∙ ap (map in_row) are in cc)
-  same_records (x ∷ found) [] rows are read = absurd (let k = read ∙ ap (map in_row) are in cc)
-  same_records (x ∷ found) (y ∷ records) rows are read =
+module _ {R : Type 0} (in_row : Row → Option R) (values : R → Row) (IsGood : R → Type 0) (exact : (row : Row) (x y : R) → IsGood y → in_row row ≡ Some x → row ≡ values y → x ≡ y) where
+  same_records : (found records : List R) (rows : List Row) → Every IsGood records → rows ≡ map values records → map Some found ≡ map in_row rows → found ≡ records
+  same_records [] [] rows good are read = refl
+  same_records [] (y ∷ records) rows good are read = absurd (let k = read ∙ ap (map in_row) are in cc)
+  same_records (x ∷ found) [] rows good are read = absurd (let k = read ∙ ap (map in_row) are in cc)
+  same_records (x ∷ found) (y ∷ records) rows good are read =
       let each = read ∙ ap (map in_row) are in
-      let first = exact (values y) x y (sym (head_is (Some x) (in_row (values y)) (map Some found) (map in_row (map values records)) each)) refl in
-      ap₂ (λ z l. z ∷ l) first (same_records found records (map values records) refl (tail_is (Some x) (in_row (values y)) (map Some found) (map in_row (map values records)) each))
+      let first = exact (values y) x y good.0 (sym (head_is (Some x) (in_row (values y)) (map Some found) (map in_row (map values records)) each)) refl in
+      ap₂ (λ z l. z ∷ l) first (same_records found records (map values records) good.1 refl (tail_is (Some x) (in_row (values y)) (map Some found) (map in_row (map values records)) each))
 
-  pub recorded : (old new : State) (rows : Vec Row Global) (r : Result (Vec R Global) Error) (part : Content → List R) → Finds {E = Error} old new (Ok rows) (λ c rows. rows.items ≡ map values (part c))
+  -- of records that are good in what is held
+  pub recorded_good : (old new : State) (rows : Vec Row Global) (r : Result (Vec R Global) Error) (part : Content → List R) → ((c : Content) → HoldsContent old c → Every IsGood (part c))
+      → Finds {E = Error} old new (Ok rows) (λ c rows. rows.items ≡ map values (part c))
       → IfOk r (λ found. map Some found.items ≡ map in_row rows.items) → Finds old new r (λ c found. found.items ≡ part c)
-  recorded old new rows (Err e) part h read = record { up = λ k. tt; quiet = h.quiet; stops = h.stops; answer = λ k. tt }
-  recorded old new rows (Ok found) part h read = record { up = h.up; quiet = h.quiet; stops = h.stops; answer = λ k c held. same_records found.items (part c) rows.items (h.answer k c held) read }
+  recorded_good old new rows (Err e) part good h read = record { up = λ k. tt; quiet = h.quiet; stops = h.stops; answer = λ k. tt }
+  recorded_good old new rows (Ok found) part good h read = record {
+    up = h.up;
+    quiet = h.quiet;
+    stops = h.stops;
+    answer = λ k c held. same_records found.items (part c) rows.items (good c held) (h.answer k c held) read;
+  }
+
+all_any : {R : Type 0} (records : List R) → Every (λ _. Unit {0}) records
+all_any [] = tt
+all_any (x ∷ records) = (tt, all_any records)
+
+-- of any records
+pub recorded : {R : Type 0} (in_row : Row → Option R) (values : R → Row) (exact : (row : Row) (x y : R) → in_row row ≡ Some x → row ≡ values y → x ≡ y) (old new : State) (rows : Vec Row Global) (r : Result (Vec R Global) Error) (part : Content → List R)
+    → Finds {E = Error} old new (Ok rows) (λ c rows. rows.items ≡ map values (part c))
+    → IfOk r (λ found. map Some found.items ≡ map in_row rows.items) → Finds old new r (λ c found. found.items ≡ part c)
+recorded in_row values exact old new rows r part h read = recorded_good in_row values (λ _. Unit {0}) (λ row x y good. exact row x y) old new rows r part (λ c held. all_any (part c)) h read
 
 pub found_none : {A B : Type 0} (old new : State) (e : Error) (P : Content → A → Type 0) (Q : Content → B → Type 0) → Finds old new (Err e) P → Finds old new (Err e) Q
 found_none old new e P Q h = record { up = λ k. tt; quiet = h.quiet; stops = h.stops; answer = λ k. tt }

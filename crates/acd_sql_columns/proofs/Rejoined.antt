@@ -1,24 +1,23 @@
 -- Agents and groups that are joined of rows have just these rows.
-use Rattle.std.proofs.Common.{◌≡◌, inl, inr, ℕ, suc, ◌≤◌, Bool, true, false, cond, not, ◌==◌, ◌&&◌, ◌||◌, ◌++◌, List, [], ◌∷◌, length, map, filter, Option, None, Some, refl, sym, ap, ap₂, subst, ◌∙◌, nat_le, nat_lt, arith}
+use Rattle.std.proofs.Common.{◌≡◌, inl, inr, ℕ, suc, Bool, true, false, cond, not, ◌==◌, ◌||◌, ◌++◌, List, [], ◌∷◌, length, map, filter, Option, None, Some, refl, sym, ap, ap₂, subst, ◌∙◌, nat_le, nat_lt, arith}
 use Rattle.std.specs.List.{list_any, list_all}
-use Rattle.std.specs.Ordering.{nat_cmp, is_eq, ordering_then, ordering_reverse}
+use Rattle.std.specs.Ordering.{nat_cmp, ordering_then}
 use Rattle.std.specs.declared.cmp.Ordering.{Ordering}
 use Rattle.std.specs.declared.cmp.Ordering.TheVariants.{Less, Equal, Greater}
-use Rattle.std.proofs.lemmas.Bool.{eqb-true, eq-eqb, false_from_ne_true, and_parts, and_from}
+use Rattle.std.proofs.lemmas.Bool.{eqb-true, eq-eqb, and_parts, and_from}
 use Rattle.std.proofs.lemmas.Bool.Decides.{nat_tests}
 use Rattle.std.proofs.lemmas.Cmp.{nat_cmp_total, on_total}
 use Rattle.acd_terms.specs.Groups.{are_groups, further_groups, least_group}
 use Rattle.acd_terms.specs.Lists.{Among, AllAfter, IsAscending, Every, is_less, ascends}
 use Rattle.acd_terms.specs.declared.record.AgentRecord.{AgentRecord}
-use Rattle.acd_terms.specs.declared.record.GroupRecord.{GroupRecord}
-use Rattle.acd_lemmas.proofs.Keyed.{key_is, cmp_equal, cmp_self, eqb_self}
-use Rattle.acd_lemmas.proofs.Lists.{after_among, among-filter, filter_among, all_true, any_found, ascending-filter, filter_all}
+use Rattle.acd_lemmas.proofs.Keyed.{cmp_equal, cmp_self}
+use Rattle.acd_lemmas.proofs.Lists.{after_among, filter_among, all_true, ascending-filter, filter_all}
 use Rattle.acd_sql_columns.specs.declared.relations.GroupRow.{GroupRow}
 use Rattle.acd_sql_columns.specs.declared.relations.AgentRow.{AgentRow}
 use Rattle.acd_sql_columns.specs.declared.relations.GroupPriority.{GroupPriority}
-use Rattle.acd_sql_columns.specs.Relations.{pair_order, group_part, agent_part, further_of, further_in, priority_part, priorities_in, priority_of, joined_group, groups_beside, behind_first, joined_agent, is_above, is_behind, are_behind, are_of_groups}
+use Rattle.acd_sql_columns.specs.Relations.{pair_order, group_part, agent_part, further_of, further_in, priorities_in, priority_of, joined_group, groups_beside, behind_first, joined_agent, is_above, is_behind, are_behind, are_of_groups}
 use Rattle.acd_sql_columns.proofs.Decoded.{one_of}
-use Rattle.acd_sql_columns.proofs.Joined.{apart, apart_back, of_agent, not_of, pairs_of}
+use Rattle.acd_sql_columns.proofs.Joined.{apart, apart_back, of_agent}
 
 -- ---- lists
 

@@ -1,5 +1,5 @@
 -- The tables, as they are described.
-use Rattle.std.specs.Prelude.{⊤, ℕ, None, IfSome}
+use Rattle.std.specs.Prelude.{⊤, ℕ, IfSome}
 use Rattle.acd_terms.specs.declared.record.StationRecord.{StationRecord}
 use Rattle.acd_terms.specs.declared.record.CallRecord.{CallRecord}
 use Rattle.acd_terms.specs.declared.record.ConnectionRecord.{ConnectionRecord}

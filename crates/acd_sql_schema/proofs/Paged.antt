@@ -267,9 +267,9 @@ module _ (l : Log) (n last : ℕ) (rows : List Row) (i : ℕ) (left : last_good 
   last_end all = sym (ap (last_good l last) (drop_all i rows all)) ∙ left
 
 -- the number of a good row is one that its column holds
-pub number_fits : (l : Log) (row : Row) (o : Option ℕ) (n : ℕ) → o ≡ whole_at row 0 → IfSome o Fits → number_if_good l row ≡ Some n → Fits n
-number_fits l row o n is fits good =
-    (elim (is_good (table_of_log l) row) as (λ b. is_good (table_of_log l) row ≡ b → cond b (whole_at row 0) None ≡ Some n → Fits n) [
+pub number_fits : (l : Log) (r : Row) (o : Option ℕ) (n : ℕ) → o ≡ whole_at r 0 → IfSome o Fits → number_if_good l r ≡ Some n → Fits n
+number_fits l r o n is fits good =
+    (elim (is_good (table_of_log l) r) as (λ b. is_good (table_of_log l) r ≡ b → cond b (whole_at r 0) None ≡ Some n → Fits n) [
       | true ↦ λ e at. subst (λ o. IfSome o Fits) (is ∙ at) fits
       | false ↦ λ e at. absurd (cc at)
     ]) refl good

@@ -1,10 +1,9 @@
 -- Why no records are made of the rows that were read.
-use Rattle.std.proofs.Common.{◌≡◌, ◌⊎◌, inl, inr, ℕ, zero, suc, nat_lt, ◌==◌, ◌<◌, ◌-◌, ◌^◌, min, List, [], ◌∷◌, length, get_or, slice_get, map, filter, find, take, Bool, true, false, cond, Option, None, Some, Result, Ok, Err, IfErr, IfSome, refl, sym, ap, subst, ◌∙◌, arith}
+use Rattle.std.proofs.Common.{◌≡◌, ◌⊎◌, inl, inr, ℕ, zero, suc, nat_lt, ◌==◌, ◌<◌, ◌-◌, ◌^◌, min, List, [], ◌∷◌, length, get_or, slice_get, map, filter, find, take, Bool, true, false, cond, Option, None, Some, Result, Ok, Err, IfErr, IfSome, sym, ap, subst, ◌∙◌, arith}
 use Rattle.std.specs.Prelude.{Vec, option_to_list}
 use Rattle.std.specs.Option.{is_some}
 use Rattle.std.specs.declared.alloc.Global.{Global}
 use Rattle.std.proofs.lemmas.Bool.{and_parts}
-use Rattle.std.proofs.lemmas.Bool.Decides.{nat_tests}
 use Rattle.sqlite_value.specs.Order.{Row}
 use Rattle.sqlite_rules.specs.Lists.{Has}
 use Rattle.sqlite_rules.proofs.ProbeLemmas.{has_mapped, mapped_has}

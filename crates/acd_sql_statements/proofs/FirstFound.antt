@@ -1,32 +1,24 @@
 -- The first of the records that pass.
-use Rattle.std.proofs.Common.{◌≡◌, ℕ, ◌<◌, ◌≤◌, nat_lt, List, [], ◌∷◌, map, filter, find, take, max, Bool, true, false, cond, Option, Some, None, Result, Ok, Err, IfOk, IfSome, inl, inr, refl, sym, ap, subst, ◌∙◌, arith}
+use Rattle.std.proofs.Common.{◌≡◌, ℕ, zero, suc, nat_lt, List, [], ◌∷◌, map, filter, find, take, max, Bool, true, false, cond, Option, Some, None, Result, Ok, Err, IfOk, IfSome, refl, sym, ap, ◌∙◌}
 use Rattle.std.specs.Prelude.{Vec, option_to_list}
 use Rattle.std.specs.declared.alloc.Global.{Global}
-use Rattle.std.specs.declared.cmp.Ordering.TheVariants.{Less}
-use Rattle.std.specs.Ordering.{nat_cmp}
-use Rattle.std.proofs.lemmas.Bool.Decides.{nat_tests}
 use Rattle.sqlite_value.specs.Order.{Row}
 use Rattle.sqlite.specs.declared.error.Error.{Error}
 use Rattle.sqlite.specs.State.{State}
-use Rattle.acd_terms.specs.Lists.{Every, AllAfter, IsAscending, find_by}
+use Rattle.acd_terms.specs.Lists.{Every, find_by}
 use Rattle.acd_terms.specs.declared.event.Event.{Event}
 use Rattle.acd_terms.specs.declared.record.MonitorRecord.{MonitorRecord}
 use Rattle.acd_model.specs.Scans.{at_monitor, monitor_of}
-use Rattle.acd_book.specs.Content.{Content, IsKeptAfter, is_told, watched_by, events_of_monitor}
+use Rattle.acd_book.specs.Content.{Content, is_told, watched_by, events_of_monitor}
 use Rattle.acd_book.specs.declared.kept.Kept.{Kept}
 use Rattle.acd_sql_columns.specs.declared.tables.Table.TheVariants as table
-use Rattle.acd_sql_columns.specs.Rows.{IsReadable, kept_values, monitor_values}
+use Rattle.acd_sql_columns.specs.Rows.{IsReadable, monitor_values}
 use Rattle.acd_sql_columns.specs.Draft.{HoldsContent}
 use Rattle.acd_sql_columns.specs.Finding.{Finds, kept_behind}
-use Rattle.acd_sql_columns.specs.Ranges.{kept_in, monitor_in}
-use Rattle.acd_sql_columns.proofs.Asked.{first_found}
-use Rattle.acd_sql_statements.proofs.Chained.{finds_so, finds_on, behind}
+use Rattle.acd_sql_columns.specs.Ranges.{monitor_in}
+use Rattle.acd_sql_statements.proofs.Chained.{finds_on, behind}
 use Rattle.acd_sql_columns.proofs.Records.{monitor_exact}
-use Rattle.acd_sql_columns.proofs.Reported.{kept_exact}
-use Rattle.acd_book.proofs.Numbered.{kept_after_more}
 use Rattle.acd_lemmas.proofs.Lists.{head_is}
-use Rattle.acd_lemmas.proofs.Numbers.{below_is}
-use Rattle.acd_terms.proofs.Numbers.{no_less}
 
 module _ {R : Type 0} (in_row : Row → Option R) (values : R → Row) (IsGood : R → Type 0) (exact : (row : Row) (x y : R) → IsGood y → in_row row ≡ Some x → row ≡ values y → x ≡ y) where
   same_one : (found one : Option R) (rows : List Row) → IfSome one IsGood → rows ≡ map values (option_to_list one) → map Some (option_to_list found) ≡ map in_row (take 1 rows) → found ≡ one
@@ -61,38 +53,18 @@ found_every P p (x ∷ xs) h = elim (p x) as (λ t. IfSome (cond t (Some x) (fin
 pub found_readable : (s : State) (p : Kept → Bool) (c : Content) → HoldsContent s c → IfSome (find p c.kept) IsReadable
 found_readable s p c held = found_every IsReadable p c.kept (held.encodes table.Kept).1
 
-less_is : (a b : ℕ) → nat_cmp a b ≡ Less → a ≤ b
-less_is a b e = grind (arith, nat_tests)
+pub taken_every : {X : Type 0} (P : X → Type 0) (n : ℕ) (xs : List X) → Every P xs → Every P (take n xs)
+taken_every P zero xs h = tt
+taken_every P (suc n) [] h = tt
+taken_every P (suc n) (x ∷ xs) h = (h.0, taken_every P n xs h.1)
 
-no_greater : (a : ℕ) → a ≤ a
-no_greater a = omega arith
+passed_every : {X : Type 0} (P : X → Type 0) (p : X → Bool) (xs : List X) → Every P xs → Every P (filter p xs)
+passed_every P p [] h = tt
+passed_every P p (x ∷ xs) h = elim (p x) as (λ t. Every P (cond t (x ∷ filter p xs) (filter p xs))) [ true ↦ (h.0, passed_every P p xs h.1) | false ↦ passed_every P p xs h.1 ]
 
-all_above : (stamp : ℕ) (k : Kept) (kept : List Kept) → AllAfter (λ (a b : Kept). nat_cmp a.stamp b.stamp) k kept → Every (λ (other : Kept). stamp < other.stamp → k.stamp ≤ other.stamp) kept
-all_above stamp k [] h = tt
-all_above stamp k (x ∷ kept) h = ((λ above. less_is k.stamp x.stamp h.0), all_above stamp k kept h.1)
-
-after_found : (stamp : ℕ) (kept : List Kept) → IsAscending (λ (a b : Kept). nat_cmp a.stamp b.stamp) kept → IsKeptAfter kept stamp (find (λ (k : Kept). nat_lt stamp k.stamp) kept)
-after_found stamp [] h = tt
-after_found stamp (k ∷ kept) h =
-    (elim (nat_lt stamp k.stamp) as (λ t. nat_lt stamp k.stamp ≡ t → IsKeptAfter (k ∷ kept) stamp (cond t (Some k) (find (λ (k : Kept). nat_lt stamp k.stamp) kept))) [
-      | true ↦ λ e. (inl refl, below_is stamp k.stamp e, ((λ above. no_greater k.stamp), all_above stamp k kept h.0))
-      | false ↦ λ e. kept_after_more k kept stamp (find (λ (k : Kept). nat_lt stamp k.stamp) kept) (no_less stamp k.stamp e) (after_found stamp kept h.1)
-    ]) refl
-
--- in ascending order the first one above a stamp is the one of the least stamp
-pub after_first : (s : State) (stamp : ℕ) (c : Content) → HoldsContent s c → IsKeptAfter c.kept stamp (find (λ (k : Kept). nat_lt stamp k.stamp) c.kept)
-after_first s stamp c held = after_found stamp c.kept (held.encodes table.Kept).0.ascending
-
-pub kept_first : (old new : State) (stamp : ℕ) (rows : Vec Row Global) (r : Result (Option Kept) Error) → Finds {E = Error} old new (Ok rows) (λ c rows. rows.items ≡ map kept_values (kept_behind c.kept stamp 1))
-    → IfOk r (λ found. map Some (option_to_list found) ≡ map kept_in (take 1 rows.items)) → Finds old new r (λ c found. IsKeptAfter c.kept stamp found)
-kept_first old new stamp rows r h read =
-    let one = finds_so old new (Ok rows) (λ (c : Content) (rows : Vec Row Global). rows.items ≡ map kept_values (kept_behind c.kept stamp 1))
-    (λ (c : Content) (rows : Vec Row Global). rows.items ≡ map kept_values (option_to_list (find (λ (k : Kept). nat_lt stamp k.stamp) c.kept)))
-    (λ c held rows is. is ∙ ap (map kept_values) (first_found (λ (k : Kept). nat_lt stamp k.stamp) c.kept)) h
-    in
-    finds_so old new r (λ (c : Content) (found : Option Kept). found ≡ find (λ (k : Kept). nat_lt stamp k.stamp) c.kept) (λ (c : Content) (found : Option Kept). IsKeptAfter c.kept stamp found)
-    (λ c held found is. subst (IsKeptAfter c.kept stamp) (sym is) (after_first old stamp c held))
-    (first_recorded kept_in kept_values IsReadable kept_exact old new rows r (λ (c : Content). find (λ (k : Kept). nat_lt stamp k.stamp) c.kept) (found_readable old (λ (k : Kept). nat_lt stamp k.stamp)) one read)
+pub page_readable : (s : State) (stamp limit : ℕ) (c : Content) → HoldsContent s c → Every IsReadable (kept_behind c.kept stamp limit)
+page_readable s stamp limit c held =
+    taken_every IsReadable limit (filter (λ (k : Kept). nat_lt stamp k.stamp) c.kept) (passed_every IsReadable (λ (k : Kept). nat_lt stamp k.stamp) c.kept (held.encodes table.Kept).1)
 
 -- ---- a monitor
 

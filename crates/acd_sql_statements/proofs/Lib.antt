@@ -3,7 +3,7 @@ pub mod Named
 pub mod Chained
 mod Planned
 mod Beside
-mod FirstFound
+pub mod FirstFound
 mod Pages
 pub mod Failures
 pub mod Refused

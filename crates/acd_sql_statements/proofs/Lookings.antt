@@ -1,16 +1,15 @@
 -- Why looks at a database fail, one after the other.
-use Rattle.std.proofs.Common.{◌≡◌, ◌⊎◌, inl, inr, ℕ, ◌≤◌, List, [], ◌∷◌, map, true, false, Option, Some, None, Result, Ok, Err, IfErr, IfOk, refl, sym, ap, subst, ◌∙◌, arith}
+use Rattle.std.proofs.Common.{◌≡◌, inl, inr, ℕ, ◌≤◌, List, [], true, false, Option, Result, Ok, Err, IfErr, refl, sym, ap, subst, ◌∙◌, arith}
 use Rattle.std.specs.Prelude.{Vec, IsSome, IsPermutation}
 use Rattle.std.specs.Option.{is_some}
 use Rattle.std.specs.declared.alloc.Global.{Global}
 use Rattle.sqlite_trees.specs.Tree.{Trees}
 use Rattle.sqlite_value.specs.Order.{Row}
-use Rattle.sqlite_rules.specs.Lists.{Has}
 use Rattle.sqlite.specs.declared.error.Error.{Error}
 use Rattle.sqlite.specs.Effect.{Database}
 use Rattle.sqlite.specs.State.{State, HasCleanDisk, Survives, FailsToQuery, QueriesRow}
 use Rattle.acd_sql_columns.specs.declared.tables.Table.{Table}
-use Rattle.acd_sql_columns.specs.AnyRows.{is_good, is_good_in, rows_in, TellsGood}
+use Rattle.acd_sql_columns.specs.AnyRows.{is_good, is_good_in, rows_in}
 use Rattle.acd_sql_columns.specs.Seeing.{HasDatabase, Sees}
 use Rattle.acd_sql_columns.proofs.Looked.{bad_among}
 use Rattle.acd_sql_columns.proofs.Queries.{probe_text}
@@ -67,11 +66,6 @@ module _ (Is Was : Database → Type 0) (so : (d : Database) → Is d → Was d)
   -- what was read goes on to what is made of it
   pub looks_on : {A B : Type 0} (old new : State) (a : A) (r : Result B Error) → BlamesLook Was old new (Ok a) → (HasCleanDisk new → (d : Database) → HasDatabase old d → Is d → IfErr r (FailsToLook old new)) → BlamesLook Is old new r
   looks_on old new a r h on = record { counts = h.counts; limit = h.limit; cause = on }
-
-  -- where memory alone can lack
-  pub looks_memory : {A B : Type 0} (old new : State) (a : A) (r : Result B Error) → BlamesLook Was old new (Ok a) → IfErr r IsMemory → BlamesLook Is old new r
-  looks_memory old new a (Ok b) h fails = looks_done old new a b h
-  looks_memory old new a (Err e) h fails = record { counts = h.counts; limit = h.limit; cause = λ k d had it. inl fails }
 
 later : {B : Type 0} (old mid new : State) (r : Result B Error) → old.faults ≤ mid.faults → mid.step_limit ≡ old.step_limit → IfErr r (FailsToLook mid new) → IfErr r (FailsToLook old new)
 later old mid new (Ok b) counts limit h = tt

@@ -7,7 +7,6 @@ use Rattle.sqlite.specs.declared.error.Error.{Error}
 use Rattle.sqlite.specs.State.{State}
 use Rattle.acd_terms.specs.declared.event.Event.{Event}
 use Rattle.acd_book.specs.Content.{Content, events_behind}
-use Rattle.acd_sql_columns.specs.Draft.{Quiet}
 use Rattle.acd_sql_columns.specs.Finding.{Finds}
 use Rattle.acd_sql_statements.specs.Picking.{picked, Serves}
 use Rattle.acd_sql_statements.proofs.Chained.{quiet_still, chained, broken}

@@ -1,7 +1,6 @@
 -- Groups and agents, joined of what the tables hold.
-use Rattle.std.proofs.Common.{◌≡◌, ℕ, ◌+◌, ◌<◌, ◌≤◌, Bool, true, false, cond, ◌==◌, List, [], ◌∷◌, ◌++◌, length, map, filter, take, drop, get_or, Option, None, Some, Result, Ok, Err, IfOk, OnOk, refl, sym, ap, ap₂, ◌∙◌, append_assoc, subst, nat_eq, suc, add-one, drop-cons}
-use Rattle.std.proofs.lemmas.List.{take_more, take_all}
-use Rattle.std.specs.Prelude.{Vec, option_to_list}
+use Rattle.std.proofs.Common.{◌≡◌, ℕ, ◌+◌, ◌<◌, true, List, [], ◌∷◌, ◌++◌, length, map, take, get_or, Result, Ok, Err, IfOk, OnOk, refl, sym, ap, ap₂, ◌∙◌, subst, nat_eq}
+use Rattle.std.specs.Prelude.{Vec}
 use Rattle.std.specs.Cmp.Lexicographic.{pointwise}
 use Rattle.std.proofs.lemmas.Bool.{and_parts, eqb-true}
 use Rattle.std.specs.declared.alloc.Global.{Global}
@@ -15,7 +14,7 @@ use Rattle.acd_sql_columns.specs.declared.relations.GroupPriority.{GroupPriority
 use Rattle.acd_sql_columns.specs.declared.tables.Table.TheVariants as table
 use Rattle.acd_sql_columns.specs.Draft.{Drafts}
 use Rattle.acd_sql_columns.specs.Finding.{Finds}
-use Rattle.acd_sql_columns.specs.Relations.{Relations, pair_order, group_part, agent_part, further_in, priorities_in, joined_group, joined_agent, groups_beside, behind_first, all_put}
+use Rattle.acd_sql_columns.specs.Relations.{Relations, pair_order, group_part, agent_part, further_in, priorities_in, joined_group, joined_agent, all_put}
 use Rattle.acd_sql_columns.proofs.Decoded.{groups_rise, agents_rise}
 use Rattle.acd_sql_columns.proofs.Joined.{groups_joined, agents_joined}
 use Rattle.acd_sql_columns.proofs.Listings.{stored}

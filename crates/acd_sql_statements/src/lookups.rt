@@ -5,7 +5,7 @@
 
 ghost use Rattle.std.specs.Prelude.{◌≡◌, ◌⊎◌, ◌-◌, ◌^◌, ◌<◌, [], false, length, map, take, filter, Some, IfErr, IfOk, OnOk};
 ghost use Rattle.acd_model.specs.Scans.{monitor_of};
-ghost use Rattle.acd_book.specs.Content.{IsKeptAfter, events_behind, events_of_monitor, is_told, kept_of};
+ghost use Rattle.acd_book.specs.Content.{events_behind, events_of_monitor, is_told, kept_of};
 ghost use Rattle.acd_sql_columns.specs.Rows.{event_values, kept_values};
 ghost use Rattle.acd_sql_columns.specs.Draft.{Fits};
 ghost use Rattle.acd_sql_columns.specs.Finding.{kept_behind};
@@ -73,14 +73,14 @@ fn event_page_at<S: Alter>(
     meant(rows, number, limit)
 }
 
-// The first row of a kept record above a stamp.
-fn kept_page<S: Alter>(conn: &mut Connection<S>, stamp: u64) -> Result<Vec<Row>, Error>
+// The rows of the first kept records above a stamp.
+fn kept_page<S: Alter>(conn: &mut Connection<S>, stamp: u64, limit: u64) -> Result<Vec<Row>, Error>
     requires { conn.old.in_transaction ≡ false }
     ensures { LooksUp S.Store conn.old conn.new result
-        (λ c rows. rows.items ≡ map kept_values (kept_behind c.kept stamp 1)) }
+        (λ c rows. rows.items ≡ map kept_values (kept_behind c.kept stamp limit)) }
 {
-    let rows = kept_rows(conn, stamp.min(GREATEST), 1)?;
-    meant(rows, stamp, 1)
+    let rows = kept_rows(conn, stamp.min(GREATEST), limit.min(GREATEST))?;
+    meant(rows, stamp, limit)
 }
 
 /// What is kept under a key.
@@ -98,17 +98,19 @@ pub fn kept_under<S: Alter>(
     first(alloc, &rows)
 }
 
-/// The kept record of the least greater stamp.
+/// The first kept records above a stamp.
 pub fn kept_behind<S: Alter>(
     alloc: Global,
     conn: &mut Connection<S>,
     stamp: u64,
-) -> Result<Option<Kept>, Error>
+    limit: usize,
+) -> Result<Vec<Kept>, Error>
     requires { conn.old.in_transaction ≡ false }
-    ensures { LooksUp S.Store conn.old conn.new result (λ c found. IsKeptAfter c.kept stamp found) }
+    ensures { LooksUp S.Store conn.old conn.new result
+        (λ c records. records.items ≡ kept_behind c.kept stamp limit) }
 {
-    let rows = kept_page(conn, stamp)?;
-    first(alloc, &rows)
+    let rows = kept_page(conn, stamp, limit as u64)?;
+    records(alloc, &rows)
 }
 
 /// The first events above a number.

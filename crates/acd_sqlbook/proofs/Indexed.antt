@@ -1,5 +1,5 @@
 -- Events that are read by the numbers that an index has of them.
-use Rattle.std.proofs.Common.{◌≡◌, inl, inr, ℕ, ◌+◌, ◌-◌, ◌<◌, ◌≤◌, zero, suc, Bool, true, false, cond, ◌&&◌, nat_lt, List, [], ◌∷◌, ◌++◌, length, take, drop, filter, map, get_or, Some, refl, sym, ap, ap₂, subst, ◌∙◌, true≢false, arith}
+use Rattle.std.proofs.Common.{◌≡◌, inl, inr, ℕ, ◌+◌, ◌-◌, ◌<◌, ◌≤◌, Bool, true, false, cond, nat_lt, List, [], ◌∷◌, ◌++◌, length, take, drop, filter, map, get_or, Some, refl, sym, ap, ap₂, subst, ◌∙◌, arith}
 use Rattle.std.specs.Ordering.{nat_cmp}
 use Rattle.std.proofs.lemmas.Bool.Decides.{nat_tests}
 use Rattle.std.proofs.lemmas.Grind.{common_steps}
@@ -12,6 +12,7 @@ use Rattle.acd_book.specs.Order.{Rises}
 use Rattle.acd_sql_columns.specs.Draft.{HoldsContent}
 use Rattle.acd_sql_columns.specs.declared.tables.Table.TheVariants as table
 use Rattle.acd_sql_statements.specs.Picking.{picked}
+use Rattle.acd_sql_statements.proofs.FirstFound.{taken_every}
 use Rattle.acd_lemmas.proofs.Numbers.{less_is}
 use Rattle.acd_sqlbook.specs.Indexing.{last_of}
 use Rattle.acd_book.proofs.Left.{events_raised}
@@ -74,17 +75,12 @@ told_there : (device n : ℕ) (events : List Event) → Every (IsThere events) (
 told_there device n [] = tt
 told_there device n (x ∷ events) = told_next device n x events (is_told (Some device) n x) refl (told_there device n events)
 
-taken_there : (P : Event → Type 0) (limit : ℕ) (events : List Event) → Every P events → Every P (take limit events)
-taken_there P zero events all = tt
-taken_there P (suc n) [] all = tt
-taken_there P (suc n) (x ∷ events) all = (all.0, taken_there P n events all.1)
-
 -- the events of a page of numbers are the page
 pub page_picked : (device n limit : ℕ) (events : List Event) (numbers : List ℕ) → Ascends events → numbers ≡ map number_of (take limit (filter (is_told (Some device) n) events))
     → picked events numbers ≡ take limit (filter (is_told (Some device) n) events)
 page_picked device n limit events numbers up is =
     let page = take limit (filter (is_told (Some device) n) events) in
-    ap (picked events) is ∙ all_there events page up (taken_there (IsThere events) limit (filter (is_told (Some device) n) events) (told_there device n events))
+    ap (picked events) is ∙ all_there events page up (taken_every (IsThere events) limit (filter (is_told (Some device) n) events) (told_there device n events))
 
 -- ---- events that go on
 

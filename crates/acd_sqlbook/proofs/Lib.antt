@@ -13,3 +13,4 @@ mod Indexed
 mod PageFound
 mod Beginning
 pub mod Followed
+mod ReadAhead

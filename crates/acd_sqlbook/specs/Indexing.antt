@@ -5,7 +5,6 @@ use Rattle.acd_terms.specs.Lists.{Every}
 use Rattle.acd_terms.specs.declared.event.Event.{Event}
 use Rattle.acd_book.specs.Memory.{number_of}
 use Rattle.acd_book.specs.Order.{Rises}
-use Rattle.acd_book.specs.State.{BookState}
 use Rattle.acd_book.specs.Watched.{ListsEvents}
 use Rattle.acd_sqlbook.specs.declared.index.Index.{Index}
 
@@ -37,15 +36,6 @@ pub record BeginsIndex (i : Index) (events : List Event) : Type 0 where
   pub all : events ≡ seen ++ rest
   pub indexes : Indexes i seen
   pub above : Rises number_of i.last rest
-
--- its tables are as they were made and, where anything was noted, that is of the events that it holds
-abbrev pub SoundWith : Option Index → BookState → Type 0
-SoundWith None b = b.is_sound
-SoundWith (Some i) b = b.is_sound × (b.is_open → Indexes i b.content.events)
-
--- a book with what was noted of its events; where nothing was, it is the book
-abbrev pub followed : Option Index → BookState → BookState
-followed noted b = record b { is_sound = SoundWith noted b }
 
 -- what is noted behind a commit: nothing or, where it succeeded, an index that goes on
 abbrev pub IsNotedBehind : Option Index → Result (Unit {0}) Error → List Event → Option Index → Type 0

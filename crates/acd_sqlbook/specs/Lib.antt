@@ -8,3 +8,5 @@ pub mod Adopting
 pub mod Stopping
 pub mod Causes
 pub mod Indexing
+pub mod Ahead
+pub mod Noting

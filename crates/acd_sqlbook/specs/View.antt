@@ -1,23 +1,23 @@
 -- A book over a connection, as clauses see it.
-use Rattle.std.specs.Prelude.{ℕ, Option, refl}
-use Rattle.std.specs.Coded.{Coded, code_by, coded×, coded_ℕ, coded_option}
+use Rattle.std.specs.Prelude.{ℕ, refl}
+use Rattle.std.specs.Coded.{Coded, code_by, coded×, coded_ℕ}
 use Rattle.sqlite_trees.specs.declared.store.Store.{Ghosts}
 use Rattle.sqlite.specs.Held.{Held, held_code, state}
 use Rattle.acd_book.specs.State.{BookState}
-use Rattle.acd_sqlbook.specs.Indexing.{followed}
+use Rattle.acd_sqlbook.specs.Noting.{followed}
 use Rattle.acd_sqlbook.specs.State.{book_state}
-use Rattle.acd_sqlbook.specs.contracts.index.Index.{the_row}
-use Rattle.acd_sqlbook.specs.declared.index.Index.{Index}
+use Rattle.acd_sqlbook.specs.contracts.notes.Notes.{the_row}
+use Rattle.acd_sqlbook.specs.declared.notes.Notes.{Notes}
 
--- its connection, how often its store has failed, and what is noted of its events
+-- its connection, how often its store has failed, and what is noted of it
 pub record BookView (S : Type 0) : Type 0 where
   pub conn : Held S
   pub failures : ℕ
-  pub noted : Option Index
+  pub noted : Notes
 
 abbrev pub view_code : {S : Type 0} → Coded S → Coded (BookView S)
 view_code {S} store =
-    code_by (Held S × (ℕ × Option Index)) (coded× (held_code store) (coded× coded_ℕ (coded_option the_row.coded)))
+    code_by (Held S × (ℕ × Notes)) (coded× (held_code store) (coded× coded_ℕ the_row.coded))
     (λ b. (b.conn, (b.failures, b.noted))) (λ p. record { conn = p.0; failures = p.1.0; noted = p.1.1 }) (λ _. refl)
 
 -- the book that it is

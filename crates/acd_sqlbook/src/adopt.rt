@@ -1,6 +1,6 @@
 //! Takes a connection over a book where each value is in its range, and makes version 2 of one of version 1.
 
-ghost use Rattle.std.specs.Prelude.{◌≡◌, ◌≢◌, ◌⊎◌, false, None, IfOk, IfErr};
+ghost use Rattle.std.specs.Prelude.{◌≡◌, ◌≢◌, ◌⊎◌, false, IfOk, IfErr};
 ghost use Rattle.sqlite.specs.State.{HasCleanDisk};
 ghost use Rattle.sqlite.specs.Held.{state};
 ghost use Rattle.acd_sql_columns.specs.AnyRows.{IsFiled};
@@ -8,9 +8,11 @@ ghost use Rattle.acd_sql_columns.specs.Schema.{old_schema, book_schema};
 ghost use Rattle.acd_sql_schema.specs.Inspecting.{IsAdoptStoreFault};
 ghost use Rattle.acd_sql_schema.specs.Migrating.{IsMade};
 ghost use Rattle.acd_sqlbook.specs.Adopting.{AdoptCause, HasAllColumns, IsAdopted, IsHandedBack, IsUntouched, MayMigrate};
+ghost use Rattle.acd_sqlbook.specs.Noting.{IsBlank};
 ghost use Rattle.acd_sqlbook.specs.State.{book_state};
 
 use crate::book::SqlBook;
+use crate::notes::Notes;
 use crate::ready::Ready;
 use acd_sql_columns::Version;
 use acd_sql_schema::{AdoptFault, Found, fault_of, look_over, migrate};
@@ -42,7 +44,7 @@ impl<S: Alter> SqlBook<S> {
             → (S.Store.view conn.store).is_broken ≡ false
             → HasAllColumns (state S.Store conn).now → IsFiled (state S.Store conn).now) }
         ensures counted { IfOk result (λ b. b.failures ≡ 0) }
-        ensures unnoted { IfOk result (λ b. b.noted ≡ None) }
+        ensures unnoted { IfOk result (λ b. IsBlank b.noted) }
         ensures clean { IfOk result
             (λ b. HasCleanDisk (state S.Store b.conn) → HasCleanDisk (state S.Store conn)) }
         ensures idle { IfErr result (λ e. e.1.in_transaction ≡ false) }
@@ -65,14 +67,14 @@ impl<S: Alter> SqlBook<S> {
                 alloc,
                 ready: Ready { conn, fresh: true },
                 failures: 0,
-                noted: None,
+                notes: Notes::blank(alloc),
             }),
             Ok(Found::Book(Version::First)) => match migrate(&mut conn) {
                 Ok(()) => Ok(SqlBook {
                     alloc,
                     ready: Ready { conn, fresh: true },
                     failures: 0,
-                    noted: None,
+                    notes: Notes::blank(alloc),
                 }),
                 Err(error) => Err((fault_of(error), conn)),
             },

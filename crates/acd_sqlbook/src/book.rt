@@ -1,18 +1,21 @@
 //! A book over a connection.
 
-ghost use Rattle.std.specs.Prelude.{◌≡◌, ◌≢◌, ◌≤◌, false, Err, None, is_ok, IsTrue, IfOk, IfErr};
+ghost use Rattle.std.specs.Prelude.{◌≡◌, ◌≢◌, ◌≤◌, false, Err, is_ok, IsTrue, IfOk, IfErr};
 ghost use Rattle.sqlite.specs.State.{HasCleanDisk};
 ghost use Rattle.sqlite.specs.Held.{state};
 ghost use Rattle.acd_sql_columns.specs.Schema.{no_schema};
 ghost use Rattle.acd_sql_columns.specs.Draft.{LimitsFit};
 ghost use Rattle.acd_sqlbook.specs.State.{book_state, IsNewBook, fault_of, answered, failures_after};
+ghost use Rattle.acd_sqlbook.specs.Noting.{IsBlank};
 ghost use Rattle.acd_sqlbook.specs.View.{book_of};
 ghost use Rattle.acd_sql_schema.specs.SettingUp.{MayMake};
 ghost use Rattle.acd_sqlbook.specs.Causes.{StoreCause, IsCaused, create as creating, read as reading, change as changing, replace as replacing};
 ghost use Rattle.acd_book.specs.Content.{IsKeptAfter, events_behind, events_of_monitor, kept_of, Follows, committed, FollowsBy, committed_by};
 ghost use Rattle.acd_book.specs.State.{Reads, Commits};
 
-use crate::index::{Index, noted_behind};
+use crate::following::kept_followed;
+use crate::index::noted_behind;
+use crate::notes::Notes;
 use crate::page::page_followed;
 use crate::ready::{Ready, limits_fit};
 use crate::transition::commit_rows;
@@ -31,8 +34,7 @@ pub struct SqlBook<S: Alter> {
     pub(crate) alloc: Global,
     pub(crate) ready: Ready<S>,
     pub(crate) failures: u64,
-    // Which events are at the devices of the running monitors, where that is noted.
-    pub(crate) noted: Option<Index>,
+    pub(crate) notes: Notes,
 }
 
 impl<S: Alter> Model for SqlBook<S> {
@@ -45,7 +47,7 @@ impl<S: Alter> Model for SqlBook<S> {
     ghost view = { λ b. record {
       conn = b.ready.conn;
       failures = b.failures;
-      noted = b.noted;
+      noted = b.notes;
     } };
 }
 
@@ -96,7 +98,7 @@ impl<S: Alter> SqlBook<S> {
         ensures made { IfOk result (λ b. HasCleanDisk (state S.Store b.conn)
             → IsNewBook (book_state (state S.Store b.conn) b.failures) limits) }
         ensures counted { IfOk result (λ b. b.failures ≡ 0) }
-        ensures unnoted { IfOk result (λ b. b.noted ≡ None) }
+        ensures unnoted { IfOk result (λ b. IsBlank b.noted) }
         ensures clean { IfOk result
             (λ b. HasCleanDisk (state S.Store b.conn) → HasCleanDisk (state S.Store conn)) }
         ensures refused { ¬ (LimitsFit limits) → result ≡ Err (BookFault.Store, conn) }
@@ -121,7 +123,7 @@ impl<S: Alter> SqlBook<S> {
                 alloc,
                 ready: Ready { conn, fresh: true },
                 failures: 0,
-                noted: None,
+                notes: Notes::blank(alloc),
             }),
             Err(error) => Err((fault_of(error), conn)),
         }
@@ -136,7 +138,7 @@ impl<S: Alter> SqlBook<S> {
             alloc: _,
             ready,
             failures: _,
-            noted: _,
+            notes: _,
         } = self;
         let Ready { conn, fresh: _ } = ready;
         conn
@@ -201,7 +203,7 @@ impl<S: Alter> Book for SqlBook<S> {
             (state S.Store self.old.conn) (state S.Store self.new.conn)
             self.old.failures self.new.failures result }
     {
-        let found = self.ready.kept_after(self.alloc, stamp);
+        let found = kept_followed(self.alloc, &mut self.ready, &mut self.notes.ahead, stamp);
         noted(found, &mut self.ready.fresh, &mut self.failures)
     }
 
@@ -231,7 +233,7 @@ impl<S: Alter> Book for SqlBook<S> {
         let found = page_followed(
             self.alloc,
             &mut self.ready,
-            &mut self.noted,
+            &mut self.notes.index,
             monitor,
             number,
             limit,
@@ -247,7 +249,7 @@ impl<S: Alter> Book for SqlBook<S> {
             (state S.Store self.old.conn) (state S.Store self.new.conn)
             self.old.failures self.new.failures result }
     {
-        self.noted = None;
+        self.notes.forget();
         let done = commit_rows(self.alloc, &mut self.ready, rows, events, kept);
         noted(done, &mut self.ready.fresh, &mut self.failures)
     }
@@ -266,7 +268,9 @@ impl<S: Alter> Book for SqlBook<S> {
             self.old.failures self.new.failures result }
     {
         let done = self.ready.commit_changes(self.alloc, changes, events, kept);
-        self.noted = noted_behind(mem::take(&mut self.noted), &done, changes, events);
+        let before = mem::take(&mut self.notes.index);
+        self.notes.index = noted_behind(before, &done, changes, events);
+        self.notes.ahead.forget();
         noted(done, &mut self.ready.fresh, &mut self.failures)
     }
 }

@@ -2,8 +2,9 @@
 //! tables of a database.
 //!
 //! [`SqlBook::create`] makes the tables of a new book, in one transaction. A [`SqlBook`] is a
-//! [`Book`](acd_book::Book) that keeps nothing but its connection, whether its last call succeeded and how
-//! often its store has failed: each read asks the database.
+//! [`Book`](acd_book::Book) that keeps its connection, whether its last call succeeded and how often its store
+//! has failed: each read asks the database, but that kept records are read ahead, and the numbers of the events
+//! of running monitors are noted.
 //!
 //! Each statement is a function of `acd_sql_statements`, which works inside a transaction and adds no stop; the end
 //! of the transaction alone adds the commit.
@@ -16,11 +17,14 @@
 #![tactic(auto)]
 
 mod adopt;
+mod ahead;
 mod begun;
 mod book;
 mod commit;
+mod following;
 mod index;
 pub mod laws;
+mod notes;
 mod page;
 mod ready;
 mod transition;

@@ -4,9 +4,10 @@
 ghost use Rattle.std.specs.Prelude.{◌≡◌, ◌↔◌, false, IsTrue, IfOk, IfErr, OnOk};
 ghost use Rattle.sqlite.specs.State.{HasCleanDisk};
 ghost use Rattle.sqlite.specs.Held.{state};
-ghost use Rattle.acd_book.specs.Content.{IsKeptAfter, events_behind, kept_of};
+ghost use Rattle.acd_book.specs.Content.{events_behind, kept_of};
 ghost use Rattle.acd_sqlbook.specs.Calls.{HasRead, HasCommitted};
 ghost use Rattle.acd_sqlbook.specs.Commit.{counted, written_by};
+ghost use Rattle.acd_sql_columns.specs.Finding.{kept_behind};
 ghost use Rattle.acd_sql_columns.specs.Relations.{meta_of};
 ghost use Rattle.acd_sql_columns.specs.Draft.{Quiet, NoStop, Fits, LimitsFit, MetaFits};
 ghost use Rattle.acd_sql_statements.specs.Reading.{Blames};
@@ -135,14 +136,19 @@ impl<S: Alter> Ready<S> {
         kept_under(alloc, &mut self.conn, requester, invoke)
     }
 
-    /// The kept record of the least greater stamp.
-    pub(crate) fn kept_after(&mut self, alloc: Global, stamp: u64) -> Result<Option<Kept>, Error>
+    /// The first kept records above a stamp.
+    pub(crate) fn kept_behind(
+        &mut self,
+        alloc: Global,
+        stamp: u64,
+        limit: usize,
+    ) -> Result<Vec<Kept>, Error>
         ensures read { HasRead (state S.Store self.old.conn) (state S.Store self.new.conn) result
-            (λ c found. IsKeptAfter c.kept stamp found) }
+            (λ c found. found.items ≡ kept_behind c.kept stamp limit) }
         ensures blamed { Blames (state S.Store self.old.conn) (state S.Store self.new.conn) result }
     {
         self.serve()?;
-        kept_behind(alloc, &mut self.conn, stamp)
+        kept_behind(alloc, &mut self.conn, stamp, limit)
     }
 
     /// The first events above a number.

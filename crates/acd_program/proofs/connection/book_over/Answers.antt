@@ -1,6 +1,6 @@
 use Rattle.std.proofs.Common.{inl, refl, sym, ◌∙◌}
 use Rattle.sqlite.specs.Held.{state}
-use Rattle.acd_sqlbook.specs.Indexing.{followed}
+use Rattle.acd_sqlbook.specs.Noting.{followed}
 use Rattle.acd_sqlbook.specs.State.{book_state}
 use Rattle.acd_program.proofs.Taking.{of_held, made_taken, none_made, unserved_held}
 use Rattle.acd_program.proofs.connection.book_over.Goals as goal

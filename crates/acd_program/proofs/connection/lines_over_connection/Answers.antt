@@ -2,7 +2,7 @@ use Rattle.std.proofs.Common.{◌≡◌, true, OnOk, IfErr, refl, sym, subst}
 use Rattle.std.specs.Io.KnownBytes.{Appends}
 use Rattle.sqlite.specs.Held.{state}
 use Rattle.acd_book.specs.State.{BookState}
-use Rattle.acd_sqlbook.specs.Indexing.{followed}
+use Rattle.acd_sqlbook.specs.Noting.{followed}
 use Rattle.acd_sqlbook.specs.State.{book_state}
 use Rattle.acd_desk.specs.declared.open_fault.OpenFault.{OpenFault}
 use Rattle.acd_desk.specs.Opening.{Refused}

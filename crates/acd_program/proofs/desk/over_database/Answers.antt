@@ -1,7 +1,7 @@
 use Rattle.std.proofs.Common.{IfOk, sym, subst}
 use Rattle.sqlite.specs.Held.{state}
 use Rattle.acd_book.specs.State.{BookState}
-use Rattle.acd_sqlbook.specs.Indexing.{followed}
+use Rattle.acd_sqlbook.specs.Noting.{followed}
 use Rattle.acd_sqlbook.specs.State.{book_state}
 use Rattle.acd_program.specs.Over.{AnswersOver, OverConnection}
 use Rattle.acd_program.specs.Work.{WorkDone}

@@ -14,6 +14,6 @@ returns-in-Ok g c =
     let conn : _ = c.in_ok-conn.conn in
     let last : _ = c.reading_lines_over_connection-conn.result.1 in
     let read : ReadsDatabase over_files c.in_ok-conn.is_new ends (file_state conn) had a b last
-    = subst (λ (r : _). OnOk r (ReadsDatabase over_files c.in_ok-conn.is_new ends (file_state conn) had a b last)) c.in-Ok.is c.reading_lines_over_connection-conn.ensures in
+    = subst (λ (r : _). OnOk r (ReadsDatabase over_files c.in_ok-conn.is_new ends (file_state conn) had a b last)) c.in-Ok.is c.reading_lines_over_connection-conn.ensures.answered in
     read_in IsFresh c.close_connection-closed.result ends had a b conn last c.in_ok-conn.ensures.opened
     (reads_makes over_files c.in_ok-conn.is_new true ends (file_state conn) had a b last c.in_ok-conn.ensures.makes read) c.close_connection-closed.ensures

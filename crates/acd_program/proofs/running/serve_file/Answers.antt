@@ -13,6 +13,6 @@ returns-in-Ok g c =
     let conn : _ = c.in_ok-conn.conn in
     let last : _ = c.serve-conn.result.1 in
     let served : ServesDatabase over_files c.in_ok-conn.is_new many (file_state conn) a b last
-    = subst (λ (r : _). OnOk r (ServesDatabase over_files c.in_ok-conn.is_new many (file_state conn) a b last)) c.in-Ok.is c.serve-conn.ensures in
+    = subst (λ (r : _). OnOk r (ServesDatabase over_files c.in_ok-conn.is_new many (file_state conn) a b last)) c.in-Ok.is c.serve-conn.ensures.served in
     served_in IsFresh c.close_connection-closed.result many a b conn last c.in_ok-conn.ensures.opened
     (serves_makes over_files c.in_ok-conn.is_new true many (file_state conn) a b last c.in_ok-conn.ensures.makes served) c.close_connection-closed.ensures

@@ -1,12 +1,14 @@
 use Rattle.sqlite.specs.Held.{state}
 use Rattle.acd_sql_statements.proofs.Chained.{finds_failed}
-use Rattle.acd_sql_statements.proofs.FirstFound.{kept_first}
+use Rattle.acd_sql_columns.proofs.Recorded.{recorded_good}
+use Rattle.acd_sql_statements.proofs.FirstFound.{page_readable}
 use Rattle.std.proofs.Common.{nat_lt, map, refl, rules}
 use Rattle.acd_book.specs.Content.{Content}
 use Rattle.acd_book.specs.declared.kept.Kept.{Kept}
 use Rattle.acd_sql_columns.specs.Finding.{kept_behind}
 use Rattle.acd_sql_columns.specs.Ranges.{kept_in}
-use Rattle.acd_sql_columns.specs.Rows.{kept_values}
+use Rattle.acd_sql_columns.specs.Rows.{IsReadable, kept_values}
+use Rattle.acd_sql_columns.proofs.Reported.{kept_exact}
 use Rattle.acd_sql_columns.specs.declared.tables.Table.TheVariants as table
 use Rattle.acd_sql_statements.proofs.Blamed.{blames_as}
 use Rattle.acd_sql_statements.proofs.BlamedRows.{blames_records, rows_has, page_has}
@@ -16,11 +18,12 @@ pub returns : goal.returns
 returns g c = record {
   idle = search rules;
   found =
-      kept_first (state g.S.Store c.args.conn.now) (state g.S.Store c.kept_page.new.conn) c.args.stamp c.in_ok-rows.rows c.first.result c.in_ok-rows.ensures.found (rw c.deref.ensures.value at c.first.ensures.found);
+      recorded_good kept_in kept_values IsReadable kept_exact (state g.S.Store c.args.conn.now) (state g.S.Store c.kept_page.new.conn) c.in_ok-rows.rows c.records.result (λ (x : Content). kept_behind x.kept c.args.stamp c.args.limit)
+      (page_readable (state g.S.Store c.args.conn.now) c.args.stamp c.args.limit) c.in_ok-rows.ensures.found (rw c.deref.ensures.value at c.records.ensures.records);
   blamed =
-      blames_records kept_in table.Kept (λ row. refl) (state g.S.Store c.args.conn.now) (state g.S.Store c.kept_page.new.conn) c.in_ok-rows.rows c.first.result (λ (x : Content). map kept_values (kept_behind x.kept c.args.stamp 1))
-      (λ x row. rows_has kept_values (kept_behind x.kept c.args.stamp 1) x.kept row (page_has 1 (λ (k : Kept). nat_lt c.args.stamp k.stamp) x.kept))
-      c.in_ok-rows.ensures.blamed c.in_ok-rows.ensures.found (rw c.deref.ensures.value at c.first.ensures.bad);
+      blames_records kept_in table.Kept (λ row. refl) (state g.S.Store c.args.conn.now) (state g.S.Store c.kept_page.new.conn) c.in_ok-rows.rows c.records.result (λ (x : Content). map kept_values (kept_behind x.kept c.args.stamp c.args.limit))
+      (λ x row. rows_has kept_values (kept_behind x.kept c.args.stamp c.args.limit) x.kept row (page_has c.args.limit (λ (k : Kept). nat_lt c.args.stamp k.stamp) x.kept))
+      c.in_ok-rows.ensures.blamed c.in_ok-rows.ensures.found (rw c.deref.ensures.value at c.records.ensures.bad);
 }
 
 pub returns-in_err-rows : goal.returns-in_err-rows

@@ -14,11 +14,11 @@ pub returns : goal.returns
 returns g c = record {
   idle = search rules;
   found =
-      paged (λ (n : ℕ) (k : Kept). nat_lt n k.stamp) (λ a b k low h. still_below a b k.stamp low h) kept_values c.args.stamp 1 (λ (x : Content). x.kept)
-      (state g.S.Store c.args.conn.now) (state g.S.Store c.kept_rows.new.conn) c.in_ok-rows.rows c.meant.result c.min.result 1 c.min.ensures refl c.in_ok-rows.ensures.found c.meant.ensures.same c.meant.ensures.none c.meant.ensures.fewer;
+      paged (λ (n : ℕ) (k : Kept). nat_lt n k.stamp) (λ a b k low h. still_below a b k.stamp low h) kept_values c.args.stamp c.args.limit (λ (x : Content). x.kept)
+      (state g.S.Store c.args.conn.now) (state g.S.Store c.kept_rows.new.conn) c.in_ok-rows.rows c.meant.result c.min.result c.min-2.result c.min.ensures c.min-2.ensures c.in_ok-rows.ensures.found c.meant.ensures.same c.meant.ensures.none c.meant.ensures.fewer;
   blamed =
       blames_page (λ (n : ℕ) (k : Kept). nat_lt n k.stamp) (λ (k : Kept). k.stamp) kept_values (λ n k h. below_is n k.stamp h) (λ k. refl) (λ (x : Content). x.kept)
-      (state g.S.Store c.args.conn.now) (state g.S.Store c.kept_rows.new.conn) c.in_ok-rows.rows c.meant.result c.args.stamp c.min.result 1 c.min.ensures c.in_ok-rows.ensures.blamed c.in_ok-rows.ensures.found c.meant.ensures.other;
+      (state g.S.Store c.args.conn.now) (state g.S.Store c.kept_rows.new.conn) c.in_ok-rows.rows c.meant.result c.args.stamp c.min.result c.min-2.result c.min.ensures c.in_ok-rows.ensures.blamed c.in_ok-rows.ensures.found c.meant.ensures.other;
 }
 
 pub returns-in_err-rows : goal.returns-in_err-rows

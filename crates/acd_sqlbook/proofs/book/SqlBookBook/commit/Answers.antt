@@ -1,7 +1,6 @@
 use Rattle.sqlite.specs.Held.{state}
 use Rattle.acd_sqlbook.specs.Causes.{replace}
-use Rattle.std.proofs.Common.{None}
-use Rattle.acd_sqlbook.proofs.Followed.{commits_followed}
+use Rattle.acd_sqlbook.proofs.Followed.{blank_of, commits_followed}
 use Rattle.acd_sqlbook.proofs.BookStates.{rows_noted}
 use Rattle.acd_sqlbook.proofs.Caused.{replace_caused, noted_cause}
 use Rattle.acd_sqlbook.proofs.book.SqlBookBook.commit.Goals as goal
@@ -9,7 +8,7 @@ use Rattle.acd_sqlbook.proofs.book.SqlBookBook.commit.Goals as goal
 pub returns-clause-commits : goal.returns-clause-commits
 returns-clause-commits g c =
     rw (← c.self.view_is)
-    (commits_followed c.self.inside.noted None _ _ _ _ _ (λ k s up n. tt)
+    (commits_followed c.self.inside.notes c.forget.new.self _ _ _ _ _ (λ k s up n. blank_of c.forget.new.self c.forget.ensures _)
     (rows_noted (state g.S.Store c.self.inside.ready.conn) (state g.S.Store c.commit_rows-done.new.ready.conn) c.self.inside.failures c.noted.new.failures c.commit_rows-done.result c.noted.result
     c.args.rows.now c.args.events.now c.args.kept.now c.noted.ensures.answer c.noted.ensures.failures c.noted.ensures.counts c.commit_rows-done.ensures.commits))
 

@@ -1,6 +1,7 @@
 use Rattle.std.proofs.Common.{◌≡◌, Option, rules, subst}
 use Rattle.acd_sqlbook.specs.Indexing.{IsNotedBehind}
 use Rattle.acd_sqlbook.specs.declared.index.Index.{Index}
+use Rattle.acd_sqlbook.specs.declared.notes.Notes.{Notes}
 use Rattle.sqlite.specs.Held.{state}
 use Rattle.acd_sqlbook.specs.Causes.{change}
 use Rattle.acd_sqlbook.proofs.Followed.{commits_followed, changes_goes}
@@ -10,10 +11,11 @@ use Rattle.acd_sqlbook.proofs.book.SqlBookBook.commit_changes.Goals as goal
 
 pub returns-clause-commits : goal.returns-clause-commits
 returns-clause-commits g c =
-    let taken : c.take.result ≡ c.self.inside.noted = search rules in
+    let taken : c.take-before.result ≡ c.self.inside.notes.index = search rules in
+    let behind : Notes = record { index = c.noted_behind.result; ahead = c.forget.new.self } in
     rw (← c.self.view_is)
-    (commits_followed c.self.inside.noted c.noted_behind.result _ _ _ _ _
-    (changes_goes c.self.inside.noted c.noted_behind.result (state g.S.Store c.self.inside.ready.conn) (state g.S.Store c.commit_changes-done.new.self.conn) c.commit_changes-done.result c.args.changes.now c.args.events.now c.args.kept.now (subst (λ (o : Option Index). IsNotedBehind o c.commit_changes-done.result c.args.events.now c.noted_behind.result) taken c.noted_behind.ensures) c.commit_changes-done.ensures.commits)
+    (commits_followed c.self.inside.notes behind _ _ _ _ _
+    (changes_goes c.self.inside.notes behind (state g.S.Store c.self.inside.ready.conn) (state g.S.Store c.commit_changes-done.new.self.conn) c.commit_changes-done.result c.args.changes.now c.args.events.now c.args.kept.now (subst (λ (o : Option Index). IsNotedBehind o c.commit_changes-done.result c.args.events.now c.noted_behind.result) taken c.noted_behind.ensures) c.forget.ensures c.commit_changes-done.ensures.commits)
     (changes_noted (state g.S.Store c.self.inside.ready.conn) (state g.S.Store c.commit_changes-done.new.self.conn) c.self.inside.failures c.noted.new.failures c.commit_changes-done.result c.noted.result
     c.args.changes.now c.args.events.now c.args.kept.now c.noted.ensures.answer c.noted.ensures.failures c.noted.ensures.counts c.commit_changes-done.ensures.commits))
 

@@ -10,7 +10,7 @@ use Rattle.acd_sqlbook.proofs.book.SqlBookBook.events_after.Goals as goal
 pub returns-clause-reads : goal.returns-clause-reads
 returns-clause-reads g c =
     rw (← c.self.view_is)
-    (reads_kept c.self.inside.noted _ _ _ _
+    (reads_kept c.self.inside.notes _ _ _ _
     (reads_noted (state g.S.Store c.self.inside.ready.conn) (state g.S.Store c.events_after-found.new.self.conn) c.self.inside.failures c.noted.new.failures c.events_after-found.result c.noted.result
     (λ x found. found.items ≡ events_behind x.events c.args.number c.args.limit) (g.met.S.Store.settled c.self.inside.ready.conn.store) (g.met.S.Store.stays c.events_after-found.new.self.conn.store)
     c.noted.ensures.answer c.noted.ensures.failures c.noted.ensures.counts c.events_after-found.ensures.read))

@@ -3,19 +3,22 @@ use Rattle.acd_book.specs.Content.{IsKeptAfter}
 use Rattle.acd_sqlbook.specs.Causes.{read}
 use Rattle.acd_sqlbook.proofs.BookStates.{reads_noted}
 use Rattle.acd_sqlbook.proofs.Caused.{reads_caused, noted_cause}
-use Rattle.acd_sqlbook.proofs.Followed.{reads_kept}
+use Rattle.acd_sqlbook.specs.Ahead.{IsAhead}
+use Rattle.acd_sqlbook.proofs.Followed.{read_goes, reads_followed}
 use Rattle.acd_sqlbook.proofs.book.SqlBookBook.kept_after.Goals as goal
 
 pub returns-clause-reads : goal.returns-clause-reads
 returns-clause-reads g c =
     rw (← c.self.view_is)
-    (reads_kept c.self.inside.noted _ _ _ _
-    (reads_noted (state g.S.Store c.self.inside.ready.conn) (state g.S.Store c.kept_after-found.new.self.conn) c.self.inside.failures c.noted.new.failures c.kept_after-found.result c.noted.result
-    (λ x found. IsKeptAfter x.kept c.args.stamp found) (g.met.S.Store.settled c.self.inside.ready.conn.store) (g.met.S.Store.stays c.kept_after-found.new.self.conn.store)
-    c.noted.ensures.answer c.noted.ensures.failures c.noted.ensures.counts c.kept_after-found.ensures.read))
+    (reads_followed c.self.inside.notes (record c.self.inside.notes { ahead = c.kept_followed-found.new.ahead }) _ _ _ _ _
+    (read_goes c.self.inside.notes (record c.self.inside.notes { ahead = c.kept_followed-found.new.ahead }) (state g.S.Store c.self.inside.ready.conn) (state g.S.Store c.kept_followed-found.new.ready.conn)
+    (λ k x held of. record { index = of.index; ahead = c.kept_followed-found.ensures.noted k x held of.ahead })) (λ x a of p. p of.ahead)
+    (reads_noted (state g.S.Store c.self.inside.ready.conn) (state g.S.Store c.kept_followed-found.new.ready.conn) c.self.inside.failures c.noted.new.failures c.kept_followed-found.result c.noted.result
+    (λ x found. IsAhead c.self.inside.notes.ahead x.kept → IsKeptAfter x.kept c.args.stamp found) (g.met.S.Store.settled c.self.inside.ready.conn.store) (g.met.S.Store.stays c.kept_followed-found.new.ready.conn.store)
+    c.noted.ensures.answer c.noted.ensures.failures c.noted.ensures.counts c.kept_followed-found.ensures.read))
 
 pub returns-clause-caused : goal.returns-clause-caused
 returns-clause-caused g c =
     rw (← c.self.view_is)
-    (noted_cause read (state g.S.Store c.self.inside.ready.conn) (state g.S.Store c.kept_after-found.new.self.conn) c.self.inside.failures c.noted.new.failures c.noted.result c.noted.ensures.failures
-    (reads_caused (state g.S.Store c.self.inside.ready.conn) (state g.S.Store c.kept_after-found.new.self.conn) c.kept_after-found.result c.noted.result c.noted.ensures.answer c.kept_after-found.ensures.blamed))
+    (noted_cause read (state g.S.Store c.self.inside.ready.conn) (state g.S.Store c.kept_followed-found.new.ready.conn) c.self.inside.failures c.noted.new.failures c.noted.result c.noted.ensures.failures
+    (reads_caused (state g.S.Store c.self.inside.ready.conn) (state g.S.Store c.kept_followed-found.new.ready.conn) c.kept_followed-found.result c.noted.result c.noted.ensures.answer c.kept_followed-found.ensures.blamed))

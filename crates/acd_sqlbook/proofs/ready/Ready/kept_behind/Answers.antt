@@ -1,13 +1,13 @@
 use Rattle.sqlite.specs.Held.{state}
-use Rattle.acd_book.specs.Content.{IsKeptAfter}
 use Rattle.acd_sqlbook.proofs.Standing.{reads_behind}
-use Rattle.std.proofs.Common.{rules}
+use Rattle.std.proofs.Common.{◌≡◌, rules}
+use Rattle.acd_sql_columns.specs.Finding.{kept_behind}
 use Rattle.acd_sql_statements.proofs.Blamed.{blames_as, blames_behind}
-use Rattle.acd_sqlbook.proofs.ready.Ready.kept_after.Goals as goal
+use Rattle.acd_sqlbook.proofs.ready.Ready.kept_behind.Goals as goal
 
 pub returns-clause-read : goal.returns-clause-read
 returns-clause-read g c =
-    reads_behind (state g.S.Store c.args.self.now.conn) (state g.S.Store c.serve.new.self.conn) (state g.S.Store c.kept_behind.new.conn) c.kept_behind.result (λ x found. IsKeptAfter x.kept c.args.stamp found)
+    reads_behind (state g.S.Store c.args.self.now.conn) (state g.S.Store c.serve.new.self.conn) (state g.S.Store c.kept_behind.new.conn) c.kept_behind.result (λ x found. found.items ≡ kept_behind x.kept c.args.stamp c.args.limit)
     c.serve.ensures.quiet c.in_ok-serve.ensures.up c.serve.ensures.stops c.kept_behind.ensures.found
 
 pub returns-in_err-serve-clause-blamed : goal.returns-in_err-serve-clause-blamed
