@@ -1,11 +1,12 @@
 -- What a running monitor tells, and how a log that is numbered from 1 finds it.
-use Rattle.std.proofs.Common.{arith, ◌≡◌, ℕ, ◌+◌, ◌-◌, ◌<◌, ◌≤◌, ◌==◌, zero, suc, max, Bool, true, false, cond, List, [], ◌∷◌, length, take, drop, filter, map, slice_get, Option, Some, None, inl, inr, refl, sym, ap, subst, ◌∙◌}
+use Rattle.std.proofs.Common.{arith, ◌≡◌, ℕ, ◌+◌, ◌-◌, ◌<◌, ◌≤◌, ◌==◌, suc, max, Bool, true, cond, List, [], ◌∷◌, length, take, drop, filter, map, slice_get, Option, Some, None, inl, inr, refl, sym, ap, subst, ◌∙◌}
 use Rattle.std.specs.List.{cons_option, filter_map}
 use Rattle.std.proofs.lemmas.Bool.Decides.{nat_tests}
 use Rattle.acd_terms.specs.Lists.{Among, Every}
 use Rattle.acd_terms.proofs.Numbers.{not_zero}
 use Rattle.acd_terms.specs.declared.event.Event.{Event}
 use Rattle.acd_terms.specs.declared.record.MonitorRecord.{MonitorRecord}
+use Rattle.acd_lemmas.proofs.Lists.{every_from, every-take, every-filter}
 use Rattle.acd_model.specs.Scans.{monitor_of}
 use Rattle.acd_book.specs.Content.{Content, is_at, is_told, watched_by, events_of_monitor}
 use Rattle.acd_book.specs.Memory.{event_at, is_numbered, number_of}
@@ -55,32 +56,10 @@ found_all events (e ∷ some) numbered all =
     ap (λ (o : Option Event). cons_option o (filter_map (event_at events) (map number_of some))) (found_at events e numbered all.0)
     ∙ ap (λ (l : List Event). e ∷ l) (found_all events some numbered all.1)
 
-module _ {T : Type 0} (P : T → Type 0) where
-  every-filter : (p : T → Bool) (xs : List T) → Every P xs → Every P (filter p xs)
-  every-filter p [] all = tt
-  every-filter p (x ∷ xs) all = by (p x) (every-filter p xs all.1)
-    where
-      by : (b : Bool) → Every P (filter p xs) → Every P (cond b (x ∷ filter p xs) (filter p xs))
-      by true rest = (all.0, rest)
-      by false rest = rest
-
-  every-take : (n : ℕ) (xs : List T) → Every P xs → Every P (take n xs)
-  every-take zero xs all = tt
-  every-take (suc n) [] all = tt
-  every-take (suc n) (x ∷ xs) all = (all.0, every-take n xs all.1)
-
-every_more : {T : Type 0} (x : T) (some all : List T) → Every (λ (y : T). Among y all) some → Every (λ (y : T). Among y (x ∷ all)) some
-every_more x [] all h = tt
-every_more x (y ∷ some) all h = (inr h.0, every_more x some all h.1)
-
-all_among : {T : Type 0} (xs : List T) → Every (λ (y : T). Among y xs) xs
-all_among [] = tt
-all_among (x ∷ xs) = (inl refl, every_more x xs xs (all_among xs))
-
 -- a page of a list of numbers
 pub page_found : (device number limit : ℕ) (events : List Event) (numbers : List ℕ) → is_numbered number_of 0 events ≡ true → numbers ≡ map number_of (take limit (filter (is_told (Some device) number) events))
     → filter_map (event_at events) numbers ≡ take limit (filter (is_told (Some device) number) events)
 page_found device number limit events numbers numbered are =
     let told = is_told (Some device) number in
-    let there = every-take (λ (e : Event). Among e events) limit (filter told events) (every-filter (λ (e : Event). Among e events) told events (all_among events)) in
+    let there = every-take (λ (e : Event). Among e events) limit (filter told events) (every-filter (λ (e : Event). Among e events) told events (every_from (λ (e : Event). Among e events) events (λ e among. among))) in
     ap (filter_map (event_at events)) are ∙ found_all events (take limit (filter told events)) numbered there

@@ -76,10 +76,13 @@ pub trait Book {
             (committed_by changes.now events.now kept.now) };
 
     // While it is open, its content is the one stop.
-    ghost settled: { (book : Self) (c : Content) → (state book).is_clean → (state book).is_sound → (state book).is_open → (state book).stops c → c ≡ (state book).content };
+    ghost settled: { (book : Self) (c : Content) → (state book).is_clean → (state book).is_sound
+        → (state book).is_open → (state book).stops c → c ≡ (state book).content };
 
-    ghost stays: { (book : Self) → (state book).is_clean → (state book).is_sound → (state book).is_open → (state book).stops (state book).content };
+    ghost stays: { (book : Self) → (state book).is_clean → (state book).is_sound
+        → (state book).is_open → (state book).stops (state book).content };
 
     // A reopening finds something, also once a failure has shut it.
-    ghost stands: { (book : Self) → (state book).is_clean → (state book).is_sound → ∥ ((c : Content) × (state book).stops c) ∥₁ };
+    ghost stands: { (book : Self) → (state book).is_clean → (state book).is_sound
+        → ∥ ((c : Content) × (state book).stops c) ∥₁ };
 }

@@ -42,7 +42,8 @@ impl Contents {
         requester: &Requester,
         invoke: Invoke,
     ) -> Result<Option<Kept>, AllocError>
-        ensures { IfOk result (λ found. found ≡ kept_of (content_of self.now).kept requester.now invoke) }
+        ensures { IfOk result
+            (λ found. found ≡ kept_of (content_of self.now).kept requester.now invoke) }
     {
         match self.replies.under(requester, invoke) {
             Some(kept) => Ok(Some(kept.clone()?)),
@@ -61,7 +62,8 @@ impl Contents {
     }
 
     pub(crate) fn events_after(&self, number: u64, limit: usize) -> Result<Vec<Event>, AllocError>
-        ensures { IfOk result (λ found. found.items ≡ events_behind (content_of self.now).events number limit) }
+        ensures { IfOk result
+            (λ found. found.items ≡ events_behind (content_of self.now).events number limit) }
     {
         first(self.alloc, self.log.behind(number), limit)
     }
@@ -73,7 +75,8 @@ impl Contents {
         number: u64,
         limit: usize,
     ) -> Result<Vec<Event>, AllocError>
-        ensures found { IfOk result (λ found. found.items ≡ events_of_monitor (content_of self.old) monitor number limit) }
+        ensures found { IfOk result
+            (λ found. found.items ≡ events_of_monitor (content_of self.old) monitor number limit) }
         ensures same { content_of self.new ≡ content_of self.old }
         ensures no_longer { waiting self.new ≤ waiting self.old }
     {
@@ -90,7 +93,8 @@ impl Contents {
         events: &[Event],
         kept: &Kept,
     ) -> Result<(), AllocError>
-        ensures ok { OnOk result (content_of self.new ≡ committed rows.now events.now kept.now (content_of self.old)) }
+        ensures ok { OnOk result
+            (content_of self.new ≡ committed rows.now events.now kept.now (content_of self.old)) }
         ensures err { OnErr result (content_of self.new ≡ content_of self.old) }
         ensures no_longer { waiting self.new ≤ waiting self.old }
     {
@@ -114,7 +118,9 @@ impl Contents {
         events: &[Event],
         kept: &Kept,
     ) -> Result<(), AllocError>
-        ensures ok { OnOk result (content_of self.new ≡ committed_by changes.now events.now kept.now (content_of self.old)) }
+        ensures ok { OnOk result
+            (content_of self.new
+            ≡ committed_by changes.now events.now kept.now (content_of self.old)) }
         ensures err { OnErr result (content_of self.new ≡ content_of self.old) }
         ensures bounded { OnOk result (waiting self.new < 256 + length changes.now) }
         ensures no_longer { OnErr result (waiting self.new ≤ waiting self.old) }

@@ -122,7 +122,8 @@ impl Ledger {
     pub(crate) fn reserve(&mut self, changes: usize) -> Result<(), AllocError>
         ensures same { rows_of self.new ≡ rows_of self.old }
         ensures few { OnOk result (vec_len self.new.journal < 256) }
-        ensures room { OnOk result (vec_len self.new.journal + changes ≤ vec_capacity self.new.journal) }
+        ensures room { OnOk result
+            (vec_len self.new.journal + changes ≤ vec_capacity self.new.journal) }
         ensures no_longer { vec_len self.new.journal ≤ vec_len self.old.journal }
     {
         self.settle_many();
@@ -134,9 +135,11 @@ impl Ledger {
 
     /// Adds changes, for which there is room, and the counters of an executed request.
     pub(crate) fn append(&mut self, changes: &[Change], stamp: u64, moment: u32, events: u64)
-        requires room { vec_len self.old.journal + length changes.now ≤ vec_capacity self.old.journal }
+        requires room { vec_len self.old.journal + length changes.now
+            ≤ vec_capacity self.old.journal }
         requires countable { (rows_of self.old).last_event + events < 2 ^ 64 }
-        ensures made { rows_of self.new ≡ rows_made (rows_of self.old) changes.now stamp moment events }
+        ensures made { rows_of self.new
+            ≡ rows_made (rows_of self.old) changes.now stamp moment events }
         ensures added { vec_len self.new.journal ≤ vec_len self.old.journal + length changes.now }
     {
         let last_event = self.records.last_event() + events;

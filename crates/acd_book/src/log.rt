@@ -49,7 +49,8 @@ impl Log {
 
     // The events of these numbers.
     fn events_at(&self, alloc: Global, numbers: &[u64]) -> Result<Vec<Event>, AllocError>
-        ensures { IfOk result (λ found. found.items ≡ filter_map (event_at self.now.events.items) numbers.now) }
+        ensures { IfOk result
+            (λ found. found.items ≡ filter_map (event_at self.now.events.items) numbers.now) }
     {
         let mut found = Vec::with_capacity(alloc, numbers.len())?;
         for number in numbers {
@@ -67,7 +68,9 @@ impl Log {
         number: u64,
         limit: usize,
     ) -> Result<Vec<Event>, AllocError>
-        ensures { IfOk result (λ found. found.items ≡ take limit (filter (is_told (Some device) number) self.now.events.items)) }
+        ensures { IfOk result
+            (λ found. found.items
+            ≡ take limit (filter (is_told (Some device) number) self.now.events.items)) }
     {
         match self.watched.numbers(device, number, limit) {
             Some(numbers) => self.events_at(alloc, numbers),
@@ -92,7 +95,8 @@ impl Log {
     /// Takes room for so many more events.
     pub(crate) fn reserve(&mut self, events: usize) -> Result<(), AllocError>
         ensures same { self.new.events.items ≡ self.old.events.items }
-        ensures room { OnOk result (vec_len self.new.events + events ≤ vec_capacity self.new.events) }
+        ensures room { OnOk result
+            (vec_len self.new.events + events ≤ vec_capacity self.new.events) }
     {
         self.events.reserve(events)
     }
@@ -141,7 +145,8 @@ fn first_at(
     device: DeviceId,
     limit: usize,
 ) -> Result<Vec<Event>, AllocError>
-    ensures { IfOk result (λ found. found.items ≡ take limit (filter (is_at (Some device)) events.now)) }
+    ensures { IfOk result
+        (λ found. found.items ≡ take limit (filter (is_at (Some device)) events.now)) }
 {
     let mut found = Vec::new(alloc);
     for event in events {

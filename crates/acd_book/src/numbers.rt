@@ -31,7 +31,8 @@ impl Numbers {
     // Adds a number that is no less than those before it. Any other is refused as if there were no memory.
     fn push(&mut self, number: u64) -> Result<(), AllocError>
         ensures above { self.new.above ≡ self.old.above }
-        ensures added { OnOk result (self.new.numbers.items ≡ self.old.numbers.items ++ number ∷ []) }
+        ensures added { OnOk result
+            (self.new.numbers.items ≡ self.old.numbers.items ++ number ∷ []) }
     {
         if let Some(last) = self.numbers.last() {
             if number < *last {
@@ -45,7 +46,9 @@ impl Numbers {
     /// Adds the number of an event at the device, where it stands above the first.
     pub(crate) fn note(&mut self, number: u64) -> Result<(), AllocError>
         ensures above { self.new.above ≡ self.old.above }
-        ensures noted { OnOk result (self.new.numbers.items ≡ self.old.numbers.items ++ filter (nat_lt self.old.above) (number ∷ [])) }
+        ensures noted { OnOk result
+            (self.new.numbers.items
+            ≡ self.old.numbers.items ++ filter (nat_lt self.old.above) (number ∷ [])) }
     {
         if number <= self.above {
             return Ok(());

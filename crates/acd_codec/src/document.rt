@@ -88,7 +88,8 @@ impl<'a> Document<'a> {
 
     // The member, the last one of its name.
     fn find(&self, member: Member) -> Option<&Value<'a>>
-        ensures { option_and_then of_json (option_map (λ v. value_view v.now) result) ≡ get (member_name member) (data_of self.now) }
+        ensures { option_and_then of_json (option_map (λ v. value_view v.now) result)
+            ≡ get (member_name member) (data_of self.now) }
     {
         self.value.get(member.name())
     }
@@ -195,7 +196,8 @@ fn are_items_in_range(items: &Vec<Value<'_>>) -> bool
 
 #[cycle(is_in_range)]
 fn are_members_in_range(members: &Vec<(&str, Value<'_>)>) -> bool
-    ensures { (found : DataMembers) → result ≡ is_some (of_members (members_view members.now.items) found) }
+    ensures { (found : DataMembers)
+        → result ≡ is_some (of_members (members_view members.now.items) found) }
 {
     for member in members {
         if !is_in_range(&member.1) {
@@ -207,7 +209,8 @@ fn are_members_in_range(members: &Vec<(&str, Value<'_>)>) -> bool
 
 // A number with no point, exponent or sign, that fits.
 fn whole_number(value: &Value<'_>) -> Option<u64>
-    ensures { result ≡ option_and_then as_u64 (option_and_then as_number (of_json (value_view value.now))) }
+    ensures { result ≡ option_and_then as_u64
+        (option_and_then as_number (of_json (value_view value.now))) }
 {
     match value.as_number() {
         None => None,
@@ -265,7 +268,8 @@ fn is_negative_in_range(numeral: &Numeral<'_>) -> bool
 
 // A whole number below zero that fits.
 fn is_below_zero(numeral: &Numeral<'_>) -> bool
-    ensures { result ≡ (is_integer numeral.now && nat_lt 0 (digits_of numeral.now) && nat_le (digits_of numeral.now) (2 ^ 63)) }
+    ensures { result ≡ (is_integer numeral.now && nat_lt 0 (digits_of numeral.now)
+        && nat_le (digits_of numeral.now) (2 ^ 63)) }
 {
     numeral.to_i64(true).is_some_and(|n| n < 0)
 }

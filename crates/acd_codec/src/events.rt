@@ -33,7 +33,8 @@ fn put_further(
     moment: u32,
     columns: &Columns,
 ) -> Result<(), AllocError>
-    ensures { AddsTokens result out.old out.new (parts_tokens (further_parts number moment columns.now)) }
+    ensures { AddsTokens result out.old out.new
+        (parts_tokens (further_parts number moment columns.now)) }
 {
     put_device(out, "group", columns.group)?;
     put_number(out, "moment", u64::from(moment))?;

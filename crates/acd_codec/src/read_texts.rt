@@ -170,7 +170,9 @@ fn put_parties(
     extent: Extent,
     connections: &[ConnectionRecord],
 ) -> Result<(), AllocError>
-    ensures { AddsTokens result out.old out.new (part_tokens (list_part (codes "connections") (items_of (party_data extent) connections.now))) }
+    ensures { AddsTokens result out.old out.new
+        (part_tokens (list_part (codes "connections")
+        (items_of (party_data extent) connections.now))) }
 {
     match extent {
         Extent::Brief => put_list::<Parties>(out, "connections", connections),
@@ -184,7 +186,8 @@ pub(crate) fn put_call_members(
     call: &CallRecord,
     connections: &[ConnectionRecord],
 ) -> Result<(), AllocError>
-    ensures { AddsTokens result out.old out.new (parts_tokens (call_parts extent call.now connections.now)) }
+    ensures { AddsTokens result out.old out.new
+        (parts_tokens (call_parts extent call.now connections.now)) }
 {
     put_number(out, "call", call.call)?;
     put_device(out, "called", Some(call.called))?;
@@ -217,7 +220,8 @@ fn above_0(priority: Priority) -> Option<u64>
 
 // Writes the members of a group up to what it is.
 fn put_group_first(out: &mut Writer, extent: Extent, group: &GroupRecord) -> Result<(), AllocError>
-    ensures { AddsTokens result out.old out.new (parts_tokens (group_parts_first extent group.now)) }
+    ensures { AddsTokens result out.old out.new
+        (parts_tokens (group_parts_first extent group.now)) }
 {
     put_number_if(
         out,
@@ -368,7 +372,8 @@ fn put_queue_members(
     waiting: &[ConnectionRecord],
     ready: &[AgentId],
 ) -> Result<(), AllocError>
-    ensures { AddsTokens result out.old out.new (parts_tokens (queue_parts group waiting.now ready.now)) }
+    ensures { AddsTokens result out.old out.new
+        (parts_tokens (queue_parts group waiting.now ready.now)) }
 {
     put_list::<Waiting>(out, "calls", waiting)?;
     put_device(out, "group", Some(group))?;

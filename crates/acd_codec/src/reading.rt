@@ -269,14 +269,16 @@ fn add_station_in(document: &Document<'_>) -> Result<Command, Member>
 }
 
 fn arrive_call_in(document: &Document<'_>) -> Result<Command, Member>
-    ensures { result ≡ at_devices Command.ArriveCall Member.Caller Member.Called (data_of document.now) }
+    ensures { result ≡ at_devices Command.ArriveCall Member.Caller Member.Called
+        (data_of document.now) }
 {
     let (caller, called) = two_devices_in(document, Member::Caller, Member::Called)?;
     Ok(Command::ArriveCall { caller, called })
 }
 
 fn make_call_in(document: &Document<'_>) -> Result<Command, Member>
-    ensures { result ≡ at_devices Command.MakeCall Member.Device Member.Called (data_of document.now) }
+    ensures { result ≡ at_devices Command.MakeCall Member.Device Member.Called
+        (data_of document.now) }
 {
     let (device, called) = two_devices_in(document, Member::Device, Member::Called)?;
     Ok(Command::MakeCall { device, called })

@@ -81,7 +81,8 @@ fn put_answer(out: &mut Writer, answer: Answer) -> Result<(), AllocError>
 }
 
 fn put_result(out: &mut Writer, answer: Answer) -> Result<(), AllocError>
-    ensures { AddsTokens result out.old out.new (tokens_of (member (codes "result") (object (result_of answer)) no_members)) }
+    ensures { AddsTokens result out.old out.new
+        (tokens_of (member (codes "result") (object (result_of answer)) no_members)) }
 {
     out.key("result")?;
     out.begin_object()?;
@@ -107,7 +108,8 @@ fn write_error(
     requester: &Requester,
     invoke: Invoke,
 ) -> Result<(), AllocError>
-    ensures { AddsTokens result out.old out.new (json_tokens (outline (error_data code name.now requester.now invoke))) }
+    ensures { AddsTokens result out.old out.new
+        (json_tokens (outline (error_data code name.now requester.now invoke))) }
 {
     out.begin_object()?;
     put_error(out, code, name)?;
@@ -122,7 +124,8 @@ fn write_done(
     invoke: Invoke,
     answer: Answer,
 ) -> Result<(), AllocError>
-    ensures { AddsTokens result out.old out.new (json_tokens (outline (reply_data requester.now invoke (Outcome.Done answer)))) }
+    ensures { AddsTokens result out.old out.new
+        (json_tokens (outline (reply_data requester.now invoke (Outcome.Done answer)))) }
 {
     out.begin_object()?;
     put_whom(out, requester, invoke)?;
@@ -136,7 +139,8 @@ fn write_reply(
     invoke: Invoke,
     outcome: Outcome,
 ) -> Result<(), AllocError>
-    ensures { AddsTokens result out.old out.new (json_tokens (outline (reply_data requester.now invoke outcome))) }
+    ensures { AddsTokens result out.old out.new
+        (json_tokens (outline (reply_data requester.now invoke outcome))) }
 {
     match outcome {
         Outcome::Done(answer) => write_done(out, requester, invoke, answer),

@@ -20,7 +20,8 @@ const ROOM: usize = 320;
 
 // Writes which service is asked for.
 fn put_service(out: &mut Writer, service: Service) -> Result<(), AllocError>
-    ensures { AddsTokens result out.old out.new (tokens_of (member (codes "service") (string (service_name service)) no_members)) }
+    ensures { AddsTokens result out.old out.new
+        (tokens_of (member (codes "service") (string (service_name service)) no_members)) }
 {
     put_text(out, "service", service.name())
 }
@@ -28,7 +29,8 @@ fn put_service(out: &mut Writer, service: Service) -> Result<(), AllocError>
 // Writes what every request has, where no other member stands between.
 fn put_sent(out: &mut Writer, request: &Request, service: Service) -> Result<(), AllocError>
     ensures { let r = request.now in
-        AddsTokens result out.old out.new (tokens_of (sent r.requester r.invoke service no_members)) }
+        AddsTokens result out.old out.new
+        (tokens_of (sent r.requester r.invoke service no_members)) }
 {
     put_whom(out, &request.requester, request.invoke)?;
     put_service(out, service)
@@ -37,7 +39,8 @@ fn put_sent(out: &mut Writer, request: &Request, service: Service) -> Result<(),
 // Writes whose request it is, and the name between.
 fn put_named(out: &mut Writer, request: &Request, name: &Name) -> Result<(), AllocError>
     ensures { let r = request.now in
-        AddsTokens result out.old out.new (tokens_of (named r.requester r.invoke name.now no_members)) }
+        AddsTokens result out.old out.new
+        (tokens_of (named r.requester r.invoke name.now no_members)) }
 {
     put_invoke(out, request.invoke)?;
     put_text(out, "name", name.as_str())?;
@@ -53,7 +56,8 @@ fn put_add_group(
     wrap: Seconds,
 ) -> Result<(), AllocError>
     ensures { let r = request.now in
-        AddsTokens result out.old out.new (tokens_of (add_group r.requester r.invoke device name.now ring wrap)) }
+        AddsTokens result out.old out.new
+        (tokens_of (add_group r.requester r.invoke device name.now ring wrap)) }
 {
     put_device(out, "device", Some(device))?;
     put_named(out, request, name)?;
@@ -69,7 +73,8 @@ fn put_add_agent(
     name: &Name,
 ) -> Result<(), AllocError>
     ensures { let r = request.now in
-        AddsTokens result out.old out.new (tokens_of (add_agent r.requester r.invoke agent name.now)) }
+        AddsTokens result out.old out.new
+        (tokens_of (add_agent r.requester r.invoke agent name.now)) }
 {
     put_agent(out, "agent", Some(agent))?;
     put_named(out, request, name)?;
@@ -83,7 +88,8 @@ fn put_at_device(
     device: DeviceId,
 ) -> Result<(), AllocError>
     ensures { let r = request.now in
-        AddsTokens result out.old out.new (tokens_of (at_device r.requester r.invoke service device)) }
+        AddsTokens result out.old out.new
+        (tokens_of (at_device r.requester r.invoke service device)) }
 {
     put_device(out, "device", Some(device))?;
     put_sent(out, request, service)
@@ -97,7 +103,8 @@ fn put_at_connection(
     device: DeviceId,
 ) -> Result<(), AllocError>
     ensures { let r = request.now in
-        AddsTokens result out.old out.new (tokens_of (at_connection r.requester r.invoke service call device)) }
+        AddsTokens result out.old out.new
+        (tokens_of (at_connection r.requester r.invoke service call device)) }
 {
     put_serial(out, "call", call)?;
     put_at_device(out, request, service, device)
@@ -112,7 +119,8 @@ fn put_to_device(
     to: DeviceId,
 ) -> Result<(), AllocError>
     ensures { let r = request.now in
-        AddsTokens result out.old out.new (tokens_of (to_device r.requester r.invoke service call device to)) }
+        AddsTokens result out.old out.new
+        (tokens_of (to_device r.requester r.invoke service call device to)) }
 {
     put_at_connection(out, request, service, call, device)?;
     put_device(out, "to", Some(to))
@@ -125,7 +133,8 @@ fn put_arrive_call(
     called: DeviceId,
 ) -> Result<(), AllocError>
     ensures { let r = request.now in
-        AddsTokens result out.old out.new (tokens_of (arrive_call r.requester r.invoke caller called)) }
+        AddsTokens result out.old out.new
+        (tokens_of (arrive_call r.requester r.invoke caller called)) }
 {
     put_device(out, "called", Some(called))?;
     put_device(out, "caller", Some(caller))?;
@@ -139,7 +148,8 @@ fn put_make_call(
     called: DeviceId,
 ) -> Result<(), AllocError>
     ensures { let r = request.now in
-        AddsTokens result out.old out.new (tokens_of (make_call r.requester r.invoke device called)) }
+        AddsTokens result out.old out.new
+        (tokens_of (make_call r.requester r.invoke device called)) }
 {
     put_device(out, "called", Some(called))?;
     put_at_device(out, request, Service::MakeCall, device)
@@ -163,7 +173,8 @@ fn put_set_agent_state(
     requested: Requested,
 ) -> Result<(), AllocError>
     ensures { let r = request.now in
-        AddsTokens result out.old out.new (tokens_of (set_agent_state r.requester r.invoke agent requested)) }
+        AddsTokens result out.old out.new
+        (tokens_of (set_agent_state r.requester r.invoke agent requested)) }
 {
     put_agent(out, "agent", Some(agent))?;
     match requested {
@@ -205,7 +216,8 @@ fn put_set_group_priority(
 
 fn put_request(out: &mut Writer, request: &Request) -> Result<(), AllocError>
     ensures { let r = request.now in
-        AddsTokens result out.old out.new (tokens_of (request_members r.requester r.invoke r.command)) }
+        AddsTokens result out.old out.new
+        (tokens_of (request_members r.requester r.invoke r.command)) }
 {
     let service = Service::of(&request.command);
     match &request.command {

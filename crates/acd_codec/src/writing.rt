@@ -26,7 +26,8 @@ pub(crate) trait Form {
 
 /// Writes a member that is a text.
 pub(crate) fn put_text(out: &mut Writer, name: &str, text: &str) -> Result<(), AllocError>
-    ensures { AddsTokens result out.old out.new (tokens_of (member name.now (string text.now) no_members)) }
+    ensures { AddsTokens result out.old out.new
+        (tokens_of (member name.now (string text.now) no_members)) }
 {
     out.key(name)?;
     out.string(text)
@@ -34,7 +35,8 @@ pub(crate) fn put_text(out: &mut Writer, name: &str, text: &str) -> Result<(), A
 
 /// Writes a member that is a number.
 pub(crate) fn put_number(out: &mut Writer, name: &str, value: u64) -> Result<(), AllocError>
-    ensures { AddsTokens result out.old out.new (tokens_of (member name.now (number (unsigned value)) no_members)) }
+    ensures { AddsTokens result out.old out.new
+        (tokens_of (member name.now (number (unsigned value)) no_members)) }
 {
     out.key(name)?;
     out.u64(value)
@@ -42,14 +44,16 @@ pub(crate) fn put_number(out: &mut Writer, name: &str, value: u64) -> Result<(),
 
 /// Writes the number of a request among those of its requester.
 pub(crate) fn put_invoke(out: &mut Writer, invoke: Invoke) -> Result<(), AllocError>
-    ensures { AddsTokens result out.old out.new (tokens_of (member (codes "invoke") (number (unsigned invoke)) no_members)) }
+    ensures { AddsTokens result out.old out.new
+        (tokens_of (member (codes "invoke") (number (unsigned invoke)) no_members)) }
 {
     put_number(out, "invoke", u64::from(invoke.number()))
 }
 
 /// Writes who sends a request.
 pub(crate) fn put_requester(out: &mut Writer, requester: &Requester) -> Result<(), AllocError>
-    ensures { AddsTokens result out.old out.new (tokens_of (member (codes "requester") (string requester.now) no_members)) }
+    ensures { AddsTokens result out.old out.new
+        (tokens_of (member (codes "requester") (string requester.now) no_members)) }
 {
     put_text(out, "requester", requester.as_str())
 }
@@ -60,7 +64,8 @@ pub(crate) fn put_whom(
     requester: &Requester,
     invoke: Invoke,
 ) -> Result<(), AllocError>
-    ensures { AddsTokens result out.old out.new (tokens_of (to_whom requester.now invoke no_members)) }
+    ensures { AddsTokens result out.old out.new
+        (tokens_of (to_whom requester.now invoke no_members)) }
 {
     put_invoke(out, invoke)?;
     put_requester(out, requester)
@@ -68,7 +73,8 @@ pub(crate) fn put_whom(
 
 /// Writes a time of a group.
 pub(crate) fn put_seconds(out: &mut Writer, name: &str, value: Seconds) -> Result<(), AllocError>
-    ensures { AddsTokens result out.old out.new (tokens_of (member name.now (number (unsigned value)) no_members)) }
+    ensures { AddsTokens result out.old out.new
+        (tokens_of (member name.now (number (unsigned value)) no_members)) }
 {
     put_number(out, name, u64::from(value.number()))
 }
@@ -83,7 +89,8 @@ pub(crate) fn put_priority(out: &mut Writer, priority: Priority) -> Result<(), A
 
 /// Writes a call or a monitor as a request names it.
 pub(crate) fn put_serial(out: &mut Writer, name: &str, value: Serial) -> Result<(), AllocError>
-    ensures { AddsTokens result out.old out.new (tokens_of (member name.now (number (unsigned value)) no_members)) }
+    ensures { AddsTokens result out.old out.new
+        (tokens_of (member name.now (number (unsigned value)) no_members)) }
 {
     put_number(out, name, value.number())
 }
@@ -94,7 +101,8 @@ pub(crate) fn put_text_if(
     name: &str,
     text: Option<&str>,
 ) -> Result<(), AllocError>
-    ensures { AddsTokens result out.old out.new (part_tokens (text_part name.now (option_map (λ t. t.now) text.entry))) }
+    ensures { AddsTokens result out.old out.new
+        (part_tokens (text_part name.now (option_map (λ t. t.now) text.entry))) }
 {
     match text {
         None => Ok(()),
@@ -122,7 +130,8 @@ pub(crate) fn put_device(
     name: &str,
     device: Option<DeviceId>,
 ) -> Result<(), AllocError>
-    ensures { AddsTokens result out.old out.new (part_tokens (text_part name.now (option_map digits_of device))) }
+    ensures { AddsTokens result out.old out.new
+        (part_tokens (text_part name.now (option_map digits_of device))) }
 {
     match device {
         None => Ok(()),
@@ -136,7 +145,8 @@ pub(crate) fn put_agent(
     name: &str,
     agent: Option<AgentId>,
 ) -> Result<(), AllocError>
-    ensures { AddsTokens result out.old out.new (part_tokens (text_part name.now (option_map digits_of agent))) }
+    ensures { AddsTokens result out.old out.new
+        (part_tokens (text_part name.now (option_map digits_of agent))) }
 {
     match agent {
         None => Ok(()),
@@ -160,7 +170,8 @@ pub(crate) fn put_list<F: Form>(
     name: &str,
     items: &[F::Item],
 ) -> Result<(), AllocError>
-    ensures { AddsTokens result out.old out.new (part_tokens (list_part name.now (items_of F.data_of items.now))) }
+    ensures { AddsTokens result out.old out.new
+        (part_tokens (list_part name.now (items_of F.data_of items.now))) }
 {
     out.key(name)?;
     out.begin_array()?;

@@ -82,7 +82,8 @@ impl AnswerText {
 
 // The text takes memory, and where there is none the answer is noMemory.
 fn rejected(alloc: Global, request: &Request, why: Rejected) -> AnswerText
-    ensures { (said result ≡ rejected_said request.now why) ⊎ (said result ≡ fixed_said FixedAnswer.NoMemory) }
+    ensures { (said result ≡ rejected_said request.now why)
+        ⊎ (said result ≡ fixed_said FixedAnswer.NoMemory) }
 {
     match rejected_text(alloc, &request.requester, request.invoke, why) {
         Ok(body) => AnswerText::Made {

@@ -58,7 +58,8 @@ impl<B: Book> Desk<B> {
         requires { self.old.working ≡ Working.Unloaded }
         ensures out { OnOk result (self.new.working ≡ Working.Unloaded) }
         ensures loaded { MatchResult result
-            (λ taken. Reread (standing B.Book self.old) (holding (standing B.Book self.new) taken.switch.value))
+            (λ taken. Reread (standing B.Book self.old)
+            (holding (standing B.Book self.new) taken.switch.value))
             (λ fault. TellsNothing (standing B.Book self.old) fault (standing B.Book self.new)) }
     {
         let rows = match self.book.rows() {
@@ -75,7 +76,8 @@ impl<B: Book> Desk<B> {
     pub(crate) fn switch_out(&mut self) -> Result<LoadedSwitch, DeskFault>
         ensures out { OnOk result (self.new.working ≡ Working.Unloaded) }
         ensures loaded { MatchResult result
-            (λ taken. Reread (standing B.Book self.old) (holding (standing B.Book self.new) taken.switch.value))
+            (λ taken. Reread (standing B.Book self.old)
+            (holding (standing B.Book self.new) taken.switch.value))
             (λ fault. TellsNothing (standing B.Book self.old) fault (standing B.Book self.new)) }
     {
         match mem::replace(&mut self.working, Working::Unloaded) {

@@ -34,7 +34,9 @@ pub(crate) fn executed(
 ) -> Result<(Executed, Kept), AllocError>
     requires rules { BreaksNoRule switch.old }
     requires room { switch.old.last_stamp < switch.old.limits.requests }
-    ensures { IfOk result (λ r. Prepared switch.old (at moment request.now) r.0.changes.items r.0.events.items r.1 switch.new) }
+    ensures { IfOk result
+        (λ r. Prepared switch.old (at moment request.now) r.0.changes.items r.0.events.items r.1
+        switch.new) }
 {
     let done = switch.step_with_changes(moment, &request.command)?;
     let body = reply_text(alloc, &request.requester, request.invoke, done.outcome)?;

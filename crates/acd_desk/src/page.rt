@@ -71,7 +71,8 @@ impl Page {
 }
 
 fn read_page<B: Book>(book: &mut B, above: u64, limit: usize) -> Result<Page, BookFault>
-    ensures page { Reads (B.state book.old) (B.state book.new) result (λ c found. IsPageOf c found) }
+    ensures page { Reads (B.state book.old) (B.state book.new) result
+        (λ c found. IsPageOf c found) }
     ensures at { IfOk result (λ found. (found.above ≡ above) × (found.limit ≡ limit)) }
 {
     let events = book.events_after(above, limit)?;

@@ -26,7 +26,8 @@ const HISTORY_PAGE: usize = 1000;
 impl<B: Book> Desk<B> {
     // What the tables tell. The moment counts for a report alone.
     fn tell(&mut self, moment: u32, question: Question) -> Result<Option<String>, DeskFault>
-        ensures { DeskTells B.Book self.old self.new result (λ c. table_read c.rows moment question) }
+        ensures { DeskTells B.Book self.old self.new result
+            (λ c. table_read c.rows moment question) }
     {
         let loaded = self.switch_out()?;
         let text = table_read(self.alloc, loaded.switch.tables(), moment, question);

@@ -258,7 +258,8 @@ fn uncoursed(alloc: Global, limits: Limits) -> Result<Course, AllocError>
 
 // A course under the limits of the book, where they fit.
 fn begun<B: Book>(alloc: Global, book: &mut B) -> Result<Option<Course>, BookFault>
-    ensures told { Reads (B.state book.old) (B.state book.new) result (λ c found. BeginsReplay c found) }
+    ensures told { Reads (B.state book.old) (B.state book.new) result
+        (λ c found. BeginsReplay c found) }
     ensures empty { IfOk result (λ found. IfSome found (λ first.
         (first.loaded.switch.value.last_stamp ≡ 0)
         × (first.loaded.switch.value.limits.requests ≤ 1000000000))) }

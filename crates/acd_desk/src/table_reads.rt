@@ -139,7 +139,8 @@ fn waiting_in(
     group: DeviceId,
     queue: &BTreeSet<(u64, u64)>,
 ) -> Result<Vec<ConnectionRecord>, AllocError>
-    ensures waiting { IfOk result (λ v. v.items ≡ filter_map (λ p. connection_of tables.now p.1 group) queue.now.keys) }
+    ensures waiting { IfOk result
+        (λ v. v.items ≡ filter_map (λ p. connection_of tables.now p.1 group) queue.now.keys) }
     ensures sorted { IsStrictlySortedBy pair_cmp queue.now.keys }
 {
     let mut waiting = Vec::new(alloc);

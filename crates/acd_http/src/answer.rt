@@ -53,7 +53,8 @@ fn refused(why: Refused) -> Reply
 }
 
 fn arrival<B: Book>(desk: &mut Desk<B>, moment: u32, request: &Request) -> Reply
-    ensures { Replies (standing B.Book) moment desk.old (Asked.Arrival request.now) (reply_out false result) desk.new }
+    ensures { Replies (standing B.Book) moment desk.old (Asked.Arrival request.now)
+        (reply_out false result) desk.new }
 {
     in_json(desk.take_text(moment, request))
 }

@@ -70,7 +70,8 @@ fn headless(len: usize) -> Asked
 
 // What a body that has come whole asks.
 fn body_asked(alloc: Global, body: &[u8]) -> Result<Asked, Unknown>
-    ensures { MatchResult result (λ asked. asked ≡ body_asks (reads_as body.now)) (λ unknown. unknown ≡ Unknown.NoMemory false) }
+    ensures { MatchResult result (λ asked. asked ≡ body_asks (reads_as body.now))
+        (λ unknown. unknown ≡ Unknown.NoMemory false) }
 {
     match read_request(alloc, body) {
         Ok(request) => Ok(Asked::Arrival(request)),
@@ -89,7 +90,8 @@ fn asked_behind<R: Read>(
     len: usize,
 ) -> Result<Asked, Unknown>
     requires { IsHeadOf len input.old }
-    ensures asked { (first : Option (List ℕ)) → Consumes first (R.remaining reader.old) input.old → MatchResult result (IsAsked first) (IsUnknown first) }
+    ensures asked { (first : Option (List ℕ)) → Consumes first (R.remaining reader.old) input.old
+        → MatchResult result (IsAsked first) (IsUnknown first) }
     ensures stopped { (first : Option (List ℕ)) → Consumes first (R.remaining reader.old) input.old
         → result ≡ Err Unknown.Stopped → IsUnasked first (R.remaining reader.new) }
 {
@@ -114,7 +116,8 @@ pub(crate) fn asked_by<R: Read>(
     input: &mut Input,
 ) -> Result<Asked, Unknown>
     requires { input.old ≡ [] }
-    ensures asked { MatchResult result (IsAsked (R.remaining reader.old)) (IsUnknown (R.remaining reader.old)) }
+    ensures asked { MatchResult result (IsAsked (R.remaining reader.old))
+        (IsUnknown (R.remaining reader.old)) }
     ensures stopped { result ≡ Err Unknown.Stopped
         → IsUnasked (R.remaining reader.old) (R.remaining reader.new) }
 {

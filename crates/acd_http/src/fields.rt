@@ -41,7 +41,8 @@ impl Length {
 const LONGEST_BODY: u64 = 4096;
 
 fn is_named(name: &[u8], wanted: &[u8]) -> bool
-    ensures { result ≡ bytes_eq (map to_ascii_lowercase name.now) (map to_ascii_lowercase wanted.now) }
+    ensures { result ≡ bytes_eq (map to_ascii_lowercase name.now)
+        (map to_ascii_lowercase wanted.now) }
 {
     name.eq_ignore_ascii_case(wanted)
 }
@@ -61,7 +62,8 @@ fn count_named(buf: &[u8], headers: &[HeaderSpan], wanted: &[u8]) -> usize
 
 fn first_named<'b>(buf: &'b [u8], headers: &[HeaderSpan], wanted: &[u8]) -> Option<&'b [u8]>
     requires { All (IsHeaderWithin (length buf.now)) headers.now }
-    ensures { option_map (λ v. v.now) result ≡ first_named wanted.now (map (header_bytes buf.now) headers.now) }
+    ensures { option_map (λ v. v.now) result
+        ≡ first_named wanted.now (map (header_bytes buf.now) headers.now) }
 {
     for header in headers {
         if is_named(header.name.of(buf), wanted) {

@@ -66,8 +66,10 @@ pub(crate) fn fill<R: Read>(
     input: &mut Input,
 ) -> Result<bool, ReadStopped>
     requires { length input.old ≤ 12288 }
-    ensures filled { IfOk result (λ more. (bytes : List ℕ) × Consumes (R.remaining reader.old) (R.remaining reader.new) bytes
-        × (input.new ≡ input.old ++ bytes) × (more ≡ false → IsAtEnd (R.remaining reader.new) × (bytes ≡ []))) }
+    ensures filled { IfOk result
+        (λ more. (bytes : List ℕ) × Consumes (R.remaining reader.old) (R.remaining reader.new) bytes
+        × (input.new ≡ input.old ++ bytes)
+        × (more ≡ false → IsAtEnd (R.remaining reader.new) × (bytes ≡ []))) }
     ensures called { OnOk result (calls.new < calls.old) }
     ensures stopped { OnErr result ((input.new ≡ input.old)
         × Keeps (R.remaining reader.old) (R.remaining reader.new)) }

@@ -133,7 +133,8 @@ fn note<E: Write>(
     number: u64,
     outcome: Result<(), ExchangeFault>,
 ) -> Result<(), Stopped>
-    ensures { WasSent result (E.contents errors.old) (E.contents errors.new) (outcome_line number outcome) }
+    ensures { WasSent result (E.contents errors.old) (E.contents errors.new)
+        (outcome_line number outcome) }
 {
     match outcome {
         Ok(()) => Ok(()),
@@ -152,7 +153,9 @@ fn note_behind<E: Write>(
     number: u64,
     outcome: Result<(), ExchangeFault>,
 ) -> Result<(), Stopped>
-    ensures { (first : Option (List ℕ)) (text : List ℕ) → WasSent noted first (E.contents errors.old) text → WasSent result first (E.contents errors.new) (text ++ outcome_line number outcome) }
+    ensures { (first : Option (List ℕ)) (text : List ℕ)
+        → WasSent noted first (E.contents errors.old) text
+        → WasSent result first (E.contents errors.new) (text ++ outcome_line number outcome) }
 {
     match noted {
         Ok(()) => note(errors, number, outcome),
@@ -207,7 +210,8 @@ fn serve_while_well<B: Book, C: Clock, E: Write>(
     desk: &mut Desk<B>,
     errors: &mut E,
 ) -> Result<(), Stopped>
-    ensures { ServedUntilFailed (standing B.Book) desk.old desk.new (WasSent result (E.contents errors.old) (E.contents errors.new)) }
+    ensures { ServedUntilFailed (standing B.Book) desk.old desk.new
+        (WasSent result (E.contents errors.old) (E.contents errors.new)) }
 {
     let mut noted = Ok(());
     for before in 0..u64::MAX {

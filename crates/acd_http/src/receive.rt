@@ -30,7 +30,8 @@ pub(crate) fn read_head<R: Read>(
     input: &mut Input,
 ) -> Result<Option<usize>, ReadStopped>
     requires { input.old ≡ [] }
-    ensures found { IfOk result (λ found. Found found input.new (R.remaining reader.old) (R.remaining reader.new)) }
+    ensures found { IfOk result
+        (λ found. Found found input.new (R.remaining reader.old) (R.remaining reader.new)) }
     ensures stopped { OnErr result
         (StopsInHead input.new (R.remaining reader.old) (R.remaining reader.new)) }
 {
@@ -54,7 +55,9 @@ pub(crate) fn read_up_to<R: Read>(
     len: usize,
 ) -> Result<bool, ReadStopped>
     requires { len ≤ 12288 }
-    ensures found { IfOk result (λ whole. BodyFound whole len input.old input.new (R.remaining reader.old) (R.remaining reader.new)) }
+    ensures found { IfOk result
+        (λ whole. BodyFound whole len input.old input.new (R.remaining reader.old)
+        (R.remaining reader.new)) }
     ensures stopped { OnErr result
         (StopsInBody len input.old input.new (R.remaining reader.old) (R.remaining reader.new)) }
 {

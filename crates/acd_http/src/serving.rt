@@ -52,9 +52,12 @@ fn send_both<W: Write>(
     head: &mut HeadText,
     body: &[u8],
 ) -> Result<(), Stopped>
-    ensures ok { OnOk result (Appends (W.contents writer.old) (W.contents writer.new) (head.old ++ body.now)) }
-    ensures err { OnErr result (Begins (W.contents writer.old) (W.contents writer.new) (head.old ++ body.now)) }
-    ensures short { OnErr result (Breaks (W.contents writer.old) (W.contents writer.new) (head.old ++ body.now)) }
+    ensures ok { OnOk result
+        (Appends (W.contents writer.old) (W.contents writer.new) (head.old ++ body.now)) }
+    ensures err { OnErr result
+        (Begins (W.contents writer.old) (W.contents writer.new) (head.old ++ body.now)) }
+    ensures short { OnErr result
+        (Breaks (W.contents writer.old) (W.contents writer.new) (head.old ++ body.now)) }
 {
     if body.len() <= head.room() {
         head.push(body);
@@ -68,9 +71,14 @@ fn send_both<W: Write>(
 
 // Writes a reply.
 fn respond<W: Write>(writer: &mut W, bodiless: bool, reply: &Reply) -> Result<(), ExchangeFault>
-    ensures ok { OnOk result (Appends (W.contents writer.old) (W.contents writer.new) (reply_out bodiless reply.now)) }
-    ensures err { IfErr result (λ fault. (fault ≡ ExchangeFault.Write) × Begins (W.contents writer.old) (W.contents writer.new) (reply_out bodiless reply.now)) }
-    ensures short { IfErr result (λ fault. (fault ≡ ExchangeFault.Write) × Breaks (W.contents writer.old) (W.contents writer.new) (reply_out bodiless reply.now)) }
+    ensures ok { OnOk result
+        (Appends (W.contents writer.old) (W.contents writer.new) (reply_out bodiless reply.now)) }
+    ensures err { IfErr result
+        (λ fault. (fault ≡ ExchangeFault.Write)
+        × Begins (W.contents writer.old) (W.contents writer.new) (reply_out bodiless reply.now)) }
+    ensures short { IfErr result
+        (λ fault. (fault ≡ ExchangeFault.Write)
+        × Breaks (W.contents writer.old) (W.contents writer.new) (reply_out bodiless reply.now)) }
 {
     let mut calls = most_calls();
     let body = reply.answer.body();

@@ -22,7 +22,8 @@ fn kind_found(kind: Kind, found: &Result<Option<String>, DeskFault>) -> Kind
 }
 
 fn reply_to(kind: Kind, found: Result<Option<String>, DeskFault>) -> Reply
-    ensures { (bodiless : Bool) → reply_out bodiless result ≡ told_reply bodiless kind (seen found) }
+    ensures { (bodiless : Bool)
+        → reply_out bodiless result ≡ told_reply bodiless kind (seen found) }
 {
     let kind = kind_found(kind, &found);
     Reply {
@@ -34,7 +35,9 @@ fn reply_to(kind: Kind, found: Result<Option<String>, DeskFault>) -> Reply
 
 /// The reply to a read.
 pub(crate) fn told_reply<B: Book>(desk: &mut Desk<B>, moment: u32, question: Question) -> Reply
-    ensures { (bodiless : Bool) → Replies (standing B.Book) moment desk.old (Asked.Look question bodiless) (reply_out bodiless result) desk.new }
+    ensures { (bodiless : Bool)
+        → Replies (standing B.Book) moment desk.old (Asked.Look question bodiless)
+        (reply_out bodiless result) desk.new }
 {
     let kind = Kind::of(&question);
     let found = desk.read(moment, question);

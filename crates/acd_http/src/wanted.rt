@@ -98,8 +98,10 @@ fn wants(
     headers: &[HeaderSpan],
 ) -> Result<Wanted, AllocError>
     requires { All (IsHeaderWithin (length buf.now)) headers.now }
-    ensures ok { IfOk result (λ w. w ≡ wants minor method target.now (map (header_bytes buf.now) headers.now)) }
-    ensures err { OnErr result (is_body (wants minor method target.now (map (header_bytes buf.now) headers.now)) ≡ false) }
+    ensures ok { IfOk result
+        (λ w. w ≡ wants minor method target.now (map (header_bytes buf.now) headers.now)) }
+    ensures err { OnErr result
+        (is_body (wants minor method target.now (map (header_bytes buf.now) headers.now)) ≡ false) }
 {
     match fields_refused(minor, buf, headers) {
         Some(refused) => Ok(Wanted::Refused(refused)),

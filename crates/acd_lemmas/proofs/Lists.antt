@@ -1,5 +1,5 @@
 -- Lemmas on lists of records in ascending key.
-use Rattle.std.proofs.Common.{◌≡◌, ℕ, suc, ◌+◌, ◌≤◌, ◌<◌, take, get_or, inl, inr, Bool, true, false, not, ◌||◌, cond, List, [], ◌∷◌, ◌++◌, Option, Some, None, refl, sym, ◌∙◌, ap, subst, arith, length, map, ◌⊎◌}
+use Rattle.std.proofs.Common.{◌≡◌, ℕ, zero, suc, ◌+◌, ◌≤◌, ◌<◌, take, get_or, inl, inr, Bool, true, false, not, ◌||◌, cond, List, [], ◌∷◌, ◌++◌, Option, Some, None, refl, sym, ◌∙◌, ap, subst, arith, length, map, ◌⊎◌}
 use Rattle.std.specs.Prelude.{is_some, filter, find}
 use Rattle.std.specs.List.{list_any, list_all}
 use Rattle.std.specs.declared.cmp.Ordering.{Ordering}
@@ -272,6 +272,15 @@ every_among P (y ∷ ys) x h (inr a) = every_among P ys x h.1 a
 pub every_from : {X : Type 0} (P : X → Type 0) (xs : List X) → ((x : X) → Among x xs → P x) → Every P xs
 every_from P [] h = tt
 every_from P (y ∷ ys) h = (h y (inl refl), every_from P ys (λ x a. h x (inr a)))
+
+pub every-take : {X : Type 0} (P : X → Type 0) (n : ℕ) (xs : List X) → Every P xs → Every P (take n xs)
+every-take P zero xs h = tt
+every-take P (suc n) [] h = tt
+every-take P (suc n) (x ∷ xs) h = (h.0, every-take P n xs h.1)
+
+pub every-filter : {X : Type 0} (P : X → Type 0) (p : X → Bool) (xs : List X) → Every P xs → Every P (filter p xs)
+every-filter P p [] h = tt
+every-filter P p (x ∷ xs) h = elim (p x) as (λ t. Every P (cond t (x ∷ filter p xs) (filter p xs))) [ true ↦ (h.0, every-filter P p xs h.1) | false ↦ every-filter P p xs h.1 ]
 
 pub every-append : {X : Type 0} (P : X → Type 0) (xs ys : List X) → Every P xs → Every P ys → Every P (xs ++ ys)
 every-append P [] ys h g = g

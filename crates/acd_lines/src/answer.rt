@@ -12,7 +12,8 @@ use acd_terms::Request;
 
 /// The answer to a request that comes in at a moment.
 pub(crate) fn execute<B: Book>(desk: &mut Desk<B>, moment: u32, request: &Request) -> AnswerText
-    ensures { Answers (standing B.Book) desk.old (arrival moment request.now) (answered_text result) desk.new }
+    ensures { Answers (standing B.Book) desk.old (arrival moment request.now) (answered_text result)
+        desk.new }
 {
     desk.take_text(moment, request)
 }
@@ -24,7 +25,8 @@ pub(crate) fn read<B: Book>(
     moment: u32,
     json: &[u8],
 ) -> AnswerText
-    ensures { Answers (standing B.Book) desk.old (request_read moment json.now) (answered_text result) desk.new }
+    ensures { Answers (standing B.Book) desk.old (request_read moment json.now)
+        (answered_text result) desk.new }
 {
     let read = requests.read(json);
     match &read {

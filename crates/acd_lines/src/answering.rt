@@ -36,7 +36,8 @@ pub trait Answering<B: Book> {
     fn answer(&mut self, alloc: Global, desk: &mut Desk<B>, moment: u32, text: &[u8]) -> AnswerText
         ensures { answers desk.old (read moment text.now) (answered_text result) desk.new };
 
-    ghost needs_a_moment: { (d : DeskOver B) → answers d unmarked (malformed_line members.Moment) d };
+    ghost needs_a_moment: { (d : DeskOver B)
+        → answers d unmarked (malformed_line members.Moment) d };
 
     ghost needs_an_end: { (d : DeskOver B) → answers d long (fixed_line fixes.BodyTooLarge) d };
 }
@@ -49,7 +50,8 @@ pub(crate) fn answer_line<B: Book, A: Answering<B>>(
     desk: &mut Desk<B>,
     text: &[u8],
 ) -> AnswerText
-    ensures { A.answers desk.old (asked A.unmarked A.long A.read text.now) (answered_text result) desk.new }
+    ensures { A.answers desk.old (asked A.unmarked A.long A.read text.now) (answered_text result)
+        desk.new }
 {
     let Some((moment, behind)) = moment_of(text) else {
         return AnswerText::malformed(Member::Moment);

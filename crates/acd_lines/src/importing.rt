@@ -27,8 +27,13 @@ fn serve_request<B: Book, W: Write>(
     writer: &mut W,
     request: &Request,
 ) -> Result<(), Stopped>
-    ensures ok { OnOk result (LineDone (Answers (standing B.Book)) desk.old (arrival 0 request.now) desk.new (W.contents writer.old) (W.contents writer.new) outbox.old.waiting.items outbox.new.waiting.items) }
-    ensures err { OnErr result (LineStops (Answers (standing B.Book)) desk.old (arrival 0 request.now) desk.new (W.contents writer.old) (W.contents writer.new) outbox.old.waiting.items) }
+    ensures ok { OnOk result
+        (LineDone (Answers (standing B.Book)) desk.old (arrival 0 request.now) desk.new
+        (W.contents writer.old) (W.contents writer.new) outbox.old.waiting.items
+        outbox.new.waiting.items) }
+    ensures err { OnErr result
+        (LineStops (Answers (standing B.Book)) desk.old (arrival 0 request.now) desk.new
+        (W.contents writer.old) (W.contents writer.new) outbox.old.waiting.items) }
 {
     let answered = execute(desk, 0, request);
     push_answer(outbox, writer, &answered)
@@ -42,8 +47,12 @@ fn serve_requests<B: Book, W: Write>(
     requests: &[Request],
 ) -> Result<(), Stopped>
     requires { outbox.old.waiting.items ≡ [] }
-    ensures ok { OnOk result (Imports (standing B.Book) desk.old requests.now desk.new (W.contents writer.old) (W.contents writer.new) []) }
-    ensures err { OnErr result (ImportStops (standing B.Book) desk.old requests.now desk.new (W.contents writer.old) (W.contents writer.new)) }
+    ensures ok { OnOk result
+        (Imports (standing B.Book) desk.old requests.now desk.new (W.contents writer.old)
+        (W.contents writer.new) []) }
+    ensures err { OnErr result
+        (ImportStops (standing B.Book) desk.old requests.now desk.new (W.contents writer.old)
+        (W.contents writer.new)) }
 {
     for request in requests {
         serve_request(desk, outbox, writer, request)?;

@@ -40,8 +40,12 @@ impl Outbox {
 
     /// The text goes behind what waits. A text that is longer than the room goes out at once.
     pub(crate) fn push<W: Write>(&mut self, writer: &mut W, text: &[u8]) -> Result<(), Stopped>
-        ensures ok { OnOk result (Passes (W.contents writer.old) (W.contents writer.new) self.new.waiting.items (self.old.waiting.items ++ text.now)) }
-        ensures err { OnErr result (Breaks (W.contents writer.old) (W.contents writer.new) (self.old.waiting.items ++ text.now)) }
+        ensures ok { OnOk result
+            (Passes (W.contents writer.old) (W.contents writer.new) self.new.waiting.items
+            (self.old.waiting.items ++ text.now)) }
+        ensures err { OnErr result
+            (Breaks (W.contents writer.old) (W.contents writer.new)
+            (self.old.waiting.items ++ text.now)) }
     {
         if text.len() > self.waiting.capacity() - self.waiting.len() {
             self.flush(writer)?;
@@ -58,8 +62,10 @@ impl Outbox {
     /// All that waits is written.
     pub(crate) fn flush<W: Write>(&mut self, writer: &mut W) -> Result<(), Stopped>
         ensures none { OnOk result (self.new.waiting.items ≡ []) }
-        ensures ok { OnOk result (Passes (W.contents writer.old) (W.contents writer.new) [] self.old.waiting.items) }
-        ensures err { OnErr result (Breaks (W.contents writer.old) (W.contents writer.new) self.old.waiting.items) }
+        ensures ok { OnOk result
+            (Passes (W.contents writer.old) (W.contents writer.new) [] self.old.waiting.items) }
+        ensures err { OnErr result
+            (Breaks (W.contents writer.old) (W.contents writer.new) self.old.waiting.items) }
     {
         send(writer, &mut self.calls, self.waiting.as_slice())?;
         self.waiting.clear();

@@ -23,8 +23,12 @@ pub(crate) fn push_answer<W: Write>(
     writer: &mut W,
     answered: &AnswerText,
 ) -> Result<(), Stopped>
-    ensures ok { OnOk result (Passes (W.contents writer.old) (W.contents writer.new) outbox.new.waiting.items (outbox.old.waiting.items ++ answered_text answered.now)) }
-    ensures err { OnErr result (Breaks (W.contents writer.old) (W.contents writer.new) (outbox.old.waiting.items ++ answered_text answered.now)) }
+    ensures ok { OnOk result
+        (Passes (W.contents writer.old) (W.contents writer.new) outbox.new.waiting.items
+        (outbox.old.waiting.items ++ answered_text answered.now)) }
+    ensures err { OnErr result
+        (Breaks (W.contents writer.old) (W.contents writer.new)
+        (outbox.old.waiting.items ++ answered_text answered.now)) }
 {
     let mut buffer = Buffer::new();
     outbox.push(writer, buffer.format(answered.status()).as_bytes())?;
@@ -42,8 +46,13 @@ fn serve<B: Book, A: Answering<B>, W: Write>(
     writer: &mut W,
     text: &[u8],
 ) -> Result<(), Stopped>
-    ensures ok { OnOk result (LineDone A.answers desk.old (asked A.unmarked A.long A.read text.now) desk.new (W.contents writer.old) (W.contents writer.new) outbox.old.waiting.items outbox.new.waiting.items) }
-    ensures err { OnErr result (LineStops A.answers desk.old (asked A.unmarked A.long A.read text.now) desk.new (W.contents writer.old) (W.contents writer.new) outbox.old.waiting.items) }
+    ensures ok { OnOk result
+        (LineDone A.answers desk.old (asked A.unmarked A.long A.read text.now) desk.new
+        (W.contents writer.old) (W.contents writer.new) outbox.old.waiting.items
+        outbox.new.waiting.items) }
+    ensures err { OnErr result
+        (LineStops A.answers desk.old (asked A.unmarked A.long A.read text.now) desk.new
+        (W.contents writer.old) (W.contents writer.new) outbox.old.waiting.items) }
 {
     let answered = answer_line(lines, alloc, desk, text);
     push_answer(outbox, writer, &answered)
@@ -69,8 +78,15 @@ fn end_line<B: Book, A: Answering<B>, W: Write>(
     end: &[u8],
 ) -> Result<(), Stopped>
     ensures empty { OnOk result (partial.new ≡ []) }
-    ensures ok { OnOk result (LineDone A.answers desk.old (asked A.unmarked A.long A.read (strip_last 13 (take 4109 (partial.old ++ end.now)))) desk.new (W.contents writer.old) (W.contents writer.new) outbox.old.waiting.items outbox.new.waiting.items) }
-    ensures err { OnErr result (LineStops A.answers desk.old (asked A.unmarked A.long A.read (strip_last 13 (take 4109 (partial.old ++ end.now)))) desk.new (W.contents writer.old) (W.contents writer.new) outbox.old.waiting.items) }
+    ensures ok { OnOk result
+        (LineDone A.answers desk.old
+        (asked A.unmarked A.long A.read (strip_last 13 (take 4109 (partial.old ++ end.now))))
+        desk.new (W.contents writer.old) (W.contents writer.new) outbox.old.waiting.items
+        outbox.new.waiting.items) }
+    ensures err { OnErr result
+        (LineStops A.answers desk.old
+        (asked A.unmarked A.long A.read (strip_last 13 (take 4109 (partial.old ++ end.now))))
+        desk.new (W.contents writer.old) (W.contents writer.new) outbox.old.waiting.items) }
 {
     if partial.is_empty() {
         return serve(alloc, lines, desk, outbox, writer, without_return(end));
@@ -99,8 +115,13 @@ pub(crate) fn feed<B: Book, A: Answering<B>, W: Write>(
     chunk: &[u8],
 ) -> Result<(), Stopped>
     ensures none { OnOk result (outbox.new.waiting.items ≡ []) }
-    ensures ok { OnOk result (Feeds (asked A.unmarked A.long A.read) A.answers desk.old desk.new partial.old partial.new chunk.now (W.contents writer.old) (W.contents writer.new) outbox.old.waiting.items outbox.new.waiting.items) }
-    ensures err { OnErr result (FeedStops (asked A.unmarked A.long A.read) A.answers desk.old desk.new partial.old chunk.now (W.contents writer.old) (W.contents writer.new) outbox.old.waiting.items) }
+    ensures ok { OnOk result
+        (Feeds (asked A.unmarked A.long A.read) A.answers desk.old desk.new partial.old partial.new
+        chunk.now (W.contents writer.old) (W.contents writer.new) outbox.old.waiting.items
+        outbox.new.waiting.items) }
+    ensures err { OnErr result
+        (FeedStops (asked A.unmarked A.long A.read) A.answers desk.old desk.new partial.old
+        chunk.now (W.contents writer.old) (W.contents writer.new) outbox.old.waiting.items) }
 {
     let mut rest = chunk;
     while let Some((end, behind)) = split_once(rest, b'\n') {
@@ -120,8 +141,12 @@ pub(crate) fn finish<B: Book, A: Answering<B>, W: Write>(
     outbox: &mut Outbox,
     writer: &mut W,
 ) -> Result<(), Stopped>
-    ensures ok { OnOk result (Finishes (asked A.unmarked A.long A.read) A.answers desk.old desk.new partial.now (W.contents writer.old) (W.contents writer.new) outbox.old.waiting.items) }
-    ensures err { OnErr result (FinishStops (asked A.unmarked A.long A.read) A.answers desk.old desk.new partial.now (W.contents writer.old) (W.contents writer.new) outbox.old.waiting.items) }
+    ensures ok { OnOk result
+        (Finishes (asked A.unmarked A.long A.read) A.answers desk.old desk.new partial.now
+        (W.contents writer.old) (W.contents writer.new) outbox.old.waiting.items) }
+    ensures err { OnErr result
+        (FinishStops (asked A.unmarked A.long A.read) A.answers desk.old desk.new partial.now
+        (W.contents writer.old) (W.contents writer.new) outbox.old.waiting.items) }
 {
     if partial.is_empty() {
         return outbox.flush(writer);

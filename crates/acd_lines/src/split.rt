@@ -8,7 +8,8 @@ use memchr::memchr;
 
 /// What stands before the first such byte, and what stands behind it.
 pub(crate) fn split_once(text: &[u8], byte: u8) -> Option<(&[u8], &[u8])>
-    ensures { MatchOption result (has_none byte text.now ≡ true) (λ p. (text.now ≡ p.0.now ++ byte ∷ p.1.now) × (has_none byte p.0.now ≡ true)) }
+    ensures { MatchOption result (has_none byte text.now ≡ true)
+        (λ p. (text.now ≡ p.0.now ++ byte ∷ p.1.now) × (has_none byte p.0.now ≡ true)) }
 {
     match memchr(byte, text) {
         Some(place) => Some((&text[..place], &text[place + 1..])),

@@ -136,7 +136,8 @@ pub fn is_idle(rows: &Rows, station: DeviceId) -> bool
 }
 
 fn has_occupying(rows: &Rows, station: DeviceId) -> bool
-    ensures { result ≡ list_any (λ c. c.device == station && is_occupying c.state) rows.now.connections }
+    ensures { result ≡ list_any
+        (λ c. c.device == station && is_occupying c.state) rows.now.connections }
 {
     rows.connections
         .iter()

@@ -41,7 +41,9 @@ fn create<S: Alter>(
     requires { conn.in_transaction ≡ false }
     ensures made { IfOk result (λ b. IsOf (unmade (state S.Store conn)) (book_of S.Store b)) }
     ensures idle { IfErr result (λ e. e.1.in_transaction ≡ false) }
-    ensures stops { IfErr result (λ e. HasCleanDisk (state S.Store e.1) → MayMake (state S.Store conn) (state S.Store e.1) greatest_limits) }
+    ensures stops { IfErr result
+        (λ e. HasCleanDisk (state S.Store e.1)
+        → MayMake (state S.Store conn) (state S.Store e.1) greatest_limits) }
 {
     match SqlBook::create(alloc, conn, Limits::GREATEST) {
         Ok(book) => Ok(book),

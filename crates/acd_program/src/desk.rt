@@ -63,7 +63,9 @@ fn imported<'a, B: Book, W: Write>(
     requests: &[Request],
     writer: &mut W,
 ) -> (Result<Done, Fault<'a>>, B)
-    ensures over { OnOk result.0 (ImportsOver requests.now (B.state book) (W.contents writer.old) (W.contents writer.new) (B.state result.1)) }
+    ensures over { OnOk result.0
+        (ImportsOver requests.now (B.state book) (W.contents writer.old) (W.contents writer.new)
+        (B.state result.1)) }
     ensures nothing { IfOk result.0 (λ done. done ≡ Done.Nothing) }
 {
     let mut desk = match Desk::open(alloc, book) {
@@ -116,7 +118,9 @@ fn audit<'a, B: Book>(
     book: Watched<'_, B>,
     counts: bool,
 ) -> (Result<Done, Fault<'a>>, B)
-    ensures { IfOk result.0 (λ done. AuditsOver IsFindingIfOrdered counts (B.state book.entry.inner) done (B.state result.1)) }
+    ensures { IfOk result.0
+        (λ done. AuditsOver IsFindingIfOrdered counts (B.state book.entry.inner) done
+        (B.state result.1)) }
 {
     let mut desk = match Desk::open(alloc, book) {
         Ok(desk) => desk,
@@ -134,7 +138,9 @@ fn over_book<'a, B: Book, W: Write>(
     work: BookWork<'_>,
     writer: &mut W,
 ) -> (Result<Done, Fault<'a>>, B)
-    ensures { IfOk result.0 (λ done. BookDone IsFindingIfOrdered work.entry (B.state book) (W.contents writer.old) (W.contents writer.new) done (B.state result.1)) }
+    ensures { IfOk result.0
+        (λ done. BookDone IsFindingIfOrdered work.entry (B.state book) (W.contents writer.old)
+        (W.contents writer.new) done (B.state result.1)) }
 {
     match work {
         BookWork::Import(requests) => imported(rt.alloc(), book, requests, writer),
@@ -154,7 +160,10 @@ fn lines_over<'a, S: Alter, R: Read, W: Write>(
     writer: &mut W,
 ) -> (Result<Done, Fault<'a>>, Connection<S>)
     requires { conn.in_transaction ≡ false }
-    ensures over { OnOk result.0 (OverConnection (λ old new. AnswersOver ends_on_store_fault old (R.remaining reader.old) (W.contents writer.old) (W.contents writer.new) new) makes (state S.Store conn) (state S.Store result.1)) }
+    ensures over { OnOk result.0
+        (OverConnection (λ old new. AnswersOver ends_on_store_fault old (R.remaining reader.old)
+        (W.contents writer.old) (W.contents writer.new) new) makes (state S.Store conn)
+        (state S.Store result.1)) }
     ensures nothing { IfOk result.0 (λ done. done ≡ Done.Nothing) }
 {
     let (done, conn) = lines_over_connection(
@@ -181,7 +190,10 @@ pub(crate) fn over_database<'a, S: Alter, R: Read, W: Write>(
     writer: &mut W,
 ) -> (Result<Done, Fault<'a>>, Connection<S>)
     requires { conn.in_transaction ≡ false }
-    ensures { IfOk result.0 (λ done. OverConnection (λ old new. WorkDone work.entry old (R.remaining reader.old) (W.contents writer.old) (W.contents writer.new) done new) makes (state S.Store conn) (state S.Store result.1)) }
+    ensures { IfOk result.0
+        (λ done. OverConnection
+        (λ old new. WorkDone work.entry old (R.remaining reader.old) (W.contents writer.old)
+        (W.contents writer.new) done new) makes (state S.Store conn) (state S.Store result.1)) }
 {
     let work = match work {
         Work::Lines {

@@ -79,8 +79,10 @@ fn is_new<'a>(found: Found, makes: bool, path: &'a str) -> Result<bool, Fault<'a
     // not in a file that has bytes
     ensures bytes { (len : ℕ) → found ≡ Found.Bytes len → result ≡ Ok false }
     // where there is none, or one of no bytes, it is if it may, and else nothing is opened
-    ensures made { makes ≡ true → (found ≡ Found.Nothing) ⊎ (found ≡ Found.NoBytes) → result ≡ Ok true }
-    ensures none { makes ≡ false → (found ≡ Found.Nothing) ⊎ (found ≡ Found.NoBytes) → OnOk result ⊥ }
+    ensures made { makes ≡ true → (found ≡ Found.Nothing) ⊎ (found ≡ Found.NoBytes)
+        → result ≡ Ok true }
+    ensures none { makes ≡ false → (found ≡ Found.Nothing) ⊎ (found ≡ Found.NoBytes)
+        → OnOk result ⊥ }
 {
     match found {
         Found::Bytes(_) => Ok(false),

@@ -36,7 +36,9 @@ fn may_be_new<D: Disk>(files: &mut Files<D>) -> io::Result<bool>
     requires db { IsTrue (D.Disk.is_usable files.old.db) }
     ensures log { files.new.log ≡ files.old.log }
     ensures db { OnlyReads D.Disk files.old.db files.new.db }
-    ensures few { IfOk result (λ few. IsClean D.Disk files.new.db → IsTrue few ↔ length (D.Disk.seen files.old.db) ≤ new_page) }
+    ensures few { IfOk result
+        (λ few. IsClean D.Disk files.new.db
+        → IsTrue few ↔ length (D.Disk.seen files.old.db) ≤ new_page) }
 {
     Ok(files.db.len()? <= NEW_PAGE)
 }
@@ -51,7 +53,8 @@ fn created<'a, D: Disk + Drop>(
     requires log { IsTrue (D.Disk.is_usable files.log) }
     requires db { IsTrue (D.Disk.is_usable files.db) }
     ensures created { IfOk result (λ new. IsCreated D.Disk files new) }
-    ensures clean { IfOk result (λ new. AreClean D.Disk new.log new.db → AreClean D.Disk files.log files.db) }
+    ensures clean { IfOk result
+        (λ new. AreClean D.Disk new.log new.db → AreClean D.Disk files.log files.db) }
 {
     let Some(size) = PageSize::new(NEW_PAGE) else {
         return Err(Fault::CannotOpen(path));

@@ -16,7 +16,8 @@ const ENOUGH: u64 = 1_048_577;
 
 // All bytes of a reader, or as many as are enough.
 fn bytes_from<R: Read + Drop>(alloc: Global, reader: R) -> io::Result<Vec<u8>>
-    ensures { IfOk result (λ bytes. IfSome (R.remaining reader) (λ all. bytes.items ≡ take 1048577 all)) }
+    ensures { IfOk result
+        (λ bytes. IfSome (R.remaining reader) (λ all. bytes.items ≡ take 1048577 all)) }
 {
     let mut bytes = Vec::new(alloc);
     reader.take(ENOUGH).read_to_end(&mut bytes)?;
@@ -37,7 +38,9 @@ fn plan_from<'a, R: Read + Drop>(
     reader: R,
     path: &'a str,
 ) -> Result<Vec<Request>, Fault<'a>>
-    ensures { IfOk result (λ requests. (bytes : List ℕ) × IsInput (R.remaining reader) bytes × (plan_requests bytes ≡ Ok requests.items)) }
+    ensures { IfOk result
+        (λ requests. (bytes : List ℕ) × IsInput (R.remaining reader) bytes
+        × (plan_requests bytes ≡ Ok requests.items)) }
 {
     let bytes = match bytes_from(alloc, reader) {
         Ok(bytes) => bytes,
@@ -51,7 +54,8 @@ fn plan_from<'a, R: Read + Drop>(
 
 /// The requests of the plan at a path.
 pub(crate) fn read_plan<'a>(rt: &HostRuntime, path: &'a str) -> Result<Vec<Request>, Fault<'a>>
-    ensures { IfOk result (λ requests. (bytes : List ℕ) × (plan_requests bytes ≡ Ok requests.items)) }
+    ensures { IfOk result
+        (λ requests. (bytes : List ℕ) × (plan_requests bytes ≡ Ok requests.items)) }
 {
     match fs::open(rt, path) {
         Ok(file) => plan_from(rt.alloc(), file, path),

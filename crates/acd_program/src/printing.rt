@@ -24,8 +24,12 @@ const CALLS: u64 = u64::MAX;
 
 // Writes a line that ends in a number.
 fn send_number<W: Write>(writer: &mut W, front: &[u8], number: u64) -> Result<(), Stopped>
-    ensures ok { OnOk result (Appends (W.contents writer.old) (W.contents writer.new) (front.now ++ (decimal number ++ 10 ∷ []))) }
-    ensures err { OnErr result (Begins (W.contents writer.old) (W.contents writer.new) (front.now ++ (decimal number ++ 10 ∷ []))) }
+    ensures ok { OnOk result
+        (Appends (W.contents writer.old) (W.contents writer.new)
+        (front.now ++ (decimal number ++ 10 ∷ []))) }
+    ensures err { OnErr result
+        (Begins (W.contents writer.old) (W.contents writer.new)
+        (front.now ++ (decimal number ++ 10 ∷ []))) }
 {
     let mut calls = CALLS;
     let mut digits = Buffer::new();
@@ -36,8 +40,10 @@ fn send_number<W: Write>(writer: &mut W, front: &[u8], number: u64) -> Result<()
 
 // Writes what an audit found, as a line or two.
 fn send_finding<W: Write>(found: Finding, writer: &mut W) -> Result<(), Stopped>
-    ensures ok { OnOk result (Appends (W.contents writer.old) (W.contents writer.new) (finding_line found)) }
-    ensures err { OnErr result (Begins (W.contents writer.old) (W.contents writer.new) (finding_line found)) }
+    ensures ok { OnOk result
+        (Appends (W.contents writer.old) (W.contents writer.new) (finding_line found)) }
+    ensures err { OnErr result
+        (Begins (W.contents writer.old) (W.contents writer.new) (finding_line found)) }
 {
     let mut calls = CALLS;
     match found {
@@ -48,8 +54,10 @@ fn send_finding<W: Write>(found: Finding, writer: &mut W) -> Result<(), Stopped>
 }
 
 fn send_left<W: Write>(left: &Done, writer: &mut W) -> Result<(), Stopped>
-    ensures ok { OnOk result (Appends (W.contents writer.old) (W.contents writer.new) (text_left left.now)) }
-    ensures err { OnErr result (Begins (W.contents writer.old) (W.contents writer.new) (text_left left.now)) }
+    ensures ok { OnOk result
+        (Appends (W.contents writer.old) (W.contents writer.new) (text_left left.now)) }
+    ensures err { OnErr result
+        (Begins (W.contents writer.old) (W.contents writer.new) (text_left left.now)) }
 {
     let mut calls = CALLS;
     match left {
@@ -86,9 +94,11 @@ fn status_left(left: &Done) -> u8
 pub(crate) fn print<'a, W: Write>(left: &Done, writer: &mut W) -> Result<u8, Fault<'a>>
     ensures known { IfOk result IsDone }
     ensures status { IfOk result (λ status. status ≡ status_left left.now) }
-    ensures ok { OnOk result (Appends (W.contents writer.old) (W.contents writer.new) (text_left left.now)) }
+    ensures ok { OnOk result
+        (Appends (W.contents writer.old) (W.contents writer.new) (text_left left.now)) }
     // where the writer failed, a beginning of it
-    ensures err { OnErr result (Begins (W.contents writer.old) (W.contents writer.new) (text_left left.now)) }
+    ensures err { OnErr result
+        (Begins (W.contents writer.old) (W.contents writer.new) (text_left left.now)) }
     ensures fault { IfErr result (λ fault. fault ≡ Fault.Write) }
 {
     match send_left(left, writer) {

@@ -26,7 +26,9 @@ pub(crate) fn reading_lines_over_memory<R: Read, W: Write>(
     reader: &mut R,
     writer: &mut W,
 ) -> Result<(), LinesFault>
-    ensures { OnOk result (ReadsFromNothing (R.remaining reader.old) (W.contents writer.old) (W.contents writer.new)) }
+    ensures { OnOk result
+        (ReadsFromNothing (R.remaining reader.old) (W.contents writer.old)
+        (W.contents writer.new)) }
 {
     match new_desk(alloc) {
         Ok(mut desk) => lines_with_reads(alloc, &mut desk, false, reader, writer),
@@ -54,7 +56,8 @@ fn answer<'a, B: Book, R: Read, W: Write>(
     ensures answered { OnOk result (LinesAnswered (AllLines (R.remaining reader.old))
         (ReadInTurn B.Book desk.old desk.new)
         (Appends (W.contents writer.old) (W.contents writer.new))) }
-    ensures well { OnOk result (ends_on_store_fault ≡ true → (standing B.Book desk.new).failed ≡ false) }
+    ensures well { OnOk result
+        (ends_on_store_fault ≡ true → (standing B.Book desk.new).failed ≡ false) }
 {
     match lines_with_reads(alloc, desk, ends_on_store_fault, reader, writer) {
         Ok(()) => ended(desk, ends_on_store_fault),
@@ -69,7 +72,9 @@ fn answer_over_book<'a, B: Book, R: Read, W: Write>(
     reader: &mut R,
     writer: &mut W,
 ) -> (Result<(), Fault<'a>>, B)
-    ensures { OnOk result.0 (ReadsOver B.Book ends_on_store_fault (B.state book) (R.remaining reader.old) (W.contents writer.old) (W.contents writer.new) result.1) }
+    ensures { OnOk result.0
+        (ReadsOver B.Book ends_on_store_fault (B.state book) (R.remaining reader.old)
+        (W.contents writer.old) (W.contents writer.new) result.1) }
 {
     let mut desk = match Desk::open(alloc, book) {
         Ok(desk) => desk,
@@ -90,7 +95,9 @@ pub(crate) fn reading_lines_over_connection<'a, S: Alter, R: Read, W: Write>(
 ) -> (Result<(), Fault<'a>>, Connection<S>)
     requires { conn.in_transaction ≡ false }
     ensures idle { result.1.in_transaction ≡ false }
-    ensures answered { OnOk result.0 (ReadsDatabase S.Store makes ends_on_store_fault (state S.Store conn) (R.remaining reader.old) (W.contents writer.old) (W.contents writer.new) result.1) }
+    ensures answered { OnOk result.0
+        (ReadsDatabase S.Store makes ends_on_store_fault (state S.Store conn)
+        (R.remaining reader.old) (W.contents writer.old) (W.contents writer.new) result.1) }
 {
     let book = match book_over(alloc, conn, makes) {
         Ok(book) => book,

@@ -44,7 +44,9 @@ fn work_over<'a, D: Disk + Drop, R: Read, W: Write>(
 ) -> Result<u8, Fault<'a>>
     requires { conn.in_transaction ≡ false }
     ensures known { IfOk result IsDone }
-    ensures worked { IfOk result (λ status. WorkedOver makes work.entry conn (R.remaining reader.old) (W.contents writer.old) (W.contents writer.new) status) }
+    ensures worked { IfOk result
+        (λ status. WorkedOver makes work.entry conn (R.remaining reader.old) (W.contents writer.old)
+        (W.contents writer.new) status) }
 {
     let (done, conn) = over_database(rt, conn, makes, work, reader, writer);
     print_done(done, close_connection(conn), writer)
@@ -61,7 +63,9 @@ fn work_in<'a, S: Start, R: Read, W: Write>(
     writer: &mut W,
 ) -> Result<u8, Fault<'a>>
     ensures known { IfOk result IsDone }
-    ensures worked { IfOk result (λ status. WorkedIn ⟦<FileFrom<S> as Disk>⟧ IsFresh makes work.entry (R.remaining reader.old) (W.contents writer.old) (W.contents writer.new) status) }
+    ensures worked { IfOk result
+        (λ status. WorkedIn ⟦<FileFrom<S> as Disk>⟧ IsFresh makes work.entry
+        (R.remaining reader.old) (W.contents writer.old) (W.contents writer.new) status) }
 {
     let (conn, is_new) = connect(rt, file, makes, start)?;
     work_over(rt, conn, is_new, work, reader, writer)
@@ -77,7 +81,9 @@ fn answer_lines<'a, S: Start, R: Read, W: Write>(
     writer: &mut W,
 ) -> Result<u8, Fault<'a>>
     ensures known { IfOk result IsDone }
-    ensures done { IfOk result (λ status. LinesDone ⟦<FileFrom<S> as Disk>⟧ IsFresh file.entry ends_on_store_fault (R.remaining reader.old) (W.contents writer.old) (W.contents writer.new) status) }
+    ensures done { IfOk result
+        (λ status. LinesDone ⟦<FileFrom<S> as Disk>⟧ IsFresh file.entry ends_on_store_fault
+        (R.remaining reader.old) (W.contents writer.old) (W.contents writer.new) status) }
 {
     match file {
         None => {
@@ -102,7 +108,9 @@ fn read_lines_in<'a, S: Start, R: Read, W: Write>(
     reader: &mut R,
     writer: &mut W,
 ) -> Result<(), Fault<'a>>
-    ensures { OnOk result (ReadIn ⟦<FileFrom<S> as Disk>⟧ IsFresh ends_on_store_fault (R.remaining reader.old) (W.contents writer.old) (W.contents writer.new)) }
+    ensures { OnOk result
+        (ReadIn ⟦<FileFrom<S> as Disk>⟧ IsFresh ends_on_store_fault (R.remaining reader.old)
+        (W.contents writer.old) (W.contents writer.new)) }
 {
     let (conn, is_new) = connect(rt, file, true, start)?;
     let (done, conn) = reading_lines_over_connection(
@@ -130,7 +138,9 @@ fn answer_reading_lines<'a, S: Start, R: Read, W: Write>(
     writer: &mut W,
 ) -> Result<u8, Fault<'a>>
     ensures known { IfOk result IsDone }
-    ensures done { IfOk result (λ status. ReadingLinesDone ⟦<FileFrom<S> as Disk>⟧ IsFresh file.entry ends_on_store_fault (R.remaining reader.old) (W.contents writer.old) (W.contents writer.new) status) }
+    ensures done { IfOk result
+        (λ status. ReadingLinesDone ⟦<FileFrom<S> as Disk>⟧ IsFresh file.entry ends_on_store_fault
+        (R.remaining reader.old) (W.contents writer.old) (W.contents writer.new) status) }
 {
     match file {
         None => {
@@ -153,7 +163,9 @@ fn import_plan<'a, S: Start, R: Read, W: Write>(
     writer: &mut W,
 ) -> Result<u8, Fault<'a>>
     ensures known { IfOk result IsDone }
-    ensures imported { IfOk result (λ status. ImportedIn ⟦<FileFrom<S> as Disk>⟧ IsFresh (W.contents writer.old) (W.contents writer.new) status) }
+    ensures imported { IfOk result
+        (λ status. ImportedIn ⟦<FileFrom<S> as Disk>⟧ IsFresh (W.contents writer.old)
+        (W.contents writer.new) status) }
 {
     let requests = read_plan(rt, plan)?;
     let work = Work::Book(BookWork::Import(&requests));
@@ -169,7 +181,9 @@ fn serve_file<'a, S: Start, W: Write, E: Write>(
     writer: &mut W,
     errors: &mut E,
 ) -> Result<(), Fault<'a>>
-    ensures { OnOk result (ServedIn ⟦<FileFrom<S> as Disk>⟧ IsFresh connections (E.contents errors.old) (E.contents errors.new)) }
+    ensures { OnOk result
+        (ServedIn ⟦<FileFrom<S> as Disk>⟧ IsFresh connections (E.contents errors.old)
+        (E.contents errors.new)) }
 {
     let (conn, is_new) = connect(rt, file, true, start)?;
     let (done, conn) = serve(rt, conn, is_new, port, connections, writer, errors);
@@ -187,7 +201,9 @@ fn print_done<'a, W: Write>(
     writer: &mut W,
 ) -> Result<u8, Fault<'a>>
     ensures known { IfOk result IsDone }
-    ensures printed { IfOk result (λ status. IsPrinted done.entry closed.entry (W.contents writer.old) (W.contents writer.new) status) }
+    ensures printed { IfOk result
+        (λ status. IsPrinted done.entry closed.entry (W.contents writer.old) (W.contents writer.new)
+        status) }
 {
     match done {
         Ok(left) => {
@@ -210,8 +226,13 @@ fn execute<'a, S: Start, R: Read, W: Write, E: Write>(
 ) -> Result<u8, Fault<'a>>
     ensures known { IfOk result IsDone }
     // what the words asked for was done
-    ensures done { IfOk result (λ status. TaskDone ⟦<FileFrom<S> as Disk>⟧ IsFresh task.entry (R.remaining reader.old) (W.contents writer.old) (W.contents writer.new) (E.contents errors.old) (E.contents errors.new) status) }
-    ensures told { IfOk result (λ status. (errors.new ≡ errors.old) ⊎ ((status ≡ 0) × TellsConnections (E.contents errors.old) (E.contents errors.new))) }
+    ensures done { IfOk result
+        (λ status. TaskDone ⟦<FileFrom<S> as Disk>⟧ IsFresh task.entry (R.remaining reader.old)
+        (W.contents writer.old) (W.contents writer.new) (E.contents errors.old)
+        (E.contents errors.new) status) }
+    ensures told { IfOk result
+        (λ status. (errors.new ≡ errors.old)
+        ⊎ ((status ≡ 0) × TellsConnections (E.contents errors.old) (E.contents errors.new))) }
 {
     match task {
         Task::Lines {

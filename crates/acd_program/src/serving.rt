@@ -40,7 +40,9 @@ fn answer_some<'a, B: Book, E: Write>(
     connections: u32,
     errors: &mut E,
 ) -> Result<(), Fault<'a>>
-    ensures { OnOk result (ServedAll (standing B.Book) connections desk.old desk.new (Begins (E.contents errors.old) (E.contents errors.new))) }
+    ensures { OnOk result
+        (ServedAll (standing B.Book) connections desk.old desk.new
+        (Begins (E.contents errors.old) (E.contents errors.new))) }
 {
     match serve_on(
         rt,
@@ -73,7 +75,9 @@ fn answer_until_failed<'a, B: Book, E: Write>(
     desk: &mut Desk<B>,
     errors: &mut E,
 ) -> Result<(), Fault<'a>>
-    ensures served { OnOk result (ServedUntilFailed (standing B.Book) desk.old desk.new (Begins (E.contents errors.old) (E.contents errors.new))) }
+    ensures served { OnOk result
+        (ServedUntilFailed (standing B.Book) desk.old desk.new
+        (Begins (E.contents errors.old) (E.contents errors.new))) }
     ensures well { OnOk result ((standing B.Book desk.new).failed ≡ false) }
 {
     match serve_until_failed(rt, rt.alloc(), listener, desk, errors) {
@@ -90,7 +94,9 @@ fn answer<'a, B: Book, E: Write>(
     connections: Option<u32>,
     errors: &mut E,
 ) -> Result<(), Fault<'a>>
-    ensures served { OnOk result (ServedFor (standing B.Book) connections desk.old desk.new (Begins (E.contents errors.old) (E.contents errors.new))) }
+    ensures served { OnOk result
+        (ServedFor (standing B.Book) connections desk.old desk.new
+        (Begins (E.contents errors.old) (E.contents errors.new))) }
     ensures well { OnOk result (connections ≡ None → (standing B.Book desk.new).failed ≡ false) }
 {
     match connections {
@@ -107,7 +113,9 @@ fn serve_desk<'a, B: Book, W: Write, E: Write>(
     writer: &mut W,
     errors: &mut E,
 ) -> Result<(), Fault<'a>>
-    ensures served { OnOk result (ServedFor (standing B.Book) connections desk.old desk.new (Begins (E.contents errors.old) (E.contents errors.new))) }
+    ensures served { OnOk result
+        (ServedFor (standing B.Book) connections desk.old desk.new
+        (Begins (E.contents errors.old) (E.contents errors.new))) }
     ensures well { OnOk result (connections ≡ None → (standing B.Book desk.new).failed ≡ false) }
 {
     let listener = listen(rt, port)?;
@@ -123,7 +131,9 @@ fn serve_book<'a, B: Book, W: Write, E: Write>(
     writer: &mut W,
     errors: &mut E,
 ) -> (Result<(), Fault<'a>>, B)
-    ensures { OnOk result.0 (ServesOver B.Book (B.state book) connections (E.contents errors.old) (E.contents errors.new) result.1) }
+    ensures { OnOk result.0
+        (ServesOver B.Book (B.state book) connections (E.contents errors.old)
+        (E.contents errors.new) result.1) }
 {
     let mut desk = match Desk::open(rt.alloc(), book) {
         Ok(desk) => desk,
@@ -146,7 +156,9 @@ pub(crate) fn serve<'a, S: Alter, W: Write, E: Write>(
 ) -> (Result<(), Fault<'a>>, Connection<S>)
     requires { conn.in_transaction ≡ false }
     ensures idle { result.1.in_transaction ≡ false }
-    ensures served { OnOk result.0 (ServesDatabase S.Store makes connections (state S.Store conn) (E.contents errors.old) (E.contents errors.new) result.1) }
+    ensures served { OnOk result.0
+        (ServesDatabase S.Store makes connections (state S.Store conn) (E.contents errors.old)
+        (E.contents errors.new) result.1) }
 {
     let book = match book_over(rt.alloc(), conn, makes) {
         Ok(book) => book,

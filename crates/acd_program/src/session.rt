@@ -50,7 +50,8 @@ fn answer<B: Book, R: Read, W: Write>(
         (ArrivalsAnswered (HasRun B.Book desk.old desk.new))
         (Appends (W.contents writer.old) (W.contents writer.new))) }
     ensures asked { IfErr result (λ fault. IsStoreFailed fault → ends_on_store_fault ≡ true) }
-    ensures well { OnOk result (ends_on_store_fault ≡ true → (standing B.Book desk.new).failed ≡ false) }
+    ensures well { OnOk result
+        (ends_on_store_fault ≡ true → (standing B.Book desk.new).failed ≡ false) }
     ensures opened { IfErr result (λ fault. (why : OpenFault) → ¬ (IsOpenFault why fault)) }
 {
     if !ends_on_store_fault {

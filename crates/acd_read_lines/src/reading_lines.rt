@@ -32,7 +32,8 @@ fn json_told(alloc: Global, is_plain: bool, text: String) -> Result<String, Allo
 
 // The text of a report as JSON takes memory, and where there is none the answer is noMemory.
 fn text_line(alloc: Global, is_plain: bool, text: String) -> AnswerText
-    ensures { (answered_text result ≡ told_line is_plain (Ok (Some (string_bytes text)))) ⊎ (answered_text result ≡ fixed_line FixedAnswer.NoMemory) }
+    ensures { (answered_text result ≡ told_line is_plain (Ok (Some (string_bytes text))))
+        ⊎ (answered_text result ≡ fixed_line FixedAnswer.NoMemory) }
 {
     match json_told(alloc, is_plain, text) {
         Ok(body) => AnswerText::found(Ok(Some(body))),
@@ -41,7 +42,8 @@ fn text_line(alloc: Global, is_plain: bool, text: String) -> AnswerText
 }
 
 fn told_line(alloc: Global, is_plain: bool, found: Result<Option<String>, DeskFault>) -> AnswerText
-    ensures { (answered_text result ≡ told_line is_plain (seen found)) ⊎ (OnErr found ⊥ × (answered_text result ≡ fixed_line FixedAnswer.NoMemory)) }
+    ensures { (answered_text result ≡ told_line is_plain (seen found))
+        ⊎ (OnErr found ⊥ × (answered_text result ≡ fixed_line FixedAnswer.NoMemory)) }
 {
     match found {
         Ok(Some(text)) => text_line(alloc, is_plain, text),
@@ -51,7 +53,8 @@ fn told_line(alloc: Global, is_plain: bool, found: Result<Option<String>, DeskFa
 }
 
 fn look<B: Book>(alloc: Global, desk: &mut Desk<B>, moment: u32, question: Question) -> AnswerText
-    ensures { Tells (standing B.Book) desk.old moment (Ok question) (answered_text result) desk.new }
+    ensures { Tells (standing B.Book) desk.old moment (Ok question) (answered_text result)
+        desk.new }
 {
     let is_plain = question.is_plain();
     let found = desk.read(moment, question);
@@ -66,7 +69,8 @@ fn answer_read<B: Book>(
     moment: u32,
     target: &[u8],
 ) -> AnswerText
-    ensures { Tells (standing B.Book) desk.old moment (target_looked target.now) (answered_text result) desk.new }
+    ensures { Tells (standing B.Book) desk.old moment (target_looked target.now)
+        (answered_text result) desk.new }
 {
     match routes.look_up(alloc, target) {
         Ok(Ok(question)) => look(alloc, desk, moment, question),

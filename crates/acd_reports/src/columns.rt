@@ -8,7 +8,8 @@ use std::alloc::AllocError;
 
 // Spaces to the end of a column behind a text.
 fn push_spaces(line: &mut String, width: usize, text: &str) -> Result<(), AllocError>
-    ensures { OnOk result (string_bytes line.new ≡ string_bytes line.old ++ replicate (width - length text.now) 32) }
+    ensures { OnOk result
+        (string_bytes line.new ≡ string_bytes line.old ++ replicate (width - length text.now) 32) }
 {
     for _ in 0..width.saturating_sub(text.len()) {
         line.push(' ')?;
@@ -34,7 +35,8 @@ fn push_right(line: &mut String, width: usize, text: &str) -> Result<(), AllocEr
 
 // A number at the right of a column, or a hyphen where there is none.
 fn push_number(line: &mut String, width: usize, number: Option<u64>) -> Result<(), AllocError>
-    ensures { OnOk result (string_bytes line.new ≡ string_bytes line.old ++ right width (number_or_hyphen number)) }
+    ensures { OnOk result
+        (string_bytes line.new ≡ string_bytes line.old ++ right width (number_or_hyphen number)) }
 {
     let mut buffer = Buffer::new();
     match number {
@@ -48,8 +50,10 @@ pub(crate) fn push_numbers(
     line: &mut String,
     numbers: &[(usize, Option<u64>)],
 ) -> Result<(), AllocError>
-    ensures { OnOk result (string_bytes line.new
-        ≡ string_bytes line.old ++ columns_text (map (λ (n : ℕ × Option ℕ). (n.0, number_or_hyphen n.1)) numbers.now)) }
+    ensures { OnOk result
+        (string_bytes line.new
+        ≡ string_bytes line.old
+        ++ columns_text (map (λ (n : ℕ × Option ℕ). (n.0, number_or_hyphen n.1)) numbers.now)) }
 {
     for &(width, number) in numbers {
         line.push(' ')?;

@@ -24,7 +24,8 @@ fn push(row: &mut ByteRecord, field: &[u8]) -> Result<(), AllocError>
 
 fn push_number(row: &mut ByteRecord, number: Option<u64>) -> Result<(), AllocError>
     requires { partial_of row.old ≡ [] }
-    ensures fields { OnOk result (fields_of row.new ≡ fields_of row.old ++ (written decimal number ∷ [])) }
+    ensures fields { OnOk result
+        (fields_of row.new ≡ fields_of row.old ++ (written decimal number ∷ [])) }
     ensures partial { OnOk result (partial_of row.new ≡ []) }
 {
     let mut buffer = Buffer::new();
@@ -36,7 +37,8 @@ fn push_number(row: &mut ByteRecord, number: Option<u64>) -> Result<(), AllocErr
 
 fn push_device(row: &mut ByteRecord, device: Option<DeviceId>) -> Result<(), AllocError>
     requires { partial_of row.old ≡ [] }
-    ensures fields { OnOk result (fields_of row.new ≡ fields_of row.old ++ (written digits_of device ∷ [])) }
+    ensures fields { OnOk result
+        (fields_of row.new ≡ fields_of row.old ++ (written digits_of device ∷ [])) }
     ensures partial { OnOk result (partial_of row.new ≡ []) }
 {
     match device {
@@ -47,7 +49,8 @@ fn push_device(row: &mut ByteRecord, device: Option<DeviceId>) -> Result<(), All
 
 fn push_agent(row: &mut ByteRecord, agent: Option<AgentId>) -> Result<(), AllocError>
     requires { partial_of row.old ≡ [] }
-    ensures fields { OnOk result (fields_of row.new ≡ fields_of row.old ++ (written digits_of agent ∷ [])) }
+    ensures fields { OnOk result
+        (fields_of row.new ≡ fields_of row.old ++ (written digits_of agent ∷ [])) }
     ensures partial { OnOk result (partial_of row.new ≡ []) }
 {
     match agent {
@@ -58,7 +61,8 @@ fn push_agent(row: &mut ByteRecord, agent: Option<AgentId>) -> Result<(), AllocE
 
 fn push_cause(row: &mut ByteRecord, cause: Option<Cause>) -> Result<(), AllocError>
     requires { partial_of row.old ≡ [] }
-    ensures fields { OnOk result (fields_of row.new ≡ fields_of row.old ++ (written cause_name cause ∷ [])) }
+    ensures fields { OnOk result
+        (fields_of row.new ≡ fields_of row.old ++ (written cause_name cause ∷ [])) }
     ensures partial { OnOk result (partial_of row.new ≡ []) }
 {
     match cause {
@@ -69,7 +73,9 @@ fn push_cause(row: &mut ByteRecord, cause: Option<Cause>) -> Result<(), AllocErr
 
 // The fields of an event's record.
 fn fill(row: &mut ByteRecord, event: &Event) -> Result<(), AllocError>
-    ensures { OnOk result (fields_of row.new ≡ event_fields event.now.number event.now.moment (columns_of event.now.report)) }
+    ensures { OnOk result
+        (fields_of row.new
+        ≡ event_fields event.now.number event.now.moment (columns_of event.now.report)) }
 {
     let columns = event.report.columns();
     row.clear();
@@ -94,7 +100,8 @@ fn writer_of(alloc: Global) -> Writer<Vec<u8>>
 
 fn write(writer: &mut Writer<Vec<u8>>, row: &ByteRecord) -> Result<(), AllocError>
     requires { IsPlain writer.old }
-    ensures { OnOk result (Adds writer.old (row_text default_writer (fields_of row.now)) writer.new) }
+    ensures { OnOk result
+        (Adds writer.old (row_text default_writer (fields_of row.now)) writer.new) }
 {
     let Ok(()) = writer.write_byte_record(row) else {
         return Err(AllocError);
@@ -104,7 +111,8 @@ fn write(writer: &mut Writer<Vec<u8>>, row: &ByteRecord) -> Result<(), AllocErro
 
 fn write_fields(writer: &mut Writer<Vec<u8>>, fields: &[&[u8]]) -> Result<(), AllocError>
     requires { IsPlain writer.old }
-    ensures { OnOk result (Adds writer.old (row_text default_writer (map (λ f. f.now) fields.now)) writer.new) }
+    ensures { OnOk result
+        (Adds writer.old (row_text default_writer (map (λ f. f.now) fields.now)) writer.new) }
 {
     let Ok(()) = writer.write_fields(fields) else {
         return Err(AllocError);

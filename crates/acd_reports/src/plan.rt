@@ -42,7 +42,8 @@ fn reader_of(alloc: Global, text: &[u8]) -> Reader<&[u8]>
 // ReadsPlan the next record, if there is one.
 fn read_row(reader: &mut Reader<&[u8]>, row: &mut ByteRecord) -> Result<bool, PlanFault>
     requires { IsPlain reader.old }
-    ensures reads { IfOk result (λ found. ReadsPlan found reader.old (fields_of row.new) reader.new) }
+    ensures reads { IfOk result
+        (λ found. ReadsPlan found reader.old (fields_of row.new) reader.new) }
     ensures fault { IfErr result (λ e. e ≡ PlanFault.NoMemory) }
 {
     let Ok(found) = reader.read_byte_record(row) else {

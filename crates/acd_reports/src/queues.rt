@@ -98,7 +98,8 @@ fn states_of(
 
 #[tactic(auto, unfolding(crate::specs::QueueReport::group_line))]
 fn push_group(report: &mut String, moment: u32, state: &GroupState) -> Result<(), AllocError>
-    ensures { OnOk result (string_bytes report.new ≡ string_bytes report.old ++ group_line moment state.now) }
+    ensures { OnOk result
+        (string_bytes report.new ≡ string_bytes report.old ++ group_line moment state.now) }
 {
     let group = &state.group;
     let figures = group.figures;

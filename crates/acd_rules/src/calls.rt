@@ -239,7 +239,9 @@ fn hold_at(lookups: &Lookups, device: DeviceId) -> usize
 
 // At most one live connection at the station, and none on hold beside an alerting one.
 fn has_one_live(lookups: &Lookups, station: DeviceId) -> bool
-    ensures { result ≡ (nat_le (count (live_at station) lookups.now.rows.now.connections) 1 && (count (alerting_at station) lookups.now.rows.now.connections == 0 || count (hold_at station) lookups.now.rows.now.connections == 0)) }
+    ensures { result ≡ (nat_le (count (live_at station) lookups.now.rows.now.connections) 1
+        && (count (alerting_at station) lookups.now.rows.now.connections == 0
+        || count (hold_at station) lookups.now.rows.now.connections == 0)) }
 {
     live_at(lookups, station) <= 1
         && (alerting_at(lookups, station) == 0 || hold_at(lookups, station) == 0)

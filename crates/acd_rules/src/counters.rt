@@ -25,7 +25,8 @@ fn is_moment_or_none(rows: &Rows, moment: Option<u32>) -> bool
 }
 
 fn placed_among(connections: &[ConnectionRecord], place: u64) -> usize
-    ensures { result ≡ length (filter (λ (x : ConnectionRecord). has x.place place) connections.now) }
+    ensures { result ≡ length
+        (filter (λ (x : ConnectionRecord). has x.place place) connections.now) }
 {
     connections
         .iter()
@@ -34,7 +35,8 @@ fn placed_among(connections: &[ConnectionRecord], place: u64) -> usize
 }
 
 fn connections_with(lookups: &Lookups, place: u64) -> usize
-    ensures { result ≡ count (λ (x : ConnectionRecord). has x.place place) lookups.now.rows.now.connections }
+    ensures { result ≡ count
+        (λ (x : ConnectionRecord). has x.place place) lookups.now.rows.now.connections }
 {
     placed_among(lookups.with_place(place), place)
 }
@@ -80,7 +82,9 @@ fn is_countable(rows: &Rows, group: &GroupRecord) -> bool
 }
 
 fn are_agents_timed(rows: &Rows) -> bool
-    ensures { result ≡ list_all (λ (a : AgentRecord). is_stamp rows.now a.stamp && nat_le a.since rows.now.last_moment) rows.now.agents }
+    ensures { result ≡ list_all
+        (λ (a : AgentRecord). is_stamp rows.now a.stamp && nat_le a.since rows.now.last_moment)
+        rows.now.agents }
 {
     rows.agents
         .iter()
@@ -88,7 +92,8 @@ fn are_agents_timed(rows: &Rows) -> bool
 }
 
 fn are_calls_timed(rows: &Rows) -> bool
-    ensures { result ≡ list_all (λ (c : CallRecord). nat_le c.since rows.now.last_moment) rows.now.calls }
+    ensures { result ≡ list_all
+        (λ (c : CallRecord). nat_le c.since rows.now.last_moment) rows.now.calls }
 {
     rows.calls.iter().all(|c| c.since <= rows.last_moment)
 }

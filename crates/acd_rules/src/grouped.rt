@@ -22,8 +22,10 @@ pub trait Column {
 pub struct Grouped<'a, C: Column> {
     pub whole: &'a [C::Record],
     sorted: Option<Vec<C::Record>>,
-    ghost in_order: { (xs : List C.Record) → option_map (λ v. v.items) sorted ≡ Some xs → IsNonDecreasingBy C.number_of xs },
-    ghost same: { (xs : List C.Record) → option_map (λ v. v.items) sorted ≡ Some xs → AreGrouped C.number_of xs whole.now },
+    ghost in_order: { (xs : List C.Record) → option_map (λ v. v.items) sorted ≡ Some xs
+        → IsNonDecreasingBy C.number_of xs },
+    ghost same: { (xs : List C.Record) → option_map (λ v. v.items) sorted ≡ Some xs
+        → AreGrouped C.number_of xs whole.now },
 }
 
 impl<'a, C: Column> Grouped<'a, C> {

@@ -50,7 +50,9 @@ fn is_attended(lookups: &Lookups, connection: &ConnectionRecord) -> bool
 }
 
 fn is_talking_among(connections: &[ConnectionRecord], agent: &AgentRecord) -> bool
-    ensures { result ≡ list_any (λ (x : ConnectionRecord). has agent.now.station x.device && is_distributed x && is_answered x.state) connections.now }
+    ensures { result ≡ list_any
+        (λ (x : ConnectionRecord). has agent.now.station x.device && is_distributed x
+        && is_answered x.state) connections.now }
 {
     connections.iter().any(|x| agent.station == Some(x.device)
         && x.is_distributed()
@@ -68,7 +70,9 @@ fn is_talking(lookups: &Lookups, agent: &AgentRecord) -> bool
 }
 
 fn is_occupied_among(connections: &[ConnectionRecord], agent: &AgentRecord) -> bool
-    ensures { result ≡ list_any (λ (x : ConnectionRecord). has agent.now.station x.device && is_distributed x) connections.now }
+    ensures { result ≡ list_any
+        (λ (x : ConnectionRecord). has agent.now.station x.device && is_distributed x)
+        connections.now }
 {
     connections
         .iter()
@@ -95,7 +99,8 @@ fn is_busy_only_talking(lookups: &Lookups, agent: &AgentRecord) -> bool
 }
 
 fn are_all_attended(lookups: &Lookups) -> bool
-    ensures { result ≡ list_all (is_attended lookups.now.rows.now) lookups.now.rows.now.connections }
+    ensures { result ≡ list_all (is_attended lookups.now.rows.now)
+        lookups.now.rows.now.connections }
 {
     lookups
         .rows
@@ -105,7 +110,8 @@ fn are_all_attended(lookups: &Lookups) -> bool
 }
 
 fn are_busy_only_talking(lookups: &Lookups) -> bool
-    ensures { result ≡ list_all (is_busy_only_talking lookups.now.rows.now) lookups.now.rows.now.agents }
+    ensures { result ≡ list_all (is_busy_only_talking lookups.now.rows.now)
+        lookups.now.rows.now.agents }
 {
     lookups
         .rows
@@ -124,7 +130,8 @@ pub fn keeps_occupied(lookups: &Lookups) -> bool
 }
 
 fn has_occupying_among(connections: &[ConnectionRecord], station: DeviceId) -> bool
-    ensures { result ≡ list_any (λ (x : ConnectionRecord). x.device == station && is_occupying x.state) connections.now }
+    ensures { result ≡ list_any
+        (λ (x : ConnectionRecord). x.device == station && is_occupying x.state) connections.now }
 {
     connections
         .iter()
@@ -132,7 +139,9 @@ fn has_occupying_among(connections: &[ConnectionRecord], station: DeviceId) -> b
 }
 
 fn has_occupying(lookups: &Lookups, station: DeviceId) -> bool
-    ensures { result ≡ list_any (λ (x : ConnectionRecord). x.device == station && is_occupying x.state) lookups.now.rows.now.connections }
+    ensures { result ≡ list_any
+        (λ (x : ConnectionRecord). x.device == station && is_occupying x.state)
+        lookups.now.rows.now.connections }
 {
     has_occupying_among(lookups.at_device(station), station)
 }
@@ -160,7 +169,8 @@ fn is_eligible(lookups: &Lookups, group: DeviceId, agent: &AgentRecord) -> bool
 }
 
 fn has_eligible(lookups: &Lookups, group: DeviceId) -> bool
-    ensures { result ≡ list_any (is_eligible lookups.now.rows.now group) lookups.now.rows.now.agents }
+    ensures { result ≡ list_any (is_eligible lookups.now.rows.now group)
+        lookups.now.rows.now.agents }
 {
     lookups
         .rows
@@ -186,7 +196,8 @@ fn has_waiting(lookups: &Lookups, group: DeviceId) -> bool
 // No call waits in the group, or no agent of it is eligible.
 #[tactic(auto, using(crate::proofs::RuleLists::none_left), unfolding(acd_model::specs::Scans::waiting_in, acd_model::specs::Scans::eligible_in))]
 fn has_no_offer(lookups: &Lookups, group: DeviceId) -> bool
-    ensures { result ≡ (is_empty (waiting_in lookups.now.rows.now group) || is_empty (eligible_in lookups.now.rows.now group)) }
+    ensures { result ≡ (is_empty (waiting_in lookups.now.rows.now group)
+        || is_empty (eligible_in lookups.now.rows.now group)) }
 {
     !has_waiting(lookups, group) || !has_eligible(lookups, group)
 }

@@ -100,7 +100,8 @@ fn logged_on_among(agents: &[AgentRecord], station: DeviceId) -> usize
 
 // How many agents are logged on at the station.
 fn agents_at(lookups: &Lookups, station: DeviceId) -> usize
-    ensures { result ≡ count (λ (b : AgentRecord). has b.station station) lookups.now.rows.now.agents }
+    ensures { result ≡ count
+        (λ (b : AgentRecord). has b.station station) lookups.now.rows.now.agents }
 {
     logged_on_among(lookups.agents_at(station), station)
 }

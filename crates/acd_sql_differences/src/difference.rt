@@ -112,10 +112,16 @@ impl Filed for MonitorRecord {
 
 // The change at the first key, if there is one, and what is left of both lists.
 fn turn<'a, R: Filed>(held: &'a [R], new: &'a [R]) -> Option<(Option<Change>, &'a [R], &'a [R])>
-    ensures leads { IfSome result (λ t. differences (λ x y. R.Key.cmp (R.key_of x) (R.key_of y)) R.eq R.gone_of R.put_of held.now new.now
-        ≡ option_to_list t.0 ++ differences (λ x y. R.Key.cmp (R.key_of x) (R.key_of y)) R.eq R.gone_of R.put_of t.1.now t.2.now) }
-    ensures shorter { IfSome result (λ t. length t.1.now + length t.2.now < length held.now + length new.now) }
-    ensures ends { result ≡ None → differences (λ x y. R.Key.cmp (R.key_of x) (R.key_of y)) R.eq R.gone_of R.put_of held.now new.now ≡ [] }
+    ensures leads { IfSome result
+        (λ t. differences (λ x y. R.Key.cmp (R.key_of x) (R.key_of y)) R.eq R.gone_of R.put_of
+        held.now new.now ≡ option_to_list t.0
+        ++ differences (λ x y. R.Key.cmp (R.key_of x) (R.key_of y)) R.eq R.gone_of R.put_of t.1.now
+        t.2.now) }
+    ensures shorter { IfSome result
+        (λ t. length t.1.now + length t.2.now < length held.now + length new.now) }
+    ensures ends { result ≡ None
+        → differences (λ x y. R.Key.cmp (R.key_of x) (R.key_of y)) R.eq R.gone_of R.put_of held.now
+        new.now ≡ [] }
 {
     match (held.split_first(), new.split_first()) {
         (None, None) => None,

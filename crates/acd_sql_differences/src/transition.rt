@@ -25,7 +25,9 @@ fn add_changes<R: Filed>(
     held: &[R],
     new: &[R],
 ) -> Result<(), AllocError>
-    ensures { OnOk result (AddsSteps (λ x y. R.Key.cmp (R.key_of x) (R.key_of y)) R.eq R.gone_of R.put_of held.now new.now changes.old.items changes.new.items) }
+    ensures { OnOk result
+        (AddsSteps (λ x y. R.Key.cmp (R.key_of x) (R.key_of y)) R.eq R.gone_of R.put_of held.now
+        new.now changes.old.items changes.new.items) }
 {
     let more = row_changes(alloc, held, new)?;
     extend(changes, &more)
@@ -104,7 +106,8 @@ fn staying(
 
 // Groups and stations before agents, who give their stations up before others take them.
 fn plan_changes(alloc: Global, held: &Rows, new: &Rows) -> Result<Vec<Change>, AllocError>
-    ensures lead { IfOk result (λ changes. Lead held.now (with_plan held.now new.now) changes.items) }
+    ensures lead { IfOk result
+        (λ changes. Lead held.now (with_plan held.now new.now) changes.items) }
     ensures exact { IfOk result (λ changes. changes.items ≡ plan_differences held.now new.now) }
 {
     let agents = all_unseated(alloc, held.agents.as_slice(), new.agents.as_slice())?;
@@ -128,7 +131,8 @@ fn plan_changes(alloc: Global, held: &Rows, new: &Rows) -> Result<Vec<Change>, A
 
 // Connections go before their calls, and calls are put before their connections.
 fn traffic_changes(alloc: Global, held: &Rows, new: &Rows) -> Result<Vec<Change>, AllocError>
-    ensures lead { IfOk result (λ changes. Lead (with_plan held.now new.now) new.now changes.items) }
+    ensures lead { IfOk result
+        (λ changes. Lead (with_plan held.now new.now) new.now changes.items) }
     ensures exact { IfOk result (λ changes. changes.items ≡ traffic_differences held.now new.now) }
 {
     let connections = staying(

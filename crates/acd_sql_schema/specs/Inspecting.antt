@@ -1,10 +1,12 @@
 -- When a connection is taken for a book: its version is that of these tables, and each value is in its range.
-use Rattle.std.specs.Prelude.{◌==◌, ◌≡◌, ◌≢◌, ◌⊎◌, ◌<◌, ◌≤◌, ℕ, Bool, true, false, List, [], ◌∷◌, Option, None, Some, if◌then◌else◌, ⊤}
+use Rattle.std.specs.Prelude.{◌==◌, ◌≡◌, ◌≢◌, ◌⊎◌, ◌<◌, ◌≤◌, ℕ, Bool, true, false, List, [], ◌∷◌, Option, None, Some, Result, if◌then◌else◌, ⊤}
 use Rattle.sqlite_value.specs.Order.{Row}
 use Rattle.sqlite_trees.specs.Tree.{Trees}
 use Rattle.sqlite_rules.specs.Lists.{Has}
 use Rattle.sqlite_schema.specs.declared.schema.Schema.{Schema}
 use Rattle.sqlite.specs.Effect.{Database}
+use Rattle.sqlite.specs.Held.{Held, state}
+use Rattle.sqlite_trees.specs.declared.store.Store.{Ghosts}
 use Rattle.sqlite.specs.declared.error.Error.{Error}
 use Rattle.sqlite.specs.declared.error.Error.TheVariants.{SqliteFailure}
 use Rattle.sqlite.specs.declared.error.ErrorCode.TheVariants.{OutOfMemory}
@@ -29,6 +31,7 @@ use Rattle.acd_sql_columns.specs.Draft.{Fits}
 use Rattle.acd_sql_columns.specs.AnyRows.{is_good, are_good, is_good_in, is_beside, is_ranked, IsFiledAs, table_of_log, Numbered, AreNumbered, values_behind, has_meta, BeginsAsBook, schema_of, Covers}
 use Rattle.acd_sql_columns.specs.Schema.{book_schema, nine, BeginsSchema}
 use Rattle.acd_sql_columns.specs.Schema as schema
+use Rattle.acd_sql_statements.specs.Looking.{BlamesLook}
 use Rattle.acd_sql_columns.specs.Values.{◌>>=◌, whole_at}
 
 -- the tables of a version, in the order in which they are looked at
@@ -197,6 +200,10 @@ adopt_fault_of (SqliteFailure OutOfMemory) = NoMemory
 adopt_fault_of _ = Store
 
 -- ---- why a look fails
+
+-- why a look at a database of which this is so fails
+abbrev pub BlamesIn : {S A : Type 0} → (Database → Type 0) → Ghosts S → Held S → Held S → Result A Error → Type 0
+BlamesIn Is g old new result = BlamesLook Is (state g old) (state g new) result
 
 -- the schema is one of these, and the rows of the nine tables are filed
 abbrev pub HasFiled : (Schema → Type 0) → Database → Type 0

@@ -12,6 +12,8 @@ use Rattle.sqlite.specs.declared.error.Error.{Error}
 use Rattle.acd_terms.specs.declared.rows.Limits.{Limits}
 use Rattle.acd_book.specs.Content.{empty_content}
 use Rattle.acd_sql_columns.specs.declared.meta.Meta.{Meta}
+use Rattle.acd_sql_columns.specs.declared.tables.Version.{Version}
+use Rattle.acd_sql_columns.specs.declared.tables.Version.TheVariants as version
 use Rattle.acd_sql_columns.specs.declared.texts.TheConstants.{INSERT_META}
 use Rattle.acd_sql_columns.specs.Content.{Encodes}
 use Rattle.acd_sql_columns.specs.Draft.{Works}
@@ -44,6 +46,11 @@ abbrev pub FailsToSetUp : State → State → Limits → Error → Type 0
 FailsToSetUp old new limits e = IsMemory e ⊎ (StoreHasFailed old new ⊎ IsUnstarted old.step_limit limits)
 
 -- ---- inside the transaction
+
+-- how many tables a version has
+abbrev pub tables_in : Version → ℕ
+tables_in version.First = 9
+tables_in version.Second = 11
 
 -- tables with these rows become tables with those, and nothing is committed
 pub record MakesTables {S : Type 0} (g : Ghosts S) (old new : MutBor (Held S)) (result : Result (Unit {0}) Error) (before : Schema) (had : List (List Row)) (after : Schema) (have : List (List Row)) : Type 0 where

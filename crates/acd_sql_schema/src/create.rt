@@ -5,19 +5,20 @@ ghost use Rattle.sqlite_value.specs.Order.{Row as Values};
 ghost use Rattle.sqlite.specs.State.{HasCleanDisk};
 ghost use Rattle.sqlite.specs.Held.{state};
 ghost use Rattle.acd_sql_columns.specs.Schema.{no_schema, old_schema, book_schema};
+ghost use Rattle.acd_sql_columns.specs.AnyRows.{schema_of};
 ghost use Rattle.acd_sql_columns.specs.Making.{Builds, no_rows, plan_schema, state_schema};
 ghost use Rattle.acd_sql_columns.specs.Draft.{Works, HoldsContent, LimitsFit};
 ghost use Rattle.acd_book.specs.Content.{empty_content};
-ghost use Rattle.acd_sql_schema.specs.SettingUp.{MakesTables, MayMake, FailsToMake, FailsToSetUp};
+ghost use Rattle.acd_sql_schema.specs.SettingUp.{MakesTables, MayMake, FailsToMake, FailsToSetUp, tables_in};
 ghost use Rattle.acd_sql_statements.specs.Between.{IsUp};
 ghost use Rattle.acd_sql_statements.specs.Inside.{RunsText};
 
-use acd_sql_columns::Meta;
 use acd_sql_columns::texts::{
     CREATE_AGENT_GROUPS, CREATE_AGENTS, CREATE_CALLS, CREATE_CONNECTIONS, CREATE_EVENTS,
     CREATE_GROUP_PRIORITY, CREATE_GROUPS, CREATE_KEPT, CREATE_META, CREATE_MONITORS,
     CREATE_STATIONS,
 };
+use acd_sql_columns::{Meta, Version};
 use acd_sql_statements::write::{insert_meta, write};
 use acd_terms::Limits;
 use sqlite::{Alter, Connection, Error, Transaction};
@@ -102,33 +103,32 @@ fn make_tables<S: Alter>(tx: &mut Transaction<'_, S>) -> Result<(), Error>
     make_two(tx)
 }
 
-/// Makes the tables of version 1 in one transaction, with no row.
-pub(crate) fn set_up_old<S: Alter>(conn: &mut Connection<S>) -> Result<(), Error>
-    requires idle { conn.old.in_transaction ≡ false }
-    requires empty { (state S.Store conn.old).now.schema ≡ no_schema }
-    ensures idle { conn.new.in_transaction ≡ false }
-    ensures made { HasCleanDisk (state S.Store conn.new)
-        → OnOk result ((state S.Store conn.new).now.schema ≡ old_schema) }
-    ensures failed { HasCleanDisk (state S.Store conn.new) → IfErr result (FailsToMake
-        (state S.Store conn.old) (state S.Store conn.new)) }
+// Makes the tables of the version.
+fn make_version<S: Alter>(tx: &mut Transaction<'_, S>, version: Version) -> Result<(), Error>
+    ensures { MakesTables S.Store tx.old.conn tx.new.conn result
+        no_schema (no_rows 0) (schema_of version) (no_rows (tables_in version)) }
 {
-    let mut tx = conn.transaction();
-    make_nine(&mut tx)?;
-    tx.commit()
+    match version {
+        Version::First => make_nine(tx),
+        Version::Second => make_tables(tx),
+    }
 }
 
-/// Makes the tables of version 2 in one transaction, with no row.
-pub(crate) fn set_up_new<S: Alter>(conn: &mut Connection<S>) -> Result<(), Error>
+/// Makes the tables of the version in one transaction, with no row.
+pub(crate) fn set_up_empty<S: Alter>(
+    conn: &mut Connection<S>,
+    version: Version,
+) -> Result<(), Error>
     requires idle { conn.old.in_transaction ≡ false }
     requires empty { (state S.Store conn.old).now.schema ≡ no_schema }
     ensures idle { conn.new.in_transaction ≡ false }
     ensures made { HasCleanDisk (state S.Store conn.new)
-        → OnOk result ((state S.Store conn.new).now.schema ≡ book_schema) }
+        → OnOk result ((state S.Store conn.new).now.schema ≡ schema_of version) }
     ensures failed { HasCleanDisk (state S.Store conn.new) → IfErr result (FailsToMake
         (state S.Store conn.old) (state S.Store conn.new)) }
 {
     let mut tx = conn.transaction();
-    make_tables(&mut tx)?;
+    make_version(&mut tx, version)?;
     tx.commit()
 }
 

@@ -7,15 +7,15 @@ ghost use Rattle.sqlite.specs.Held.{state};
 ghost use Rattle.acd_sql_columns.specs.declared.tables.Table.TheVariants as table;
 ghost use Rattle.acd_sql_columns.specs.AnyRows.{is_beside, table_of_log, are_good, schema_of, BeginsAsBook, Covers, IsFiled, TellsGood};
 ghost use Rattle.acd_sql_columns.specs.Content.{number_of};
-ghost use Rattle.acd_sql_schema.specs.Inspecting.{IsNoBook, HasNoRise, IsPageAbove, HasFiled, IsPaged, HasGoodTables, number_if_good, last_good, tables_of, told_by, IsLike, TellsBehind, IsBadOf, IsPageOfLog, IsLogPage, PageFits, IsFound, IsRowFound, IsPlaceFound, IsVersionTold, IsToldIn, IsAdoptStoreFault, adopt_fault_of};
+ghost use Rattle.acd_sql_schema.specs.Inspecting.{IsNoBook, HasNoRise, IsPageAbove, HasFiled, IsPaged, HasGoodTables, number_if_good, last_good, tables_of, told_by, IsLike, TellsBehind, IsBadOf, IsPageOfLog, IsLogPage, PageFits, IsFound, IsRowFound, IsPlaceFound, IsVersionTold, IsToldIn, IsAdoptStoreFault, adopt_fault_of, BlamesIn};
 ghost use Rattle.acd_sql_columns.specs.Draft.{Fits};
-ghost use Rattle.acd_sql_columns.specs.Schema.{nine, old_schema, book_schema, BeginsSchema};
+ghost use Rattle.acd_sql_columns.specs.Schema.{nine, book_schema, BeginsSchema};
 ghost use Rattle.acd_sql_columns.specs.Seeing.{Sees, HasLooked};
 ghost use Rattle.acd_sql_statements.specs.Between.{IsBookSchema};
 ghost use Rattle.acd_sql_statements.specs.Failing.{IsMemory};
-ghost use Rattle.acd_sql_statements.specs.Looking.{BlamesLook, BlamesOver};
+ghost use Rattle.acd_sql_statements.specs.Looking.{BlamesOver, SeesOver};
 
-use crate::create::{set_up_new, set_up_old};
+use crate::create::set_up_empty;
 use crate::fault::{AdoptFault, Found};
 use crate::verdict::{Likeness, Page, Told};
 use acd_sql_columns::decode::{KeptReader, connection_in, counters_in, event_number, further_in};
@@ -50,7 +50,8 @@ fn are_connections(rows: &[Row]) -> bool
 fn is_good_meta<S: Alter>(conn: &mut Connection<S>) -> Result<bool, Error>
     requires { conn.old.in_transaction ≡ false }
     ensures idle { conn.new.in_transaction ≡ false }
-    ensures seen { (d : Database) → BeginsSchema nine d.schema → Sees d (state S.Store conn.old) (state S.Store conn.new) result (λ good. TellsGood table.Meta d.trees good) }
+    ensures seen { SeesOver (BeginsSchema nine) S.Store conn.old conn.new result
+        (λ d good. TellsGood table.Meta d.trees good) }
     ensures looked { BlamesOver (BeginsSchema nine) [] S.Store conn.old conn.new result }
 {
     match meta_rows(conn) {
@@ -63,7 +64,8 @@ fn is_good_meta<S: Alter>(conn: &mut Connection<S>) -> Result<bool, Error>
 fn are_good_connections<S: Alter>(conn: &mut Connection<S>) -> Result<bool, Error>
     requires { conn.old.in_transaction ≡ false }
     ensures idle { conn.new.in_transaction ≡ false }
-    ensures seen { (d : Database) → BeginsSchema nine d.schema → Sees d (state S.Store conn.old) (state S.Store conn.new) result (λ good. TellsGood table.Connections d.trees good) }
+    ensures seen { SeesOver (BeginsSchema nine) S.Store conn.old conn.new result
+        (λ d good. TellsGood table.Connections d.trees good) }
     ensures looked { BlamesOver (BeginsSchema nine) [] S.Store conn.old conn.new result }
 {
     match unordered_connection_rows(conn) {
@@ -83,7 +85,8 @@ fn are_further(rows: &[Row]) -> bool
 fn are_good_further<S: Alter>(conn: &mut Connection<S>) -> Result<bool, Error>
     requires { conn.old.in_transaction ≡ false }
     ensures idle { conn.new.in_transaction ≡ false }
-    ensures seen { (d : Database) → d.schema ≡ book_schema → Sees d (state S.Store conn.old) (state S.Store conn.new) result (λ good. TellsGood table.AgentGroups d.trees good) }
+    ensures seen { SeesOver (λ s. s ≡ book_schema) S.Store conn.old conn.new result
+        (λ d good. TellsGood table.AgentGroups d.trees good) }
     ensures looked { BlamesOver IsBookSchema [] S.Store conn.old conn.new result }
 {
     match further_rows(conn) {
@@ -160,10 +163,11 @@ fn page_behind<S: Alter>(
     requires idle { conn.old.in_transaction ≡ false }
     requires number { Fits number }
     ensures idle { conn.new.in_transaction ≡ false }
-    ensures seen { (d : Database) → BeginsSchema nine d.schema → Sees d (state S.Store conn.old) (state S.Store conn.new) result (λ page. IsPageOfLog log number d.trees page) }
+    ensures seen { SeesOver (BeginsSchema nine) S.Store conn.old conn.new result
+        (λ d page. IsPageOfLog log number d.trees page) }
     ensures fits { IfOk result (λ page. PageFits page) }
     ensures rises { IfOk result (λ page. IsPageAbove number page) }
-    ensures looked { BlamesLook (IsPaged log) (state S.Store conn.old) (state S.Store conn.new) result }
+    ensures looked { BlamesIn (IsPaged log) S.Store conn.old conn.new result }
 {
     match rows_above(log, conn, number) {
         Ok(rows) => page_of(kept, log, number, &rows),
@@ -179,8 +183,9 @@ fn are_pages_good<S: Alter>(
 ) -> Result<bool, Error>
     requires idle { conn.old.in_transaction ≡ false }
     ensures idle { conn.new.in_transaction ≡ false }
-    ensures seen { (d : Database) → BeginsSchema nine d.schema → Sees d (state S.Store conn.old) (state S.Store conn.new) result (λ good. TellsBehind log d.trees good) }
-    ensures looked { BlamesLook (IsPaged log) (state S.Store conn.old) (state S.Store conn.new) result }
+    ensures seen { SeesOver (BeginsSchema nine) S.Store conn.old conn.new result
+        (λ d good. TellsBehind log d.trees good) }
+    ensures looked { BlamesIn (IsPaged log) S.Store conn.old conn.new result }
 {
     let mut number = 0;
     loop {
@@ -201,8 +206,9 @@ fn is_good_log<S: Alter>(
 ) -> Result<bool, Error>
     requires { conn.old.in_transaction ≡ false }
     ensures idle { conn.new.in_transaction ≡ false }
-    ensures seen { (d : Database) → BeginsSchema nine d.schema → Sees d (state S.Store conn.old) (state S.Store conn.new) result (λ good. TellsGood (table_of_log log) d.trees good) }
-    ensures looked { BlamesLook (HasFiled (BeginsSchema nine)) (state S.Store conn.old) (state S.Store conn.new) result }
+    ensures seen { SeesOver (BeginsSchema nine) S.Store conn.old conn.new result
+        (λ d good. TellsGood (table_of_log log) d.trees good) }
+    ensures looked { BlamesIn (HasFiled (BeginsSchema nine)) S.Store conn.old conn.new result }
 {
     let low = low_rows(log, conn)?;
     if low.is_empty() {
@@ -220,8 +226,9 @@ fn is_good_table<S: Alter>(
 ) -> Result<bool, Error>
     requires { conn.old.in_transaction ≡ false }
     ensures idle { conn.new.in_transaction ≡ false }
-    ensures seen { (d : Database) → Covers d.schema table → Sees d (state S.Store conn.old) (state S.Store conn.new) result (λ good. TellsGood table d.trees good) }
-    ensures looked { BlamesLook (HasFiled (λ s. Covers s table)) (state S.Store conn.old) (state S.Store conn.new) result }
+    ensures seen { SeesOver (λ s. Covers s table) S.Store conn.old conn.new result
+        (λ d good. TellsGood table d.trees good) }
+    ensures looked { BlamesIn (HasFiled (λ s. Covers s table)) S.Store conn.old conn.new result }
 {
     match table {
         Table::Meta => is_good_meta(conn),
@@ -246,8 +253,10 @@ fn bad_table<S: Alter>(
 ) -> Result<Option<Table>, Error>
     requires idle { conn.old.in_transaction ≡ false }
     ensures idle { conn.new.in_transaction ≡ false }
-    ensures seen { (d : Database) → Every (Covers d.schema) tables.now → Sees d (state S.Store conn.old) (state S.Store conn.new) result (λ bad. IsBadOf tables.now d bad) }
-    ensures looked { BlamesLook (HasFiled (λ s. Every (Covers s) tables.now)) (state S.Store conn.old) (state S.Store conn.new) result }
+    ensures seen { SeesOver
+        (λ s. Every (Covers s) tables.now) S.Store conn.old conn.new result (IsBadOf tables.now) }
+    ensures looked { BlamesIn (HasFiled (λ s. Every (Covers s) tables.now))
+        S.Store conn.old conn.new result }
 {
     for table in tables {
         let good = is_good_table(kept, conn, *table)?;
@@ -291,8 +300,9 @@ fn misplaced<S: Alter>(
 ) -> Result<Option<AdoptFault>, Error>
     requires { conn.old.in_transaction ≡ false }
     ensures idle { conn.new.in_transaction ≡ false }
-    ensures seen { (d : Database) → d.schema ≡ schema_of version → Sees d (state S.Store conn.old) (state S.Store conn.new) result (λ fault. IsPlaceFound version d fault) }
-    ensures looked { BlamesLook (HasGoodTables version) (state S.Store conn.old) (state S.Store conn.new) result }
+    ensures seen { SeesOver
+        (λ s. s ≡ schema_of version) S.Store conn.old conn.new result (IsPlaceFound version) }
+    ensures looked { BlamesIn (HasGoodTables version) S.Store conn.old conn.new result }
 {
     match version {
         Version::First => Ok(None),
@@ -306,8 +316,9 @@ fn found_misplaced<S: Alter>(
 ) -> Result<Option<AdoptFault>, Error>
     requires { conn.old.in_transaction ≡ false }
     ensures idle { conn.new.in_transaction ≡ false }
-    ensures seen { (d : Database) → d.schema ≡ book_schema → Sees d (state S.Store conn.old) (state S.Store conn.new) result (λ fault. IsPlaceFound Version.Second d fault) }
-    ensures looked { BlamesLook (HasGoodTables Version.Second) (state S.Store conn.old) (state S.Store conn.new) result }
+    ensures seen { SeesOver
+        (λ s. s ≡ book_schema) S.Store conn.old conn.new result (IsPlaceFound Version.Second) }
+    ensures looked { BlamesIn (HasGoodTables Version.Second) S.Store conn.old conn.new result }
 {
     match are_further_placed(alloc, conn) {
         Ok(true) => ranks_misplaced(alloc, conn),
@@ -323,8 +334,9 @@ fn ranks_misplaced<S: Alter>(
 ) -> Result<Option<AdoptFault>, Error>
     requires { conn.old.in_transaction ≡ false }
     ensures idle { conn.new.in_transaction ≡ false }
-    ensures seen { (d : Database) → d.schema ≡ book_schema → Sees d (state S.Store conn.old) (state S.Store conn.new) result (λ fault. is_beside d.trees ≡ true → IsPlaceFound Version.Second d fault) }
-    ensures looked { BlamesLook (HasGoodTables Version.Second) (state S.Store conn.old) (state S.Store conn.new) result }
+    ensures seen { SeesOver (λ s. s ≡ book_schema) S.Store conn.old conn.new result
+        (λ d fault. is_beside d.trees ≡ true → IsPlaceFound Version.Second d fault) }
+    ensures looked { BlamesIn (HasGoodTables Version.Second) S.Store conn.old conn.new result }
 {
     match are_priorities_placed(alloc, conn) {
         Ok(true) => Ok(None),
@@ -341,8 +353,10 @@ fn bad_row<S: Alter>(
 ) -> Result<Option<AdoptFault>, Error>
     requires idle { conn.old.in_transaction ≡ false }
     ensures idle { conn.new.in_transaction ≡ false }
-    ensures seen { (d : Database) → d.schema ≡ schema_of version → Sees d (state S.Store conn.old) (state S.Store conn.new) result (λ fault. IsRowFound version d fault) }
-    ensures looked { BlamesLook (HasFiled (λ s. s ≡ schema_of version)) (state S.Store conn.old) (state S.Store conn.new) result }
+    ensures seen { SeesOver
+        (λ s. s ≡ schema_of version) S.Store conn.old conn.new result (IsRowFound version) }
+    ensures looked { BlamesIn (HasFiled (λ s. s ≡ schema_of version)) S.Store conn.old conn.new
+        result }
 {
     let mut kept = KeptReader::new(alloc);
     let bad = bad_table(&mut kept, conn, tables_of(version))?;
@@ -370,7 +384,7 @@ fn told_by(rows: &[Row]) -> Told
 fn version_told<S: Alter>(conn: &mut Connection<S>) -> Result<Told, Error>
     requires { conn.old.in_transaction ≡ false }
     ensures idle { conn.new.in_transaction ≡ false }
-    ensures seen { (d : Database) → BeginsAsBook d.schema → Sees d (state S.Store conn.old) (state S.Store conn.new) result (λ told. IsVersionTold d told) }
+    ensures seen { SeesOver BeginsAsBook S.Store conn.old conn.new result IsVersionTold }
     ensures looked { BlamesOver BeginsAsBook [] S.Store conn.old conn.new result }
 {
     match version_rows(conn) {
@@ -379,28 +393,14 @@ fn version_told<S: Alter>(conn: &mut Connection<S>) -> Result<Told, Error>
     }
 }
 
-// The tables of a new book, in memory.
-fn new_tables(alloc: Global) -> Result<Connection<MemStore>, Error>
-    ensures made { IfOk result (λ conn. conn.schema ≡ book_schema) }
+// The tables of a new book of the version, in memory.
+fn own_tables(alloc: Global, version: Version) -> Result<Connection<MemStore>, Error>
+    ensures made { IfOk result (λ conn. conn.schema ≡ schema_of version) }
     ensures lacks { IfErr result IsMemory }
 {
     match Connection::open_in_memory(alloc) {
         Ok(mut conn) => {
-            set_up_new(&mut conn)?;
-            Ok(conn)
-        }
-        Err(_) => Err(Error::SqliteFailure(ErrorCode::OutOfMemory)),
-    }
-}
-
-// The tables of version 1, in memory.
-fn old_tables(alloc: Global) -> Result<Connection<MemStore>, Error>
-    ensures made { IfOk result (λ conn. conn.schema ≡ old_schema) }
-    ensures lacks { IfErr result IsMemory }
-{
-    match Connection::open_in_memory(alloc) {
-        Ok(mut conn) => {
-            set_up_old(&mut conn)?;
+            set_up_empty(&mut conn, version)?;
             Ok(conn)
         }
         Err(_) => Err(Error::SqliteFailure(ErrorCode::OutOfMemory)),
@@ -413,7 +413,7 @@ fn compared_to_old(alloc: Global, schema: &Schema) -> Result<Likeness, Error>
         → IfOk result (λ likeness. IsLike schema.now likeness) }
     ensures lacks { IfErr result IsMemory }
 {
-    let book = old_tables(alloc)?;
+    let book = own_tables(alloc, Version::First)?;
     let own = book.schema();
     if is_same_schema(schema, own) {
         return Ok(Likeness::Whole(Version::First));
@@ -429,7 +429,7 @@ fn compared(alloc: Global, schema: &Schema) -> Result<Likeness, Error>
     ensures like { IfOk result (λ likeness. IsLike schema.now likeness) }
     ensures lacks { IfErr result IsMemory }
 {
-    let book = new_tables(alloc)?;
+    let book = own_tables(alloc, Version::Second)?;
     if is_same_schema(schema, book.schema()) {
         return Ok(Likeness::Whole(Version::Second));
     }
@@ -440,7 +440,9 @@ fn compared(alloc: Global, schema: &Schema) -> Result<Likeness, Error>
 fn found_in_first<S: Alter>(conn: &mut Connection<S>) -> Result<Found, Error>
     requires { conn.old.in_transaction ≡ false }
     ensures idle { conn.new.in_transaction ≡ false }
-    ensures seen { (d : Database) → BeginsAsBook d.schema → IsNoBook d.schema → Sees d (state S.Store conn.old) (state S.Store conn.new) result (λ found. IsFound d found) }
+    ensures seen { (d : Database) → BeginsAsBook d.schema → IsNoBook d.schema
+        → Sees d (state S.Store conn.old) (state S.Store conn.new) result
+        (λ found. IsFound d found) }
     ensures looked { BlamesOver BeginsAsBook [] S.Store conn.old conn.new result }
 {
     match version_told(conn) {
@@ -458,8 +460,10 @@ fn found_in_rows<S: Alter>(
 ) -> Result<Found, Error>
     requires { conn.old.in_transaction ≡ false }
     ensures idle { conn.new.in_transaction ≡ false }
-    ensures seen { (d : Database) → d.schema ≡ schema_of version → Sees d (state S.Store conn.old) (state S.Store conn.new) result (λ found. IsToldIn d.trees (Some (number_of version)) → IsFound d found) }
-    ensures looked { BlamesLook (HasFiled (λ s. s ≡ schema_of version)) (state S.Store conn.old) (state S.Store conn.new) result }
+    ensures seen { SeesOver (λ s. s ≡ schema_of version) S.Store conn.old conn.new result
+        (λ d found. IsToldIn d.trees (Some (number_of version)) → IsFound d found) }
+    ensures looked { BlamesIn (HasFiled (λ s. s ≡ schema_of version)) S.Store conn.old conn.new
+        result }
 {
     match bad_row(alloc, conn, version) {
         Ok(Some(fault)) => Ok(Found::Fault(fault)),
@@ -476,8 +480,9 @@ fn found_in_whole<S: Alter>(
 ) -> Result<Found, Error>
     requires { conn.old.in_transaction ≡ false }
     ensures idle { conn.new.in_transaction ≡ false }
-    ensures seen { (d : Database) → d.schema ≡ schema_of version → Sees d (state S.Store conn.old) (state S.Store conn.new) result (λ found. IsFound d found) }
-    ensures looked { BlamesLook (HasFiled (λ s. s ≡ schema_of version)) (state S.Store conn.old) (state S.Store conn.new) result }
+    ensures seen { SeesOver (λ s. s ≡ schema_of version) S.Store conn.old conn.new result IsFound }
+    ensures looked { BlamesIn (HasFiled (λ s. s ≡ schema_of version)) S.Store conn.old conn.new
+        result }
 {
     let told = version_told(conn)?;
     match told {
@@ -491,8 +496,9 @@ fn found_in_whole<S: Alter>(
 fn found_in<S: Alter>(alloc: Global, conn: &mut Connection<S>) -> Result<Found, Error>
     requires { conn.old.in_transaction ≡ false }
     ensures idle { conn.new.in_transaction ≡ false }
-    ensures seen { Sees (state S.Store conn.old).now (state S.Store conn.old) (state S.Store conn.new) result (λ found. IsFound (state S.Store conn.old).now found) }
-    ensures looked { BlamesLook IsFiled (state S.Store conn.old) (state S.Store conn.new) result }
+    ensures seen { Sees (state S.Store conn.old).now (state S.Store conn.old)
+        (state S.Store conn.new) result (λ found. IsFound (state S.Store conn.old).now found) }
+    ensures looked { BlamesIn IsFiled S.Store conn.old conn.new result }
 {
     if !has_meta(conn.schema()) {
         return Ok(Found::Fault(AdoptFault::WrongVersion(0)));
@@ -510,9 +516,8 @@ pub fn look_over<S: Alter>(alloc: Global, conn: &mut Connection<S>) -> Result<Fo
     requires { conn.old.in_transaction ≡ false }
     ensures idle { conn.new.in_transaction ≡ false }
     ensures looked { HasLooked (state S.Store conn.old) (state S.Store conn.new) result
-        (λ d found. IsFound d found) }
-    ensures blamed { BlamesLook IsFiled
-        (state S.Store conn.old) (state S.Store conn.new) result }
+        IsFound }
+    ensures blamed { BlamesIn IsFiled S.Store conn.old conn.new result }
 {
     // What these two promise holds of the connection before anything is read; their answers aren't needed.
     let _settled = conn.is_autocommit();

@@ -1,5 +1,5 @@
 -- The first of the records that pass.
-use Rattle.std.proofs.Common.{◌≡◌, ℕ, zero, suc, nat_lt, List, [], ◌∷◌, map, filter, find, take, max, Bool, true, false, cond, Option, Some, None, Result, Ok, Err, IfOk, IfSome, refl, sym, ap, ◌∙◌}
+use Rattle.std.proofs.Common.{◌≡◌, ℕ, nat_lt, List, [], ◌∷◌, map, filter, find, take, max, Bool, true, false, cond, Option, Some, None, Result, Ok, Err, IfOk, IfSome, refl, sym, ap, ◌∙◌}
 use Rattle.std.specs.Prelude.{Vec, option_to_list}
 use Rattle.std.specs.declared.alloc.Global.{Global}
 use Rattle.sqlite_value.specs.Order.{Row}
@@ -18,7 +18,7 @@ use Rattle.acd_sql_columns.specs.Finding.{Finds, kept_behind}
 use Rattle.acd_sql_columns.specs.Ranges.{monitor_in}
 use Rattle.acd_sql_statements.proofs.Chained.{finds_on, behind}
 use Rattle.acd_sql_columns.proofs.Records.{monitor_exact}
-use Rattle.acd_lemmas.proofs.Lists.{head_is}
+use Rattle.acd_lemmas.proofs.Lists.{head_is, every-take, every-filter}
 
 module _ {R : Type 0} (in_row : Row → Option R) (values : R → Row) (IsGood : R → Type 0) (exact : (row : Row) (x y : R) → IsGood y → in_row row ≡ Some x → row ≡ values y → x ≡ y) where
   same_one : (found one : Option R) (rows : List Row) → IfSome one IsGood → rows ≡ map values (option_to_list one) → map Some (option_to_list found) ≡ map in_row (take 1 rows) → found ≡ one
@@ -53,18 +53,9 @@ found_every P p (x ∷ xs) h = elim (p x) as (λ t. IfSome (cond t (Some x) (fin
 pub found_readable : (s : State) (p : Kept → Bool) (c : Content) → HoldsContent s c → IfSome (find p c.kept) IsReadable
 found_readable s p c held = found_every IsReadable p c.kept (held.encodes table.Kept).1
 
-pub taken_every : {X : Type 0} (P : X → Type 0) (n : ℕ) (xs : List X) → Every P xs → Every P (take n xs)
-taken_every P zero xs h = tt
-taken_every P (suc n) [] h = tt
-taken_every P (suc n) (x ∷ xs) h = (h.0, taken_every P n xs h.1)
-
-passed_every : {X : Type 0} (P : X → Type 0) (p : X → Bool) (xs : List X) → Every P xs → Every P (filter p xs)
-passed_every P p [] h = tt
-passed_every P p (x ∷ xs) h = elim (p x) as (λ t. Every P (cond t (x ∷ filter p xs) (filter p xs))) [ true ↦ (h.0, passed_every P p xs h.1) | false ↦ passed_every P p xs h.1 ]
-
 pub page_readable : (s : State) (stamp limit : ℕ) (c : Content) → HoldsContent s c → Every IsReadable (kept_behind c.kept stamp limit)
 page_readable s stamp limit c held =
-    taken_every IsReadable limit (filter (λ (k : Kept). nat_lt stamp k.stamp) c.kept) (passed_every IsReadable (λ (k : Kept). nat_lt stamp k.stamp) c.kept (held.encodes table.Kept).1)
+    every-take IsReadable limit (filter (λ (k : Kept). nat_lt stamp k.stamp) c.kept) (every-filter IsReadable (λ (k : Kept). nat_lt stamp k.stamp) c.kept (held.encodes table.Kept).1)
 
 -- ---- a monitor
 

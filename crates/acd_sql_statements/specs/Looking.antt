@@ -13,7 +13,7 @@ use Rattle.acd_terms.specs.Lists.{Every}
 use Rattle.acd_sql_columns.specs.declared.tables.Table.{Table}
 use Rattle.acd_sql_columns.specs.AnyRows.{is_good_in}
 use Rattle.acd_sql_columns.specs.Schema.{BeginsSchema}
-use Rattle.acd_sql_columns.specs.Seeing.{HasDatabase}
+use Rattle.acd_sql_columns.specs.Seeing.{HasDatabase, Sees}
 use Rattle.acd_sql_statements.specs.Failing.{IsMemory}
 use Rattle.acd_sql_statements.specs.Reading.{RefusesToShow}
 
@@ -33,6 +33,10 @@ HasGood Has tables d = Has d.schema × Every (λ t. is_good_in t d.trees ≡ tru
 
 abbrev pub BlamesOver : {S A : Type 0} → (Schema → Type 0) → List Table → Ghosts S → Held S → Held S → Result A Error → Type 0
 BlamesOver Has tables g old new result = BlamesLook (HasGood Has tables) (state g old) (state g new) result
+
+-- what a look sees of each database of such a schema
+abbrev pub SeesOver : {S A : Type 0} → (Schema → Type 0) → Ghosts S → Held S → Held S → Result A Error → (Database → A → Type 0) → Type 0
+SeesOver Has g old new result IsAnswer = (d : Database) → Has d.schema → Sees d (state g old) (state g new) result (IsAnswer d)
 
 -- over no database that begins with these tables the store refuses to answer the text
 abbrev pub IsAnsweredOver : List Made → List ℕ → Row → Type 0

@@ -64,7 +64,8 @@ fn have_agents(agents: &[AgentRow], pairs: &[(AgentId, DeviceId)]) -> bool
 }
 
 fn have_few(agents: &[AgentRow], pairs: &[(AgentId, DeviceId)]) -> bool
-    ensures { result ≡ list_all (λ a. nat_le (length (groups_beside pairs.now a.agent)) 7) agents.now }
+    ensures { result ≡ list_all
+        (λ a. nat_le (length (groups_beside pairs.now a.agent)) 7) agents.now }
 {
     agents.iter().all(|agent| has_few(pairs, agent))
 }

@@ -189,7 +189,8 @@ fn traffic<S: Alter>(alloc: Global, conn: &mut Connection<S>) -> Result<Traffic,
 }
 
 fn joined(meta: Meta, plan: Plan, traffic: Traffic) -> Rows
-    ensures { result ≡ joined_rows meta plan.0.items plan.1.items plan.2.items traffic.0.items traffic.1.items traffic.2.items }
+    ensures { result ≡ joined_rows meta plan.0.items plan.1.items plan.2.items traffic.0.items
+        traffic.1.items traffic.2.items }
 {
     let (groups, stations, agents) = plan;
     let (calls, connections, monitors) = traffic;

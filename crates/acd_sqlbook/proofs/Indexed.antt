@@ -12,11 +12,10 @@ use Rattle.acd_book.specs.Order.{Rises}
 use Rattle.acd_sql_columns.specs.Draft.{HoldsContent}
 use Rattle.acd_sql_columns.specs.declared.tables.Table.TheVariants as table
 use Rattle.acd_sql_statements.specs.Picking.{picked}
-use Rattle.acd_sql_statements.proofs.FirstFound.{taken_every}
 use Rattle.acd_lemmas.proofs.Numbers.{less_is}
 use Rattle.acd_sqlbook.specs.Indexing.{last_of}
 use Rattle.acd_book.proofs.Left.{events_raised}
-use Rattle.acd_lemmas.proofs.Lists.{every-append}
+use Rattle.acd_lemmas.proofs.Lists.{every-append, every-take}
 use Rattle.std.proofs.lemmas.Bool.{and_parts}
 
 -- ---- a page of the numbers
@@ -80,7 +79,7 @@ pub page_picked : (device n limit : ℕ) (events : List Event) (numbers : List �
     → picked events numbers ≡ take limit (filter (is_told (Some device) n) events)
 page_picked device n limit events numbers up is =
     let page = take limit (filter (is_told (Some device) n) events) in
-    ap (picked events) is ∙ all_there events page up (taken_every (IsThere events) limit (filter (is_told (Some device) n) events) (told_there device n events))
+    ap (picked events) is ∙ all_there events page up (every-take (IsThere events) limit (filter (is_told (Some device) n) events) (told_there device n events))
 
 -- ---- events that go on
 

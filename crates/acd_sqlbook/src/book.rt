@@ -153,11 +153,17 @@ impl<S: Alter> Book for SqlBook<S> {
 
     ghost state = { λ b. book_of S.Store b };
 
-    ghost settled = { λ b c clean sound up stop. stop.2 ∙ ap content_of (S.settled b.conn.store stop.0 up stop.1) };
+    ghost settled = { λ b c clean sound up stop. stop.2 ∙ ap content_of
+        (S.settled b.conn.store stop.0 up stop.1) };
 
-    ghost stays = { λ b clean sound up. ((S.view b.conn.store).committed, S.stays b.conn.store up, refl) };
+    ghost stays = { λ b clean sound up. (
+      (S.view b.conn.store).committed,
+      S.stays b.conn.store up,
+      refl,
+    ) };
 
-    ghost stands = { λ b clean sound. ∥∥₁_map (S.survives b.conn.store clean) (λ found. (content_of found.0, (found.0, found.1, refl))) };
+    ghost stands = { λ b clean sound. ∥∥₁_map (S.survives b.conn.store clean)
+        (λ found. (content_of found.0, (found.0, found.1, refl))) };
 
     fn failures(&self) -> u64 {
         self.failures

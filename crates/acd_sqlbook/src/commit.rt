@@ -277,15 +277,7 @@ fn top_call(last: u64, change: &Change) -> u64
 {
     match change {
         Change::PutCall(call) => last.max(call.call),
-        Change::Nothing
-        | Change::PutGroup(_)
-        | Change::PutStation(_)
-        | Change::PutAgent(_)
-        | Change::PutConnection(_)
-        | Change::PutMonitor(_)
-        | Change::RemoveCall(_)
-        | Change::RemoveConnection(_, _)
-        | Change::RemoveMonitor(_) => last,
+        _ => last,
     }
 }
 
@@ -305,15 +297,7 @@ fn top_monitor(last: u64, change: &Change) -> u64
 {
     match change {
         Change::PutMonitor(monitor) => last.max(monitor.monitor),
-        Change::Nothing
-        | Change::PutGroup(_)
-        | Change::PutStation(_)
-        | Change::PutAgent(_)
-        | Change::PutCall(_)
-        | Change::PutConnection(_)
-        | Change::RemoveCall(_)
-        | Change::RemoveConnection(_, _)
-        | Change::RemoveMonitor(_) => last,
+        _ => last,
     }
 }
 

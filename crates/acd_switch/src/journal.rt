@@ -91,7 +91,8 @@ fn make_change(
     changes: &mut Vec<Change>,
 ) -> Result<(), AllocError>
     ensures rows { OnOk result (tables.new ≡ changed tables.old one.now) }
-    ensures changes { OnOk result (changes.new.items ≡ changes.old.items ++ with_change one.now []) }
+    ensures changes { OnOk result
+        (changes.new.items ≡ changes.old.items ++ with_change one.now []) }
 {
     if let Change::Nothing = one {
         return Ok(());
@@ -111,8 +112,10 @@ fn note<T: Copy + Drop>(more: &[T], noted: &mut Vec<T>) -> Result<(), AllocError
 // The group that the event counts for grows, where there is one.
 fn grow_by(tables: &mut Tables, event: &Event, changes: &mut Vec<Change>) -> Result<(), AllocError>
     requires { CountingFits tables.old (event.now ∷ []) }
-    ensures rows { OnOk result (tables.new ≡ changed_by tables.old (growth_by tables.old event.now)) }
-    ensures changes { OnOk result (changes.new.items ≡ changes.old.items ++ growth_by tables.old event.now) }
+    ensures rows { OnOk result
+        (tables.new ≡ changed_by tables.old (growth_by tables.old event.now)) }
+    ensures changes { OnOk result
+        (changes.new.items ≡ changes.old.items ++ growth_by tables.old event.now) }
 {
     let Some(device) = counted_group(&event.report) else {
         return Ok(());
@@ -131,7 +134,8 @@ fn grow_by_all(
     requires order { IsAscending group_order tables.old.groups }
     requires room { CountingFits tables.old events.now }
     ensures rows { OnOk result (tables.new ≡ with_figures tables.old events.now) }
-    ensures changes { OnOk result (changes.new.items ≡ changes.old.items ++ growth tables.old events.now) }
+    ensures changes { OnOk result
+        (changes.new.items ≡ changes.old.items ++ growth tables.old events.now) }
 {
     for event in events {
         grow_by(tables, event, changes)?;

@@ -182,8 +182,10 @@ fn execute(
     requires rules { BreaksNoRule tables.old }
     requires room { tables.old.last_stamp < tables.old.limits.requests }
     ensures outcome { IfOk result (λ r. r.outcome ≡ (step tables.old moment command.now).outcome) }
-    ensures events { IfOk result (λ r. r.events.items ≡ (step tables.old moment command.now).events) }
-    ensures changes { IfOk result (λ r. r.changes.items ≡ step_changes tables.old moment command.now) }
+    ensures events { IfOk result
+        (λ r. r.events.items ≡ (step tables.old moment command.now).events) }
+    ensures changes { IfOk result
+        (λ r. r.changes.items ≡ step_changes tables.old moment command.now) }
     ensures rows { OnOk result (tables.new ≡ (step tables.old moment command.now).rows) }
 {
     let moment = moment.max(tables.last_moment());
@@ -207,8 +209,11 @@ fn close(tables: &mut Tables, at: Turn, last: u64, journal: &mut Journal) -> Res
     requires order { IsAscending group_order tables.old.groups }
     requires room { CountersFit (closed tables.old at last journal.old.events.items) }
     ensures rows { OnOk result (tables.new ≡ closed tables.old at last journal.old.events.items) }
-    ensures events { OnOk result (journal.new.events.items ≡ numbered last journal.old.events.items) }
-    ensures changes { OnOk result (journal.new.changes.items ≡ journal.old.changes.items ++ growth tables.old journal.old.events.items) }
+    ensures events { OnOk result
+        (journal.new.events.items ≡ numbered last journal.old.events.items) }
+    ensures changes { OnOk result
+        (journal.new.changes.items
+        ≡ journal.old.changes.items ++ growth tables.old journal.old.events.items) }
 {
     journal.grow(tables)?;
     let count = journal.events.len() as u64;

@@ -56,7 +56,8 @@ fn has_rank(group: &Option<GroupRecord>, priority: Priority) -> bool
 
 // The group is no longer among those of its priority of before, where that is another.
 fn forget_rank(offering: &mut BTreeSet<OfferKey>, old: &Option<GroupRecord>, priority: Priority)
-    ensures { (k : OfferKey) → loses_rank old.now priority k ≡ false → contains offer_cmp offering.new k ≡ contains offer_cmp offering.old k }
+    ensures { (k : OfferKey) → loses_rank old.now priority k ≡ false
+        → contains offer_cmp offering.new k ≡ contains offer_cmp offering.old k }
 {
     if let Some(old) = old {
         forget(offering, offer_key(old), old.priority != priority);

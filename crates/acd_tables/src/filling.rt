@@ -15,7 +15,12 @@ impl Tables {
         requires groups { self.old.groups ≡ [] }
         requires agents { self.old.agents ≡ [] }
         requires connections { self.old.connections ≡ [] }
-        ensures { OnOk result (self.new ≡ record self.old { groups = rows.now.groups; agents = rows.now.agents; connections = rows.now.connections }) }
+        ensures { OnOk result
+            (self.new ≡ record self.old {
+              groups = rows.now.groups;
+              agents = rows.now.agents;
+              connections = rows.now.connections;
+            }) }
     {
         if !(ascends(rows.groups.as_slice())
             && ascends(rows.agents.as_slice())

@@ -153,8 +153,11 @@ fn note_group(
     offering: &mut BTreeSet<OfferKey>,
     group: DeviceId,
 ) -> Result<(), AllocError>
-    ensures kept { (k : OfferKey) → contains offer_cmp offering.old k ≡ true → contains offer_cmp offering.new k ≡ true }
-    ensures ok { OnOk result ((r : GroupRecord) → group_of records.now group ≡ Some r → contains offer_cmp offering.new (offer_key r) ≡ true) }
+    ensures kept { (k : OfferKey) → contains offer_cmp offering.old k ≡ true
+        → contains offer_cmp offering.new k ≡ true }
+    ensures ok { OnOk result
+        ((r : GroupRecord) → group_of records.now group ≡ Some r
+        → contains offer_cmp offering.new (offer_key r) ≡ true) }
 {
     match records.group(group) {
         None => Ok(()),
@@ -170,7 +173,8 @@ fn note_each(
     offering: &mut BTreeSet<OfferKey>,
     groups: &[DeviceId],
 ) -> Result<(), AllocError>
-    ensures kept { (k : OfferKey) → contains offer_cmp offering.old k ≡ true → contains offer_cmp offering.new k ≡ true }
+    ensures kept { (k : OfferKey) → contains offer_cmp offering.old k ≡ true
+        → contains offer_cmp offering.new k ≡ true }
     ensures ok { OnOk result (NotesGroups records.now offering.new groups.now) }
 {
     for group in groups {
@@ -185,8 +189,11 @@ fn note_alone<E: Copy>(
     offering: &mut BTreeSet<OfferKey>,
     entry: &Option<(Alone, E)>,
 ) -> Result<(), AllocError>
-    ensures kept { (k : OfferKey) → contains offer_cmp offering.old k ≡ true → contains offer_cmp offering.new k ≡ true }
-    ensures ok { OnOk result ((g : ℕ) (r : GroupRecord) → is_of_group entry.now g ≡ true → group_of records.now g ≡ Some r → contains offer_cmp offering.new (offer_key r) ≡ true) }
+    ensures kept { (k : OfferKey) → contains offer_cmp offering.old k ≡ true
+        → contains offer_cmp offering.new k ≡ true }
+    ensures ok { OnOk result
+        ((g : ℕ) (r : GroupRecord) → is_of_group entry.now g ≡ true
+        → group_of records.now g ≡ Some r → contains offer_cmp offering.new (offer_key r) ≡ true) }
 {
     match entry {
         None => Ok(()),
@@ -200,8 +207,11 @@ fn note_groups<E: Copy>(
     offering: &mut BTreeSet<OfferKey>,
     entry: &Option<(Few, E)>,
 ) -> Result<(), AllocError>
-    ensures kept { (k : OfferKey) → contains offer_cmp offering.old k ≡ true → contains offer_cmp offering.new k ≡ true }
-    ensures ok { OnOk result ((g : ℕ) (r : GroupRecord) → is_of_group entry.now g ≡ true → group_of records.now g ≡ Some r → contains offer_cmp offering.new (offer_key r) ≡ true) }
+    ensures kept { (k : OfferKey) → contains offer_cmp offering.old k ≡ true
+        → contains offer_cmp offering.new k ≡ true }
+    ensures ok { OnOk result
+        ((g : ℕ) (r : GroupRecord) → is_of_group entry.now g ≡ true
+        → group_of records.now g ≡ Some r → contains offer_cmp offering.new (offer_key r) ≡ true) }
 {
     match entry {
         None => Ok(()),
@@ -212,7 +222,8 @@ fn note_groups<E: Copy>(
 // The groups in which somebody waits.
 fn waiting_groups(queues: &BTreeMap<DeviceId, BTreeSet<(u64, u64)>>, groups: &[DeviceId]) -> Few
     requires { length groups.now ≤ 8 }
-    ensures { (g : ℕ) (p : ℕ × ℕ) → is_one_of groups.now g ≡ true → lists queues.now g p ≡ true → is_one_of result g ≡ true }
+    ensures { (g : ℕ) (p : ℕ × ℕ) → is_one_of groups.now g ≡ true → lists queues.now g p ≡ true
+        → is_one_of result g ≡ true }
 {
     let mut waiting = Few::none();
     for group in groups {
@@ -227,7 +238,8 @@ fn with_waiting<E: Copy>(
     queues: &BTreeMap<DeviceId, BTreeSet<(u64, u64)>>,
     entry: &Option<(Few, E)>,
 ) -> Option<(Few, E)>
-    ensures { (g : ℕ) (p : ℕ × ℕ) → is_of_group entry.now g ≡ true → lists queues.now g p ≡ true → is_of_group result g ≡ true }
+    ensures { (g : ℕ) (p : ℕ × ℕ) → is_of_group entry.now g ≡ true → lists queues.now g p ≡ true
+        → is_of_group result g ≡ true }
 {
     match entry {
         None => None,
@@ -292,7 +304,8 @@ pub(crate) fn may_offer(
     ready: &BTreeMap<DeviceId, BTreeSet<(u64, AgentId)>>,
     group: DeviceId,
 ) -> bool
-    ensures { result ≡ false → (p q : ℕ × ℕ) → lists queues.now group p ≡ true → lists ready.now group q ≡ false }
+    ensures { result ≡ false → (p q : ℕ × ℕ) → lists queues.now group p ≡ true
+        → lists ready.now group q ≡ false }
 {
     !has_none(queues, group) && !has_none(ready, group)
 }

@@ -52,7 +52,8 @@ pub(crate) fn list(
     new: bool,
 ) -> Result<(), AllocError>
     ensures ok { OnOk result (Noted pair_cmp lines.old lines.new (device, call) new) }
-    ensures err { OnErr result ((k : ℕ × ℕ) → contains pair_cmp lines.new k ≡ contains pair_cmp lines.old k) }
+    ensures err { OnErr result
+        ((k : ℕ × ℕ) → contains pair_cmp lines.new k ≡ contains pair_cmp lines.old k) }
 {
     note(lines, (device.number(), call), new)
 }

@@ -100,7 +100,8 @@ impl Records {
 
     /// The records of these rows, but for groups, agents and connections, of which there are none.
     pub(crate) fn without_indexed(alloc: Global, rows: &Rows) -> Result<Self, AllocError>
-        ensures { IfOk result (λ r. r ≡ record rows.now { groups = []; agents = []; connections = [] }) }
+        ensures { IfOk result
+            (λ r. r ≡ record rows.now { groups = []; agents = []; connections = [] }) }
     {
         Ok(Records {
             limits: rows.limits,

@@ -74,7 +74,8 @@ fn is_busy_with(
     new: &Option<ConnectionRecord>,
 ) -> bool
     requires { IsIndexed records.now indexes.now }
-    ensures { result ≡ (is_there_and is_busying new.now || is_in_use records.now device (Some call) Busying) }
+    ensures { result ≡ (is_there_and is_busying new.now
+        || is_in_use records.now device (Some call) Busying) }
 {
     is_busying(new) || is_in_use(records, &indexes.lines, device, Some(call), Use::Busying)
 }
@@ -90,7 +91,8 @@ fn is_kept(
     seat: &Option<(Few, (u64, AgentId))>,
 ) -> bool
     requires { IsIndexed records.now indexes.now }
-    ensures { result ≡ (is_some seat.now && (is_there_and is_busying new.now || is_in_use records.now device (Some call) Busying)) }
+    ensures { result ≡ (is_some seat.now
+        && (is_there_and is_busying new.now || is_in_use records.now device (Some call) Busying)) }
 {
     seat.is_some() && is_busy_with(records, indexes, call, device, new)
 }
@@ -111,7 +113,9 @@ fn swapped_seat(
     new: &Option<ConnectionRecord>,
 ) -> Option<(Few, (u64, AgentId))>
     requires { IsIndexed records.now indexes.now }
-    ensures { result ≡ (if differ (is_there_and is_busying old.now) (is_there_and is_busying new.now) then ready_entry (agent_at records.now device) else None) }
+    ensures { result ≡ (if differ (is_there_and is_busying old.now)
+        (is_there_and is_busying new.now) then ready_entry (agent_at records.now device) else
+        None) }
 {
     if is_other(is_busying(old), is_busying(new)) {
         ready_entry(&agent_at(records, &indexes.seats, device))

@@ -48,7 +48,8 @@ pub(crate) fn is_ringing(c: &ConnectionRecord) -> bool
 
 // The connection of the call at the device, but for one of the call that is left out, uses it so.
 fn call_uses(records: &Records, call: u64, device: DeviceId, but: Option<u64>, kind: Use) -> bool
-    ensures { result ≡ (not (has but call) && is_there_and (uses kind) (connection_of records.now call device)) }
+    ensures { result ≡ (not (has but call)
+        && is_there_and (uses kind) (connection_of records.now call device)) }
 {
     if but == Some(call) {
         return false;
@@ -66,7 +67,9 @@ fn any_call_uses(
     but: Option<u64>,
     kind: Use,
 ) -> bool
-    ensures { result ≡ list_any (λ k. not (has but k.1) && is_there_and (uses kind) (connection_of records.now k.1 device)) lines.entry }
+    ensures { result ≡ list_any
+        (λ k. not (has but k.1) && is_there_and (uses kind) (connection_of records.now k.1 device))
+        lines.entry }
 {
     for key in lines {
         if call_uses(records, key.1, device, but, kind) {

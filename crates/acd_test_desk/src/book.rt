@@ -90,7 +90,8 @@ impl FailingBook {
         ensures inner { self.new.inner ≡ self.old.inner }
         ensures stopped { self.new.has_stopped ≡ self.old.has_stopped }
         ensures open { OnOk result (self.old.has_stopped ≡ false) }
-        ensures cause { IsErrOf result BookFault.Store → HasRisen self.old.failures self.new.failures }
+        ensures cause { IsErrOf result BookFault.Store
+            → HasRisen self.old.failures self.new.failures }
         ensures quiet { ¬ (IsErrOf result BookFault.Store) → self.new.failures ≡ self.old.failures }
         ensures counts { self.old.failures ≤ self.new.failures }
     {
@@ -131,7 +132,14 @@ impl Reopened for FailingBook {
 }
 
 impl Book for FailingBook {
-    ghost state = { λ b. record { content = b.inner; stops = λ c. c ≡ b.inner; is_sound = ⊤; is_clean = ⊤; is_open = b.has_stopped ≡ false; failures = b.failures } };
+    ghost state = { λ b. record {
+      content = b.inner;
+      stops = λ c. c ≡ b.inner;
+      is_sound = ⊤;
+      is_clean = ⊤;
+      is_open = b.has_stopped ≡ false;
+      failures = b.failures;
+    } };
 
     ghost settled = { λ b c clean sound up found. found };
 
