@@ -41,7 +41,7 @@ use Rattle.acd_sql_columns.proofs.Ordered.{asking}
 use Rattle.acd_sql_columns.proofs.Puts.{Files, Inserts, inserted_row, truth_back}
 use Rattle.acd_sql_columns.proofs.Removals.{Removes, removed_row}
 use Rattle.acd_sql_columns.proofs.Scans.{scan, showing}
-use Rattle.acd_sql_columns.proofs.Sets.{Sets, set_none, set_row}
+use Rattle.acd_sql_columns.proofs.Sets.{Sets, set_none, set_row, none_has_key}
 use Rattle.acd_sql_columns.proofs.Statements.{Insertion, Replaces, inert_works}
 use Rattle.acd_sql_columns.proofs.Updates.{Updating}
 use Rattle.acd_sql_columns.proofs.Common.{run, inert}
@@ -270,6 +270,12 @@ module _ {R : Type 0} (d : Description R) (f : Filed d) where
     updated_in r reads c old new count drafts ran some =
         let made = set_row book_schema text d.key (row_of d) d.values sets r (d.records c) old new count drafts.schema (f.held c old.now.trees drafts.tables).0 ran some in
         drafted _ _ old new c made.are_rows (every_read r c old.now.trees drafts.tables reads) made.replaces drafts
+
+    -- where none was changed, no record has the key
+    pub none_in : (r : R) (c : Relations) (old new : State) (count : ℕ) → Drafts old c → Executes text (d.values r) old new (Ok count) → count ≡ 0 → filter (λ y. d.key y == d.key r) (d.records c) ≡ []
+    unfolding sets
+    none_in r c old new count drafts ran missed =
+        none_has_key book_schema text d.key (row_of d) d.values sets r (d.records c) old new count drafts.schema (f.held c old.now.trees drafts.tables).0 ran missed
 
     -- of a record that has none
     pub put_in : (r : R) → d.IsRead r → (c : Relations) (old mid new : State) (none count : ℕ) → Drafts old c → Executes text (d.values r) old mid (Ok none) → none ≡ 0 → Executes d.insert (d.values r) mid new (Ok count)

@@ -50,6 +50,14 @@ map_twice : {X Y Z : Type 0} (f : Y → Z) (g : X → Y) (xs : List X) → map f
 map_twice f g [] = refl
 map_twice f g (x ∷ xs) = ap (λ l. f (g x) ∷ l) (map_twice f g xs)
 
+-- what is shown of the rows that are found
+shown_keyed : {R : Type 0} (schema : Schema) (text : List ℕ) (key : R → ℕ) (row params : R → Row) (s : Sets schema text key row params) (r : R) (rs : List R) (rows : List Row) → AreRows key row rows rs
+    → map (showing (params r) s.it.project) (passing (params r) s.it.terms rows) ≡ map (λ (y : R). showing (params r) s.it.project (row y)) (filter (λ (y : R). key y == key r) rs)
+shown_keyed {R = R} schema text key row params s r rs rows are =
+    let shows = showing (params r) s.it.project in
+    let passed = ap (passing (params r) s.it.terms) are.rows_are ∙ found_rows key row (keyed_by s.it.layout key row s.files) (λ y. key y == key r) (λ a b e. ap (λ k. k == key r) e) (params r) s.it.terms (λ (y : R). s.finds r y) rs in
+    ap (map shows) passed ∙ map_twice shows row (filter (λ (y : R). key y == key r) rs)
+
 -- a row was changed
 pub set_row : {R : Type 0} (schema : Schema) (text : List ℕ) (key : R → ℕ) (row params : R → Row) (s : Sets schema text key row params) (r : R) (rs : List R) (old new : State) (count : ℕ)
     → old.now.schema ≡ schema → AreRows key row (old.now.trees s.it.layout.tree) rs → Executes text (params r) old new (Ok count) → (count ≡ 0 → ⊥) → Put schema s.it.layout.tree key row r rs old new
@@ -58,11 +66,24 @@ set_row {R = R} schema text key row params s r rs old new count has are ran some
     let made = updated schema text s.it (params r) old new count has ran in
     let shows = showing (params r) s.it.project in
     let tests = λ (y : R). s.finds r y in
-    let passed = ap (passing (params r) s.it.terms) are.rows_are ∙ found_rows key row (keyed_by s.it.layout key row s.files) (λ y. key y == key r) (λ a b e. ap (λ k. k == key r) e) (params r) s.it.terms tests rs in
-    let shown = ap (map shows) passed ∙ map_twice shows row (filter (λ (y : R). key y == key r) rs) in
+    let shown = shown_keyed schema text key row params s r rs (db s.it.layout.tree) are in
     let x = some_record key (λ (y : R). shows (row y)) r rs made.rows count (filter (λ (y : R). key y == key r) rs) refl (subst (λ l. IsPermutation l made.rows) shown made.found) made.counted some in
     record {
       replaces = replaces schema old new (updating_edit db s.it.layout made.rows) _ made.changed
           (one_changed s.it.layout key row s.files (params r) s.it.terms s.it.project r tests (λ (y : R). s.shows r y) x.0 rs db made.rows are.rows_are are.ascending x.1 x.2 made.found);
       are_rows = are_put key row r rs are.ascending;
     }
+
+unmapped : {X Y : Type 0} (f : X → Y) (xs : List X) → length (map f xs) ≡ 0 → xs ≡ []
+unmapped f [] e = refl
+unmapped f (x ∷ xs) e = absurd (omega (arith, e))
+
+-- where none was, no record has the key
+pub none_has_key : {R : Type 0} (schema : Schema) (text : List ℕ) (key : R → ℕ) (row params : R → Row) (s : Sets schema text key row params) (r : R) (rs : List R) (old new : State) (count : ℕ)
+    → old.now.schema ≡ schema → AreRows key row (old.now.trees s.it.layout.tree) rs → Executes text (params r) old new (Ok count) → count ≡ 0 → filter (λ y. key y == key r) rs ≡ []
+none_has_key {R = R} schema text key row params s r rs old new count has are ran missed =
+    let made = updated schema text s.it (params r) old new count has ran in
+    let had = filter (λ (y : R). key y == key r) rs in
+    let shown = shown_keyed schema text key row params s r rs (old.now.trees s.it.layout.tree) are in
+    let same = length_permutation (map (λ (y : R). showing (params r) s.it.project (row y)) had) made.rows (subst (λ l. IsPermutation l made.rows) shown made.found) in
+    unmapped (λ (y : R). showing (params r) s.it.project (row y)) had (sym same ∙ (sym made.counted ∙ missed))

@@ -44,14 +44,19 @@ module _ (old new : State) where
   pub by_same : {B : Type 0} (R : Option ℕ → Relations → Type 0) (e : Error) (result : Result B Error) → result ≡ Err e → (HasCleanDisk new → (r : Relations) → Drafts old r → FailsToLeave R r old new e) → IsBlamed R old new result
   by_same R e result is h = λ clean r d. subst (λ b. IfErr b (FailsToLeave R r old new)) (sym is) (h clean r d)
 
-  pub by_more : {A : Type 0} (P Q : Option ℕ → Relations → Type 0) (result : Result A Error) → ((limit : Option ℕ) (r : Relations) → P limit r → Q limit r) → IsBlamed P old new result → IsBlamed Q old new result
-  by_more P Q (Ok x) so h = λ clean r d. tt
-  by_more P Q (Err e) so h = λ clean r d. each r (h clean r d)
+  -- where something more is known of what was seen
+  pub by_known : {A : Type 0} (Is : Relations → Type 0) (P Q : Option ℕ → Relations → Type 0) (result : Result A Error) → (HasCleanDisk new → (r : Relations) → Drafts old r → Is r)
+      → ((limit : Option ℕ) (r : Relations) → Is r → P limit r → Q limit r) → IsBlamed P old new result → IsBlamed Q old new result
+  by_known Is P Q (Ok x) known so h = λ clean r d. tt
+  by_known Is P Q (Err e) known so h = λ clean r d. each r (known clean r d) (h clean r d)
     where
-      each : (r : Relations) → FailsToLeave P r old new e → FailsToLeave Q r old new e
-      each r (inl memory) = inl memory
-      each r (inr (inl failed)) = inr (inl failed)
-      each r (inr (inr p)) = inr (inr (so old.step_limit r p))
+      each : (r : Relations) → Is r → FailsToLeave P r old new e → FailsToLeave Q r old new e
+      each r is (inl memory) = inl memory
+      each r is (inr (inl failed)) = inr (inl failed)
+      each r is (inr (inr p)) = inr (inr (so old.step_limit r is p))
+
+  pub by_more : {A : Type 0} (P Q : Option ℕ → Relations → Type 0) (result : Result A Error) → ((limit : Option ℕ) (r : Relations) → P limit r → Q limit r) → IsBlamed P old new result → IsBlamed Q old new result
+  by_more P Q result so = by_known (λ r. Unit {0}) P Q result (λ clean r d. tt) (λ limit r known p. so limit r p)
 
 -- behind what was written before
 pub by_later : {A : Type 0} (old mid new : State) (change : Relations → Relations) (Q : Option ℕ → Relations → Type 0) (result : Result A Error) → Works old mid → Works mid new

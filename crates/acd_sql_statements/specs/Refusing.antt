@@ -32,9 +32,13 @@ pub record RefusesOn (sql : List ℕ) (params : Row) (limit : Option ℕ) (r : R
 abbrev pub without_further : ℕ → Relations → Relations
 without_further agent r = with_part table.AgentGroups (filter (λ (p : ℕ × ℕ). not (p.0 == agent)) r.further) r
 
--- it refuses to change the row of the record, or to insert one
+-- no record has its key
+abbrev pub HasNone : {R : Type 0} → Description R → R → Relations → Type 0
+HasNone d x r = filter (λ y. d.key y == d.key x) (d.records r) ≡ []
+
+-- it refuses to change the row of the record or, where there is none, to insert one
 abbrev pub RefusesPut : {R : Type 0} → Description R → List ℕ → R → Option ℕ → Relations → Type 0
-RefusesPut d update x limit r = RefusesOn update (d.values x) limit r ⊎ RefusesOn d.insert (d.values x) limit r
+RefusesPut d update x limit r = RefusesOn update (d.values x) limit r ⊎ (HasNone d x r × RefusesOn d.insert (d.values x) limit r)
 
 abbrev pub RefusesPutConnection : ConnectionRecord → Option ℕ → Relations → Type 0
 RefusesPutConnection x limit r =

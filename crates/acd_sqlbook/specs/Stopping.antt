@@ -23,13 +23,13 @@ use Rattle.acd_sql_statements.specs.Reading.{FailsToRead}
 use Rattle.acd_sql_statements.specs.Refusing.{RefusesOn, RefusesPut, RefusesPutConnection, RefusesGroup, RefusesAgent}
 use Rattle.acd_sqlbook.specs.Commit.{ChangeFits, EventFits, counted, filed, all_filed, with_event, with_events, with_kept}
 
--- with this limit of steps and on these relations, the store refuses a statement of the change
+-- with this limit of steps and on these relations, the store refuses a statement of the change; a new call is inserted without a look
 abbrev pub RefusesChange : Change → Option ℕ → Relations → Type 0
 RefusesChange Nothing limit r = ⊥
 RefusesChange (PutGroup g) limit r = RefusesGroup g limit r
 RefusesChange (PutStation s) limit r = RefusesOn stations.insert (stations.values s) limit r
 RefusesChange (PutAgent a) limit r = RefusesAgent a limit r
-RefusesChange (PutCall k) limit r = RefusesPut calls UPDATE_CALL.now k limit r
+RefusesChange (PutCall k) limit r = RefusesPut calls UPDATE_CALL.now k limit r ⊎ RefusesOn calls.insert (calls.values k) limit r
 RefusesChange (PutConnection x) limit r = RefusesPutConnection x limit r
 RefusesChange (PutMonitor w) limit r = RefusesPut monitors UPDATE_MONITOR.now w limit r
 RefusesChange (RemoveCall call) limit r = RefusesOn DELETE_CALL.now (id_value call ∷ []) limit r

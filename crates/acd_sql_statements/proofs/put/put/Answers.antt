@@ -2,9 +2,9 @@ use Rattle.std.proofs.Common.{◌≡◌, ℕ, Err, inl, inr, rules, arith, ◌�
 use Rattle.sqlite.specs.Held.{state}
 use Rattle.acd_sql_columns.proofs.Endings.{works_on}
 use Rattle.sqlite.specs.State.{HasCleanDisk}
-use Rattle.acd_sql_columns.proofs.Filed.{updated_in, put_in}
-use Rattle.acd_sql_statements.specs.Refusing.{RefusesOn, RefusesPut}
-use Rattle.acd_sql_statements.proofs.Refused.{refused_on, by_more, by_same, by_later, still_drafts, unless_ok}
+use Rattle.acd_sql_columns.proofs.Filed.{updated_in, put_in, none_in}
+use Rattle.acd_sql_statements.specs.Refusing.{HasNone, RefusesOn, RefusesPut}
+use Rattle.acd_sql_statements.proofs.Refused.{refused_on, by_more, by_known, by_same, by_later, still_drafts, unless_ok}
 use Rattle.acd_sql_statements.proofs.put.put.Goals as goal
 
 pub returns-then-changed-gt0 : goal.returns-then-changed-gt0
@@ -59,7 +59,11 @@ returns-in_err-run g c = record {
       let x = c.args.item.now in
       let d = g.R.Described.descr in
       let none : c.in_ok-changed.changed ≡ 0 = omega (arith, c.if-changed-gt0.false) in
-      by_more old new (RefusesOn d.insert (d.values x)) (RefusesPut d g.R.Changed.update x) c.from_residual-in_err-run.result (λ limit r h. inr h)
+      by_known old new (HasNone d x) (RefusesOn d.insert (d.values x)) (RefusesPut d g.R.Changed.update x) c.from_residual-in_err-run.result
+      (λ clean r drafts.
+      let middle : HasCleanDisk mid = omega (arith, clean, c.run-2.ensures.works.survives.clean) in
+      none_in d g.R.Described.filed g.R.Changed.update g.met.R.Changed.updates x r old mid c.in_ok-changed.changed drafts (rw c.update_text.ensures at (c.in_ok-changed.ensures.ran middle)) none)
+      (λ limit r none h. inr (none, h))
       (by_same old new (RefusesOn d.insert (d.values x)) c.in_err-run.field-0.0 c.from_residual-in_err-run.result (search rules)
       (by_later {A = ℕ} old mid new (λ r. r) (RefusesOn d.insert (d.values x)) (Err c.in_err-run.field-0.0) c.run.ensures.works c.run-2.ensures.works
       (λ middle r drafts. still_drafts d g.R.Described.filed g.R.Changed.update g.met.R.Changed.updates x r old mid c.in_ok-changed.changed drafts (rw c.update_text.ensures at (c.in_ok-changed.ensures.ran middle)) none)

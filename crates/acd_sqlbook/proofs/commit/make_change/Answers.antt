@@ -3,7 +3,7 @@ use Rattle.acd_sqlbook.specs.Commit.{filed}
 use Rattle.acd_sql_columns.specs.Relations.{with_group_parts}
 use Rattle.acd_model.specs.declared.moves.Change.TheVariants.{PutGroup, PutStation, PutAgent, PutCall, PutConnection, PutMonitor, RemoveCall, RemoveConnection, RemoveMonitor}
 use Rattle.acd_sqlbook.proofs.Filing.{leaving, named, filing, group_filed, station_filed, call_filed, connection_filed, monitor_filed, call_gone, monitor_gone, connection_gone}
-use Rattle.std.proofs.Common.{[], ◌∷◌, inr}
+use Rattle.std.proofs.Common.{[], ◌∷◌, inl, inr}
 use Rattle.acd_sql_columns.specs.Rows.{connection_values}
 use Rattle.acd_sql_columns.specs.Tables.{stations, calls, monitors}
 use Rattle.acd_sql_columns.specs.Values.{id_value}
@@ -79,7 +79,7 @@ returns-in-PutCall-clause-failed g c =
 
 pub returns-in-PutCall-2-clause-failed : goal.returns-in-PutCall-2-clause-failed
 returns-in-PutCall-2-clause-failed g c =
-    by_change (state g.S.Store c.args.tx.now.conn.now) (state g.S.Store c.put.new.tx.conn.now) c.put.result c.args.change.now (PutCall c.in-PutCall-2.call) c.in-PutCall-2.is (RefusesPut calls UPDATE_CALL.now c.in-PutCall-2.call) (λ limit r h. h) c.put.ensures.failed
+    by_change (state g.S.Store c.args.tx.now.conn.now) (state g.S.Store c.put.new.tx.conn.now) c.put.result c.args.change.now (PutCall c.in-PutCall-2.call) c.in-PutCall-2.is (RefusesPut calls UPDATE_CALL.now c.in-PutCall-2.call) (λ limit r h. inl h) c.put.ensures.failed
 
 pub returns-in-PutConnection-clause-failed : goal.returns-in-PutConnection-clause-failed
 returns-in-PutConnection-clause-failed g c =
