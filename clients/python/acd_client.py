@@ -6,13 +6,15 @@
             ...
 
 It needs Python 3.11 and nothing else. A request is sent again, with its requester and invoke, until it is answered; the desk acts once.
-A client without a name of its own takes a requester that nobody has used, so its invokes may begin with 1. One that is to be the same
-requester after a new start keeps its last invoke on disk before it asks, and hands it in."""
+A client without a name of its own takes a requester that nobody has used, so its invokes may begin with 1; where its address has a login the
+requester begins with that, since the desk's gate lets a login use no other. One that is to be the same requester after a new start keeps
+its last invoke on disk before it asks, and hands it in."""
 from __future__ import annotations
 
 import base64
 import http.client
 import json
+import re
 import secrets
 import ssl
 import threading
@@ -97,9 +99,9 @@ class Client:
 
     def __init__(self, *addresses: str, requester: str = "", invoke: int = 0, wait: float = 5.0, pause: float = 0.2,
                  context: ssl.SSLContext | None = None):
-        self.requester = requester or "client-" + secrets.token_hex(8)
         self.invoke, self.wait, self.pause, self.context = invoke, wait, pause, context
         self.addresses = [urlsplit(address) for address in addresses or ("http://127.0.0.1:8080",)]
+        self.requester = requester or new_requester(self.addresses)
         self.connection: http.client.HTTPConnection | None = None
         self.stopped = threading.Event()
 
@@ -233,10 +235,20 @@ class Client:
                 self.stopped.wait(poll)
 
 
+def login(address: SplitResult) -> str:
+    return unquote(address.username or "")
+
+
+def new_requester(addresses: list[SplitResult]) -> str:
+    """One that nobody has used: of the first login, where a requester may begin with it, and as long as the desk takes one."""
+    name = next(filter(None, map(login, addresses)), "")
+    return f"{name if re.fullmatch('[a-z0-9-]{1,15}', name) else 'client'}-{secrets.token_hex(8)}"
+
+
 def credentials(address: SplitResult) -> dict[str, str]:
     if address.username is None:
         return {}
-    words = f"{unquote(address.username)}:{unquote(address.password or '')}".encode()
+    words = f"{login(address)}:{unquote(address.password or '')}".encode()
     return {"Authorization": "Basic " + base64.b64encode(words).decode()}
 
 
