@@ -4,7 +4,6 @@ import {refusal} from './words.js';
 
 /** @typedef {import('./types').Report} Report */
 /** @typedef {import('./types').Snapshot} Snapshot */
-/** @typedef {{kind:'begins'} | {kind:'live'} | {kind:'lost', why:string} | {kind:'anew'}} Told */
 
 const EVERY = 1000, PATIENCE = 10000, FULL = 1000, SEVERAL = 6;
 
@@ -30,7 +29,7 @@ export class Feed {
   /**
    * @param {string} base the desk's address
    * @param {number} renew after how many milliseconds a snapshot is read anew, for what no event tells
-   * @param {{begin:(snapshot:Snapshot) => void, take:(events:Report[]) => void, tell:(told:Told) => void, clock:(offset:number) => void, unknown:() => Iterable<string>, learn:(agent:any) => void}} owner
+   * @param {import('./types').Follower} owner
    */
   constructor(base, renew, owner) {
     this.base = base;

@@ -30,7 +30,7 @@ let view = 'wall', state = new State(), counting = new Day(0), counted = false;
 /** @type {Report[]} */ let recent = [];
 // the server's clock less this one's, and when the desk last answered, in milliseconds
 let offset = 0, answered = 0;
-/** @type {import('./feed.js').Told} */ let told = {kind: 'begins'};
+/** @type {import('./types').Course} */ let told = {kind: 'begins'};
 let share = 0;
 
 /** The desk's clock; it stands still where the connection is lost, so that no wait goes on that may have ended. */

@@ -58,3 +58,21 @@ export type CallLine = {number: number, words: string, sign: string, since: numb
 export type Column = {head: string, about?: string, text: (line: any) => string | number, kind?: 'words' | 'state', wide?: boolean, least?: boolean};
 /** look: first, second or third, by which the style tells them apart, with colour and without */
 export type Series = {name: string, look: string, bar?: (step: any) => number, line?: (step: any) => number | null};
+/** What is shown of an agent. */
+export type Tile = {tile: HTMLElement, name: Element, sign: Element, words: Element, time: Element, place: Element, seen: boolean};
+
+// who follows a desk: how it goes, a snapshot to begin with, what happens then, and the agents that have to be asked for
+
+export type Course = {kind: 'begins' | 'live' | 'anew'} | {kind: 'lost', why: string};
+export type Follower = {tell: (course: Course) => void, begin: (snapshot: Snapshot) => void, take: (events: Report[]) => void,
+  unknown: () => Iterable<string>, learn: (agent: any) => void, clock: (offset: number) => void};
+
+// the agent's page
+
+export type Requested = 'loggedOn' | 'ready' | 'notReady' | 'workingAfterCall' | 'loggedOff';
+export type CallService = 'answerCall' | 'holdCall' | 'retrieveCall' | 'clearConnection' | 'singleStepTransfer' | 'deflectCall';
+/** A request that has no answer yet, and what it asks for. */
+export type Kept = {body: string, words: string};
+export type Told = {kind: 'sent' | 'waits' | 'done' | 'refused' | 'dropped', words: string, result?: {pending?: string}};
+/** What is shown of a call at the station. */
+export type Card = {card: HTMLElement, line: Element, about: Element, to: HTMLInputElement, buttons: Map<CallService, HTMLButtonElement>};

@@ -9,9 +9,9 @@ import {services, states} from './allowed.js';
 import {Requests} from './requests.js';
 
 /** @typedef {import('../types').Call} Call */
-/** @typedef {import('./allowed.js').CallService} CallService */
+/** @typedef {import('../types').CallService} CallService */
 // events tell an agent's page what it needs, so a snapshot is seldom wanted anew
-const RENEW = 300000, MOST_GROUPS = 8;
+const RENEW = 300000, AGAIN = 2000, MOST_GROUPS = 8;
 
 /** @type {Record<CallService, string>} */
 const BUTTONS = {answerCall: 'Answer', holdCall: 'Hold', retrieveCall: 'Retrieve', clearConnection: 'Hang up', singleStepTransfer: 'Transfer', deflectCall: 'Deflect'};
@@ -19,7 +19,7 @@ const BUTTONS = {answerCall: 'Answer', holdCall: 'Hold', retrieveCall: 'Retrieve
 const query = new URLSearchParams(location.search), base = location.origin;
 let id = query.get('agent') ?? '', state = new State(), offset = 0, live = false;
 /** @type {Requests} */ let requests;
-/** @type {Map<number, {card:HTMLElement, line:Element, about:Element, to:HTMLInputElement, buttons:Map<CallService, HTMLButtonElement>}>} */ const cards = new Map();
+/** @type {Map<number, import('../types').Card>} */ const cards = new Map();
 /** @type {Set<number>} */ const asked = new Set();
 
 const now = () => Math.max(state.moment, (Date.now() + offset) / 1000);
@@ -40,10 +40,11 @@ const feed = new Feed(base, RENEW, {
   learn(agent) { state.learn(agent); draw(); },
 });
 
-/** @param {import('./requests.js').Told} told */
+/** @param {import('../types').Told} told */
 function tell(told) {
+  if (told.kind === 'dropped') byId('dropped').append(make('p', {}, `■ ${told.words}: an older page asked for this. It isn't sent again: see whether it was done`));
   mark(byId('told'), 'data-kind', told.kind);
-  put(byId('told'), {sent: `… ${told.words}`, waits: `▲ ${told.words}`, done: `✓ ${told.words}`, refused: `■ ${told.words}`}[told.kind]);
+  put(byId('told'), `${{sent: '…', waits: '▲', done: '✓', refused: '■', dropped: '■'}[told.kind]} ${told.words}`);
   const agent = me();
   if (told.result?.pending && agent) agent.pending = told.result.pending;   // which no event tells
   feed.wake();   // what else it did comes with the next events
@@ -57,9 +58,8 @@ function offer() {
   const box = byId('groups');
   if (box.children.length === groups.length) return;
   const wanted = (query.get('groups') ?? '').split(',');
-  box.replaceChildren(...groups.map(group => {
-    return make('label', {}, make('input', {type: 'checkbox', value: group.id, ...(wanted.includes(group.id) && {checked: ''})}), `${group.name} (${group.id})`);
-  }));
+  box.replaceChildren(...groups.map(group =>
+    make('label', {}, make('input', {type: 'checkbox', value: group.id, ...(wanted.includes(group.id) && {checked: ''})}), `${group.name} (${group.id})`)));
 }
 
 function draw() {
@@ -124,14 +124,13 @@ function drawCall(call, station) {
 function addCard(number) {
   const line = make('p', {class: 'line'}), about = make('p', {class: 'soft'});
   const to = /** @type {HTMLInputElement} */ (make('input', {list: 'destinations', 'aria-label': `Where call ${number} is to go`, placeholder: 'number', inputmode: 'numeric', autocomplete: 'off'}));
-  /** @type {Map<CallService, HTMLButtonElement>} */ const buttons = new Map();
-  for (const service of /** @type {CallService[]} */ (Object.keys(BUTTONS))) {
-    const button = /** @type {HTMLButtonElement} */ (make('button', {type: 'button', 'data-service': service, 'aria-label': `${BUTTONS[service]} call ${number}`}, BUTTONS[service]));
-    button.addEventListener('click', () => act(service, number, to));
+  const buttons = new Map();
+  for (const [service, words] of Object.entries(BUTTONS)) {
+    const button = make('button', {type: 'button', 'data-service': service, 'aria-label': `${words} call ${number}`}, words);
+    button.addEventListener('click', () => act(/** @type {CallService} */ (service), number, to));
     buttons.set(service, button);
   }
-  const [transfer, deflect] = [buttons.get('singleStepTransfer'), buttons.get('deflectCall')];
-  const card = make('li', {}, line, about, make('div', {class: 'buttons'}, ...[...buttons.values()].slice(0, 4), to, ...(transfer && deflect ? [transfer, deflect] : [])));
+  const all = [...buttons.values()], card = make('li', {}, line, about, make('div', {class: 'buttons'}, ...all.slice(0, 4), to, ...all.slice(4)));
   byId('calls').append(card);
   const made = {card, line, about, to, buttons};
   cards.set(number, made);
@@ -168,13 +167,24 @@ byId('log-on').addEventListener('submit', (/** @type {Event} */ event) => {
 });
 byId('log-on').elements.station.value = query.get('station') ?? '';
 
-/** Whose page it is: the address says so, or the gate tells who is logged in. */
+/** Who is logged in, as the gate tells it; nobody where there is none. */
+async function who() {
+  for (;; await new Promise(done => setTimeout(done, AGAIN))) {
+    try { return await read(`${base}/who`); } catch (fault) {
+      const {status, message} = /** @type {any} */ (fault);
+      if (status === 404) return {};
+      tell({kind: 'waits', words: `Who is logged in? ${message}`});
+    }
+  }
+}
+
+/** Whose page it is: the address says so, or the gate. */
 async function begin() {
-  try {
-    if (!id) id = (await read(`${base}/who`)).agent ?? '';
-  } catch { /* no gate: the address has to say it */ }
+  const {agent, login, why} = await who();
+  id ||= agent ?? '';
+  if (why) return tell({kind: 'refused', words: `${login}: ${why}`});
   if (!id) return tell({kind: 'refused', words: 'Whose page is this? Add ?agent= and your number to the address'});
-  requests = new Requests(`${base}/csta`, id, localStorage, tell);
+  requests = new Requests(`${base}/csta`, id, login ?? `agent${id}`, localStorage, tell);
   setInterval(draw, 1000);
   feed.run();
 }

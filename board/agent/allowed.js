@@ -2,8 +2,8 @@
 // @ts-check
 
 /** @typedef {import('../state.js').State} State */
-/** @typedef {'loggedOn'|'ready'|'notReady'|'workingAfterCall'|'loggedOff'} Requested */
-/** @typedef {'answerCall'|'holdCall'|'retrieveCall'|'clearConnection'|'singleStepTransfer'|'deflectCall'} CallService */
+/** @typedef {import('../types').Requested} Requested */
+/** @typedef {import('../types').CallService} CallService */
 
 /**
  * The states that an agent may ask for: each that isn't there or pending already.

@@ -1,30 +1,31 @@
 // Sends requests one after the other, each until it is answered. One that isn't is kept in the browser and sent again, the same bytes, so that it acts once.
+// A gate takes a login's own requesters alone: it refuses what an older page kept, which is told and let go.
 // @ts-check
 import {refusal} from '../words.js';
 
-/** @typedef {{body:string, words:string}} Kept */
-/** @typedef {{kind:'sent'|'waits'|'done'|'refused', words:string, result?:{pending?:string}}} Told */
+/** @typedef {import('../types').Kept} Kept */
 const PATIENCE = 10000;
 
 /**
  * A name that no other page has: with an old page's, a count from 1 would get kept replies and do nothing.
- * @param {string} agent
+ * @param {string} owner
  */
-function newRequester(agent) {
+function newRequester(owner) {
   const letters = 'abcdefghijklmnopqrstuvwxyz012345';
-  return `agent${agent}-${[...crypto.getRandomValues(new Uint8Array(16))].map(number => letters[number % 32]).join('')}`;
+  return `${owner}-${[...crypto.getRandomValues(new Uint8Array(16))].map(number => letters[number % 32]).join('')}`;
 }
 
 export class Requests {
   /**
    * @param {string} address
    * @param {string} agent
+   * @param {string} owner whom the gate knows by the requester
    * @param {Storage} storage
-   * @param {(told:Told) => void} tell
+   * @param {(told:import('../types').Told) => void} tell
    */
-  constructor(address, agent, storage, tell) {
+  constructor(address, agent, owner, storage, tell) {
     this.address = address;
-    this.requester = newRequester(agent);
+    this.requester = newRequester(owner);
     this.invoke = 0;
     this.storage = storage;
     this.place = `acd-unanswered-${agent} `;
@@ -55,6 +56,7 @@ export class Requests {
       const reply = await this.post(body);
       if (reply) {
         this.storage.removeItem(place);
+        if (reply.status === 403 && !body.includes(this.requester)) return this.tell({kind: 'dropped', words});
         return this.tell(reply.status === 200 ? {kind: 'done', words, result: JSON.parse(reply.text).result} : {kind: 'refused', words: `${words}: ${refusal(reply.status, reply.text)}`});
       }
       await new Promise(done => setTimeout(done, Math.min(PATIENCE, 1000 * 2 ** times)));

@@ -7,7 +7,7 @@ import {clock, DOING, PENDING} from '../words.js';
 import {choose} from './groups.js';
 
 /** @typedef {import('../types').Doing} Doing */
-/** @typedef {{tile:HTMLElement, name:Element, sign:Element, words:Element, time:Element, place:Element, seen:boolean}} Tile */
+/** @typedef {import('../types').Tile} Tile */
 /** @type {Map<string,Tile>} */ const tiles = new Map();
 /** @type {Map<Element,Tile>} */ const byElement = new Map();
 /** @type {Set<Doing>} */ const wanted = new Set();

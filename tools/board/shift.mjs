@@ -1,10 +1,14 @@
-// An agent's shift by clicks, what the events say of it, a lost reply, and what a login may not ask for.
+// An agent's shift by clicks, what the events say of it, a lost reply, whose requester a page has, and what a login may not ask for.
 import {createServer} from 'node:http';
+import {readFile} from 'node:fs/promises';
+import {extname, join} from 'node:path';
 import {freePort, sleep, until} from './browser.mjs';
+import {TOP} from './desk.mjs';
 import {contrast, unreached, untold} from './looks.mjs';
 import {PHONE, SCREEN} from './page.mjs';
 
 const AGENT = '7', STATION = '207', GROUPS = ['110', '100'];
+const TYPES = {'.html': 'text/html', '.js': 'text/javascript', '.css': 'text/css'};
 
 /** A plan for the shift: two groups, three stations, two agents. */
 export const PLAN = [
@@ -87,23 +91,98 @@ export async function lostReply(see, browser, desk, front) {
   see('it is answered then', Boolean(await until(async () => (await kept()).length === 0 && /✓ Log on/.test(await browser.text('#told')), 30)), await browser.text('#told'));
   const times = (await desk.events(0)).filter(event => event.event === 'agentLoggedOn').length;
   see('and was executed once', times === 2, times);   // the shift before, and this
-  see('a new load has a requester of its own', await browser.run(`return window.agent.requests().requester`) !== JSON.parse(before[0]).requester);
+  const [old, own] = [JSON.parse(before[0]).requester, await requester(browser)];
+  see('a new load has a requester of its own, which is the login\'s', [old, own].every(one => /^ana-[a-z0-5]{16}$/.test(one)) && own !== old, `${old} ${own}`);
+}
+
+const requester = browser => until(() => browser.run('return window.agent?.requests()?.requester'), 20);
+
+/** What an older page kept under a requester that isn't the login's: it is told, once, and let go, and what was kept behind it goes on. */
+export async function olderPage(see, browser, desk, front) {
+  await browser.open(front.page('ana', '/board/agent/'));
+  await requester(browser);
+  const {last} = await desk.get('/events?after=999999999999999'), state = requested => ({service: 'setAgentState', agent: AGENT, requested});
+  const kept = [['agent7-abcdefghijklmnop', 'ready', 'Ready, of an older page'], ['ana-abcdefghijklmnop', 'workingAfterCall', 'After-call work, kept']];
+  const keep = kept => browser.run(`for (const [place, body, words] of arguments[0]) localStorage.setItem(place, JSON.stringify({body, words}))`,
+    kept.map(([owner, requested, words], number) => [`acd-unanswered-${AGENT} ${1700000000000 + number} ${owner} 1`, JSON.stringify({requester: owner, invoke: 1, ...state(requested)}), words]));
+  await keep(kept);
+  const left = () => browser.run(`return Object.keys(localStorage).filter(place => place.startsWith('acd-unanswered-')).length`), dropped = () => browser.run(`return [...document.querySelectorAll('#dropped p')].map(line => line.textContent)`);
+  await browser.open(front.page('ana', '/board/agent/'));
+  see('what was kept behind it is answered', Boolean(await until(async () => (await browser.text('#told')).includes('✓ After-call work, kept'), 20)), await browser.text('#told'));
+  const told = await dropped();
+  see('what an older page kept is told', told.length === 1 && told[0].startsWith('■ Ready, of an older page: '), String(told));
+  see('and nothing is kept any more', await left() === 0, await left());
+  await browser.click(requested('notReady'));
+  see('and the page goes on', Boolean(await until(async () => (await browser.text('#told')).includes('✓ Not ready'), 20)), await browser.text('#told'));
+  const events = (await desk.events(last)).filter(event => event.agent === AGENT).map(event => event.event);
+  see('the desk executed what was let through', String(events) === 'agentWorkingAfterCall,agentNotReady', String(events));
+  await browser.open(front.page('ana', '/board/agent/'));
+  await requester(browser);
+  see('it is told once', (await dropped()).length === 0, String(await dropped()));
+  await keep(kept.slice(0, 1));
+  await browser.open(front.page('ana', '/board/agent/'));
+  await until(async () => (await dropped()).length, 20);
+  see('alone it is no longer said to be sent', (await browser.text('#told')).startsWith('■'), await browser.text('#told'));
+}
+
+/** The pages and a desk by one server, without a password; /who is answered by a function of how often it was asked. */
+async function plain(desk, who) {
+  const port = await freePort();
+  let asked = 0;
+  const answer = async (request, reply) => {
+    const path = request.url.split('?')[0];
+    if (path.startsWith('/board/')) return reply.setHeader('content-type', TYPES[extname(path)] ?? 'text/html').end(await readFile(join(TOP, path.endsWith('/') ? `${path}index.html` : path)));
+    const parts = [];
+    for await (const part of request) parts.push(part);
+    const [status, body] = path === '/who' ? who(++asked) : await fetch(`http://127.0.0.1:${desk.port}${request.url}`, parts.length ? {method: 'POST', body: Buffer.concat(parts)} : {}).then(async told => [told.status, await told.text()]);
+    reply.writeHead(status, {'content-type': 'application/json'}).end(body);
+  };
+  const server = createServer((request, reply) => answer(request, reply).catch(() => reply.destroy()));
+  await new Promise(done => server.listen(port, '127.0.0.1', done));
+  return {page: words => `http://127.0.0.1:${port}/board/agent/${words}`, end: () => server.close()};
+}
+
+/** Whose a page's requester is: of an agent where there is no gate, else of the login, for which a gate is asked until it answers. */
+export async function owners(see, browser, desk) {
+  const told = body => [200, JSON.stringify(body)], none = [404, '{"error":{"code":35,"name":"notFound"}}'], late = [502, '{"error":{"code":44,"name":"badGateway"}}'];
+  for (const [what, who, words, wanted] of [
+    ['no gate', () => none, '?agent=8', /^agent8-[a-z0-5]{16}$/],
+    ['a gate', () => told({agent: '8', login: 'abcdefghijklmno', role: 'agent'}), '', /^abcdefghijklmno-[a-z0-5]{16}$/],
+    ['a gate, and another agent in the address', () => told({agent: '7', login: 'ana', role: 'agent'}), '?agent=8', /^ana-[a-z0-5]{16}$/],
+    ['a gate that is late', times => times < 3 ? late : told({agent: '8', login: 'ben', role: 'agent'}), '?agent=8', /^ben-[a-z0-5]{16}$/],
+  ]) {
+    const server = await plain(desk, who);
+    await browser.open(server.page(`${words}${words ? '&' : '?'}station=208&groups=100`));
+    if (what.endsWith('late')) see(`${what} is told`, Boolean(await until(async () => (await browser.text('#told')) === '▲ Who is logged in? the desk does not run', 10)), await browser.text('#told'));
+    const found = await requester(browser);
+    see(`the requester with ${what}`, wanted.test(found), found);
+    await until(() => browser.find('#log-on-button:enabled'), 20);
+    await browser.click('#log-on-button');
+    see(`the desk takes it, with ${what}`, Boolean(await until(async () => (await browser.text('#told')).includes('✓ Log on'), 10)), await browser.text('#told'));
+    await desk.post({requester: 'try-owners', invoke: Math.floor(Math.random() * 1e9) + 1, service: 'setAgentState', agent: '8', requested: 'loggedOff'});
+    server.end();
+  }
+  const server = await plain(desk, () => told({login: 'Ana', why: 'it only reads'}));
+  await browser.open(server.page('?agent=8'));
+  see('who may only read is told why', Boolean(await until(async () => (await browser.text('#told')) === '■ Ana: it only reads', 10)), await browser.text('#told'));
+  see('and has no requester', await browser.run('return window.agent.requests() === undefined'));
+  server.end();
 }
 
 /** What may not be asked for: by an agent, a supervisor, and a page of another site. */
 export async function refused(see, browser, desk, front) {
   const forbidden = '{"error":{"code":41,"name":"forbidden"}}', before = (await desk.get('/snapshot')).groups.length;
-  const ask = async (login, request, ...more) => front.ask(login, '/csta', {requester: 'try-refused', invoke: 1, ...request}, ...more);
+  const ask = async (login, request, ...more) => front.ask(login, '/csta', {requester: `${login}-try`, invoke: 1, ...request}, ...more);
   for (const [login, request] of [['ana', {service: 'addGroup', device: '999', name: 'No', ring: 1, wrap: 1}], ['ana', {service: 'setAgentState', agent: '8', requested: 'loggedOn', device: '208', group: '100'}],
     ['ana', {service: 'holdCall', call: 1, device: '208'}], ['ana', {service: 'arriveCall', caller: '1', called: '100'}], ['sup', {service: 'tick'}], ['sup', {service: 'setAgentState', agent: '7', requested: 'ready'}],
-    ['planner', {service: 'arriveCall', caller: '1', called: '100'}]]) {
+    ['planner', {service: 'arriveCall', caller: '1', called: '100'}], ['ana', {requester: 'clock', service: 'setAgentState', agent: '7', requested: 'ready'}], ['pbx', {requester: 'ana-try', service: 'tick'}]]) {
     const {status, text} = await ask(login, request);
     see(`${login} may not ask for ${request.service}`, status === 403 && text === forbidden, `${status} ${text}`);
   }
   const granted = await ask('planner', {service: 'addStation', device: '210'});
   see('the office plans', granted.status === 200, granted.text);
   see('who has no password reads nothing', (await front.ask('nobody', '/snapshot')).text === '{"error":{"code":42,"name":"unauthorized"}}');
-  for (const path of ['/events', '/csta/', '//snapshot']) see(`no service by ${path}`, (await front.ask('pbx', path, {requester: 'x', invoke: 1, service: 'tick'})).status === 403);
+  for (const path of ['/events', '/csta/', '//snapshot']) see(`no service by ${path}`, (await front.ask('pbx', path, {requester: 'pbx-x', invoke: 1, service: 'tick'})).status === 403);
   await elsewhere(see, browser, front, desk);
   see('nothing of this was executed', (await desk.get('/snapshot')).groups.length === before);
 }
@@ -113,7 +192,7 @@ async function elsewhere(see, browser, front, desk) {
   const port = await freePort(), server = createServer((_, reply) => { reply.setHeader('content-type', 'text/html'); reply.end('<!doctype html><title>elsewhere</title>'); });
   await new Promise(done => server.listen(port, '127.0.0.1', done));
   await browser.open(front.page('pbx', '/who'));   // now the browser knows the password of one who may all
-  const body = invoke => JSON.stringify({requester: 'elsewhere', invoke, service: 'arriveCall', caller: '0666', called: '100'}), {last} = await desk.get('/events?after=999999999999999');
+  const body = invoke => JSON.stringify({requester: 'pbx-elsewhere', invoke, service: 'arriveCall', caller: '0666', called: '100'}), {last} = await desk.get('/events?after=999999999999999');
   const own = await browser.run(`return fetch(location.origin + '/csta', {method: 'POST', body: arguments[0]}).then(reply => reply.status)`, body(1));
   see('the own page of that login is answered', own === 200, own);
   for (const [number, host] of ['127.0.0.1', 'localhost'].entries()) {

@@ -11,7 +11,7 @@ import {buttons} from './buttons.mjs';
 import {full} from './full.mjs';
 import {inLoad, record, replay, unseenFaults} from './model.mjs';
 import {alarm, looks, losses, numbers, people, settings, still} from './page.mjs';
-import {lostReply, PLAN, refused, shift} from './shift.mjs';
+import {lostReply, olderPage, owners, PLAN, refused, shift} from './shift.mjs';
 
 const NEEDED = {chromedriver: 'chromium-driver', chromium: 'chromium', nginx: 'nginx-light', tsc: 'node-typescript', openssl: 'openssl', curl: 'curl', python3: 'python3'};
 const PARTS = ['files', 'gate', 'state', 'load', 'buttons', 'board', 'agent', 'full'], MOST_BYTES = 100000, MOST_CALLS = 2000, ROUNDS = 50;
@@ -127,6 +127,8 @@ class Trial {
     const desk = await this.desk('shift.db', PLAN), front = await this.front(desk), browser = await this.browser();
     await shift(this.see, browser, desk, front, this.pictures);
     await lostReply(this.see, browser, desk, front);
+    await olderPage(this.see, browser, desk, front);
+    await owners(this.see, browser, desk);
     await refused(this.see, browser, desk, front);
   }
 
