@@ -29,8 +29,12 @@ PLAN = [
     ("no stations", 'for station in desk["stations"]', 'for station in []'),
     ("names without quotes", 'csv.writer(sys.stdout, lineterminator="\\n").writerows([HEADER, *rows])',
      'sys.stdout.writelines(",".join(map(str, row)) + "\\n" for row in [HEADER, *rows])'),
-    ("priorities under invoke numbers of the plan", "list(priorities(desk, len(rows)))", "list(priorities(desk, 0))"),
+    ("priorities under invoke numbers of the plan", "requester_of(options.address), len(rows))", "requester_of(options.address), 0)"),
     ("another group's priority", '"device": group["device"], "priority"', '"device": desk["groups"][0]["device"], "priority"'),
+    ("an answer of any status", 'if status != b"200":', "if False:"),
+    ("lines aren't taken", "if not status.isdigit():", "if True:"),
+    ("the login isn't told", 'if parts.username:', "if False:"),
+    ("the requester isn't the login's", 'return f"{login}-plan" if', 'return f"{login}-plan" if not'),
 ]
 
 
