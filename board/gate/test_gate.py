@@ -1,15 +1,22 @@
-#!/usr/bin/env python3
-"""Tests of the gate, over a stand-in for the desk that keeps what comes to it.   usage: board/gate/test_gate.py"""
+#!/usr/bin/python3
+"""Tests of the gate, over a stand-in for the desk that keeps what comes to it.   usage: board/gate/test_gate.py
+
+Needs htpasswd of apache2-utils, python3-passlib and python3-bcrypt (Debian packages)."""
+import contextlib
 import http.client
 import importlib.machinery
 import importlib.util
+import io
 import json
 import os
 import socket
+import subprocess
 import sys
 import tempfile
 import threading
+import time
 import unittest
+from base64 import b64encode
 from http.server import BaseHTTPRequestHandler, ThreadingHTTPServer
 from pathlib import Path
 
@@ -18,12 +25,38 @@ loader = importlib.machinery.SourceFileLoader("gate", str(Path(__file__).resolve
 gate = importlib.util.module_from_spec(importlib.util.spec_from_loader(loader.name, loader))
 loader.exec_module(gate)
 
-ROLES = "# who may what\npbx exchange\nplanner office\nsup supervisor\nana agent 7   # at any station\n\nben agent 07\n"
+ROLES = """# who may what
+pbx exchange
+planner office
+sup supervisor
+ana agent 7   # at any station
+
+ben agent 07
+cleo stations=201,202 agent groups=100,110 agent=7
+ana-b agent agent=8
+"""
+# of "secret" by SHA-1, as `htpasswd -s` makes it
+SECRET = "{SHA}5en6G6MezRroT3XKqkdPOmY/BfQ="
+USERS = "".join(f"{login}:{SECRET}\n" for login in ("pbx", "planner", "sup", "ana", "ana-b", "nobody", "Jürgen"))
 CALL_SERVICES = ["makeCall", "phoneOffHook", "answerCall", "holdCall", "retrieveCall", "clearConnection", "deflectCall", "singleStepTransfer"]
 PLAN_SERVICES = ["addGroup", "addStation", "addAgent", "setGroupPriority"]
 OTHERS = ["arriveCall", "monitorStart", "monitorStop", "tick"]
 FORBIDDEN = (403, b'{"error":{"code":41,"name":"forbidden"}}')
 REPLY = b'{"error":{"code":3,"name":"unknownCall"},  "odd":1}'
+
+
+def lines(content):
+    """A file's lines as the gate has them, and what it told of them."""
+    with tempfile.TemporaryDirectory() as folder, contextlib.redirect_stderr(io.StringIO()) as told:
+        file = Path(folder) / "file"
+        file.write_bytes(content)
+        said = [gate.Watched(file, read).now() for read in (gate.roles_of, gate.hashes_of)]
+    return said, told.getvalue().replace(f"{folder}/", "")
+
+
+def roles(content):
+    with contextlib.redirect_stderr(io.StringIO()) as told:
+        return gate.roles_of("roles", content.split("\n")), told.getvalue()
 
 
 class StandIn(BaseHTTPRequestHandler):
@@ -42,7 +75,7 @@ class StandIn(BaseHTTPRequestHandler):
         self.wfile.write(body)
 
     def do_GET(self):
-        known = {"/agents/7": {"agent": "7", "device": "201"}, "/agents/07": {"agent": "07"}}
+        known = {"/agents/7": {"agent": "7", "device": self.server.station}, "/agents/07": {"agent": "07"}}
         self.answer(200, json.dumps(known[self.path]).encode())
 
     def do_POST(self):
@@ -53,13 +86,14 @@ class StandIn(BaseHTTPRequestHandler):
 class GateTest(unittest.TestCase):
     def setUp(self):
         self.folder = tempfile.TemporaryDirectory()
-        self.roles = Path(self.folder.name) / "roles"
+        self.roles, self.users = Path(self.folder.name) / "roles", Path(self.folder.name) / "users"
         self.roles.write_text(ROLES)
+        self.users.write_text(USERS)
         self.desk = ThreadingHTTPServer(("127.0.0.1", 0), StandIn)
-        self.desk.got = []
-        self.gate = gate.Gate(0, self.desk.server_port, self.roles)
+        self.desk.got, self.desk.station = [], "201"
+        self.gate = gate.Gate(0, self.desk.server_port, self.roles, self.users)
         for server in (self.desk, self.gate):
-            threading.Thread(target=server.serve_forever, daemon=True).start()
+            threading.Thread(target=server.serve_forever, args=(0.02,), daemon=True).start()
 
     def tearDown(self):
         for server in (self.gate, self.desk):
@@ -67,14 +101,19 @@ class GateTest(unittest.TestCase):
             server.server_close()
         self.folder.cleanup()
 
-    def ask(self, login, body, method="POST", path="/csta", **fields):
+    def exchange(self, method, path, body, fields):
+        """The reply's status, fields and body."""
         connection = http.client.HTTPConnection("127.0.0.1", self.gate.server_port, timeout=5)
-        named = {"X-Login": login, "X-Site": "https://desk:8443", **{name.replace("_", "-"): value for name, value in fields.items()}}
-        connection.request(method, path, body if isinstance(body, (bytes, type(None))) else json.dumps(body), named)
+        connection.request(method, path, body, fields)
         reply = connection.getresponse()
-        told = reply.status, reply.read()
+        told = reply.status, reply.headers, reply.read()
         connection.close()
         return told
+
+    def ask(self, login, body, method="POST", path="/csta", **fields):
+        named = {"X-Login": login.encode(), "X-Site": "https://desk:8443", **{name.replace("_", "-"): value for name, value in fields.items()}}
+        status, _, told = self.exchange(method, path, body if isinstance(body, (bytes, type(None))) else json.dumps(body), named)
+        return status, told
 
     def passes(self, login, body, **fields):
         before = len(self.desk.got)
@@ -84,8 +123,10 @@ class GateTest(unittest.TestCase):
         return came == 1
 
     def allowed(self, login, services, **members):
-        return [service for service in services if self.passes(login, {"requester": "x", "invoke": 1, "service": service, **members})]
+        return [service for service in services if self.passes(login, {"requester": login, "invoke": 1, "service": service, **members})]
 
+
+class RoleTest(GateTest):
     def test_roles(self):
         every = [*CALL_SERVICES, *PLAN_SERVICES, *OTHERS, "setAgentState", "nothing"]
         self.assertEqual(self.allowed("pbx", every), every)
@@ -101,24 +142,137 @@ class GateTest(unittest.TestCase):
         self.assertEqual(self.allowed("ben", CALL_SERVICES, device="201"), [])  # who is logged on nowhere
         self.assertEqual(self.allowed("ben", CALL_SERVICES, device=None), [])
         for agent, wanted in (("7", True), ("07", False), ("8", False), (7, False), (None, False)):
-            self.assertEqual(self.passes("ana", {"service": "setAgentState", "agent": agent, "requested": "ready"}), wanted)
-        self.assertTrue(self.passes("ben", {"service": "setAgentState", "agent": "07", "requested": "ready"}))
+            self.assertEqual(self.passes("ana", {"requester": "ana", "service": "setAgentState", "agent": agent, "requested": "ready"}), wanted)
+        self.assertTrue(self.passes("ben", {"requester": "ben", "service": "setAgentState", "agent": "07", "requested": "ready"}))
+
+    def logs_on(self, login, **members):
+        return self.passes(login, {"requester": login, "invoke": 1, "service": "setAgentState", "agent": "7", "requested": "loggedOn", **members})
+
+    def test_stations_and_groups_of_a_log_on(self):
+        for members in ({"device": "201", "group": "100"}, {"device": "202", "groups": ["110", "100"]}, {"device": "201", "groups": ["110"]}):
+            self.assertTrue(self.logs_on("cleo", **members), members)
+        for members in ({"device": "203", "group": "100"}, {"group": "100"}, {"device": ["201"], "group": "100"}, {"device": None, "group": "100"}, {"device": "0201", "group": "100"},
+                        {"device": "201", "group": "120"}, {"device": "201", "groups": ["100", "120"]}, {"device": "201", "group": None, "groups": ["100"]},
+                        {"device": "201", "group": "120", "groups": ["100"]}, {"device": "201"}, {"device": "201", "groups": "100"}, {"device": "201", "groups": [["100"]]},
+                        {"device": "201", "group": "120", "requested": "loggedon"}, {"device": "201", "group": "120", "requested": ["loggedOn"]}):
+            self.assertFalse(self.logs_on("cleo", **members), members)
+            self.assertTrue(self.logs_on("ana", **members), members)
+        for requested in ("ready", "notReady", "workingAfterCall", "loggedOff"):
+            self.assertTrue(self.logs_on("cleo", requested=requested))
+
+    def test_stations_of_a_call(self):
+        self.assertEqual(self.allowed("cleo", CALL_SERVICES, device="201"), CALL_SERVICES)
+        self.assertEqual(self.allowed("cleo", CALL_SERVICES, device="202"), [])  # where the agent isn't
+        self.desk.station = "203"  # where the agent is by another's request, and isn't to be
+        self.assertEqual(self.allowed("cleo", CALL_SERVICES, device="203"), [])
+        self.assertEqual(self.allowed("ana", CALL_SERVICES, device="203"), CALL_SERVICES)
+
+    def test_lines(self):
+        agent = gate.Role("agent", "7", frozenset({"201", "202"}), frozenset({"100"}))
+        for words in ("agent agent=7 stations=201,202 groups=100", "groups=100 stations=202,201 agent 7", "agent=7 groups=100 agent stations=201,202", "agent 7 groups=100 stations=201,202"):
+            self.assertEqual(roles(f"ana {words}"), ({"ana": agent}, ""), words)
+        self.assertEqual(roles("agent agent 7\n exchange\texchange\t#all"), ({"agent": gate.Role("agent", "7"), "exchange": gate.Role("exchange")}, ""))
+
+    def test_faulty_lines(self):
+        for words in ("", "wizard", "agent", "agent 7 8", "agent 7 agent=7", "agent=7", "agent agent 7", "office 7", "office agent=7", "exchange stations=201", "supervisor groups=100",
+                      "agent 7 stations=", "agent 7 stations=201,", "agent 7 stations=201, 202", "agent 7 stations=201 stations=202", "agent 7 groups=all", "agent 7 room=1", "agent x",
+                      "agent 7 Stations=201", "agent 7 office", "agent=1234567890 agent", "agent 7 stations=1234567890123456", "agent ٧", "agent agent=٧", "agent agent= 7"):
+            found, told = roles(f"pbx exchange\n\nana {words}\r")
+            self.assertEqual(found, {"pbx": gate.Role("exchange"), "ana": gate.NOTHING}, words)
+            self.assertRegex(told, r"\Aacd-gate: roles, line 3: ana .*\n\Z")
+
+    def test_two_lines_of_a_login(self):
+        found, told = roles("ana agent 7\nben office\nana agent 8")
+        self.assertEqual(found, {"ana": gate.NOTHING, "ben": gate.Role("office")})
+        self.assertRegex(told, r"\Aacd-gate: roles, line 3: ana .*\n\Z")
+        self.assertEqual(roles("ana agent 7\nana agent 8\nana agent 7")[0], {"ana": gate.NOTHING})
+        self.assertEqual(roles("pbx exchange\npbx exchange"), ({"pbx": gate.Role("exchange")}, ""))
+
+    def test_byte_order_mark_and_carriage_returns(self):
+        (found, _), told = lines(b"\xef\xbb\xbfana agent 7\r\nben office\r\n\r\n# caf\xe9\r\n")
+        self.assertEqual(found, {"ana": gate.Role("agent", "7"), "ben": gate.Role("office")})
+        self.assertNotIn("gets nothing", told)
+        (_, hashes), _ = lines(f"\ufeffana:{SECRET}\r\nben:{SECRET}:a note\r\n".encode())
+        self.assertEqual(hashes, {"ana": SECRET, "ben": SECRET})
+
+    def test_roles_are_read_again(self):
+        tick, state = {"requester": "eve", "service": "tick"}, {"requester": "ana", "service": "setAgentState", "agent": "7"}
+        self.assertFalse(self.passes("eve", tick))
+        self.assertTrue(self.passes("ana", state))
+        with contextlib.redirect_stderr(io.StringIO()) as told:
+            self.roles.write_text(ROLES + "eve exchange\nana supervisor\n")
+            self.assertTrue(self.passes("eve", tick))
+            self.assertFalse(self.passes("ana", state))
+            self.roles.unlink()
+            self.assertFalse(self.passes("eve", tick))
+        self.assertRegex(told.getvalue(), rf"\Aacd-gate: {self.roles}, line 11: ana .*\nacd-gate: {self.roles} can't be read: No such file or directory\n\Z")
+
+
+class KeyTest(GateTest):
+    def asks(self, login, requester, **members):
+        return self.passes(login, {"requester": requester, "invoke": 1, "service": "setAgentState", "agent": "7", "requested": "ready", **members})
+
+    def test_own_requesters(self):
+        for requester in ("ana", "ana-x", "ana-", "ana-a-b", "ana-bb", "ana-0123456789abcdefghijklmnop"):
+            self.assertTrue(self.asks("ana", requester), requester)
+        for requester in ("clock", "clock-abcdefghijkl", "plan", "plan-1", "pbx", "pbx-1", "an", "anab", "ANA", "Ana-x", "", "-ana", "anna-x", "ben-ana"):
+            self.assertFalse(self.asks("ana", requester), requester)
+
+    def test_a_longer_login(self):
+        for requester, owner in (("ana-b", "ana-b"), ("ana-b-x", "ana-b"), ("ana-bx", "ana"), ("ana-x-ana-b", "ana")):
+            self.assertEqual([login for login in ("ana", "ana-b") if self.asks(login, requester, agent={"ana": "7", "ana-b": "8"}[login])], [owner])
+        self.users.write_text(USERS + f"ana-x:{SECRET}\n")  # who has a password alone
+        self.assertFalse(self.asks("ana", "ana-x-1"))
+
+    def test_nobody_has_the_clocks_keys(self):
+        self.roles.write_text(ROLES + "clock exchange\nplan-b exchange\nplanning exchange\n")
+        with contextlib.redirect_stderr(io.StringIO()):
+            for login in ("pbx", "planner", "ana", "clock", "plan-b"):
+                for requester in ("clock", "clock-a", "plan", "plan-b", "plan-b-c", "clock-", login):
+                    self.assertEqual(self.passes(login, {"requester": requester, "service": "addGroup"}), requester == login and login in ("pbx", "planner"), (login, requester))
+        self.assertTrue(self.passes("planning", {"requester": "planning-1", "service": "tick"}))
+
+    def test_unfit_logins_only_read(self):
+        unfit = ("Ana", "ana.b", "abcdefghijklmnop", "a_b", "Jürgen", "clock", "plan-x")
+        self.roles.write_text("".join(f"{login} exchange\n" for login in unfit) + "ana Ana\nabcdefghijklmno exchange\n")
+        with contextlib.redirect_stderr(io.StringIO()) as told:
+            for login in unfit:
+                self.assertFalse(self.passes(login, {"requester": login, "service": "tick"}), login)
+                status, text = self.ask(login, None, "GET", "/who")
+                self.assertEqual((status, json.loads(text)), (200, {"login": login, "why": gate.NO_KEYS}))
+        self.assertEqual([login for login in unfit if f" {login}: it only reads" not in told.getvalue()], [])
+        self.assertTrue(self.passes("abcdefghijklmno", {"requester": "abcdefghijklmno", "service": "tick"}))
+
+    def test_what_is_no_object_with_a_requester(self):
+        for body in (b"", b"\xff{no json", b"[]", b"7", b'"x"', b"{}", b'{"requester":7}', b'{"requester":null,"service":"tick"}', b'{"requester":"pbx"', b'\xef\xbb\xbf{"requester":"pbx"}',
+                     b"[" * 4000, b'{"requester":"pbx","x":' + b"[" * 1500 + b"]" * 1500 + b"}"):
+            self.assertTrue(self.passes("pbx", body), body)
+            for login in ("ana", "planner", "sup", "nobody"):
+                self.assertFalse(self.passes(login, body), body)
+
+    def test_a_member_twice(self):
+        for body in (b'{"requester":"pbx","requester":"clock","service":"tick"}', b'{"requester":"clock","requester":"pbx","service":"tick"}', b'{"requester":"pbx","\\u0072equester":"clock"}',
+                     b'{"requester":"pbx","service":"tick","x":1,"x":2}', b'{"requester":"pbx","x":{"y":1,"y":2}}'):
+            self.assertFalse(self.passes("pbx", body), body)
 
     def test_bodies_that_can_be_read_in_two_ways(self):
-        own = b'"service":"setAgentState","agent":"7"'
+        own = b'"requester":"ana","service":"setAgentState","agent":"7","requested":"ready"'
+        self.assertTrue(self.passes("ana", b"{" + own + b"}"))
         for body in (b'{"service":"addGroup",' + own + b"}", b"{" + own + b',"agent":"8"}', b"{" + own + b',"\\u0061gent":"8"}', b"\xef\xbb\xbf{" + own + b"}", b"{" + own + b'} {"a":1}',
-                     b"", b"[]", b"7", b'"setAgentState"', b"{" + own + b',"x":"\xff"}', b"[" * 4000, b'{"service":["setAgentState"],"agent":"7"}'):
+                     b"{" + own + b',"x":"\xff"}', b'{"requester":"ana","service":["setAgentState"],"agent":"7"}'):
             self.assertFalse(self.passes("ana", body), body)
 
     def test_no_byte_is_changed(self):
-        body = b' {"note" : [1, {"to":null}],\t"agent":"7", "service":"set\\u0041gentState" }\r\n'
+        body = b' {"note" : [1, {"to":null}],\t"requester":"an\\u0061-1", "agent":"7", "service":"set\\u0041gentState", "requested":"ready" }\r\n'
         self.assertTrue(self.passes("ana", body))
         self.assertEqual(self.desk.got[-1], ("/csta", body))
         self.assertTrue(self.passes("pbx", b"\xff{no json"))
         self.assertEqual(self.desk.got[-1], ("/csta", b"\xff{no json"))
 
+
+class RequestTest(GateTest):
     def test_another_site(self):
-        body = {"service": "tick"}
+        body = {"requester": "pbx", "service": "tick"}
         for fields in ({"Origin": "https://elsewhere"}, {"Origin": "null"}, {"Origin": "https://desk:8443.elsewhere"}, {"Origin": "http://desk:8443"},
                        {"Sec_Fetch_Site": "cross-site"}, {"Sec_Fetch_Site": "same-site"}, {"Origin": "https://desk:8443", "Sec_Fetch_Site": "cross-site"}):
             self.assertFalse(self.passes("pbx", body, **fields), fields)
@@ -126,47 +280,229 @@ class GateTest(unittest.TestCase):
             self.assertTrue(self.passes("pbx", body, **fields), fields)
 
     def test_who(self):
-        for login, wanted in (("ana", {"agent": "7", "login": "ana", "role": "agent"}), ("sup", {"login": "sup", "role": "supervisor"}), ("nobody", {"login": "nobody"})):
+        for login, wanted in (("ana", {"agent": "7", "login": "ana", "role": "agent"}), ("sup", {"login": "sup", "role": "supervisor"}), ("nobody", {"login": "nobody"}), ("Jürgen", {"login": "Jürgen"}),
+                              ("cleo", {"agent": "7", "groups": ["100", "110"], "login": "cleo", "role": "agent", "stations": ["201", "202"]})):
             status, text = self.ask(login, None, "GET", "/who")
             self.assertEqual((status, json.loads(text)), (200, wanted))
 
     def test_other_requests(self):
         self.assertEqual(self.ask("pbx", None, "GET", "/csta")[0], 404)
         self.assertEqual(self.ask("pbx", b"{}", path="/events")[0], 404)
+        self.assertEqual(self.ask("pbx", b"{}", path="/auth")[0], 404)
         self.assertEqual(self.ask("pbx", b" " * 4096)[0], 409)
         self.assertEqual(self.ask("pbx", b" " * 4097)[0], 413)
+        self.assertEqual(self.ask("pbx", b"{}", "PUT"), (501, b'{"error":{"code":40,"name":"notImplemented"}}'))
+        self.assertEqual(self.ask("pbx", None, "GET", "/" + "x" * 70000), (414, b'{"error":{"code":39,"name":"headTooLarge"}}'))
         for length in ("", "x", "-1", "+1", "٣", "1" * 5000):
             with socket.create_connection(("127.0.0.1", self.gate.server_port), timeout=5) as connection:
                 connection.sendall(f"POST /csta HTTP/1.1\r\nX-Login: pbx\r\nContent-Length: {length}\r\n\r\n".encode())
                 self.assertRegex(connection.recv(100), rb"^HTTP/1.1 4(11|13) ")
         self.assertEqual(len(self.desk.got), 1)
 
-    def test_roles_are_read_again(self):
-        self.assertFalse(self.passes("eve", {"service": "tick"}))
-        self.roles.write_text(ROLES + "eve exchange\nana supervisor\n")
-        os.utime(self.roles, ns=(1, 1))
-        self.assertTrue(self.passes("eve", {"service": "tick"}))
-        self.assertFalse(self.passes("ana", {"service": "setAgentState", "agent": "7"}))
-        self.roles.unlink()
-        self.assertFalse(self.passes("pbx", {"service": "tick"}))
-
-    def test_faulty_lines(self):
-        parsed = gate.Roles.parsed("one\ntwo wizard\nthree agent\nfour agent 7 8\nfive office 7\nsix office\n")
-        self.assertEqual(parsed, {"six": ("office", None)})
-
     def test_no_desk(self):
         self.gate.desk.port = 1
-        self.assertEqual(self.ask("pbx", {"service": "tick"}), (502, b'{"error":{"code":44,"name":"badGateway"}}'))
-        self.assertEqual(self.ask("ana", {"service": "holdCall", "device": "201"}), FORBIDDEN)
+        self.assertEqual(self.ask("pbx", {"requester": "pbx", "service": "tick"}), (502, b'{"error":{"code":44,"name":"badGateway"}}'))
+        self.assertEqual(self.ask("ana", {"requester": "ana", "service": "holdCall", "device": "201"}), FORBIDDEN)
 
     def test_many_at_once(self):
         told = []
-        threads = [threading.Thread(target=lambda: told.append(self.ask("pbx", {"service": "tick"})[0])) for _ in range(40)]
+        threads = [threading.Thread(target=lambda: told.append(self.ask("pbx", {"requester": "pbx", "service": "tick"})[0])) for _ in range(40)]
         for thread in threads:
             thread.start()
         for thread in threads:
             thread.join()
         self.assertEqual((told, len(self.desk.got)), ([409] * 40, 40))
+
+
+def basic(login, password="secret"):
+    return b"Basic " + b64encode((login if isinstance(login, bytes) else login.encode()) + b":" + (password if isinstance(password, bytes) else password.encode()))
+
+
+class PasswordTest(GateTest):
+    def setUp(self):
+        super().setUp()
+        self.now = 1000.0
+        self.gate.passwords.clock = lambda: self.now
+
+    def auth(self, authorization, address="192.0.2.1", **fields):
+        """Status, login and why."""
+        named = {"X-Address": address, **({} if authorization is None else {"Authorization": authorization}), **fields}
+        status, told, _ = self.exchange("GET", "/auth", None, named)
+        return status, told.get("X-Login"), told.get("X-Why")
+
+    def looks(self):
+        """Counts the passwords that are looked at."""
+        looked, fits = [], self.gate.passwords.fits
+        self.gate.passwords.fits = lambda hashes, attempt: looked.append(attempt.login) or fits(hashes, attempt)
+        return looked
+
+    RIGHT, WRONG, TOO_MANY = (204, "ana", None), (401, None, None), (401, None, "429")
+
+    def test_right_and_wrong(self):
+        self.assertEqual(self.auth(basic("ana")), self.RIGHT)
+        self.assertEqual(self.auth(b"bAsIc  " + basic("ana")[6:]), self.RIGHT)
+        for login, password in (("ana", "Secret"), ("ana", ""), ("ana", SECRET), ("ben", "secret"), ("", "secret"), ("Ana", "secret"), ("ana ", "secret"), (" ana", "secret")):
+            self.assertEqual(self.auth(basic(login, password)), self.WRONG, (login, password))
+        status, told, body = self.exchange("GET", "/auth", None, {})
+        self.assertEqual((status, told["WWW-Authenticate"], body), (401, 'Basic realm="desk", charset="UTF-8"', b'{"error":{"code":42,"name":"unauthorized"}}'))
+
+    def test_odd_fields(self):
+        right = basic("ana")[6:]
+        for odd in (b"", b"Basic", b"Basic ", b"Bearer " + right, b"Basic " + right[:-2], b"Basic =" + right, b"Basic " + right + b"====", b"Basic " + right.replace(b"Y", b"\xff"), b"Basic a b",
+                    b"Basic " + b64encode(b"ana"), b"Basic " + right + b",Basic " + right, b"Digest username=ana", b"Basic\t" + right):
+            for _ in range(12):
+                self.assertEqual(self.auth(odd), self.WRONG, odd)
+        self.assertEqual(self.auth(basic("ana")), self.RIGHT)  # none of these was a wrong password
+
+    def test_odd_names_and_passwords(self):
+        odd = [("ana\0", "secret"), ("ana", "secret\0"), ("ana", "secret:"), ("ana", b"\xff\xfe"), (b"\xff", "secret"), (b"J\xfcrgen", "secret"), ("ana\r\nX-Login: pbx", "secret"), ("a" * 40000, "secret"),
+               ("ana", "s" * 40000)]
+        for login, password in odd:
+            self.assertEqual(self.auth(basic(login, password), address="odd"), self.WRONG, (login[:9], password[:9]))
+        self.assertEqual(self.auth(basic("ana", "s" * 100_000), address="odd")[0], 431)
+        self.assertEqual(self.auth(basic("Jürgen")), (204, "Jürgen".encode().decode("latin-1"), None))
+        self.users.write_text(f"ana:{SECRET}\nJ\ufffdrgen:{SECRET}\n x:{SECRET}\n:{SECRET}\n")
+        with contextlib.redirect_stderr(io.StringIO()):
+            for login in (b"J\xfcrgen", "J\ufffdrgen", " x", "x", ""):
+                self.assertEqual(self.auth(basic(login), address="odd"), self.WRONG)
+
+    def test_ten_wrong_ones(self):
+        looked = self.looks()
+        for number in range(10):
+            self.assertEqual(self.auth(basic("ana", f"guess{number}")), self.WRONG)
+        for password in ("guess", "secret"):  # the right one too
+            self.assertEqual(self.auth(basic("ana", password)), self.TOO_MANY)
+        self.assertEqual(len(looked), 10)
+        self.assertEqual(self.auth(basic("ana"), address="192.0.2.2"), self.RIGHT)
+        self.assertEqual(self.auth(basic("pbx")), (204, "pbx", None))
+        self.now += 59.9
+        self.assertEqual(self.auth(basic("ana")), self.TOO_MANY)
+        self.now += 0.1
+        self.assertEqual(self.auth(basic("ana")), self.RIGHT)
+
+    def test_wrong_ones_beside_a_remembered_one(self):
+        self.assertEqual(self.auth(basic("ana")), self.RIGHT)
+        for _ in range(10):
+            self.assertEqual(self.auth(basic("ana", "guess")), self.WRONG)
+        self.assertEqual(self.auth(basic("ana")), self.TOO_MANY)
+        self.assertEqual(self.auth(basic("ana"), address="192.0.2.2"), self.RIGHT)
+
+    def test_unknown_names_are_counted_too(self):
+        looked = self.looks()
+        for _ in range(10):
+            self.assertEqual(self.auth(basic("eve", "guess")), self.WRONG)
+        self.assertEqual((self.auth(basic("eve", "guess")), len(looked)), (self.TOO_MANY, 10))
+
+    def test_address_and_login_are_told_apart(self):
+        for _ in range(10):
+            self.auth(basic("1ana", "guess"), address="192.0.2.")
+        self.assertEqual(self.auth(basic("ana"), address="192.0.2.1"), self.RIGHT)
+
+    def test_a_hundred_guesses_at_once(self):
+        looked, told, fits = self.looks(), [], self.gate.passwords.fits
+        self.gate.passwords.fits = lambda hashes, attempt: time.sleep(0.02) or fits(hashes, attempt)
+        guesses = [threading.Thread(target=lambda number=number: told.append(self.auth(basic("ana", f"guess{number}")))) for number in range(100)]
+        for guess in guesses:
+            guess.start()
+        for guess in guesses:
+            guess.join()
+        self.assertEqual((len(looked), told.count(self.WRONG), told.count(self.TOO_MANY)), (10, 10, 90))
+
+    def test_a_right_one_is_remembered_for_a_minute(self):
+        looked = self.looks()
+        for _ in range(20):
+            self.assertEqual(self.auth(basic("ana")), self.RIGHT)
+        self.assertEqual(looked, [b"ana"])
+        self.now += 29
+        self.auth(basic("ana"))
+        self.assertEqual(looked, [b"ana"])
+        self.now += 31
+        self.auth(basic("ana"))
+        self.assertEqual(looked, [b"ana"] * 2)
+        self.assertNotIn("secret", repr(vars(self.gate.passwords)))
+        self.assertNotEqual(*(gate.Passwords(self.gate.users).digest(b"given", b"ana:secret") for _ in range(2)))
+
+    def test_a_changed_password_counts_at_once(self):
+        self.assertEqual(self.auth(basic("ana")), self.RIGHT)
+        subprocess.run(["htpasswd", "-i", "-B", self.users, "ana"], input=b"other", stderr=subprocess.DEVNULL, check=True)
+        self.assertEqual((self.auth(basic("ana")), self.auth(basic("ana", "other"))), (self.WRONG, self.RIGHT))
+        subprocess.run(["htpasswd", "-D", self.users, "ana"], stderr=subprocess.DEVNULL, check=True)
+        self.assertEqual(self.auth(basic("ana", "other")), self.WRONG)
+
+    def test_a_users_file_that_disappears(self):
+        self.assertEqual(self.auth(basic("ana")), self.RIGHT)
+        with contextlib.redirect_stderr(io.StringIO()) as told:
+            self.users.unlink()
+            self.assertEqual([self.auth(basic("ana")) for _ in range(3)], [self.WRONG] * 3)
+            self.users.write_text(USERS)
+            self.assertEqual(self.auth(basic("ana")), self.RIGHT)
+        self.assertEqual(told.getvalue(), f"acd-gate: {self.users} can't be read: No such file or directory\n")
+
+    def test_forms(self):
+        for option in ("-B", "-m", "-s", "-2", "-5"):
+            subprocess.run(["htpasswd", "-i", "-c", option, self.users, "ana"], input="sésame öffne dich".encode(), stderr=subprocess.DEVNULL, check=True)
+            self.assertEqual((self.auth(basic("ana", "sésame öffne dich")), self.auth(basic("ana", "sésame öffne"))), (self.RIGHT, self.WRONG), option)
+        # of bcrypt the first 72 bytes count
+        subprocess.run(["htpasswd", "-i", "-c", "-B", self.users, "ana"], input=b"x" * 72, stderr=subprocess.DEVNULL, check=True)
+        self.assertEqual((self.auth(basic("ana", "x" * 71)), self.auth(basic("ana", "x" * 73))), (self.WRONG, self.RIGHT))
+
+    def test_faulty_users(self):
+        for line in ("ana", "ana:", "ana:secret", "ana:{PLAIN}secret", "ana:*", "ana:!", f"an\x01a:{SECRET}", f"a b:{SECRET}", f":{SECRET}", SECRET):
+            with contextlib.redirect_stderr(io.StringIO()) as told:
+                self.assertEqual(gate.hashes_of("users", [f"ben:{SECRET}", line]), {"ben": SECRET}, line)
+            self.assertRegex(told.getvalue(), r"\Aacd-gate: users, line 2: .*\n\Z")
+            self.assertNotIn("secret", told.getvalue())
+        with contextlib.redirect_stderr(io.StringIO()):
+            self.users.write_text("ana:$2y$05$cut off\n")
+            self.assertEqual([self.auth(basic("ana", password)) for password in ("secret", "", "$2y$05$cut off")], [self.WRONG] * 3)
+
+    def test_a_line_that_does_not_parse_reads_neither(self):
+        with contextlib.redirect_stderr(io.StringIO()) as told:
+            self.roles.write_text(ROLES.replace("ana agent 7 ", "ana agnet 7 "))
+            self.assertEqual((self.auth(basic("ana")), self.auth(basic("ana", "wrong"))), ((403, None, None), self.WRONG))
+            self.assertEqual(self.ask("ana", None, "GET", "/who"), FORBIDDEN)
+            self.assertFalse(self.passes("ana", {"requester": "ana", "service": "setAgentState", "agent": "7"}))
+            self.assertEqual((self.auth(basic("pbx")), self.auth(basic("nobody"))), ((204, "pbx", None), (204, "nobody", None)))
+        self.assertEqual(told.getvalue().count(f"{self.roles}, line 5: ana gets nothing"), 1)
+
+    def test_forged_fields(self):
+        self.assertEqual(self.auth(basic("ana"), **{"X-Login": "pbx", "X-Why": "429"}), self.RIGHT)
+        self.assertEqual(self.auth(None, **{"X-Login": "pbx"}), self.WRONG)
+
+    def test_an_unknown_name_takes_as_long(self):
+        subprocess.run(["htpasswd", "-i", "-c", "-B", "-C", "8", self.users, "ana"], input=b"secret", stderr=subprocess.DEVNULL, check=True)
+        self.auth(basic("ana", "guess"))
+
+        def seconds(login):
+            start = time.thread_time()
+            self.gate.passwords.fits(self.gate.users.now(), gate.Attempt(login, b"guess", b"", b""))
+            return time.thread_time() - start
+
+        known, unknown = (min(seconds(login) for _ in range(5)) for login in (b"ana", b"eve"))
+        self.assertLess(abs(known - unknown), 0.5 * known)
+
+    def test_what_is_counted_is_bounded(self):
+        before, gate.MOST_PAIRS = gate.MOST_PAIRS, 50
+        self.addCleanup(setattr, gate, "MOST_PAIRS", before)
+        passwords = self.gate.passwords
+        for number in range(200):
+            self.assertEqual(passwords.judge(b"192.0.2.1", b"x%d" % number * 1000, b"guess"), gate.WRONG)
+        self.assertEqual(len(passwords.wrong), 50)
+        self.assertLess(max(map(len, passwords.wrong)), 65)
+        self.now += 61
+        for number in range(40):
+            passwords.judge(b"192.0.2.1", b"y%d" % number, b"guess")
+        self.assertEqual(len(passwords.wrong), 50)  # each new one in place of an old one
+
+    def test_a_connection_stays(self):
+        connection = http.client.HTTPConnection("127.0.0.1", self.gate.server_port, timeout=5)
+        for authorization, wanted in ((basic("ana"), 204), (basic("ana", "x"), 401), (b"", 401), (basic("pbx"), 204)):
+            connection.request("GET", "/auth", headers={"Authorization": authorization, "X-Address": "192.0.2.1"})
+            port = connection.sock.getsockname()
+            reply = connection.getresponse()
+            reply.read()
+            self.assertEqual((reply.status, connection.sock.getsockname()), (wanted, port))
+        connection.close()
 
 
 if __name__ == "__main__":

@@ -87,14 +87,13 @@ export class Front {
     await symlink(join(TOP, 'board'), join(file, 'share/board'));
     execFileSync('openssl', ['req', '-x509', '-newkey', 'rsa:2048', '-nodes', '-subj', '/CN=desk', '-days', '2', '-keyout', `${file}/desk.key`, '-out', `${file}/desk.crt`], {stdio: 'ignore'});
     await writeFile(`${file}/roles`, roles.map(([login, ...role]) => `${login} ${role.join(' ')}\n`).join(''));
-    const hash = await run('openssl', ['passwd', '-6', '-stdin'], 'secret\n');
-    await writeFile(`${file}/users`, roles.map(([login]) => `${login}:${hash}`).join(''));
+    await writeFile(`${file}/users`, roles.map(([login]) => `${login}:{SHA}5en6G6MezRroT3XKqkdPOmY/BfQ=\n`).join(''));
     const places = {8080: desk.port, 8081: gate, 8443: site, '/etc/acd': file, '/usr/share/acd': `${file}/share`};
     const conf = (await readFile(join(TOP, 'tools/operating/nginx.conf'), 'utf8')).replace(new RegExp(Object.keys(places).join('|'), 'g'), named => places[named]);
     await writeFile(`${file}/nginx.conf`, `daemon off; user root; pid ${file}/pid; error_log ${file}/errors; worker_processes 1; events {}
 http { include /etc/nginx/mime.types; access_log off; ${['client_body', 'proxy', 'fastcgi', 'uwsgi', 'scgi'].map(kind => `${kind}_temp_path ${file};`).join(' ')} ${conf} }\n`);
     Object.assign(front, {file, address: `https://127.0.0.1:${site}`, children: [
-      spawn(join(TOP, 'board/gate/acd-gate'), ['--port', gate, '--desk', desk.port, '--roles', `${file}/roles`, '--users', `${file}/users`].map(String), {stdio: ['ignore', 'ignore', 'inherit']}),
+      spawn('/usr/bin/python3', ['-B', join(TOP, 'board/gate/acd-gate'), '--port', gate, '--desk', desk.port, '--roles', `${file}/roles`, '--users', `${file}/users`].map(String), {stdio: ['ignore', 'ignore', 'inherit']}),
       spawn('nginx', ['-c', `${file}/nginx.conf`], {stdio: 'ignore'}),
     ]});
     if (!await until(async () => (await front.ask(roles[0][0], '/who')).status === 200, 60)) throw new Error('the gate or nginx does not start');
