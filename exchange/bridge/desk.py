@@ -16,7 +16,7 @@ class DeskLine:
     def __init__(self, exchange: Exchange):
         self.x, self.client = exchange, Client(exchange.settings.desk)
         self.wake, self.heard, self.ticked = asyncio.Event(), time.monotonic(), 0.0
-        exchange.wake = self.wake.set
+        exchange.steps.wake = self.wake.set
 
     async def call(self, work: Callable[..., Any], *rest: Any) -> Any:
         result = await asyncio.to_thread(work, *rest)
@@ -31,8 +31,8 @@ class DeskLine:
             since = time.monotonic() - self.heard - self.x.settings.poll
             late = (since > SLOW) + (since > SILENT)
             if late != told:
-                told, self.x.desk_is_silent = late, late == 2
-                self.x.say(f"the desk {('answers again', 'is slow', 'is silent: new callers get 503')[late]}")
+                told, self.x.phones.desk_is_silent = late, late == 2
+                self.x.steps.say(f"the desk {('answers again', 'is slow', 'is silent: new callers get 503')[late]}")
 
     async def run(self) -> None:
         """Until its task is cancelled, or the desk has another history."""
@@ -41,54 +41,59 @@ class DeskLine:
             try:
                 await work()
                 work = self.once
-                if not self.x.requests:
+                if not self.x.rows.requests:
                     self.wake.clear()
                     with suppress(asyncio.TimeoutError):
                         await asyncio.wait_for(self.wake.wait(), self.x.settings.poll)
             except Unanswered as fault:
-                self.x.trace("!", "desk", str(fault))
+                self.x.steps.trace("!", "desk", str(fault))
                 await asyncio.sleep(0.2)
 
     async def start(self) -> None:
         """Behind all replies and events that were missing: calls that no phone has a part in are found, and cleared."""
-        self.x.learning = not self.x.place.known and not self.x.place.invoke
-        while self.x.requests:
+        self.x.calls.learning = not self.x.steps.place.known and not self.x.steps.place.invoke
+        while self.x.rows.requests:
             await self.send()
         await self.follow()
-        self.x.learning = False
+        self.x.calls.learning = False
         shown = await self.call(self.client.attempt, "GET", "/snapshot")
         live = [str(call["call"]) for call in shown.body["calls"]] if shown.status == 200 else []
-        for key in {*self.x.strangers, *self.x.calls, *live}:
+        for key in {*self.x.rows.strangers, *self.x.rows.calls, *live}:
             answer = await self.call(self.client.attempt, "GET", f"/calls/{key}")
             if answer.status not in (200, 404):
                 raise Unanswered(f"the call is answered {answer.status}")
-            self.x.step(self.x.compare, key, answer)
-        print(f"following the desk from event {self.x.place.known.get('number', 0)}", flush=True)
+            self.x.steps.step(self.x.compare, key, answer)
+        print(f"following the desk from event {self.x.steps.place.known.get('number', 0)}", flush=True)
 
     async def once(self) -> None:
-        waits = any(row.body["service"] == "tick" for row in self.x.requests.values())
+        waits = any(row.body["service"] == "tick" for row in self.x.rows.requests.values())
         if 0 < self.x.settings.tick <= time.monotonic() - self.ticked and not waits:
             self.ticked = time.monotonic()
-            self.x.step(self.x.ask, "tick")
+            self.x.steps.step(self.x.steps.ask, "tick", "ticked")
         for _ in range(16):
-            if self.x.requests:
+            if self.x.rows.requests:
                 await self.send()
         await self.follow()
 
     async def send(self) -> None:
-        row = self.x.requests[min(self.x.requests, key=int)]
-        answer = await self.call(self.client.send, row.body)
-        self.x.trace("=", "desk", f"{row.body} {answer.status} {answer.body}")
-        self.x.step(self.x.take_reply, row, answer) or self.x.step(self.x.pass_over, row)
+        row = self.x.rows.requests[min(self.x.rows.requests, key=int)]
+        try:
+            answer = await self.call(self.client.send, row.body)
+        except Unanswered as fault:
+            if row.then == "ticked" and str(fault).startswith("status "):
+                self.x.steps.say_hourly(f"a tick of the desk is answered {str(fault)[7:]}")
+            raise
+        self.x.steps.trace("=", "desk", f"{row.body} {answer.status} {answer.body}")
+        self.x.steps.step(self.x.calls.take_reply, row, answer) or self.x.steps.step(self.x.calls.pass_over, row)
 
     async def follow(self) -> None:
         while True:
-            known = self.x.place.known
+            known = self.x.steps.place.known
             page = await self.call(self.client.page, known.get("number", 0), known or None)
             if not page["events"]:
                 return
-            self.x.trace("*", "desk", str(page["events"]))
-            if not self.x.step(self.x.take_events, page["events"]):
+            self.x.steps.trace("*", "desk", str(page["events"]))
+            if not self.x.steps.step(self.x.calls.take_events, page["events"]):
                 # each event is a step then, and the one that fails is passed over
                 for event in page["events"]:
-                    self.x.step(self.x.take_events, [event]) or self.x.step(setattr, self.x.place, "known", event)
+                    self.x.steps.step(self.x.calls.take_events, [event]) or self.x.steps.step(setattr, self.x.steps.place, "known", event)

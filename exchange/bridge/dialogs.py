@@ -1,10 +1,14 @@
 """Legs: dialogs with phones and callers from the INVITE to the BYE, their media and their session timers (RFC 4028)."""
 import re
 import secrets
+from collections.abc import Callable
 
 from . import sdp
-from .message import Fields, Message, address, host_port, parameter, user
-from .records import Call, Leg, Served
+from .grammar import read_uri
+from .message import Fields, Message
+from .music import Music
+from .records import Asked, Call, Leg, Served
+from .steps import Steps
 from .transactions import ALLOW, Transactions
 
 LEAST_SESSION = 90
@@ -12,14 +16,24 @@ LEAST_SESSION = 90
 REMIND, AFTER_CANCEL, AGAIN = 45.0, 4.0, 1.0
 
 
-class Dialogs(Transactions):
+class Dialogs:
+    def __init__(self, steps: Steps, transactions: Transactions, music: Music):
+        self.steps, self.rows, self.settings, self.now, self.music = steps, steps.rows, steps.settings, steps.now, music
+        self.transactions = transactions
+        self.contact = transactions.contact
+        transactions.listener = self
+        steps.rings |= {"Leg": self.leg_due, "Call": self.settle}
+        # who takes the last answer to a request of a leg
+        self.takers: dict[str, Callable[[Leg, Message | None, str], None]] = {
+            "invited": self.invited, "moved": self.moved, "passed": self.passed}
+
     # the legs of a call
     def of(self, call: Call) -> list[Leg]:
-        return [self.legs[key] for key in call.legs.values() if key in self.legs]
+        return [self.rows.legs[key] for key in call.legs.values() if key in self.rows.legs]
 
     def call_of(self, leg: Leg) -> Call | None:
         """The call that it has a part in."""
-        call = self.calls.get(leg.call)
+        call = self.rows.calls.get(leg.call)
         return call if call is not None and call.legs.get(leg.device) == leg.key else None
 
     def other(self, leg: Leg) -> Leg | None:
@@ -27,7 +41,7 @@ class Dialogs(Transactions):
         return next((other for other in self.of(call) if other.key != leg.key), None) if call is not None else None
 
     def detach(self, call: Call, device: str) -> Leg | None:
-        leg = self.legs.get(call.legs.get(device, ""))
+        leg = self.rows.legs.get(call.legs.get(device, ""))
         call.legs = {other: key for other, key in call.legs.items() if other != device}
         return leg
 
@@ -37,18 +51,19 @@ class Dialogs(Transactions):
         if call is not None:
             self.detach(call, leg.device)
             # the first one may be under way
-            for key in sorted(self.requests, key=int)[1:] if leg.device == call.caller else ():
-                if self.requests[key].then == "answered" and self.requests[key].body["call"] == int(call.key):
-                    self.requests.remove(key)
-            self.ask("clearConnection", call=int(call.key), device=leg.device)
+            for key in sorted(self.rows.requests, key=int)[1:] if leg.device == call.caller else ():
+                if self.rows.requests[key].then == "answered" and self.rows.requests[key].body["call"] == int(call.key):
+                    self.rows.requests.remove(key)
+            self.steps.ask("clearConnection", call=int(call.key), device=leg.device)
 
     # a phone is rung
     def invite(self, call: Call, device: str, shown: str, offer: str) -> None:
         key, edge = secrets.token_hex(8), self.settings.edge
         target = f"sip:{device}@{edge}" if edge else self.settings.phones.get(device, "")
-        leg = self.legs.add(Leg(key, device, True, "out", f"{secrets.token_hex(10)}@{self.settings.host}",
-                                f'"{shown}" <sip:{shown}@{self.settings.listen}>;tag={key}', f"<{target}>", target,
-                                host_port(target), call=call.key))
+        hop = read_uri(target).place if target else ""
+        leg = self.rows.legs.add(Leg(key, device, True, "out", f"{secrets.token_hex(10)}@{self.settings.host}",
+                                     f'"{shown}" <sip:{shown}@{self.settings.listen}>;tag={key}', f"<{target}>", target, hop,
+                                     call=call.key, way="phone", sender="" if edge else hop.partition(":")[0]))
         call.legs = {**call.legs, device: key}
         if leg.hop:
             self.offer(leg, offer, "invited", [("x-acd-call", call.key)])
@@ -63,26 +78,23 @@ class Dialogs(Transactions):
             leg.own = re.sub(r"^o=[^\r\n]*", origin, body, 1, re.MULTILINE)
         return leg.own
 
-    def music_for(self, offer: str) -> str:
-        return sdp.music(self.settings.host, self.settings.music_port, offer)
-
     def progressed(self, leg: Leg, message: Message) -> None:
         other = self.other(leg)
         if leg.cancelled and leg.state == "out":
             self.cancel(leg)
         leg.state = "rings"
         if message.status in (180, 183) and other is not None and other.state == "in" and not leg.cancelled:
-            self.answer(self.served[other.transaction], 180, other.key, [self.contact])
+            self.transactions.answer(self.rows.served[other.transaction], 180, other.key, [self.contact])
 
     def confirm(self, leg: Leg, message: Message, first: bool) -> None:
         """The dialog as a 2xx to an INVITE makes it, or leaves it."""
         if first:
             leg.theirs, leg.routes = message.get("to"), message.all("record-route")[::-1]
-        leg.target = address(message.get("contact")) or leg.target
-        leg.hop = self.hop(leg)
+        leg.target = message.uri_of("contact").text or leg.target
+        leg.hop = self.transactions.hop(leg)
         if message.session >= LEAST_SESSION:
             leg.session = message.session
-            leg.refreshes = parameter(message.get("session-expires"), "refresher") != "uas"
+            leg.refreshes = message.refresher != "uas"
         self.watch(leg)
 
     def invited(self, leg: Leg, message: Message | None, served: str) -> None:
@@ -95,39 +107,39 @@ class Dialogs(Transactions):
             self.end(leg)
         elif call.caller == leg.device:
             leg.music = True
-            self.ask("phoneOffHook", "went_off_hook", leg, call=int(call.key), device=leg.device)
+            self.steps.ask("phoneOffHook", "went_off_hook", leg, call=int(call.key), device=leg.device)
         else:
-            self.ask("answerCall", "answered", leg, call=int(call.key), device=leg.device)
+            self.steps.ask("answerCall", "answered", leg, call=int(call.key), device=leg.device)
 
     def refused(self, leg: Leg, message: Message | None) -> None:
         """A phone that is busy, says no, moved, or isn't there."""
         call, status = self.call_of(leg), message.status if message else 480
-        moved = user(address(message.get("contact"))) if message and status < 400 else ""
-        self.legs.remove(leg.key)
+        moved = message.uri_of("contact").number if message and status < 400 else ""
+        self.rows.legs.remove(leg.key)
         if call is not None and not leg.cancelled:
             self.detach(call, leg.device)
             if re.fullmatch(r"[0-9]{1,15}", moved):
-                self.ask("deflectCall", "deflected", call=int(call.key), device=leg.device, to=moved)
+                self.steps.ask("deflectCall", "deflected", call=int(call.key), device=leg.device, to=moved)
             else:
                 self.decline(call, leg.device, status)
 
     def decline(self, call: Call, device: str, status: int) -> None:
         """A private call ends; one that a group offered waits for the end of its ring, or is deflected."""
-        group, agent = call.offers.get(device), self.agents.get(device)
+        group, agent = call.offers.get(device), self.rows.agents.get(device)
         if not group:
             call.failure = status if status in (404, 480, 486, 603) else 480
-            self.ask("clearConnection", call=int(call.key), device=device)
+            self.steps.ask("clearConnection", call=int(call.key), device=device)
         elif self.settings.refused == "deflect":
             if agent is not None:
-                self.ask("setAgentState", agent=agent.agent, requested="notReady")
-            self.ask("deflectCall", call=int(call.key), device=device, to=group)
+                self.steps.ask("setAgentState", agent=agent.agent, requested="notReady")
+            self.steps.ask("deflectCall", call=int(call.key), device=device, to=group)
 
     # session timers: whoever refreshes does so in the middle of the interval; who waits in vain hangs up before its end
     def offer(self, leg: Leg, body: str = "", then: str = "", fields: Fields = (), served: str = "") -> None:
         leg.session = leg.session or self.settings.session
         rows = [("supported", "timer"), ("min-se", str(LEAST_SESSION)), ("content-type", "application/sdp"),
                 ("session-expires", f"{leg.session};refresher={'uac' if leg.refreshes else 'uas'}")]
-        self.request(leg, "INVITE", self.own(leg, body), [*fields, *rows], then=then, served=served)
+        self.transactions.request(leg, "INVITE", self.own(leg, body), [*fields, *rows], then=then, served=served)
 
     def watch(self, leg: Leg) -> None:
         leg.due = self.now() + (leg.session / 2 if leg.refreshes else leg.session - min(32, leg.session / 3))
@@ -138,7 +150,7 @@ class Dialogs(Transactions):
         elif leg.state == "in" or leg.state == "up" and not leg.refreshes:
             # the desk hasn't answered, and the carrier is to try elsewhere; or the peer hasn't refreshed
             self.end(leg, 503)
-        elif leg.state == "up" and self.is_negotiating(leg):
+        elif leg.state == "up" and self.transactions.is_negotiating(leg):
             leg.due = self.now() + AGAIN
         elif leg.state == "up":
             self.offer(leg)
@@ -150,45 +162,54 @@ class Dialogs(Transactions):
         request, fields = Message.read(row.request), [self.contact, ALLOW, ("supported", "timer")]
         leg.state = "up" if leg.state == "in" else leg.state
         leg.session, leg.refreshes = self.settings.session, True
-        if request.session and "timer" in request.get("supported"):
-            refresher = parameter(request.get("session-expires"), "refresher") or "uac"
+        if request.session and "timer" in request.values("supported"):
+            refresher = request.refresher or "uac"
             leg.session, leg.refreshes = max(LEAST_SESSION, min(request.session, leg.session)), refresher == "uas"
             fields += [("require", "timer"), ("session-expires", f"{leg.session};refresher={refresher}")]
         self.watch(leg)
-        self.answer(row, 200, leg.key, fields, self.own(leg, body))
+        self.transactions.answer(row, 200, leg.key, fields, self.own(leg, body))
 
     def entertain(self, leg: Leg) -> None:
         """A leg that has nobody to talk to yet: Queued to a caller who isn't answered, else music."""
-        music = self.music_for(leg.sdp)
-        if leg.state == "in" and self.settings.waiting == "music" and music:
+        music = self.music.offer(leg.sdp)
+        if leg.state == "in" and self.settings.waiting == "music" and music and self.music.place(leg):
             leg.music = True
-            self.accept(leg, self.served[leg.transaction], music)
+            self.accept(leg, self.rows.served[leg.transaction], music)
         elif leg.state == "in":
-            self.answer(self.served[leg.transaction], 182, leg.key, [self.contact])
+            self.transactions.answer(self.rows.served[leg.transaction], 182, leg.key, [self.contact])
             leg.due = self.now() + REMIND
-        elif leg.state == "up" and not leg.music and music and not self.is_negotiating(leg):
+        elif leg.state == "up" and not leg.music and music and not self.transactions.is_negotiating(leg):
             self.offer(leg, music, "moved")
 
     # a leg ends
+    def finish(self, row: Asked, leg: Leg, message: Message | None) -> None:
+        """The last answer to a request, None where none came. Who is silent or doesn't know the dialog is gone."""
+        ends = leg.state == "closing"
+        if row.then:
+            self.takers[row.then](leg, message, row.served)
+        if ends or leg.state == "up" and (message is None or message.status in (408, 481)):
+            self.hang_up(leg)
+            self.rows.legs.remove(leg.key)
+
     def end(self, leg: Leg, status: int = 480) -> None:
         """Whatever this leg is in, it comes to its end, and its part in a call too."""
         self.hang_up(leg)
         leg.music = False
         if leg.state == "in":
-            self.answer(self.served[leg.transaction], status, leg.key)
-            self.legs.remove(leg.key)
+            self.transactions.answer(self.rows.served[leg.transaction], status, leg.key)
+            self.rows.legs.remove(leg.key)
         elif leg.state in ("out", "rings") and not leg.cancelled:
             leg.cancelled = True
             if leg.state == "rings":
                 self.cancel(leg)
         elif leg.state == "up":
             leg.state, leg.due = "closing", 0.0
-            self.request(leg, "BYE")
+            self.transactions.request(leg, "BYE")
 
     def cancel(self, leg: Leg) -> None:
         """The last answer to the INVITE ends the leg, or the end of the time for it."""
-        row = self.asked[leg.transaction]
-        self.transmit(self.of_same(row, "CANCEL"), row.to)
+        row = self.rows.asked[leg.transaction]
+        self.transactions.transmit(self.transactions.of_same(row, "CANCEL"), row.to)
         row.ends = row.due = self.now() + AFTER_CANCEL
 
     # media moved: to music, to the other phone, or as the other side asked
@@ -201,14 +222,12 @@ class Dialogs(Transactions):
                     self.entertain(leg)
         elif not call.joined and legs[0].state == "in":
             call.joined, legs[1].music = True, False
-            self.accept(legs[0], self.served[legs[0].transaction], legs[1].sdp)
+            self.accept(legs[0], self.rows.served[legs[0].transaction], legs[1].sdp)
         elif not call.joined and legs[0].state == legs[1].state == "up":
-            if any(map(self.is_negotiating, legs)):
+            if any(map(self.transactions.is_negotiating, legs)):
                 call.due = self.now() + 0.2
             else:
                 self.offer(legs[0], legs[1].sdp, "moved")
-
-    call_due = settle
 
     def moved(self, leg: Leg, message: Message | None, served: str) -> None:
         """Its media go to the music or to the other phone, as was offered; where it refuses, that is tried again."""
@@ -227,10 +246,10 @@ class Dialogs(Transactions):
 
     def passed(self, leg: Leg, message: Message | None, served: str) -> None:
         """The other side's answer to an offer that was passed on."""
-        row = self.served[served]
-        asker = self.legs.get(row.leg)
+        row = self.rows.served[served]
+        asker = self.rows.legs.get(row.leg)
         if asker is not None and message is not None and message.status < 300:
             leg.sdp = message.body
             self.accept(asker, row, leg.sdp)
         else:
-            self.answer(row, message.status if message is not None and message.status >= 300 else 408)
+            self.transactions.answer(row, message.status if message is not None and message.status >= 300 else 408)

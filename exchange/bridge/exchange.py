@@ -1,59 +1,104 @@
-"""The exchange, and its start: transactions go on, each leg is probed, and what desk and phones hold is compared."""
+"""The exchange: its parts, each over the ones that it is given, what comes to them, and its start."""
+import time
+from collections.abc import Callable
+
 from acd_client import Answer
 
+from .calls import Calls
+from .dialogs import Dialogs
+from .message import Message, Refused
+from .music import Music
 from .phones import DESK_WAIT, Phones
-from .transactions import ACK_WAIT, ROUND_TRIP, LONGEST_WAIT
+from .settings import Settings
+from .steps import Steps
+from .store import Store
+from .transactions import ACK_WAIT, LONGEST_WAIT, ROUND_TRIP, Transactions
 
 # seconds: until what came to nobody has come again; for an answer to a probe
 GRACE, PROBE_WAIT = 3 * ROUND_TRIP, 2.0
 
 
-class Exchange(Phones):
+class Exchange:
+    def __init__(self, settings: Settings, store: Store, send: Callable[[bytes, str], None],
+                 clock: Callable[[], float] = time.time):
+        self.settings, self.now = settings, clock
+        self.steps = Steps(settings, store, send, clock)
+        self.rows = self.steps.rows
+        self.transactions = Transactions(self.steps)
+        self.music = Music(self.steps, self.transactions)
+        self.dialogs = Dialogs(self.steps, self.transactions, self.music)
+        self.calls = Calls(self.steps, self.dialogs)
+        self.phones = Phones(self.steps, self.transactions, self.dialogs, self.calls)
+
+    def receive(self, data: bytes, source: str) -> None:
+        """A datagram. Only the edge is heard, or without one whoever reaches the address."""
+        text = data.decode("latin-1")
+        self.steps.trace("<", source, text)
+        if self.settings.edge not in ("", source):
+            return
+        try:
+            message = Message.read(text)
+        except Refused as fault:
+            if fault.request is not None:
+                self.steps.step(self.transactions.refuse, fault.request, fault.status, source)
+            return
+        if not message.is_request:
+            # with a second Via it is for somebody else (RFC 3261, 8.1.3.3)
+            if len(message.values("via")) == 1:
+                self.steps.step(self.transactions.take_response, message)
+        elif not self.steps.step(self.take_request, message, source) and message.method != "ACK":
+            self.steps.step(lambda: self.transactions.answer(self.transactions.serve(message, source), 500))
+
+    def take_request(self, message: Message, source: str) -> None:
+        new = self.transactions.take_request(message, source)
+        if new is not None:
+            self.phones.take(message, *new)
+
     def resume(self) -> None:
         """What came to nobody while it was down may come again now; what isn't heard soon is asked for."""
         now = self.now()
-        for asked in self.asked.values():
-            leg = self.legs.get(asked.leg)
+        for asked in self.rows.asked.values():
+            leg = self.rows.legs.get(asked.leg)
             if asked.over:
-                self.put(asked.ack, asked.to)
+                self.steps.put(asked.ack, asked.to)
             elif not (asked.then == "invited" and leg is not None and leg.cancelled):
                 # a phone that answered meanwhile says so again within LONGEST_WAIT; one that rings when it is asked
                 wait = GRACE if asked.interval else LONGEST_WAIT + ROUND_TRIP
                 asked.interval, asked.due = asked.interval or ROUND_TRIP, now + wait
                 asked.ends = max(asked.ends, now + wait + 4 * GRACE)
-        for served in self.served.values():
+        for served in self.rows.served.values():
             if served.interval:
                 served.due, served.ends = now, max(served.ends, now + ACK_WAIT)
-        for leg in self.legs.values():
-            unheard = self.served.get(leg.transaction)
+        for leg in self.rows.legs.values():
+            unheard = self.rows.served.get(leg.transaction)
             if leg.state == "in" and not leg.call:
                 leg.due = now + DESK_WAIT
             elif leg.state == "up" and not (unheard and unheard.interval):
-                self.request(leg, "OPTIONS", patience=PROBE_WAIT)
+                self.transactions.request(leg, "OPTIONS", patience=PROBE_WAIT)
 
     def compare(self, key: str, answer: Answer) -> None:
         """Holds the desk's connections of a call against its legs: what lacks the other ends, and so does a call that
         no phone has a part in. What the file lost by a power cut is made up for."""
         states = {each["device"]: each["state"] for each in answer.body["connections"]} if answer.status == 200 else {}
-        call, asked = self.calls.get(key), {row.leg for row in self.requests.values() if row.then == "answered"}
-        legs = {device: self.legs.get(leg) for device, leg in call.legs.items()} if call is not None else {}
+        call, asked = self.rows.calls.get(key), {row.leg for row in self.rows.requests.values() if row.then == "answered"}
+        legs = {device: self.rows.legs.get(leg) for device, leg in call.legs.items()} if call is not None else {}
         if call is not None and states:
             call.legs = {device: leg for device, leg in call.legs.items() if device in states}
         else:
-            self.strangers.remove(key)
-            self.calls.remove(key)
+            self.rows.strangers.remove(key)
+            self.rows.calls.remove(key)
         for device, leg in legs.items():
             if leg is not None and device not in states:
-                self.end(leg)
+                self.dialogs.end(leg)
             elif leg is not None and leg.state == "up" and states[device] == "alerting" and leg.key not in asked:
-                self.ask("answerCall", "answered", leg, call=int(key), device=device)
+                self.steps.ask("answerCall", "answered", leg, call=int(key), device=device)
         parts = [device for device, state in states.items() if state in ("initiated", "connected", "hold")]
         if any(legs.get(device) is None for device in parts):
-            self.ask("clearConnection", call=int(key), device=min(states))
+            self.steps.ask("clearConnection", call=int(key), device=min(states))
         elif call is not None and states:
             for device, state in states.items():
                 if state == "alerting" and device not in legs:
-                    self.delivered(call, device, "")
+                    self.calls.delivered(call, device, "")
             call.connected = len(states) == 2 and set(states.values()) <= {"connected", "hold"}
             # by then a re-INVITE of before has come to its end
             call.due = self.now() + GRACE

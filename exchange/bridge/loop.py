@@ -43,7 +43,7 @@ class Wire:
         asyncio.get_running_loop().add_reader(self.socket, self.hear, exchange)
         while True:
             self.hear(exchange)
-            await asyncio.sleep(min(0.02, max(0.0, exchange.ring_alarms())))
+            await asyncio.sleep(min(0.02, max(0.0, exchange.steps.ring_alarms())))
 
 
 async def run(settings: Settings) -> None:
@@ -52,9 +52,9 @@ async def run(settings: Settings) -> None:
     exchange = Exchange(settings, Store(settings.file), wire.send)
     tune, _ = await loop.create_datagram_endpoint(asyncio.DatagramProtocol, local_addr=(host, settings.music_port))
     line = DeskLine(exchange)
-    exchange.step(exchange.resume)
+    exchange.steps.step(exchange.resume)
     print(f"listening on {settings.listen}", flush=True)
-    await asyncio.gather(line.run(), line.watch(), wire.run(exchange), play(exchange.legs, sound, tune.sendto))
+    await asyncio.gather(line.run(), line.watch(), wire.run(exchange), play(exchange.music, sound, tune.sendto))
 
 
 def main() -> None:

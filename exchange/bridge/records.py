@@ -2,7 +2,7 @@
 from dataclasses import dataclass, field
 from typing import Any
 
-from .store import Row
+from .store import Row, Store, Table
 
 
 @dataclass
@@ -39,6 +39,8 @@ class Leg(Row):
     hangs_up: bool = False
     session: int = 0
     refreshes: bool = True
+    way: str = ""
+    sender: str = ""
 
 
 @dataclass
@@ -98,3 +100,12 @@ class Asked(Row):
     ends: float
     over: bool = False
     ack: str = ""
+
+
+class Rows:
+    """All of the file, by kind."""
+
+    def __init__(self, store: Store):
+        self.places, self.legs, self.calls = Table(store, Place), Table(store, Leg), Table(store, Call)
+        self.strangers, self.agents, self.requests = Table(store, Stranger), Table(store, Agent), Table(store, Request)
+        self.served, self.asked = Table(store, Served), Table(store, Asked)

@@ -1,10 +1,15 @@
 """What the command line says, each option once."""
 import json
+import os
 from argparse import ArgumentDefaultsHelpFormatter, ArgumentParser, FileType
-from dataclasses import dataclass, field, fields
+from dataclasses import dataclass, field, fields, replace
+from ipaddress import IPv4Address, IPv4Network
 from typing import Any
 
-from .message import host_port
+from .grammar import Malformed, read_uri
+
+
+DESK = "http://127.0.0.1:8080"
 
 
 def option(default: Any, text: str, **more: Any) -> Any:
@@ -15,10 +20,10 @@ def option(default: Any, text: str, **more: Any) -> Any:
 @dataclass(frozen=True)
 class Settings:
     edge: str = option("", "HOST:PORT of the proxy in front, which alone is heard, and which knows where phones are")
-    phones: dict[str, str] = option(None, 'without a proxy, for a trial: a file {"201": "sip:201@127.0.0.1:5201"}',
+    phones: dict[str, str] = option(None, 'without a proxy, for a trial on loopback: a file {"201": "sip:201@127.0.0.1:5201"}',
                                     type=lambda path: json.load(FileType()(path)))
-    listen: str = option("127.0.0.1:5070", "where it speaks SIP over UDP")
-    desk: str = option("http://127.0.0.1:8080", "the desk")
+    listen: str = option("127.0.0.1:5070", "where it speaks SIP over UDP; with --phones on loopback alone")
+    desk: str = option("", f"the desk; without it EXCHANGE_DESK of the environment, which others can't read, or {DESK}")
     file: str = option("exchange.db", "its own file")
     poll: float = option(0.1, "seconds between two looks for events")
     tick: int = option(0, "sends the desk's ticks too, each so many seconds; with 0 acd-tick does")
@@ -26,6 +31,7 @@ class Settings:
     refused: str = option("wait", "offers that a phone refuses ring out, or are deflected", choices=("wait", "deflect"))
     music: str = option("", "a WAV file of 8000 Hz, 16 bits, one channel; without it silence")
     music_port: int = option(16000, "where the music is sent from")
+    media: str = option("", "NETWORKS as 192.0.2.0/24,198.51.100.7: where music may go besides the address that its caller sends from")
     session: int = option(1800, "the session interval in seconds, at least 90")
     trace: bool = option(False, "writes what comes and goes to standard error")
 
@@ -33,14 +39,39 @@ class Settings:
     def host(self) -> str:
         return self.listen.partition(":")[0]
 
+    @property
+    def networks(self) -> list[IPv4Network]:
+        return [IPv4Network(text.strip()) for text in self.media.split(",") if text.strip()]
+
     @classmethod
     def read(cls) -> "Settings":
         parser = ArgumentParser("acd-exchange", allow_abbrev=False, formatter_class=ArgumentDefaultsHelpFormatter)
         for each in fields(cls):
             parser.add_argument("--" + each.name.replace("_", "-"), default=each.default, **each.metadata)
-        read = cls(**vars(parser.parse_args()))
-        if bool(read.edge) == (read.phones is not None):
-            parser.error("it needs either --edge or --phones")
-        if not all(host_port(f"sip:{place}") for place in (read.listen, read.edge or read.listen)) or read.session < 90:
-            parser.error("a place is an IPv4 address and a port, and a session at least 90 seconds")
+        given = cls(**vars(parser.parse_args()))
+        read = replace(given, desk=given.desk or os.environ.get("EXCHANGE_DESK") or DESK)
+        fault = read.fault()
+        if fault:
+            parser.error(fault)
         return read
+
+    def fault(self) -> str:
+        """What makes it no setting to run with."""
+        if bool(self.edge) == (self.phones is not None):
+            return "it needs either --edge or --phones"
+        if not all(map(is_place, (self.listen, self.edge or self.listen))) or self.session < 90:
+            return "a place is an IPv4 address and a port, and a session at least 90 seconds"
+        if self.phones is not None and not IPv4Address(self.host).is_loopback:
+            return "with --phones nobody is asked who he is, so it listens on loopback alone"
+        try:
+            self.networks
+        except ValueError as fault:
+            return f"--media: {fault}"
+        return ""
+
+
+def is_place(text: str) -> bool:
+    try:
+        return bool(text) and read_uri(f"sip:{text}").place == text
+    except Malformed:
+        return False

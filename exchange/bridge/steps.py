@@ -7,32 +7,36 @@ import time
 import traceback
 from collections.abc import Callable
 from typing import Any
+from urllib.parse import unquote, urlsplit
 
-from .records import Agent, Asked, Call, Leg, Place, Request, Served, Stranger
+from .records import Leg, Place, Request, Rows
 from .settings import Settings
-from .store import Store, Table
+from .store import Store
+
+# seconds until what was told is told again, and how much of it is known
+TOLD_AGAIN, MOST_TOLD = 3600.0, 1000
 
 
 class Steps:
     def __init__(self, settings: Settings, store: Store, send: Callable[[bytes, str], None],
                  clock: Callable[[], float] = time.time):
         self.settings, self.store, self.send, self.now = settings, store, send, clock
-        self.places, self.legs, self.calls = Table(store, Place), Table(store, Leg), Table(store, Call)
-        self.strangers, self.agents, self.requests = Table(store, Stranger), Table(store, Agent), Table(store, Request)
-        self.served, self.asked = Table(store, Served), Table(store, Asked)
+        self.rows = Rows(store)
         # each start is a requester of its own, so that no key is used twice, whatever a power cut has taken
-        self.requester = f"exchange-{secrets.token_hex(4)}"
-        self.contact = ("contact", f"<sip:acd@{settings.listen}>")
+        login = unquote(urlsplit(settings.desk).username or "exchange")
+        self.requester = f"{login}-{secrets.token_hex(4)}"
         self.out: list[tuple[bytes, str]] = []
         self.alarms: list[tuple[float, str, str]] = []
+        # who takes the alarms of a kind of row
+        self.rings: dict[str, Callable[[Any], None]] = {}
         self.steps = self.faults = 0
-        self.desk_is_silent = False
+        self.told: dict[str, float] = {}
         # is told where there are requests for the desk
         self.wake: Callable[[], None] = lambda: None
 
     @property
     def place(self) -> Place:
-        return self.places.get("1") or self.places.add(Place("1"))
+        return self.rows.places.get("1") or self.rows.places.add(Place("1"))
 
     def step(self, work: Callable[..., None], *rest: Any) -> bool:
         """One input: kept and then sent, or undone whole."""
@@ -57,7 +61,7 @@ class Steps:
         for row in kept:
             if row.due:
                 heapq.heappush(self.alarms, (row.due, type(row).__name__, row.key))
-        if self.requests:
+        if self.rows.requests:
             self.wake()
         return True
 
@@ -70,7 +74,7 @@ class Steps:
         """Puts a request to the desk aside."""
         self.place.invoke += 1
         body = {"requester": self.requester, "invoke": self.place.invoke, "service": service, **members}
-        self.requests.add(Request(str(self.place.invoke), body, then, leg.key if leg else "", served))
+        self.rows.requests.add(Request(str(self.place.invoke), body, then, leg.key if leg else "", served))
 
     def ring_alarms(self) -> float:
         """Takes some of what is due, and returns how many seconds lie before the next."""
@@ -82,12 +86,22 @@ class Steps:
             # an alarm that was put off has another entry; one that fails doesn't ring again
             if row is not None and row.due == due:
                 row.due = 0.0
-                if not self.step(getattr(self, f"{kind.lower()}_due"), row):
+                if not self.step(self.rings[kind], row):
                     self.step(setattr, self.store.tables[kind][key], "due", 0.0)
         return self.alarms[0][0] - self.now() if self.alarms else 60.0
 
     def say(self, text: str) -> None:
         print(text, file=sys.stderr, flush=True)
+
+    def say_hourly(self, text: str) -> None:
+        """The same text once an hour at most."""
+        now = self.now()
+        if now - self.told.get(text, -TOLD_AGAIN) >= TOLD_AGAIN:
+            self.told.pop(text, None)
+            self.told[text] = now
+            if len(self.told) > MOST_TOLD:
+                del self.told[next(iter(self.told))]
+            self.say(text)
 
     def trace(self, mark: str, where: str, text: str) -> None:
         if self.settings.trace:

@@ -39,28 +39,31 @@ class Bench:
 
     def open(self) -> None:
         self.x = Exchange(self.settings, Store(str(Path(self.folder.name) / "exchange.db")), self.keep, lambda: self.now)
-        setattr(self.x, "say", lambda text: None)
-        assert self.x.step(self.x.resume)
+        setattr(self.x.steps, "say", lambda text: None)
+        assert self.x.steps.step(self.x.resume)
 
     def restart(self) -> None:
-        self.x.store.base.close()
+        self.x.steps.store.base.close()
         self.open()
 
     def lose(self, kept: list[str]) -> None:
         """The file is as it was before, as behind a power cut."""
-        self.x.store.base.execute("DROP TABLE rows")
-        self.x.store.base.executescript("\n".join(kept))
+        self.x.steps.store.base.execute("DROP TABLE rows")
+        self.x.steps.store.base.executescript("\n".join(kept))
 
     def close(self) -> None:
-        self.x.store.base.close()
+        self.x.steps.store.base.close()
         self.folder.cleanup()
 
     def keep(self, data: bytes, to: str) -> None:
-        self.sent.append((to, Message.read(data.decode("latin-1"))))
+        text = data.decode("latin-1")
+        # what can't be read goes back as it came, so such an answer can't be read either
+        refusals = ("SIP/2.0 400 ", "SIP/2.0 505 ")
+        self.sent.append((to, Message(text.partition("\r\n")[0], []) if text.startswith(refusals) else Message.read(text)))
 
     def differences(self) -> list[tuple[str, str]]:
         """The rows that aren't in memory as they are in the file: none between two steps."""
-        store = self.x.store
+        store = self.x.steps.store
         kept = {(kind, key): json.loads(text) for kind, key, text in store.base.execute("SELECT * FROM rows")}
         held = {(type(row).__name__, row.key): json.loads(row.as_json()) for table in store.tables.values() for row in table.values()}
         return sorted(place for place in kept.keys() | held.keys() if kept.get(place) != held.get(place))
@@ -73,7 +76,7 @@ class Bench:
         ends = self.now + seconds
         while self.now < ends:
             self.now = min(self.now + 0.05, ends)
-            self.x.ring_alarms()
+            self.x.steps.ring_alarms()
         self.check()
 
     # SIP
@@ -84,7 +87,7 @@ class Bench:
         return sent
 
     def firsts(self) -> list[str]:
-        return [" ".join(message.first.split(" ")[:2]) if not message.is_request else message.method for _, message in self.take()]
+        return [" ".join(message.first.split(" ")[:2 - message.is_request]) for _, message in self.take()]
 
     def receive(self, message: str | Message, source: str = CALLER) -> None:
         text = message if isinstance(message, str) else message.text()
@@ -95,7 +98,7 @@ class Bench:
                 fields: str = "", text: str = "") -> None:
         self.branch += 1
         branch = branch or f"z9hG4bKt{self.branch}"
-        self.receive(f"{method} {uri} SIP/2.0\r\nVia: SIP/2.0/UDP {source};branch={branch}\r\nFrom: <sip:{number}@h>;tag=t-{call_id}\r\n"
+        self.receive(f"{method} {uri} SIP/2.0\r\nVia: SIP/2.0/UDP {source};branch={branch}\r\nFrom: <sip:{number}@h>;tag=t-{call_id.replace('@', '.')}\r\n"
                      f"To: {to or f'<{uri}>'}\r\nCall-ID: {call_id}\r\nCSeq: {cseq} {method}\r\n"
                      f"Contact: <sip:{number}@{source}>\r\nMax-Forwards: 70\r\n{fields}"
                      f"Content-Length: {len(text)}\r\n\r\n{text}", source)
@@ -114,19 +117,19 @@ class Bench:
 
     def asked(self) -> list[tuple[str, dict[str, Any]]]:
         """Services and members that wait for the desk, in order."""
-        rows = [self.x.requests[key] for key in sorted(self.x.requests, key=int)]
+        rows = [self.x.rows.requests[key] for key in sorted(self.x.rows.requests, key=int)]
         return [(row.body["service"], {name: value for name, value in row.body.items() if name not in ("requester", "invoke", "service")}) for row in rows]
 
     def first_request(self) -> Request:
-        return self.x.requests[min(self.x.requests, key=int)]
+        return self.x.rows.requests[min(self.x.rows.requests, key=int)]
 
     def last_request(self) -> Request:
-        return self.x.requests[max(self.x.requests, key=int)]
+        return self.x.rows.requests[max(self.x.rows.requests, key=int)]
 
     def answer(self, error: str = "", **result: Any) -> None:
         """The desk's reply to the request that waits longest."""
         answer = Answer(409, {"error": {"code": 1, "name": error}}) if error else Answer(200, {"result": result})
-        assert self.x.step(self.x.take_reply, self.first_request(), answer)
+        assert self.x.steps.step(self.x.calls.take_reply, self.first_request(), answer)
         self.check()
 
     def tell(self, *events: str, call: int = 1) -> None:
@@ -146,7 +149,7 @@ class Bench:
             if name.startswith("agent"):
                 event["agent"] = "1"
             page.append(event)
-        assert self.x.step(self.x.take_events, page)
+        assert self.x.steps.step(self.x.calls.take_events, page)
         self.check()
 
     # courses that many tests begin with

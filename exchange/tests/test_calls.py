@@ -45,7 +45,7 @@ class Queued(OnABench):
         self.assertEqual((to, bye.method, bye.tag("to")), (PHONE, "BYE", "p"))
         b.reply(bye, 200)
         b.pass_time(70)
-        self.assertEqual((len(b.x.legs), len(b.x.calls), len(b.x.asked), len(b.x.served), b.firsts()), (0, 0, 0, 0, []))
+        self.assertEqual((len(b.x.rows.legs), len(b.x.rows.calls), len(b.x.rows.asked), len(b.x.rows.served), b.firsts()), (0, 0, 0, 0, []))
 
     def test_a_caller_gives_up(self) -> None:
         b = self.bench
@@ -63,7 +63,7 @@ class Queued(OnABench):
         b.pass_time(1)
         self.assertEqual(b.firsts(), ["ACK", "SIP/2.0 487"])
         b.pass_time(70)
-        self.assertEqual((len(b.x.legs), len(b.x.calls)), (0, 0))
+        self.assertEqual((len(b.x.rows.legs), len(b.x.rows.calls)), (0, 0))
 
     def test_given_up_while_the_desk_was_asked(self) -> None:
         b = self.bench
@@ -136,7 +136,7 @@ class Queued(OnABench):
         b.tell("diverted@100/100", "delivered@201/100")
         b.take()
         b.pass_time(33)
-        self.assertEqual((set(b.firsts()), b.asked(), len(b.x.legs)), ({"INVITE"}, [], 1))
+        self.assertEqual((set(b.firsts()), b.asked(), len(b.x.rows.legs)), ({"INVITE"}, [], 1))
 
     def test_no_ack(self) -> None:
         b = self.bench
@@ -164,7 +164,7 @@ class Queued(OnABench):
         b.take()
         b.pass_time(5.1)
         self.assertEqual(b.firsts(), ["SIP/2.0 503"])
-        b.x.desk_is_silent = True
+        b.x.phones.desk_is_silent = True
         b.invite(call_id="c2")
         self.assertEqual(b.firsts(), ["SIP/2.0 503"])
         b.answer(call=1)
@@ -248,13 +248,13 @@ class Music(OnABench):
         """The caller is put back into a queue, and says 491 to the music at first."""
         b = self.bench
         b.waiting()
-        [leg] = b.x.legs.values()
+        [leg] = b.x.rows.legs.values()
         b.request("ACK", "sip:acd@x", to=f"<sip:100@x>;tag={leg.key}")
         b.tell("diverted@100/100", "delivered@201/100")
         b.reply(next(message for to, message in b.take() if to == PHONE), 200, body(7201))
         b.answer()
         b.reply(b.take()[-1][1], 200, body(7500), source=CALLER)
-        self.assertEqual((leg.music, b.x.calls["1"].joined), (False, True))
+        self.assertEqual((leg.music, b.x.rows.calls["1"].joined), (False, True))
         b.take()
         b.tell("transferred@201", "queued@101")
         [(_, offer)] = [(to, message) for to, message in b.take() if to == CALLER]
@@ -264,13 +264,13 @@ class Music(OnABench):
         b.pass_time(1.1)
         [again] = [message for to, message in b.take() if to == CALLER and message.is_request]
         b.reply(again, 200, body(7500), source=CALLER)
-        self.assertEqual((leg.music, b.x.calls["1"].joined), (True, False))
+        self.assertEqual((leg.music, b.x.rows.calls["1"].joined), (True, False))
 
     def test_a_waiting_caller_hears_music_and_is_moved(self) -> None:
         b = self.bench
         b.waiting()
         b.firsts()
-        [leg] = b.x.legs.values()
+        [leg] = b.x.rows.legs.values()
         self.assertEqual((leg.state, leg.music), ("up", True))
         # before the ACK of the first 200 no other offer can be made
         b.tell("diverted@100/100", "delivered@201/100")
@@ -285,7 +285,7 @@ class Music(OnABench):
         b.reply(offer, 200, body(7500), source=CALLER)
         sent = b.take()
         self.assertEqual([(to, message.method, "m=audio 7500" in message.body) for to, message in sent], [(CALLER, "ACK", False), (PHONE, "INVITE", True)])
-        self.assertEqual((leg.music, b.x.calls["1"].joined), (False, True))
+        self.assertEqual((leg.music, b.x.rows.calls["1"].joined), (False, True))
 
 
 class Deflecting(OnABench):
@@ -307,32 +307,90 @@ class Deflecting(OnABench):
         self.assertEqual(b.asked(), [("deflectCall", {"call": 1, "device": "201", "to": "100"})])
 
 
+EDGE = "127.0.0.1:5060"
+TRUNK, PHONE_201 = "X-ACD-Sender: trunk-password 192.0.2.7\r\n", "X-ACD-Sender: phone 192.0.2.8\r\nX-ACD-Phone: 201\r\n"
+
+
 class Edge(OnABench):
-    settings = {"phones": {}, "edge": "127.0.0.1:5060"}
+    settings = {"phones": {}, "edge": EDGE}
 
     def test_only_the_edge_is_heard(self) -> None:
         b = self.bench
-        b.invite()
+        b.invite(fields=TRUNK)
         self.assertEqual((b.firsts(), b.asked()), ([], []))
 
     def test_who_is_a_phone(self) -> None:
         """Only what the edge says makes a phone; a trunk that shows a station's number stays a trunk."""
         b = self.bench
-        for field, wanted in (("", ("arriveCall", {"caller": "201", "called": "100"})),
-                              ("X-ACD-Phone: 201\r\n", ("makeCall", {"device": "201", "called": "100"}))):
-            b.request("INVITE", "sip:100@x", "127.0.0.1:5060", "201", f"c{field}".strip(), fields=field, text=body(7000))
+        for field, wanted in ((TRUNK, ("arriveCall", {"caller": "201", "called": "100"})), (PHONE_201, ("makeCall", {"device": "201", "called": "100"}))):
+            b.request("INVITE", "sip:100@x", EDGE, "201", f"c{len(field)}", fields=field, text=body(7000))
             self.assertEqual(b.asked()[-1], wanted)
+
+    def test_for_whom_the_edge_vouches(self) -> None:
+        """Outside of a dialog nobody else is served; a CANCEL and an ACK are the edge's own, and have no field."""
+        b = self.bench
+        said = list[str]()
+        setattr(b.x.steps, "say", said.append)
+        wrong = ("", "X-ACD-Sender:\r\n", "X-ACD-Sender: trunk 192.0.2.7\r\n", "X-ACD-Sender: trunk-password\r\n", "X-ACD-Sender: trunk-password 192.0.2.256\r\n",
+                 "X-ACD-Sender: trunk-password 192.0.2.7 x\r\n", "X-ACD-Sender: trunk-password, 192.0.2.7\r\n", TRUNK + TRUNK, TRUNK + PHONE_201,
+                 "X-ACD-Sender: phone 192.0.2.8\r\n", "X-ACD-Phone: 201\r\n", TRUNK + "X-ACD-Phone: 201\r\n", PHONE_201 + "X-ACD-Phone: 202\r\n",
+                 "X-ACD-Sender: phone 192.0.2.8\r\nX-ACD-Phone:\r\n")
+        for place, field in enumerate(wrong):
+            for method in ("INVITE", "OPTIONS", "MESSAGE", "BYE", "REFER", "REGISTER", "NOTHING"):
+                b.request(method, "sip:100@x", EDGE, "201", f"c{place}", fields=field, text=body(7000))
+                self.assertEqual((b.firsts(), b.asked(), len(b.x.rows.legs)), (["SIP/2.0 403"], [], 0), field + method)
+            b.request("ACK", "sip:100@x", EDGE, fields=field)
+            b.request("CANCEL", "sip:100@x", EDGE, fields=field, branch=f"z9hG4bKnobody{place}")
+            self.assertEqual(b.firsts(), ["SIP/2.0 481"])
+        # an older file of the edge is told once an hour
+        self.assertEqual(["kamailio.cfg" in line for line in said], [True])
+        b.request("INVITE", "sip:100@x", EDGE, branch="z9hG4bKc1", fields=TRUNK, text=body(7000))
+        b.request("CANCEL", "sip:100@x", EDGE, branch="z9hG4bKc1")
+        self.assertEqual(b.firsts(), ["SIP/2.0 100", "SIP/2.0 200", "SIP/2.0 487"])
+
+    def test_in_a_dialog_nobody_vouches(self) -> None:
+        b = self.bench
+        b.request("INVITE", "sip:100@x", EDGE, fields=TRUNK, text=body(7000))
+        b.answer(call=1)
+        b.tell("queued@100", "diverted@100/100", "delivered@201/100")
+        b.reply(b.take()[-1][1], 200, body(7201), source=EDGE)
+        b.answer()
+        to = b.take()[-1][1].get("to")
+        b.request("ACK", "sip:acd@x", EDGE, to=to)
+        b.request("BYE", "sip:acd@x", EDGE, to=to, cseq=2)
+        self.assertEqual(b.firsts(), ["SIP/2.0 200"])
+
+    def test_a_tag_behind_what_looks_like_an_address(self) -> None:
+        """For the edge each of these is a request in a dialog, so no password was asked for: here it is none that is known, or none at all."""
+        b = self.bench
+        for to, status in (('<sip:100@EDGE>;tag=abc;x=">"', 481), ("<sip:100@EDGE>;tag=a>", 400), ("<sip:100@EDGE>;tag=abc;z=<x>", 400),
+                           ('<sip:100@EDGE>;tag=abc;x="<sip:y>"', 481)):
+            for field in ("", TRUNK):
+                b.request("INVITE", "sip:100@192.0.2.1", EDGE, to=to, fields=f"Route: <sip:{EDGE};lr>\r\n" + field, text=body(7000))
+                self.assertEqual((b.firsts(), b.asked(), len(b.x.rows.legs)), ([f"SIP/2.0 {status}"], [], 0), to)
 
     def test_phones_are_rung_by_way_of_the_edge(self) -> None:
         b = self.bench
-        b.request("INVITE", "sip:100@x", "127.0.0.1:5060", text=body(7000))
+        b.request("INVITE", "sip:100@x", EDGE, fields=TRUNK, text=body(7000))
         b.answer(call=1)
         b.tell("queued@100", "diverted@100/100", "delivered@201/100")
         to, invite = b.take()[-1]
-        self.assertEqual((to, invite.uri), ("127.0.0.1:5060", "sip:201@127.0.0.1:5060"))
-        b.reply(invite, 200, body(7201), source="127.0.0.1:5060", fields="Record-Route: <sip:127.0.0.1:5060;lr>\r\n")
+        self.assertEqual((to, invite.target), (EDGE, f"sip:201@{EDGE}"))
+        b.reply(invite, 200, body(7201), source=EDGE, fields=f"Record-Route: <sip:{EDGE};lr>\r\n")
         to, ack = b.take()[-1]
-        self.assertEqual((to, ack.method, ack.all("route")), ("127.0.0.1:5060", "ACK", ["<sip:127.0.0.1:5060;lr>"]))
+        self.assertEqual((to, ack.method, ack.all("route")), (EDGE, "ACK", [f"<sip:{EDGE};lr>"]))
+
+
+class Acknowledged(OnABench):
+    def test_an_ack_without_the_tag_of_the_answer(self) -> None:
+        """Who shows a foreign address doesn't hear the answer, and so doesn't know its tag."""
+        b = self.bench
+        b.talking()
+        b.take()
+        for to in ("", "<sip:100@x>;tag=guessed"):
+            b.request("ACK", "sip:acd@x", to=to, branch="z9hG4bKc1")
+        b.pass_time(2.6)
+        self.assertEqual(b.firsts(), ["SIP/2.0 200", "SIP/2.0 200", "BYE"])
 
 
 class Sessions(OnABench):
@@ -401,12 +459,12 @@ class Codes(OnABench):
         b.invite("*221*100", "201")
         b.answer(state="notReady")
         told = b.take()[-1][1]
-        self.assertEqual((told.status, told.tag("to") in b.x.legs), (200, True))
+        self.assertEqual((told.status, told.tag("to") in b.x.rows.legs), (200, True))
         b.request("ACK", "sip:acd@x", number="201", to=told.get("to"))
         [(to, bye)] = b.take()
         self.assertEqual((to, bye.method), (CALLER, "BYE"))
         b.reply(bye, 200, source=CALLER)
-        self.assertEqual((b.asked(), len(b.x.legs)), ([], 0))
+        self.assertEqual((b.asked(), len(b.x.rows.legs)), ([], 0))
         b.invite("*24", "201", "c2")
         b.answer("wrongAgentState")
         self.assertEqual(b.firsts(), ["SIP/2.0 100", "SIP/2.0 403"])
@@ -431,8 +489,8 @@ class Other(OnABench):
         b.answer()
         b.tell("transferred@201", "delivered@202")
         self.assertEqual([(to, message.method) for to, message in b.take()][:2], [(PHONE, "NOTIFY"), (PHONE, "BYE")])
-        self.assertIn("202", b.x.calls["1"].legs)
-        self.assertEqual(b.x.legs[b.x.calls["1"].legs["202"]].hop, OTHER)
+        self.assertIn("202", b.x.rows.calls["1"].legs)
+        self.assertEqual(b.x.rows.legs[b.x.rows.calls["1"].legs["202"]].hop, OTHER)
         b.request("REFER", "sip:acd@x", PHONE, "201", invite.get("call-id"), invite.get("from"), 3, fields="Refer-To: <sip:202@x?Replaces=1>\r\n")
         self.assertEqual(b.firsts(), ["SIP/2.0 603"])
 

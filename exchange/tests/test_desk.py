@@ -4,7 +4,7 @@ from __future__ import annotations
 import asyncio
 import time
 import unittest
-from contextlib import redirect_stdout
+from contextlib import redirect_stdout, suppress
 from io import StringIO
 from typing import Any
 
@@ -59,18 +59,18 @@ class Line(unittest.TestCase):
             bench, line = self.line(desk)
             self.start(line)
             asked = sorted(members["call"] for service, members in bench.asked() if service == "clearConnection")
-            self.assertEqual((asked, len(bench.x.strangers)), (cleared, 0))
+            self.assertEqual((asked, len(bench.x.rows.strangers)), (cleared, 0))
 
     def test_nothing_of_an_old_history_is_done_again(self) -> None:
         bench, line = self.line(Desk({}, [event(1, "serviceInitiated", 7), event(2, "callCleared", 7)]))
         self.start(line)
-        self.assertEqual((bench.take(), bench.asked(), bench.x.learning), ([], [], False))
+        self.assertEqual((bench.take(), bench.asked(), bench.x.calls.learning), ([], [], False))
 
     def test_requests_go_in_their_order_and_stay_until_they_are_answered(self) -> None:
         desk = Desk({})
         bench, line = self.line(desk)
         for service in ("first", "second", "silence", "third"):
-            bench.x.step(bench.x.ask, service)
+            bench.x.steps.step(bench.x.steps.ask, service)
         with self.assertRaises(Unanswered):
             asyncio.run(line.once())
         self.assertEqual((desk.asked, [service for service, _ in bench.asked()]), (["first", "second", "silence"], ["silence", "third"]))
@@ -79,16 +79,16 @@ class Line(unittest.TestCase):
         """A page whose step fails is taken event by event, and the one that fails is passed over."""
         desk = Desk({}, [event(1, "queued", 7), event(2, "queued", 8), event(3, "queued", 9)])
         bench, line = self.line(desk)
-        take = bench.x.take_event
+        take = bench.x.calls.take_event
 
         def fail(each: Event) -> None:
             if each["number"] == 2:
                 raise RuntimeError("planted")
             take(each)
 
-        setattr(bench.x, "take_event", fail)
+        setattr(bench.x.calls, "take_event", fail)
         asyncio.run(line.follow())
-        self.assertEqual((sorted(bench.x.strangers), [known and known["number"] for known in desk.known]), (["7", "9"], [None, 3]))
+        self.assertEqual((sorted(bench.x.rows.strangers), [known and known["number"] for known in desk.known]), (["7", "9"], [None, 3]))
 
     def test_ticks(self) -> None:
         """None without the option; with it one a while, and no second one while one waits."""
@@ -100,12 +100,38 @@ class Line(unittest.TestCase):
                 asyncio.run(line.once())
             self.assertEqual(desk.asked, wanted)
             line.ticked = 0.0
-            bench.x.step(bench.x.ask, "silence")
+            bench.x.steps.step(bench.x.steps.ask, "silence")
             for _ in range(2):
                 with self.assertRaises(Unanswered):
                     asyncio.run(line.once())
                 line.ticked = 0.0
             self.assertEqual([service for service, _ in bench.asked()], ["silence", *wanted])
+
+    def test_a_tick_that_is_refused_is_told(self) -> None:
+        """The same answer once an hour at most, and each other one; what the desk will be asked again too."""
+        answers: list[Answer | Unanswered] = [
+            Answer(403, {"error": {"code": 1, "name": "forbidden"}}), Answer(422, {"error": {"code": 2, "name": "keyReused"}}),
+            Answer(200, {"result": {}}), Unanswered("status 503"), Unanswered("OSError()")]
+
+        class Refusing(Desk):
+            def send(self, body: dict[str, Any]) -> Answer:
+                self.asked.append(body["service"])
+                answer = answers[(len(self.asked) - 1) % len(answers)]
+                if isinstance(answer, Unanswered):
+                    raise answer
+                return answer
+
+        bench, line = self.line(Refusing({}), tick=1)
+        said = list[str]()
+        setattr(bench.x.steps, "say", said.append)
+        told = [f"a tick of the desk is answered {text}" for text in ("403 forbidden", "422 keyReused", "503")]
+        for seconds, wanted in ((0, told), (3000, told), (700, 2 * told)):
+            bench.now += seconds
+            for _ in range(10):
+                line.ticked = 0.0
+                with suppress(Unanswered):
+                    asyncio.run(line.once())
+            self.assertEqual(said, wanted)
 
     def test_a_desk_that_is_silent(self) -> None:
         """For 3 s it is slow, for 6 s the exchange is closed for new callers; it opens with the next answer."""
@@ -117,7 +143,7 @@ class Line(unittest.TestCase):
             for silent in (3, 6, 0):
                 line.heard = time.monotonic() - silent
                 await asyncio.sleep(0.4)
-                closed.append(bench.x.desk_is_silent)
+                closed.append(bench.x.phones.desk_is_silent)
             task.cancel()
 
         asyncio.run(run())

@@ -5,19 +5,20 @@ import unittest
 
 import bench  # noqa: F401  (the path)
 from bridge import sdp
-from bridge.message import Message, address, host_port, parameter, split, user
+from bridge.message import Message
 
-HEAD = ("INVITE sip:100@x SIP/2.0\r\nv: SIP/2.0/UDP a;branch=z1, SIP/2.0/UDP b;branch=z2\r\nf: \"A, \\\"B\\\"\" <sip:1@x;tag=no>;tag=yes\r\n"
+HEAD = ("INVITE sip:100@x SIP/2.0\r\nv: SIP/2.0/UDP a;branch=z9hG4bK1, SIP/2.0/UDP b;branch=z2\r\nf: \"A, \\\"B\\\"\" <sip:1@x;tag=no>;tag=yes\r\n"
         "t: <sip:100@x>\r\ni: id\r\nCSeq: 1 INVITE\r\nRoute: <sip:r1;lr>,\r\n  <sip:r2;lr>\r\n")
 
 
 class Messages(unittest.TestCase):
     def test_reading(self) -> None:
         message = Message.read(HEAD + "l: 3\r\n\r\nabcd")
-        self.assertEqual(message.all("via"), ["SIP/2.0/UDP a;branch=z1", "SIP/2.0/UDP b;branch=z2"])
+        self.assertEqual(message.all("via"), ["SIP/2.0/UDP a;branch=z9hG4bK1", "SIP/2.0/UDP b;branch=z2"])
         self.assertEqual(message.all("route"), ["<sip:r1;lr>", "<sip:r2;lr>"])
-        self.assertEqual((message.transaction, message.method, message.cseq, message.uri, message.body), ("z1 a INVITE", "INVITE", 1, "sip:100@x", "abc"))
-        self.assertEqual(parameter(message.get("from"), "tag"), "yes")
+        self.assertEqual((message.transaction, message.method, message.cseq, message.uri.text, message.body),
+                         ("z9hG4bK1 a INVITE", "INVITE", 1, "sip:100@x", "abc"))
+        self.assertEqual((message.tag("from"), message.first_of("from").display), ("yes", 'A, "B"'))
         fields = [each for each in message.fields if each[0] != "content-length"]
         self.assertEqual(Message.read(message.text()).fields, fields + [("content-length", "3")])
 
@@ -38,14 +39,11 @@ class Messages(unittest.TestCase):
                          ("SIP/2.0 200 OK", 200, "<sip:100@x>;tag=mine", request.all("via"), ["<sip:e;lr>"]))
         self.assertEqual(request.answer(486, "mine", [], "").all("record-route"), [])
 
-    def test_addresses(self) -> None:
-        self.assertEqual([address(text) for text in ('"x" <sip:1@h;p=1>;tag=2', "sip:1@h;tag=2")], ["sip:1@h;p=1", "sip:1@h"])
-        self.assertEqual([user(text) for text in ("sip:1:secret@h", "sips:+49@h;user=phone", "tel:+49-30;x=y", "sip:%2A24@h", "sip:h", "http://x@y")],
-                         ["1", "+49", "+49-30", "*24", "", ""])
-        self.assertEqual([host_port(text) for text in ("sip:1@10.0.0.1", "sip:10.0.0.1:5080;lr", "<sip:x>", "sip:1@name:5060", "sip:1@10.0.0.256",
-                                                       "sip:1@1.2.3.4:0",
-                                                       "sip:1@1.2.3.4:99999")], ["10.0.0.1:5060", "10.0.0.1:5080", "", "", "", "", ""])
-        self.assertEqual(split('"a,b" <sip:1,2@h>, c,d'), ['"a,b" <sip:1,2@h>', "c", "d"])
+    def test_a_transaction_without_a_cookie(self) -> None:
+        """An older branch, or none, is told by what else belongs to a request."""
+        plain, other = (Message.read(HEAD.replace(";branch=z9hG4bK1", "").replace("i: id", f"i: {name}") + "\r\n\r\n") for name in ("id", "other"))
+        self.assertNotEqual(plain.transaction, other.transaction)
+        self.assertEqual(plain.transaction.rpartition(" ")[2], "INVITE")
 
 
 class Bodies(unittest.TestCase):

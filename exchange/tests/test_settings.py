@@ -1,0 +1,41 @@
+"""The command line: what is refused."""
+from __future__ import annotations
+
+import os
+import unittest
+from typing import Any
+from unittest import mock
+
+import bench  # noqa: F401  (the path)
+from bridge.settings import Settings
+
+
+class Command(unittest.TestCase):
+    def test_what_is_refused(self) -> None:
+        cases: list[tuple[dict[str, Any], str]] = [
+            ({}, "either"), ({"edge": "127.0.0.1:5060", "phones": {}}, "either"), ({"phones": {}}, ""), ({"edge": "127.0.0.1:5060"}, ""),
+            # a trial asks nobody who he is
+            ({"phones": {}, "listen": "127.8.9.1:5070"}, ""), ({"phones": {}, "listen": "0.0.0.0:5070"}, "loopback"),
+            ({"phones": {}, "listen": "192.0.2.1:5070"}, "loopback"),
+            ({"edge": "192.0.2.1:5060", "listen": "192.0.2.1:5070"}, ""), ({"edge": "192.0.2.1"}, "place"), ({"edge": "name:5060"}, "place"),
+            ({"phones": {}, "listen": "127.0.0.1"}, "place"), ({"phones": {}, "listen": "127.0.0.1:99999"}, "place"), ({"phones": {}, "session": 89}, "seconds"),
+            ({"phones": {}, "media": "198.51.100.0/24, 203.0.113.9,"}, ""), ({"phones": {}, "media": "198.51.100.1/24"}, "--media"),
+            ({"phones": {}, "media": "x"}, "--media"), ({"phones": {}, "media": "::1"}, "--media")]
+        for settings, wanted in cases:
+            fault = Settings(**settings).fault()
+            self.assertTrue(wanted in fault and bool(wanted) == bool(fault), (settings, fault))
+
+    def test_the_desk_by_the_environment(self) -> None:
+        """Its address may have a password; a word of the command line goes before it."""
+        cases: list[tuple[dict[str, str], list[str], str]] = [({}, [], "http://127.0.0.1:8080"), ({"EXCHANGE_DESK": "http://pbx:x@h:1"}, [], "http://pbx:x@h:1"),
+                                                              ({"EXCHANGE_DESK": "http://pbx:x@h:1"}, ["--desk", "http://h:2"], "http://h:2")]
+        for environment, words, wanted in cases:
+            with mock.patch.dict(os.environ, environment), mock.patch("sys.argv", ["acd-exchange", "--edge", "127.0.0.1:5060", *words]):
+                self.assertEqual(Settings.read().desk, wanted)
+
+    def test_networks(self) -> None:
+        self.assertEqual([str(each) for each in Settings(media=" 198.51.100.0/24,203.0.113.9 ").networks], ["198.51.100.0/24", "203.0.113.9/32"])
+
+
+if __name__ == "__main__":
+    unittest.main()
