@@ -24,15 +24,18 @@ sys.path[:0] = [str(EXCHANGE), str(TOP / "clients/python")]
 from acd_client import Answer, Client, Event  # noqa: E402
 
 PASSWORD = "open-sesame"
+# the address that the edges of a trial take for a trunk's
+TRUNK = "127.0.0.9"
 
 
 class Phone:
     """Sends requests that aren't INVITEs by hand, each until it is answered, with a password where one is asked for."""
 
-    def __init__(self, to: int, port: int = 0):
-        self.to = to
+    def __init__(self, to: int, port: int = 0, host: str = "127.0.0.1"):
+        self.to, self.host = to, host
         self.socket = socket.socket(socket.AF_INET, socket.SOCK_DGRAM)
-        self.socket.bind(("127.0.0.1", port))
+        self.socket.bind((host, port))
+        self.port = self.socket.getsockname()[1]
 
     def __enter__(self) -> Phone:
         return self
@@ -54,7 +57,7 @@ class Phone:
 
     def exchange(self, method: str, uri: str, to: str, rest: str, waits: tuple[float, ...]) -> tuple[int, str]:
         branch = "z9hG4bK" + secrets.token_hex(8)
-        data = (f"{method} {uri} SIP/2.0\r\nVia: SIP/2.0/UDP 127.0.0.1:{self.socket.getsockname()[1]};rport;branch={branch}\r\nTo: {to}\r\n{rest}"
+        data = (f"{method} {uri} SIP/2.0\r\nVia: SIP/2.0/UDP {self.host}:{self.port};rport;branch={branch}\r\nTo: {to}\r\n{rest}"
                 f"Max-Forwards: 70\r\nContent-Length: 0\r\n\r\n").encode()
         for wait in waits:
             self.socket.sendto(data, ("127.0.0.1", self.to))
@@ -69,18 +72,77 @@ class Phone:
         return 0, ""
 
 
-class Ground:
+class Programs:
+    """Programs that run in a folder, each a group of processes of its own, since kamailio is several."""
+
+    def __init__(self, folder: Path):
+        shutil.rmtree(folder, ignore_errors=True)
+        folder.mkdir(parents=True)
+        self.folder = folder
+        self.running: list[subprocess.Popen[bytes]] = []
+        self.files: list[IO[bytes]] = []
+
+    def __exit__(self, kind: type[BaseException] | None, value: BaseException | None, where: TracebackType | None) -> None:
+        for process in self.running:
+            self.kill(process)
+        for file in self.files:
+            file.close()
+
+    def start(self, words: list[str], name: str) -> subprocess.Popen[bytes]:
+        said = (self.folder / f"{name}.out").open("ab")
+        self.files.append(said)
+        process = subprocess.Popen(words, cwd=self.folder, stdin=subprocess.DEVNULL, stdout=said, stderr=said, start_new_session=True)
+        self.running.append(process)
+        return process
+
+    def kill(self, process: subprocess.Popen[bytes]) -> None:
+        try:
+            os.killpg(process.pid, signal.SIGKILL)
+        except ProcessLookupError:
+            pass
+        process.wait()
+
+    def end(self, process: subprocess.Popen[bytes], by: int = signal.SIGTERM) -> int:
+        if process.poll() is None:
+            process.send_signal(by)
+        return process.wait()
+
+    def said(self, name: str) -> str:
+        file = self.folder / f"{name}.out"
+        return file.read_text(errors="replace") if file.exists() else ""
+
+    def make_edge(self, values: dict[str, object], names: list[str], changes: dict[str, str] | None = None) -> subprocess.Popen[bytes]:
+        """Kamailio by the packaged file, with these values of its substdef lines and further changes of its text, and accounts of these names."""
+        folder = self.folder / "edge"
+        folder.mkdir()
+        config = (EXCHANGE / "kamailio.cfg").read_text()
+        for name, value in [*values.items(), ("FOLDER", folder)]:
+            config = re.sub(rf'(?m)^(#!substdef "!{name}!)[^!]*', rf"\g<1>{value}", config)
+        for old, new in (changes or {}).items():
+            assert old in config, f"kamailio.cfg doesn't have {old!r}"
+            config = config.replace(old, new)
+        (folder / "kamailio.cfg").write_text(config)
+        subprocess.run(["openssl", "req", "-x509", "-newkey", "rsa:2048", "-nodes", "-subj", "/CN=edge", "-keyout", "edge.key", "-out", "edge.crt"],
+                       cwd=folder, check=True, capture_output=True)
+        write_accounts(folder / "subscriber", [(name, PASSWORD) for name in [*names, "trunk"]])
+        return self.start_kamailio(int(str(values["EDGE_PORT"])))
+
+    def start_kamailio(self, port: int) -> subprocess.Popen[bytes]:
+        folder = self.folder / "edge"
+        edge = self.start(["kamailio", "-DD", "-E", "-f", str(folder / "kamailio.cfg"), "-P", str(folder / "pid"), "-w", str(folder)], "edge")
+        wait_for_port(port)
+        return edge
+
+
+class Ground(Programs):
     """Ports: desk, exchange, music and edge from base on; callers from base + 50, phones from base + 100, media from base + 300."""
 
     def __init__(self, folder: Path, program: str, base: int, stations: int = 3, agents: int = 2, groups: str = "100", ring: int = 5, wrap: int = 2,
                  edge: bool = False, options: tuple[str, ...] = ()):
-        shutil.rmtree(folder, ignore_errors=True)
-        folder.mkdir(parents=True)
-        self.folder, self.program, self.base, self.options = folder, program, base, options
+        super().__init__(folder)
+        self.program, self.base, self.options = program, base, options
         self.desk_port, self.port, self.music_port, self.edge_port, self.tls_port = range(base, base + 5)
         self.stations = [str(201 + each) for each in range(stations)]
-        self.running: list[subprocess.Popen[bytes]] = []
-        self.files: list[IO[bytes]] = []
         self.callers, self.media = 0, base + 300
         rows = ["kind,number,name,ring,wrap", *(f"group,{number},Group {number},{ring},{wrap}" for number in groups.split()),
                 *(f"station,{number},,," for number in self.stations), *(f"agent,{each + 1},Agent {each + 1},," for each in range(agents))]
@@ -99,35 +161,15 @@ class Ground:
     def __enter__(self) -> Ground:
         return self
 
-    def __exit__(self, kind: type[BaseException] | None, value: BaseException | None, where: TracebackType | None) -> None:
+    def __exit__(self, *what: Any) -> None:
         self.client.disconnect()
         self.keys.socket.close()
-        for process in self.running:
-            # each is a group of its own, since kamailio is several processes
-            try:
-                os.killpg(process.pid, signal.SIGKILL)
-            except ProcessLookupError:
-                pass
-            process.wait()
-        for file in self.files:
-            file.close()
+        super().__exit__(*what)
 
     # programs
 
     def acd(self, *words: str) -> str:
         return subprocess.run([self.program, *words], cwd=self.folder, stdout=subprocess.PIPE, stderr=subprocess.STDOUT, text=True).stdout
-
-    def start(self, words: list[str], name: str) -> subprocess.Popen[bytes]:
-        said = (self.folder / f"{name}.out").open("ab")
-        self.files.append(said)
-        process = subprocess.Popen(words, cwd=self.folder, stdin=subprocess.DEVNULL, stdout=said, stderr=said, start_new_session=True)
-        self.running.append(process)
-        return process
-
-    def end(self, process: subprocess.Popen[bytes], by: int = signal.SIGTERM) -> int:
-        if process.poll() is None:
-            process.send_signal(by)
-        return process.wait()
 
     def start_desk(self) -> subprocess.Popen[bytes]:
         desk = self.start([self.program, "serve", "--file", "desk.db", "--port", str(self.desk_port), "--connections", "1000000"], "desk")
@@ -150,22 +192,8 @@ class Ground:
         self.start([str(TOP / "tools/operating/acd-tick"), "--port", str(self.desk_port), "--step", "2"], "ticks")
 
     def start_edge(self) -> None:
-        folder = self.folder / "edge"
-        folder.mkdir()
-        config = (EXCHANGE / "kamailio.cfg").read_text()
-        for name, value in {"EDGE_PORT": self.edge_port, "TLS_PORT": self.tls_port, "EXCHANGE_PORT": self.port, "FOLDER": folder}.items():
-            config = re.sub(rf'(?m)^(#!substdef "!{name}!)[^!]*', rf"\g<1>{value}", config)
-        (folder / "kamailio.cfg").write_text(config)
-        accounts = [(number, PASSWORD) for number in self.stations] + [("trunk", PASSWORD)]
-        subprocess.run(["openssl", "req", "-x509", "-newkey", "rsa:2048", "-nodes", "-subj", "/CN=edge", "-keyout", "edge.key", "-out", "edge.crt"],
-                       cwd=folder, check=True, capture_output=True)
-        write_accounts(folder / "subscriber", accounts)
-        self.edge = self.start(["kamailio", "-DD", "-E", "-f", str(folder / "kamailio.cfg"), "-P", str(folder / "pid"), "-w", str(folder)], "edge")
-        time.sleep(1.5)
-
-    def said(self, name: str) -> str:
-        file = self.folder / f"{name}.out"
-        return file.read_text(errors="replace") if file.exists() else ""
+        ports = {"EDGE_PORT": self.edge_port, "TLS_PORT": self.tls_port, "EXCHANGE_PORT": self.port}
+        self.edge = self.make_edge({**ports, "TRUNK_ADDRESSES": TRUNK}, self.stations)
 
     # phones and callers
 
@@ -262,8 +290,10 @@ def write_accounts(file: Path, accounts: list[tuple[str, str]]) -> None:
 
 
 def credentials(challenge: str, status: int, method: str, uri: str, name: str, password: str) -> str:
-    """The field that answers a challenge (RFC 2617, MD5, without qop)."""
+    """The field that answers a challenge (RFC 2617, MD5, without qop); nothing where none came."""
     parts = dict(re.findall(r'(\w+)="([^"]*)"', challenge))
+    if "nonce" not in parts:
+        return ""
 
     def digest(*words: str) -> str:
         return hashlib.md5(":".join(words).encode()).hexdigest()
