@@ -1,0 +1,1 @@
+"""The parts of one of several machines that share a log."""

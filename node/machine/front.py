@@ -1,0 +1,131 @@
+"""Takes requests and reads over HTTP, as the desk does: one a connection."""
+import json
+import os
+import ssl
+import sys
+import threading
+import traceback
+from http.server import BaseHTTPRequestHandler, ThreadingHTTPServer
+
+from machine.entries import LONGEST, request_of
+
+
+def malformed(member):
+    return b'{"error":{"code":30,"member":"%s","name":"malformed"}}' % member
+
+
+AGAIN = b'{"error":{"code":33,"name":"noMemory"}}'
+NOT_FOUND = 404, b'{"error":{"code":35,"name":"notFound"}}'
+NO_LENGTH = 411, b'{"error":{"code":37,"name":"lengthRequired"}}'
+TOO_LARGE = 413, b'{"error":{"code":38,"name":"bodyTooLarge"}}'
+NOT_IMPLEMENTED = 501, b'{"error":{"code":40,"name":"notImplemented"}}'
+WRONG_LENGTH = 400, malformed(b"contentLength")
+NO_JSON = 400, malformed(b"json")
+NO_HEAD = 400, malformed(b"head")
+TOO_LARGE_HEAD = 431, b'{"error":{"code":39,"name":"headTooLarge"}}'
+
+
+# what Python's reader of heads finds, as the desk says it
+FAULTS = {414: TOO_LARGE_HEAD, 431: TOO_LARGE_HEAD, 501: NOT_IMPLEMENTED}
+
+
+def length_of(path, fields):
+    """The length of a body that is to be read, or None; and the status and body with which the desk refuses such a POST before it reads one, or None."""
+    lengths = fields.get_all("Content-Length", [])
+    if "Transfer-Encoding" in fields:
+        return None, NOT_IMPLEMENTED
+    if len(lengths) > 1 or lengths and not (lengths[0].isascii() and lengths[0].isdigit()):
+        return None, WRONG_LENGTH
+    if path.partition("?")[0] != "/csta":
+        return None, NOT_FOUND
+    if not lengths:
+        return None, NO_LENGTH
+    digits = lengths[0].lstrip("0") or "0"
+    return (None, TOO_LARGE) if len(digits) > 9 or int(digits) > LONGEST else (int(digits), None)
+
+
+class Handler(BaseHTTPRequestHandler):
+    protocol_version = "HTTP/1.1"
+    default_request_version = "HTTP/1.0"                   # what has none is told a status all the same
+    disable_nagle_algorithm = True
+    timeout = 75                                           # seconds for a read, a write and the handshake of TLS: a silent client holds one thread so long
+
+    def handle(self):
+        if isinstance(self.connection, ssl.SSLSocket):
+            self.connection.do_handshake()                 # in this connection's own thread, and not in the one that accepts them all
+        super().handle()
+
+    def send(self, status, body, kind="application/json"):
+        self.send_response(status)
+        self.send_header("Content-Type", kind)
+        self.send_header("Content-Length", str(len(body)))
+        if status == 405:
+            self.send_header("Allow", "POST")
+        self.send_header("Connection", "close")
+        self.end_headers()
+        if self.command != "HEAD":
+            self.wfile.write(body)
+
+    def send_line(self, line):
+        """An answer line of the desk; where there is none the request is to be sent again."""
+        status, _, body = line.rstrip(b"\n").partition(b" ")
+        if body.startswith(b'"'):                          # the report: a line tells it as a JSON text
+            return self.send(int(status), json.loads(body).encode(), "text/plain")
+        self.send(int(status or 503), body or AGAIN)
+
+    def send_error(self, status, message=None, explain=None):
+        self.send(*FAULTS.get(status, NO_HEAD))
+
+    def do_POST(self):
+        length, refused = length_of(self.path, self.headers)
+        if refused:
+            return self.send(*refused)
+        body = self.rfile.read(length)
+        if len(body) < length:                             # truncated: the desk answers nothing either
+            self.close_connection = True
+            return None
+        request = request_of(body)
+        return self.send_line(self.server.bridge.answer(request)) if request else self.send(*NO_JSON)
+
+    def do_GET(self):
+        self.send_line(self.server.bridge.read(self.path.encode("latin-1")))
+
+    do_HEAD = do_GET
+
+    def log_message(self, *words):
+        pass
+
+
+class Front(ThreadingHTTPServer):
+    daemon_threads = True
+    request_queue_size = 128
+    most = 2000                                            # connections at a time; who comes behind them is closed, and sends again
+
+    def __init__(self, address, bridge, context=None):
+        super().__init__(address, Handler)
+        self.bridge, self.room = bridge, threading.BoundedSemaphore(self.most)
+        if context:
+            self.socket = context.wrap_socket(self.socket, server_side=True, do_handshake_on_connect=False)
+
+    def process_request(self, request, client_address):
+        if self.room.acquire(blocking=False):
+            super().process_request(request, client_address)
+        else:
+            self.shutdown_request(request)
+
+    def process_request_thread(self, request, client_address):
+        try:
+            super().process_request_thread(request, client_address)
+        finally:
+            self.room.release()
+
+    def handle_error(self, request, client_address):
+        if not isinstance(sys.exc_info()[1], OSError):     # a client that went away, or that has no certificate, is no fault
+            end_process(*sys.exc_info())
+
+
+def end_process(kind, fault, trace):
+    """What nobody foresaw ends the process, whichever thread it is in: half a machine would serve an old state for ever."""
+    traceback.print_exception(kind, fault, trace)
+    sys.stderr.flush()
+    os._exit(1)

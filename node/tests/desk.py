@@ -1,0 +1,22 @@
+#!/usr/bin/python3
+"""A desk of the tests. It answers each line with 200 and the line itself, and notes it in its file; behind `memory` it has none once, and behind `fault` it ends once."""
+import sys
+from pathlib import Path
+
+if "--help" in sys.argv:
+    sys.exit(print("--reads"))
+file = Path(sys.argv[sys.argv.index("--file") + 1])
+for line in sys.stdin.buffer:
+    word = line.rstrip(b"\n").split(b" ", 1)[-1].decode("latin-1")
+    once = file.parent / f"{word[:6]}.once"
+    if word in ("memory", "fault") and not once.exists():
+        once.touch()
+        if word == "fault":
+            sys.exit(1)
+        sys.stdout.write('503 {"error":{"code":33,"name":"noMemory"}}\n')
+    else:
+        if not word.startswith("GET "):
+            with open(file, "ab") as notes:
+                notes.write(line)
+        sys.stdout.write(f"200 {word}\n")
+    sys.stdout.flush()

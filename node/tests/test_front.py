@@ -1,0 +1,206 @@
+"""What a client is answered: the desk's own refusals, and no entry of a body that can't be one."""
+import random
+import socket
+import ssl
+import subprocess
+import sys
+import threading
+import time
+import unittest
+from pathlib import Path
+
+sys.path.insert(0, str(Path(__file__).resolve().parent))
+
+from bench import Bench  # noqa: E402
+from machine.front import Front  # noqa: E402
+
+JSON = b'{"error":{"code":30,"member":"json","name":"malformed"}}'
+HEAD = b'{"error":{"code":30,"member":"head","name":"malformed"}}'
+LENGTH = b'{"error":{"code":30,"member":"contentLength","name":"malformed"}}'
+NOT_FOUND = b'{"error":{"code":35,"name":"notFound"}}'
+NO_LENGTH = b'{"error":{"code":37,"name":"lengthRequired"}}'
+TOO_LARGE = b'{"error":{"code":38,"name":"bodyTooLarge"}}'
+HEAD_TOO_LARGE = b'{"error":{"code":39,"name":"headTooLarge"}}'
+NOT_IMPLEMENTED = b'{"error":{"code":40,"name":"notImplemented"}}'
+AGAIN = b'{"error":{"code":33,"name":"noMemory"}}'
+
+
+class Answers:
+    """In a bridge's place: it answers each request with itself."""
+
+    def __init__(self):
+        self.asked, self.silent = [], False
+
+    def answer(self, request):
+        self.asked.append(request)
+        return b"" if self.silent else b"200 " + request + b"\n"
+
+    def read(self, target):
+        return b'200 "a report\\n"\n' if target == b"/reports/queues" else b"405 x\n" if target == b"/csta" else b"200 " + target + b"\n"
+
+
+def read_all(connection):
+    found = b""
+    while part := connection.recv(65536):
+        found += part
+    return found
+
+
+class Fronting(Bench):
+    def front(self, context=None, most=None):
+        Front.most = most or 2000
+        self.answers = Answers()
+        self.server = Front(("127.0.0.1", 0), self.answers, context)
+        self.addCleanup(self.server.server_close)
+        self.addCleanup(self.server.shutdown)
+        threading.Thread(target=self.server.serve_forever, kwargs={"poll_interval": 0.05}, daemon=True).start()
+        return self.server.server_address
+
+    def exchange(self, sent, address=None):
+        """The status and the body of a reply; None where there is none."""
+        with socket.create_connection(address or self.server.server_address, timeout=20) as connection:
+            connection.sendall(sent)
+            connection.shutdown(socket.SHUT_WR)
+            reply = read_all(connection)
+        head, _, body = reply.partition(b"\r\n\r\n")
+        return (int(head.split()[1]), body) if reply else None
+
+    def post(self, body, path=b"/csta", length=None):
+        return self.exchange(b"POST %s HTTP/1.1\r\nHost: desk\r\nContent-Length: %s\r\n\r\n%s" % (path, length or b"%d" % len(body), body))
+
+
+class Requests(Fronting):
+    def test_bodies(self):
+        self.front()
+        self.assertEqual(self.post(b'{"a":1}'), (200, b'{"a":1}'))
+        self.assertEqual(self.post(b'{\r\n"a":\n1}'), (200, b'{\t\t"a":\t1}'))
+        self.assertEqual(self.post(b"x" * 4096), (200, b"x" * 4096))
+        self.assertEqual(len(self.answers.asked), 3)
+        for body in [b"", b"GET /snapshot", b"GET", b"HEAD /"]:
+            self.assertEqual(self.post(body), (400, JSON), body)
+        self.assertEqual(len(self.answers.asked), 3)
+        self.answers.silent = True
+        self.assertEqual(self.post(b"{}"), (503, AGAIN))
+
+    def test_lengths(self):
+        self.front()
+        for length, told in [(b"4097", (413, TOO_LARGE)), (b"9" * 5000, (413, TOO_LARGE)), (b"9" * 60000, (413, TOO_LARGE)),
+                             (b"0" * 5000 + b"2", (200, b"{}")), (b"0" * 5000, (400, JSON)), (b"-1", (400, LENGTH)),
+                             (b"+2", (400, LENGTH)), (b"0x2", (400, LENGTH)), (b"2,2", (400, LENGTH)),
+                             (b"2\r\nContent-Length: 2", (400, LENGTH)), (b"\xb2", (400, LENGTH)), (b"1_0", (400, LENGTH)),
+                             (b"2\r\nTransfer-Encoding: chunked", (501, NOT_IMPLEMENTED))]:
+            self.assertEqual(self.post(b"{}", length=length), told, length[:30])
+        self.assertEqual(self.exchange(b"POST /csta HTTP/1.1\r\nHost: desk\r\n\r\n{}"), (411, NO_LENGTH))
+        self.assertEqual(self.answers.asked, [b"{}"])
+
+    def test_a_body_that_ends_early_is_no_request(self):
+        self.front()
+        self.assertIsNone(self.post(b'{"a"', length=b"9"))
+        self.assertEqual(self.answers.asked, [])
+
+    def test_one_request_a_connection(self):
+        self.front()
+        one = b"POST /csta HTTP/1.1\r\nHost: desk\r\nConnection: keep-alive\r\nContent-Length: 2\r\n\r\n{}"
+        self.assertEqual(self.exchange(one + one), (200, b"{}"))
+        self.assertEqual(self.exchange(b"GET /snapshot HTTP/1.1\r\nHost: desk\r\nContent-Length: %d\r\n\r\n%s" % (len(one), one)), (200, b"/snapshot"))
+        self.assertEqual(self.answers.asked, [b"{}"])
+
+    def test_paths_and_methods(self):
+        self.front()
+        for path in [b"/", b"/snapshot", b"/cstax", b"/CSTA", b"/csta/"]:
+            self.assertEqual(self.post(b"{}", path), (404, NOT_FOUND))
+        self.assertEqual(self.post(b"{}", b"/csta?x=1"), (200, b"{}"))
+        for method in [b"PUT", b"DELETE", b"OPTIONS", b"get", b"CONNECT"]:
+            self.assertEqual(self.exchange(method + b" /csta HTTP/1.1\r\nHost: desk\r\nContent-Length: 2\r\n\r\n{}"), (501, NOT_IMPLEMENTED))
+        for head in [b"x\r\n\r\n", b"GET / HTTP/9.x\r\n\r\n", b"GET / x HTTP/1.1\r\n\r\n", b"\x16\x03\x01\x02\x00\r\n"]:
+            self.assertEqual(self.exchange(head), (400, HEAD), head)
+        self.assertEqual(self.exchange(b"GET /" + b"x" * 70000 + b" HTTP/1.1\r\n\r\n"), (431, HEAD_TOO_LARGE))
+        self.assertEqual(self.exchange(b"GET / HTTP/1.1\r\n" + b"a: b\r\n" * 200 + b"\r\n"), (431, HEAD_TOO_LARGE))
+
+    def test_reads(self):
+        self.front()
+        self.assertEqual(self.exchange(b"GET /events?after=7 HTTP/1.1\r\nHost: desk\r\n\r\n"), (200, b"/events?after=7"))
+        self.assertEqual(self.exchange(b"HEAD /events HTTP/1.1\r\nHost: desk\r\n\r\n"), (200, b""))
+        self.assertEqual(self.exchange(b"GET /reports/queues HTTP/1.1\r\nHost: desk\r\n\r\n"), (200, b"a report\n"))
+        self.assertEqual(self.exchange(b"GET /csta HTTP/1.1\r\nHost: desk\r\n\r\n"), (405, b"x"))
+
+    def test_more_connections_than_there_is_room_for(self):
+        address = self.front(most=20)
+        silent = [socket.create_connection(address) for _ in range(20)]
+        self.until(lambda: self.server.room._value == 0)
+        self.assertIsNone(self.exchange(b""))
+        for connection in silent:
+            connection.close()
+        self.until(lambda: self.server.room._value == 20)
+        self.assertEqual(self.post(b"{}"), (200, b"{}"))
+
+    def test_hostile_bytes_end_nothing(self):
+        """An end of the process would end the tests."""
+        self.front()
+        chance = random.Random(4)
+        good = b"POST /csta HTTP/1.1\r\nHost: desk\r\nContent-Length: 7\r\nX: y\r\n\r\n{\"a\":1}"
+        pieces = [b"\r\n", b"\n", b"\r", b"\0", b"\xff", b"\x85", b" ", b":", b"Content-Length: ", b"9" * 5000, b"HTTP/1.1", b"HTTP/1." + b"9" * 30,
+                  b"GET ", b"//", b"?", b"Transfer-Encoding: x\r\n", b"Expect: 100-continue\r\n"]
+        for _ in range(3000):
+            sent = bytearray(good)
+            for _ in range(chance.randrange(1, 5)):
+                at = chance.randrange(len(sent) + 1)
+                sent[at:at + chance.choice([0, 0, 1, 5])] = chance.choice(pieces)
+            try:
+                self.exchange(bytes(sent))
+            except OSError:                                # a reset: what was sent wasn't all read
+                pass
+        self.assertEqual(self.post(b"{}"), (200, b"{}"))
+
+
+class Certificates(Fronting):
+    def certify(self, authority):
+        """A certificate of this authority, which is made where it isn't there."""
+        folder = self.folder / authority
+        folder.mkdir()
+        (folder / "names").write_text("subjectAltName=IP:127.0.0.1\nextendedKeyUsage=serverAuth,clientAuth\n")
+        for words in ["req -newkey rsa:2048 -nodes -subj /CN=authority -x509 -days 2 -keyout ca.key -out ca.crt", "req -newkey rsa:2048 -nodes -subj /CN=desk -keyout m.key -out m.csr",
+                      "x509 -req -in m.csr -CA ca.crt -CAkey ca.key -CAcreateserial -days 2 -extfile names -out m.crt"]:
+            subprocess.run(["openssl", *words.split()], cwd=folder, check=True, stdout=subprocess.DEVNULL, stderr=subprocess.DEVNULL)
+        return folder
+
+    def client(self, ours, theirs=None):
+        context = ssl.create_default_context(cafile=ours / "ca.crt")
+        if theirs:
+            context.load_cert_chain(theirs / "m.crt", theirs / "m.key")
+        return context
+
+    def tried(self, context):
+        """What a client gets, behind its request."""
+        with socket.create_connection(self.server.server_address, timeout=5) as plain:
+            try:
+                with context.wrap_socket(plain, server_hostname="127.0.0.1") as connection:
+                    connection.sendall(b"POST /csta HTTP/1.1\r\nHost: desk\r\nContent-Length: 2\r\n\r\n{}")
+                    return read_all(connection)
+            except OSError:
+                return b""
+
+    def test_who_has_no_certificate_gets_nothing(self):
+        ours, theirs = self.certify("ours"), self.certify("theirs")
+        context = ssl.SSLContext(ssl.PROTOCOL_TLS_SERVER)
+        context.load_cert_chain(ours / "m.crt", ours / "m.key")
+        context.load_verify_locations(ours / "ca.crt")
+        context.verify_mode = ssl.CERT_REQUIRED
+        self.front(context)
+        self.assertTrue(self.tried(self.client(ours, ours)).endswith(b"\r\n\r\n{}"))
+        self.assertEqual((self.tried(self.client(ours)), self.tried(self.client(ours, theirs)), self.answers.asked), (b"", b"", [b"{}"]))
+        with socket.create_connection(self.server.server_address, timeout=5) as plain:
+            plain.sendall(b"POST /csta HTTP/1.1\r\nHost: desk\r\nContent-Length: 2\r\n\r\n{}")
+            try:
+                self.assertNotIn(b"HTTP", read_all(plain))
+            except ConnectionError:
+                pass
+        silent = socket.create_connection(self.server.server_address)   # in a handshake that goes on for ever
+        start = time.monotonic()
+        self.assertTrue(self.tried(self.client(ours, ours)).endswith(b"{}"))
+        self.assertLess(time.monotonic() - start, 5)
+        silent.close()
+
+
+if __name__ == "__main__":
+    unittest.main()

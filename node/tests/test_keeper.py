@@ -1,0 +1,246 @@
+"""Places that machines tell, compaction up to the least of them, digests that are compared and deleted, and warnings."""
+import sys
+import unittest
+from pathlib import Path
+from unittest import mock
+
+sys.path.insert(0, str(Path(__file__).resolve().parent))
+
+from bench import LINE, Bench  # noqa: E402
+from collections import deque  # noqa: E402
+from machine.bridge import Reached  # noqa: E402
+from machine.keeper import Keeper  # noqa: E402
+
+
+class Machine:
+    """How far a machine came, as its bridge says."""
+
+    def __init__(self):
+        self.folder, self.reached, self.due, self.held = "FOLDER", Reached(0, 0, b""), deque(), False
+
+    def durable_place(self):
+        return self.reached
+
+
+class Keeping(Bench):
+    def setUp(self):
+        super().setUp()
+        self.member()
+        self.entries(40)                                   # at 2 to 41
+        self.machines = {name: Machine() for name in ("m1", "m2", "m3")}
+        self.keepers = {name: Keeper(name, list(self.machines), 2, self.log(), machine, self.journal, lambda: self.now) for name, machine in self.machines.items()}
+
+    def look(self, *names, after=60):
+        self.now += after
+        for name in names:
+            self.keepers[name].look()
+
+    def at(self, **places):
+        for name, place in places.items():
+            self.machines[name].reached = Reached(place, self.machines[name].reached.count, b"")
+
+    def told(self):
+        return {name.decode(): told.place for name, told in self.keepers["m1"].log.places().items()}
+
+    def test_the_place_is_told_each_minute_and_each_thousand_entries(self):
+        self.at(m1=5)
+        self.look("m1", after=0)
+        self.assertEqual(self.told(), {"m1": 5})
+        self.at(m1=6)
+        self.look("m1", after=59)
+        self.assertEqual(self.told(), {"m1": 5})
+        self.look("m1", after=1)
+        self.assertEqual(self.told(), {"m1": 6})
+        self.machines["m1"].reached = Reached(7, 999, b"")
+        self.look("m1", after=1)
+        self.assertEqual(self.told(), {"m1": 6})
+        self.machines["m1"].reached = Reached(8, 1000, b"")
+        self.look("m1", after=1)
+        self.assertEqual(self.told(), {"m1": 8})
+
+    def test_compaction_up_to_the_least_place(self):
+        self.at(m1=30, m2=20)
+        self.look("m1", "m2")
+        self.assertEqual(self.store.compacted, 0)          # m3 has told none
+        self.at(m3=12)
+        self.look("m3")
+        self.assertEqual(self.store.compacted, 12)
+        self.at(m3=25)
+        self.look("m3", "m1")
+        self.assertEqual(self.store.compacted, 20)
+
+    def test_compaction_up_to_the_end_where_all_have_all(self):
+        self.at(m1=41, m2=41, m3=41)
+        self.look("m1", "m2", "m3")
+        self.assertEqual(self.store.compacted, self.store.revision)
+
+    def test_nothing_is_forgotten_without_machines(self):
+        self.keepers["m1"].machines = []
+        self.at(m1=41)
+        self.look("m1")
+        self.assertEqual((self.store.compacted, self.told()), (0, {"m1": 41}))
+
+    def test_one_that_is_gone_is_named_each_hour_and_not_waited_for(self):
+        self.at(m1=20, m2=30, m3=10)
+        self.look("m1", "m2", "m3")
+        for minute in range(120):                          # the first of which finds what m3 told
+            self.look("m1", "m2")
+        self.assertEqual((self.store.compacted, self.said.getvalue()), (10, ""))
+        self.look("m1", "m2")
+        self.assertEqual(self.store.compacted, 20)
+        self.assertEqual(self.said.getvalue().count("m3 has told no place for 2.0 hours"), 1)  # both tell it to one journal here
+        for minute in range(59):
+            self.look("m1", "m2")
+        self.assertEqual(self.said.getvalue().count("m3 has told no place"), 1)
+        self.look("m1", "m2")
+        self.assertEqual(self.said.getvalue().count("m3 has told no place"), 2)
+
+    def test_one_that_comes_back_is_waited_for_again(self):
+        self.at(m1=20, m2=30, m3=10)
+        self.look("m1", "m2", "m3")
+        for minute in range(121):
+            self.look("m1", "m2")
+        self.at(m1=35, m2=35, m3=22)                       # with a copied folder
+        self.look("m3")
+        self.look("m1", "m2")
+        self.look("m1", "m2")
+        self.assertEqual(self.store.compacted, 22)
+
+    def test_one_whose_folder_is_too_old_is_not_waited_for(self):
+        self.at(m1=20, m2=30, m3=10)
+        self.look("m1", "m2", "m3")
+        for minute in range(121):
+            self.look("m1", "m2")
+        before = self.keepers["m1"].log.places()[b"m3"]
+        self.look("m3")                                    # it is started with the folder that it had
+        self.assertEqual(self.keepers["m1"].log.places()[b"m3"], before)
+
+    def test_one_that_never_told_is_waited_for_as_long(self):
+        self.at(m1=20, m2=30)
+        for minute in range(119):
+            self.look("m1", "m2")
+        self.assertEqual(self.store.compacted, 0)
+        self.look("m1", "m2")
+        self.assertEqual(self.store.compacted, 20)
+
+    def test_while_etcd_is_away_nobody_is_gone(self):
+        self.at(m1=20, m2=30, m3=10)
+        self.look("m1", "m2", "m3")
+        self.members[0].away = True
+        for minute in range(600):
+            self.look("m1")
+        self.members[0].away = False
+        self.look("m1")
+        self.assertEqual(self.store.compacted, 10)
+        self.assertNotIn("m3 has told", self.said.getvalue())
+
+    def test_what_a_machine_that_is_gone_holds_doesnt_keep_etcd_full(self):
+        self.at(m1=20, m2=30, m3=10)
+        self.look("m1", "m2", "m3")
+        self.at(m1=41, m2=41)
+        self.store.full = True                             # so they can't tell that
+        for minute in range(121):
+            self.look("m1", "m2")
+        self.assertIn(self.store.compacted, range(20, 42))  # and nothing is taken from those that are there
+
+    def test_a_full_etcd_forgets_all_the_same(self):
+        self.at(m1=20, m2=30, m3=10)
+        self.look("m1", "m2", "m3")
+        self.store.full = True
+        self.at(m3=40)
+        self.look("m3")                                    # it can't tell that
+        self.assertEqual((self.store.compacted, self.told()["m3"]), (10, 10))
+        self.assertIn("space exceeded", self.said.getvalue())
+
+    def test_a_place_that_wasnt_taken_is_told_again_soon(self):
+        self.at(m1=5)
+        self.store.full = True
+        self.look("m1")
+        self.store.full = False
+        self.look("m1", after=1)
+        self.assertEqual(self.told(), {"m1": 5})
+
+    def test_a_day_of_silence_while_the_machine_slept_is_two_minutes(self):
+        self.at(m1=20, m2=30, m3=10)
+        self.look("m1", "m2", "m3")
+        self.look("m1", after=86400)
+        self.assertEqual(self.store.compacted, 10)
+
+    def test_digests_are_told_and_old_ones_deleted(self):
+        for count in range(1000, 15000, 1000):
+            self.machines["m1"].due.append((count, b"%d" % count))
+            self.look("m1", after=1)
+        self.assertEqual(sorted(int(key.partition(b"/")[0]) for key in self.keepers["m1"].log.listed(b"digest")), list(range(4000, 15000, 1000)))
+        self.assertEqual(self.keepers["m1"].last_digest, (14000, b"14000"))
+
+    def test_digests_wait_for_etcd(self):
+        self.store.full = True
+        self.machines["m1"].due.append((1000, b"x"))
+        self.look("m1")
+        self.assertEqual(len(self.machines["m1"].due), 1)
+        self.store.full = False
+        self.look("m1")
+        self.assertEqual((len(self.machines["m1"].due), self.keepers["m1"].log.digests(1000)), (0, {b"m1": b"x"}))
+
+    def ends(self, **digests):
+        """With which status each machine ends where these are their digests; 0 where it goes on."""
+        with mock.patch("os._exit") as ended:
+            for name, digest in digests.items():
+                self.machines[name].due.append((1000, digest))
+                self.look(name, after=1)
+            statuses = []
+            for name in digests:
+                ended.reset_mock()
+                self.look(name, after=1)
+                statuses.append(ended.call_args.args[0] if ended.called else 0)
+        return statuses
+
+    def test_one_that_differs_from_two_ends(self):
+        self.assertEqual(self.ends(m1=b"x", m2=b"y", m3=b"y"), [3, 0, 0])
+        self.assertIn("differ from those of two other machines: FOLDER is not to be used", self.said.getvalue())
+
+    def test_equal_ones_go_on(self):
+        self.assertEqual(self.ends(m1=b"x", m2=b"x", m3=b"x"), [0, 0, 0])
+
+    def test_of_three_that_all_differ_nobody_knows(self):
+        self.assertEqual(self.ends(m1=b"x", m2=b"y", m3=b"z"), [0, 0, 0])
+
+    def test_of_two_nobody_knows(self):
+        self.assertEqual(self.ends(m1=b"x", m2=b"y"), [0, 0])
+
+    def test_half_of_the_quota(self):
+        member, other = self.members[0], self.member(quota=1000, size=499, used=10)
+        self.keepers["m1"].log = self.log()
+        member.quota, member.size, member.used = 1000, 500, 400
+        for minute in range(61):
+            self.look("m1")
+        told = self.said.getvalue()
+        self.assertEqual(told.count(f"etcd at {member.end} has 500 bytes of its quota of 1000, 400 of them in use"), 2)
+        self.assertNotIn(other.end, told)
+
+    def test_near_the_quota_requests_are_refused_and_places_told_all_the_time(self):
+        member = self.members[0]
+        for size, used, held in [(874, 874, False), (875, 749, False), (875, 750, True), (999, 999, True), (999, 100, False), (100, 100, False)]:
+            member.quota, member.size, member.used = 1000, size, used
+            self.look("m1", after=5)
+            self.assertEqual(self.machines["m1"].held, held, (size, used))
+        member.size, member.used = 900, 900
+        self.look("m1")
+        self.at(m1=17)
+        self.look("m1", after=1)
+        self.assertEqual(self.told(), {"m1": 17})
+        self.assertEqual(self.said.getvalue().count("etcd is nearly full"), 1)
+        member.size, member.used = 900, 200                # the log was shortened
+        self.look("m1", after=1)
+        self.assertFalse(self.machines["m1"].held)
+
+    def test_the_line_is_the_only_key_that_is_read(self):
+        self.store.put(LINE + b"/place/", b"5")
+        self.store.put(LINE + b"/place/stranger", b"1")
+        self.at(m1=30, m2=20, m3=10)
+        self.look("m1", "m2", "m3")
+        self.assertEqual(self.store.compacted, 10)
+
+
+if __name__ == "__main__":
+    unittest.main()

@@ -1,0 +1,247 @@
+"""The log over an etcd that lags, forgets, compacts, breaks off, answers late, twice, and out of order."""
+import itertools
+import sys
+import threading
+import time
+import unittest
+from pathlib import Path
+
+sys.path.insert(0, str(Path(__file__).resolve().parent))
+
+from bench import LINE, Bench, token  # noqa: E402
+from machine.log import QUOTA, Forgotten, Refused, events  # noqa: E402
+
+
+def told(many, log, place=0):
+    """The numbers of so many entries behind a place."""
+    return [int(entry.rsplit(b" ", 1)[1]) for _, entry in itertools.islice(log.follow(place), many)]
+
+
+class Following(Bench):
+    def test_each_entry_once_and_in_order(self):
+        self.member()
+        self.entries(5)
+        self.assertEqual(told(5, self.log()), [1, 2, 3, 4, 5])
+        self.assertEqual(list(itertools.islice(self.log().follow(0), 2)), [(2, token(1) + b" 5 line 1"), (3, token(2) + b" 5 line 2")])
+        self.assertEqual(told(2, self.log(), 4), [4, 5])
+
+    def test_other_keys_are_none_of_it(self):
+        self.member()
+        for number in range(1, 4):
+            self.entries(1, number)
+            self.store.put(LINE + b"/digest/1000/m1", b"x")
+            self.store.put(b"desk/linf", b"x")
+        self.assertEqual(told(3, self.log()), [1, 2, 3])
+
+    def test_what_comes_later(self):
+        self.member()
+        self.entries(1)
+        following = self.log().follow(0)
+        next(following)
+        threading.Timer(1, self.entries, (2, 2)).start()  # behind several silences
+        self.assertEqual([int(entry[-1:]) for _, entry in itertools.islice(following, 2)], [2, 3])
+
+    def test_a_member_that_lags(self):
+        self.member(lag=3)
+        self.member()
+        self.entries(9)
+        self.assertEqual(told(9, self.log()), list(range(1, 10)))
+
+    def test_events_that_come_twice(self):
+        self.member(twice=True)
+        self.entries(4)
+        self.assertEqual(told(4, self.log()), [1, 2, 3, 4])
+
+    def test_events_out_of_order_are_never_taken(self):
+        self.member(shuffled=True)
+        self.entries(4)
+        log, found = self.log(), []
+        threading.Thread(target=lambda: found.extend(told(4, log)), daemon=True).start()
+        self.until(lambda: "before one that comes first" in self.said.getvalue())
+        time.sleep(0.5)
+        self.assertEqual(found, [])
+        self.members[0].shuffled = False
+        self.until(lambda: found == [1, 2, 3, 4])
+
+    def test_out_of_order_at_one_member(self):
+        self.member(shuffled=True)
+        self.member()
+        self.entries(4)
+        for _ in range(4):                                 # whichever is asked first
+            self.assertEqual(told(4, self.log()), [1, 2, 3, 4])
+
+    def test_a_member_that_breaks_off_within_a_line(self):
+        self.member(broken=True)
+        self.member()
+        self.entries(3)
+        for _ in range(4):
+            self.assertEqual(told(3, self.log()), [1, 2, 3])
+
+    def test_members_away(self):
+        away = self.member(away=True)
+        self.entries(3)
+        found, log = [], self.log()
+        threading.Thread(target=lambda: found.extend(told(3, log)), daemon=True).start()
+        self.until(lambda: "no leader" in self.said.getvalue())
+        away.away = False
+        self.until(lambda: found == [1, 2, 3])
+        self.assertEqual(self.said.getvalue().count("\n"), 1)  # one line, however often it is tried
+
+    def test_deleted_and_put_again(self):
+        self.member()
+        self.entries(2)
+        self.store.delete(LINE)
+        self.store.put(LINE, b"")
+        self.entries(1, 3)
+        self.assertEqual([entry for _, entry in itertools.islice(self.log().follow(0), 5)], [token(1) + b" 5 line 1", token(2) + b" 5 line 2", b"", b"", token(3) + b" 5 line 3"])
+        for place, left in [(3, [b"", b"", token(3) + b" 5 line 3"]), (4, [b"", token(3) + b" 5 line 3"]), (5, [token(3) + b" 5 line 3"])]:
+            self.assertEqual([entry for _, entry in itertools.islice(self.log().follow(place), len(left))], left)
+
+    def test_compacted_before_the_place(self):
+        self.member()
+        self.entries(6)
+        log = self.log()
+        log.compact(4)
+        self.assertEqual(told(3, log, 4), [4, 5, 6])
+        for place in (0, 2, 3):
+            with self.assertRaises(Forgotten):
+                next(self.log().follow(place))
+
+    def test_compacted_up_to_the_end(self):
+        self.member()
+        self.entries(2)
+        for _ in range(9):                                 # machines that tell their place while nobody calls
+            self.store.put(LINE + b"/place/m1", b"3")
+        log = self.log()
+        self.assertEqual((log.end_of(3), log.end_of(2)), (12, 2))
+        log.compact(log.end_of(3))
+        self.entries(1, 3)
+        self.assertEqual(self.store.compacted, 12)
+        self.assertEqual(log.end_of(3), 3)
+
+    def test_nothing_is_missed_behind_a_compaction_up_to_the_end(self):
+        self.member()
+        self.entries(2)
+        self.store.put(LINE + b"/place/m1", b"3")
+        log = self.log()
+        log.compact(log.end_of(3))
+        following = log.follow(3)
+        threading.Timer(0.5, self.entries, (2, 3)).start()
+        self.assertEqual([int(entry[-1:]) for _, entry in itertools.islice(following, 2)], [3, 4])
+
+    def test_a_log_that_forgot(self):
+        self.member()
+        self.entries(6)
+        following = self.log().follow(0)
+        for _ in range(6):
+            next(following)
+        self.store.forget_all()
+        with self.assertRaisesRegex(Forgotten, "ends at 1, before this machine's place 7"):
+            next(following)
+
+    def test_another_log(self):
+        self.member()
+        self.entries(2)
+        self.store.put(b"other", b"x")
+        self.entries(1, 3)
+        with self.assertRaisesRegex(Forgotten, "no entry at this machine's place 4"):
+            next(self.log().follow(4))
+
+    def test_lines_of_a_watch(self):
+        for line in [b'{"result":{"created":true}}', b'{"error":{"grpc_code":14}}\n', b'{"result":{"canceled":true}}\n']:
+            with self.assertRaises(OSError):
+                list(events(line, 0, 0))
+        with self.assertRaises(Forgotten):
+            list(events(b'{"result":{"canceled":true,"compact_revision":"9"}}\n', 0, 0))
+        with self.assertRaises(ValueError):                # no fault of a line: it ends the process
+            list(events(b"{garbage\n", 0, 0))
+
+
+class Calling(Bench):
+    def test_the_next_member_where_one_is_gone(self):
+        self.member().close()
+        self.member()
+        for number in range(8):
+            self.log().append(b"%d" % number)
+        self.assertEqual([change["value"] for change in self.store.changes], [b"%d" % number for number in range(8)])
+
+    def test_kept_connections_to_a_member_that_went(self):
+        first, second = self.member(), self.member()
+        log = self.log()
+        log.at = 0
+        calls = [threading.Thread(target=log.append, args=(b"x",)) for _ in range(12)]
+        first.late = 0.1                                   # so that several connections are kept
+        for call in calls:
+            call.start()
+        for call in calls:
+            call.join()
+        self.assertGreater(len(log.idle), 4)
+        first.away = True
+        log.append(b"y")
+        self.assertEqual(log.idle[0].port, int(second.end.split(":")[1]))
+        self.assertEqual(len(log.idle), 1)
+
+    def test_no_majority(self):
+        for _ in range(3):
+            self.member(away=True)
+        with self.assertRaisesRegex(OSError, "no leader"):
+            self.log().append(b"x")
+
+    def test_an_answer_that_comes_late(self):
+        self.member(late=0.5)
+        self.member()
+        log = self.log(patience=0.3)
+        log.at = 0
+        log.append(b"x")
+        self.assertEqual([change["value"] for change in self.store.changes], [b"x", b"x"])  # it stands there twice
+
+    def test_digests(self):
+        self.member()
+        log = self.log()
+        for count in (1000, 2000, 11000, 12000):
+            for name in (b"m1", b"m2"):
+                log.tell_digest(count, name, b"%d of %s" % (count, name))
+        self.assertEqual(log.digests(1000), {b"m1": b"1000 of m1", b"m2": b"1000 of m2"})
+        self.assertEqual(log.digests(1), {})
+        self.store.put(LINE + b"/digest/x/m1", b"by hand")
+        log.forget_digests(2000)
+        self.assertEqual(sorted(log.listed(b"digest")), [b"11000/m1", b"11000/m2", b"12000/m1", b"12000/m2", b"2000/m1", b"2000/m2", b"x/m1"])
+
+    def test_places(self):
+        self.member()
+        log = self.log()
+        log.tell_place(b"m1", 7)
+        log.tell_place(b"m2", 0)
+        for name, value in [(b"m3", b"x"), (b"m4", b""), (b"m5", b"-1")]:
+            self.store.put(LINE + b"/place/" + name, value)
+        self.assertEqual(log.places(), {b"m1": (2, 7), b"m2": (3, 0)})
+
+    def test_compaction_twice_or_too_far(self):
+        self.member()
+        self.entries(5)
+        log = self.log()
+        for place in (3, 3, 2, 900):
+            log.compact(place)
+        self.assertEqual(self.store.compacted, 3)
+
+    def test_what_a_member_tells(self):
+        member, gone = self.member(size=3000, used=1000, quota=3e6), self.member()
+        log = self.log()
+        gone.close()
+        self.assertEqual(log.member(log.ends[0]), (log.ends[0], 3000, 1000, 3000000))
+        self.assertIsNone(log.member(log.ends[1]))
+        member.quota = 2147483648
+        self.assertEqual(log.member(log.ends[0]).quota, QUOTA)
+
+    def test_refusals(self):
+        self.member()
+        self.store.full = True
+        with self.assertRaisesRegex(OSError, "space exceeded"):
+            self.log().append(b"x")
+        self.assertTrue(self.log().is_full())
+        with self.assertRaises(Refused):
+            self.log().call("/v3/kv/range", {"key": "eA==", "revision": "99"})
+
+
+if __name__ == "__main__":
+    unittest.main()

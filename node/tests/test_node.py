@@ -1,0 +1,154 @@
+"""The command as a process: with which status it ends, and what it waits out."""
+import http.client
+import signal
+import socket
+import subprocess
+import sys
+import time
+import unittest
+from pathlib import Path
+
+sys.path.insert(0, str(Path(__file__).resolve().parent))
+
+from bench import HERE, LINE, Bench, token  # noqa: E402
+
+NODE = str(HERE.parent / "node")
+NEEDED = ["--name", "m1", "--folder", "/nonexistent/folder", "--etcd", "127.0.0.1:9"]
+
+
+def free_port():
+    with socket.create_server(("127.0.0.1", 0)) as taken:
+        return taken.getsockname()[1]
+
+
+class Processes(Bench):
+    def start(self, *more, name="m1"):
+        self.port = free_port()
+        words = [NODE, "--name", name, "--folder", str(self.folder / name), "--etcd", ",".join(member.end for member in self.members), "--port", str(self.port),
+                 "--desk", str(HERE / "desk.py"), *more]
+        process = subprocess.Popen(words, stderr=subprocess.PIPE, text=True)
+        self.addCleanup(process.stderr.close)
+        self.addCleanup(process.wait)
+        self.addCleanup(process.kill)
+        return process
+
+    def ask(self, body=None, target="/csta"):
+        connection = http.client.HTTPConnection("127.0.0.1", self.port, timeout=30)
+        try:
+            connection.request("GET" if body is None else "POST", target, body)
+            reply = connection.getresponse()
+            return reply.status, reply.read()
+        except (OSError, http.client.HTTPException):
+            return None
+        finally:
+            connection.close()
+
+    def serves(self, process, word=b"x"):
+        self.until(lambda: process.poll() is None and self.ask(word) == (200, word))
+
+    def test_it_serves_and_no_bad_body_gets_into_the_log(self):
+        self.member()
+        process = self.start()
+        self.serves(process)
+        before = len([change for change in self.store.changes if change["key"] == LINE])
+        for body in [b"", b"GET /snapshot", b"HEAD /"]:
+            self.assertEqual(self.ask(body), (400, b'{"error":{"code":30,"member":"json","name":"malformed"}}'))
+        self.assertEqual(len([change for change in self.store.changes if change["key"] == LINE]), before)
+
+    def test_bad_entries_stop_nothing(self):
+        self.member()
+        process = self.start()
+        self.serves(process)
+        for entry in [b"nospace", b"", b" ", token(1) + b" x", b"\xff\n\xff"]:
+            self.store.put(LINE, entry)
+        self.serves(process, b"y")
+        process.send_signal(signal.SIGTERM)
+        process.wait()
+        process = self.start()
+        self.serves(process, b"z")
+
+    def test_etcd_that_is_away_is_waited_out(self):
+        member = self.member()
+        process = self.start()
+        self.serves(process)
+        member.away = True
+        self.assertEqual(self.ask(b"x")[0], 503)
+        self.assertEqual(self.ask(target="/snapshot"), (200, b"GET /snapshot"))  # reads go on
+        time.sleep(2)
+        member.away = False
+        self.serves(process, b"y")
+
+    def test_what_nobody_foresaw_ends_the_feeding_thread_with_the_process(self):
+        self.member()
+        process = self.start()
+        self.serves(process)
+        self.members[0].lines = lambda body: iter([{"header": {}, "events": [{"kv": {"no": "revision"}}]}])
+        self.assertEqual(process.wait(30), 1)
+        self.assertIn("KeyError", process.stderr.read())
+
+    def test_and_a_thread_that_answers_with_the_process(self):
+        self.member()
+        process = self.start()
+        self.serves(process)
+        self.members[0].garbage = True
+        self.ask(b"x")
+        self.assertEqual(process.wait(30), 1)
+        self.assertIn("JSONDecodeError", process.stderr.read())
+
+    def test_a_log_that_was_compacted_or_forgot(self):
+        self.member()
+        self.entries(9)
+        self.store.compacted = 5
+        process = self.start()
+        self.assertEqual(process.wait(30), 2)
+        self.assertIn("the log begins behind 5: copy the folder of another machine", process.stderr.read())
+        self.store.compacted = 0
+        process = self.start()
+        self.serves(process)
+        self.store.forget_all()
+        self.assertEqual(process.wait(30), 2)
+        self.assertIn("it isn't the log that this folder was fed from", process.stderr.read())
+
+    def test_one_that_differs_from_two(self):
+        self.member()
+        for name in (b"m2", b"m3"):
+            self.store.put(LINE + b"/digest/1000/" + name, b"other")
+        (self.folder / "m1").mkdir()
+        (self.folder / "m1/at").write_text("1 999 " + "0" * 64)
+        process = self.start()
+        self.entries(1)
+        self.assertEqual(process.wait(30), 3)
+        self.assertIn("differ from those of two other machines", process.stderr.read())
+
+    def test_a_folder_that_takes_no_place(self):
+        self.member()
+        (self.folder / "m1/at").mkdir(parents=True)
+        self.assertEqual(self.start().wait(30), 1)
+
+
+class CommandLines(unittest.TestCase):
+    def refused(self, *words):
+        done = subprocess.run([NODE, *words], stderr=subprocess.PIPE, stdout=subprocess.PIPE, text=True, timeout=20)
+        self.assertEqual(done.returncode, 2, (words, done.stderr))
+        return done.stderr
+
+    def test_an_address_that_strangers_reach(self):
+        for address in ["10.0.0.1", "0.0.0.0", "desk.example", "128.0.0.1", ""]:
+            self.assertIn("strangers", self.refused(*NEEDED, "--bind", address))
+            self.assertIn("strangers", self.refused(*NEEDED, "--bind", address, "--cert", "c", "--key", "k"))
+
+    def test_options(self):
+        for words in [[], NEEDED[2:], NEEDED[:2] + NEEDED[4:], NEEDED[:4], [*NEEDED, "--gone", "0"], [*NEEDED, "--gone", "nan"], [*NEEDED, "--gone", "x"],
+                      [*NEEDED, "--machines", "m2,m3"], [*NEEDED, "--machines", "m1,m1"], [*NEEDED, "--machines", "m1,"], [*NEEDED, "--name", "a/b"], [*NEEDED, "--etcd", "127.0.0.1"],
+                      [*NEEDED, "--client-ca", "c"], [*NEEDED, "--cert", "c"], [*NEEDED, "--key", "k"], [*NEEDED, "--upkeep", "now"], [*NEEDED, "--upkeep", "later", "--machines", "m1"],
+                      [*NEEDED, "--etcd-cert", "c"]]:
+            self.refused(*words)
+
+    def test_upkeep_without_etcd(self):
+        done = subprocess.run([NODE, "--name", "m1", "--machines", "m1", "--etcd", "127.0.0.1:9", "--upkeep", "now"], stderr=subprocess.PIPE, text=True, timeout=20)
+        self.assertEqual((done.returncode, done.stderr.count("\n")), (1, 1))
+        self.assertIn("etcd isn't looked after", done.stderr)
+
+
+if __name__ == "__main__":
+    unittest.main()

@@ -1,0 +1,70 @@
+"""What the timer does: members defragmented one after another, and the alarm of a full etcd."""
+import sys
+import unittest
+from pathlib import Path
+
+sys.path.insert(0, str(Path(__file__).resolve().parent))
+
+from bench import Bench  # noqa: E402
+from machine import upkeep  # noqa: E402
+
+MACHINES = ["m1", "m2", "m3"]
+
+
+class Upkeep(Bench):
+    def once(self):
+        return upkeep.once(self.log(), MACHINES, self.journal)
+
+    def tidied(self):
+        return [sum(path.endswith("defragment") for path, _ in member.asked) for member in self.members]
+
+    def test_one_machine_has_its_turn_at_a_time(self):
+        for start in (0, 900, 1700000100):
+            self.assertEqual([[upkeep.has_turn(name, MACHINES, start + second) for name in MACHINES] for second in (0, 299, 300, 600, 899, 900)],
+                             [[True, False, False], [True, False, False], [False, True, False], [False, False, True], [False, False, True], [True, False, False]])
+
+    def test_only_wasteful_members(self):
+        for size, used in [(300, 100), (300, 200), (200, 10), (900, 449)]:
+            self.member(quota=1000, size=size, used=used)
+        self.assertEqual((self.once(), self.tidied()), (0, [1, 0, 0, 1]))
+        self.assertEqual((self.once(), self.tidied()), (0, [1, 0, 0, 1]))
+
+    def test_none_while_a_member_is_away(self):
+        self.member(quota=1000, size=900, used=10)
+        self.member().close()
+        self.assertEqual((self.once(), self.tidied()), (1, [0, 0]))
+        self.assertIn("doesn't answer", self.said.getvalue())
+
+    def test_a_full_one_takes_entries_again(self):
+        for _ in range(3):
+            self.member(quota=1000, size=1000, used=900)
+        self.entries(9)
+        for name, place in [("m1", 9), ("m2", 7), ("m3", 8)]:
+            self.log().tell_place(name.encode(), place)
+        self.store.full = True
+        for member in self.members:
+            member.used = 100                              # behind the compaction
+        self.assertEqual((self.once(), self.store.full, self.store.compacted, self.tidied()), (0, False, 7, [1, 1, 1]))
+
+    def test_a_full_one_that_is_full_of_what_is_needed(self):
+        self.member(quota=1000, size=1000, used=985)
+        self.entries(9)
+        self.log().tell_place(b"m1", 9)
+        self.store.full = True
+        self.assertEqual((self.once(), self.store.full, self.store.compacted), (1, True, 0))  # m2 and m3 have told no place
+        self.assertIn("is full, 985 of 1000 bytes", self.said.getvalue())
+
+    def test_a_full_one_where_a_member_is_away(self):
+        self.member(quota=1000, size=1000, used=100)
+        self.member().close()
+        self.store.full = True
+        self.assertEqual((self.once(), self.store.full, self.tidied()), (0, False, [1, 0]))
+
+    def test_no_etcd(self):
+        self.member(away=True)
+        self.assertEqual(self.once(), 1)
+        self.assertIn("no leader", self.said.getvalue())
+
+
+if __name__ == "__main__":
+    unittest.main()

@@ -1,0 +1,248 @@
+"""Three members of etcd and three nodes on loopback, in a folder of their own, and who asks them."""
+import base64
+import http.client
+import json
+import os
+import re
+import signal
+import socket
+import ssl
+import subprocess
+import time
+from collections import namedtuple
+from pathlib import Path
+
+HERE = Path(__file__).resolve().parents[1]
+LINE = base64.b64encode(b"desk/line").decode()
+NAMES = "m1,m2,m3"
+# An entry, as docs/OPERATING.md says: written anew here, so that a node that reads it otherwise is found.
+ENTRY = re.compile(rb"[0-9a-fA-F]{32} ([0-9]{1,10} [^\r\n]{1,4096})", re.DOTALL)
+# A request that was answered: when it was first sent, how long it took, and how often it was sent.
+Told = namedtuple("Told", "body status reply start seconds tries machine")
+
+
+def is_entry(entry):
+    found = ENTRY.fullmatch(entry)
+    return bool(found) and not found.group(1).split(b" ", 1)[1].startswith((b"GET", b"HEAD"))
+
+
+def free_ports(many):
+    sockets = [socket.create_server(("127.0.0.1", 0)) for _ in range(many)]
+    ports = [taken.getsockname()[1] for taken in sockets]
+    for taken in sockets:
+        taken.close()
+    return ports
+
+
+class Count:
+    """What was tried, and what was wrong."""
+
+    def __init__(self):
+        self.tried = self.wrong = 0
+
+    def see(self, what, good, told=""):
+        self.tried += 1
+        if not good:
+            self.wrong += 1
+            print(f"WRONG {what}: {told}", flush=True)
+
+
+class Machines:
+    """With names each machine tells its place, and the log is shortened; a quota is etcd's."""
+
+    def __init__(self, program, folder, encrypted, count, names=False, quota=0, gone=72.0):
+        self.program, self.folder, self.count, self.etcd, self.nodes = program, Path(folder), count, {}, {}
+        self.names, self.quota, self.gone = names, quota, gone
+        ports = free_ports(9)
+        self.ports, self.clients, self.peers = ([0, *ports[at:at + 3]] for at in (0, 3, 6))
+        self.ends = ",".join(f"127.0.0.1:{port}" for port in self.clients[1:])
+        self.see = count.see
+        self.context = self.certify() if encrypted else None
+
+    def certify(self):
+        """One certificate for all, which a new authority of ours has signed."""
+        ca, key = [self.folder / "ca.crt", "-CAkey", self.folder / "ca.key"], ["req", "-newkey", "rsa:2048", "-nodes", "-subj"]
+        (self.folder / "names").write_text("subjectAltName=IP:127.0.0.1\nextendedKeyUsage=serverAuth,clientAuth\n")
+        for words in [[*key, "/CN=desks", "-x509", "-days", "2", "-keyout", self.folder / "ca.key", "-out", self.folder / "ca.crt"],
+                      [*key, "/CN=desk", "-keyout", self.folder / "m.key", "-out", self.folder / "m.csr"],
+                      ["x509", "-req", "-in", self.folder / "m.csr", "-CA", *ca, "-CAcreateserial", "-days", "2", "-extfile", self.folder / "names", "-out", self.folder / "m.crt"]]:
+            subprocess.run(["openssl", *map(str, words)], check=True, stdout=subprocess.DEVNULL, stderr=subprocess.DEVNULL)
+        context = ssl.create_default_context(cafile=self.folder / "ca.crt")
+        context.load_cert_chain(self.folder / "m.crt", self.folder / "m.key")
+        return context
+
+    def start(self):
+        for n in (1, 2, 3):
+            self.start_etcd(n)
+        time.sleep(3)
+        for n in (1, 2, 3):
+            self.start_node(n)
+        time.sleep(1)
+
+    def stop(self):
+        for n in self.nodes:
+            if self.nodes[n].poll() is None:
+                self.kill_node(n)
+        for member in self.etcd.values():
+            member.kill()
+            member.wait()
+
+    def connect(self, port, wait):
+        if self.context:
+            return http.client.HTTPSConnection("127.0.0.1", port, timeout=wait, context=self.context)
+        return http.client.HTTPConnection("127.0.0.1", port, timeout=wait)
+
+    def ask(self, machine, body, wait=15, target="/csta"):
+        """The status and the body, or 503 where the machine doesn't answer. What has no body is a read."""
+        try:
+            connection = self.connect(self.ports[machine], wait)
+            connection.request("GET" if body is None else "POST", target, body)
+            reply = connection.getresponse()
+            return reply.status, reply.read()
+        except (OSError, http.client.HTTPException):
+            return 503, b""
+
+    def start_etcd(self, n):
+        web = "https" if self.context else "http"
+        peers = ",".join(f"e{k}={web}://127.0.0.1:{self.peers[k]}" for k in (1, 2, 3))
+        client, peer = f"{web}://127.0.0.1:{self.clients[n]}", f"{web}://127.0.0.1:{self.peers[n]}"
+        words = ["etcd", "--name", f"e{n}", "--data-dir", self.folder / f"etcd{n}", "--log-level", "error", "--listen-client-urls", client, "--advertise-client-urls", client,
+                 "--listen-peer-urls", peer, "--initial-advertise-peer-urls", peer, "--initial-cluster", peers, "--initial-cluster-token", "desk", "--initial-cluster-state", "new"]
+        words += ["--quota-backend-bytes", self.quota] if self.quota else []
+        for to in ["", "peer-"] if self.context else []:
+            words += [f"--{to}cert-file", self.folder / "m.crt", f"--{to}key-file", self.folder / "m.key", f"--{to}client-cert-auth", f"--{to}trusted-ca-file", self.folder / "ca.crt"]
+        self.etcd[n] = subprocess.Popen(list(map(str, words)), stdout=subprocess.DEVNULL, stderr=subprocess.DEVNULL)
+
+    def etcd_options(self):
+        return ["--etcd", self.ends, *(["--etcd-ca", self.folder / "ca.crt", "--etcd-cert", self.folder / "m.crt", "--etcd-key", self.folder / "m.key"] if self.context else [])]
+
+    def start_node(self, n):
+        words = [HERE / "node", "--name", f"m{n}", "--folder", self.folder / f"m{n}", "--port", self.ports[n], "--desk", self.program, *self.etcd_options()]
+        words += ["--machines", NAMES, "--gone", self.gone] if self.names else []
+        if self.context:
+            words += ["--cert", self.folder / "m.crt", "--key", self.folder / "m.key", "--client-ca", self.folder / "ca.crt"]
+        with open(self.folder / f"node{n}.log", "a") as log:
+            self.nodes[n] = subprocess.Popen(list(map(str, words)), stdout=log, stderr=log, start_new_session=True)
+
+    def upkeep(self):
+        """What the timer does, done now: its status and its lines."""
+        words = [HERE / "node", "--upkeep", "now", "--name", "m1", "--machines", NAMES, *self.etcd_options()]
+        done = subprocess.run(list(map(str, words)), stdout=subprocess.PIPE, stderr=subprocess.STDOUT, text=True, timeout=120)
+        return done.returncode, done.stdout
+
+    def said(self, n):
+        return (self.folder / f"node{n}.log").read_text()
+
+    def kill_node(self, n):
+        os.killpg(self.nodes[n].pid, signal.SIGKILL)
+        self.nodes[n].wait()
+
+    def ends_with(self, n, status):
+        """Whether the node ends of itself with this status."""
+        try:
+            return self.nodes[n].wait(60) == status
+        except subprocess.TimeoutExpired:
+            return False
+
+    def kill_desk(self, n):
+        """Whether the node had one."""
+        children = [int(child) for thread in Path(f"/proc/{self.nodes[n].pid}/task").iterdir() for child in (thread / "children").read_text().split()]
+        for child in children:
+            os.kill(child, signal.SIGKILL)
+        return bool(children)
+
+    def leads(self, n):
+        try:
+            told = self.etcd_call(n, "/v3/maintenance/status", {})
+            return told["leader"] == told["header"]["member_id"]
+        except (OSError, http.client.HTTPException, KeyError, ValueError):
+            return False
+
+    def kill(self, kind, chance):
+        """One process, and it again after a second."""
+        members = [n for n in (1, 2, 3) if self.leads(n) == (kind == "leader")] or [1]
+        n = chance.choice(members if kind in ("leader", "follower") else [1, 2, 3])
+        if kind in ("leader", "follower"):
+            self.etcd[n].kill()
+            self.etcd[n].wait()
+            time.sleep(1)
+            self.start_etcd(n)
+        elif kind == "desk":
+            self.see("a desk is killed", self.kill_desk(n))
+        else:
+            self.kill_node(n)
+            time.sleep(1)
+            self.start_node(n)
+
+    def etcd_call(self, n, path, body):
+        connection = self.connect(self.clients[n], 20)
+        connection.request("POST", path, json.dumps(body))
+        return json.loads(connection.getresponse().read())
+
+    def etcdctl(self, *words, told=None):
+        """Whether etcdctl did it; what it is told on its standard input is the value."""
+        ends = [f"https://{end}" if self.context else end for end in self.ends.split(",")]
+        files = [f"--cacert={self.folder}/ca.crt", f"--cert={self.folder}/m.crt", f"--key={self.folder}/m.key"] if self.context else []
+        done = subprocess.run(["etcdctl", f"--endpoints={','.join(ends)}", *files, *words], input=told, stdout=subprocess.PIPE, stderr=subprocess.STDOUT, env={**os.environ, "ETCDCTL_API": "3"})
+        return done.returncode == 0
+
+    def everything(self):
+        """All that was ever put as an entry, as etcd keeps it; what was deleted is empty."""
+        last = max([int(kv["mod_revision"]) for kv in self.etcd_call(1, "/v3/kv/range", {"key": LINE}).get("kvs", [])], default=0)
+        connection, place, found = self.connect(self.clients[1], 60), 0, []
+        connection.request("POST", "/v3/watch", json.dumps({"create_request": {"key": LINE, "start_revision": "1"}}))
+        answer = connection.getresponse()
+        while place < last:
+            for event in json.loads(answer.readline())["result"].get("events", []):
+                place = int(event["kv"]["mod_revision"])
+                found.append(base64.b64decode(event["kv"].get("value", "")))
+        connection.close()
+        return found
+
+    def log(self):
+        """The entries of the log, without their tokens."""
+        return [entry.split(b" ", 1)[1] for entry in self.everything() if is_entry(entry)]
+
+    def compact(self, place):
+        """Whether the log forgets its entries up to this place."""
+        return "header" in self.etcd_call(1, "/v3/kv/compaction", {"revision": str(place), "physical": True})
+
+    def places(self):
+        return [(self.folder / f"m{n}/at").read_text().split() if (self.folder / f"m{n}/at").exists() else None for n in (1, 2, 3)]
+
+    def wait_until_equal(self, seconds=60):
+        end = time.time() + seconds
+        while time.time() < end:
+            told = self.places()
+            if told[0] and told[0] == told[1] == told[2]:
+                time.sleep(1)
+                if told == self.places():
+                    return True
+            time.sleep(0.3)
+        return False
+
+    def ask_until_answered(self, body, chance, told, machines=(1, 2, 3)):
+        start, tries = time.time(), 0
+        while True:
+            machine = chance.choice(machines)
+            status, reply = self.ask(machine, body)
+            tries += 1
+            if status != 503:
+                told.append(Told(body, status, reply, start, time.time() - start, tries, machine))
+                return
+            time.sleep(0.05)
+
+    def arrive(self, requester, caller, many, chance, machines=(1, 2, 3)):
+        """So many new requests, each answered."""
+        for invoke in range(1, many + 1):
+            body = {"requester": requester, "invoke": invoke, "service": "arriveCall", "caller": f"{caller}{invoke:04}", "called": "100"}
+            self.ask_until_answered(json.dumps(body), chance, [], machines)
+
+    def copy_folder(self, to, source):
+        """As docs/OPERATING.md has it: the machine that is copied from is stopped until the other one has started."""
+        self.kill_node(source)
+        subprocess.run(["rm", "-rf", self.folder / f"m{to}"], check=True)
+        subprocess.run(["cp", "-a", self.folder / f"m{source}", self.folder / f"m{to}"], check=True)
+        self.start_node(to)
+        time.sleep(3)
+        self.start_node(source)
