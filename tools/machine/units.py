@@ -1,0 +1,213 @@
+"""Cases of the packages' units: each does its whole work under systemd, and whoever took its program over could do nothing else."""
+import json
+import socket
+import ssl
+import subprocess
+import sys
+from pathlib import Path
+
+from cases import Cases
+
+HIGHEST = 2.0
+PROBE = "/usr/local/bin/probe"
+# what a unit's probe goes without: it ends, prints to a file, has no settings, and takes no folder from the unit
+LEFT_OUT = {"Type", "Restart", "RestartSec", "RestartPreventExitStatus", "Environment", "EnvironmentFile", "RuntimeDirectory",
+            "ExecStart", "ExecStartPre", "ExecStopPost", "ExecReload", "ExecCondition"}
+AS_ROOT = {"User", "DynamicUser", "AmbientCapabilities", "StateDirectory"}
+
+LOOPBACK = {"connect to loopback"}
+INTERNET = LOOPBACK | {"connect elsewhere", "AF_INET6"}
+NETWORK = INTERNET | {"AF_UNIX"}
+DESK = {"read the desk's file", "write the desk's folder", "signal the desk", "see what the desk has open"}
+# root owns these files, and needs no right to read what is its own; processes are hidden from all but root's group
+OF_ROOT = {"read the roles", "read the users", "read the accounts", "see another user's process"}
+# what a program that took over the unit could do, as the unit's own user and, were it root there, as root
+MAY = {
+    "acd.service": (LOOPBACK | DESK, LOOPBACK | OF_ROOT),
+    "acd-tick.service": (LOOPBACK | {"signal the desk"}, LOOPBACK | OF_ROOT),
+    "acd-gate.service": (LOOPBACK | {"read the roles", "read the users"}, LOOPBACK | OF_ROOT),
+    "acd-copy.service": (DESK | {"priority"}, OF_ROOT | {"priority"}),
+    "acd-local.service": ({"AF_UNIX", "AF_NETLINK", "load a table"}, OF_ROOT | {"AF_UNIX", "AF_NETLINK", "load a table"}),
+    "acd-node.service": (INTERNET | DESK - {"see what the desk has open"}, INTERNET | OF_ROOT),
+    "acd-node-upkeep.service": (INTERNET | {"read the desk's file", "signal the desk"}, INTERNET | OF_ROOT),
+    "acd-exchange.service": (NETWORK | {"write the exchange's folder"}, NETWORK | OF_ROOT - {"read the accounts"}),
+    "acd-edge.service": (NETWORK | {"read the accounts", "AF_NETLINK"}, NETWORK | OF_ROOT | {"AF_NETLINK"}),
+}
+FOLDER = "/usr/lib/systemd/system"
+
+
+class Units(Cases):
+    def try_all(self):
+        self.try_scores()
+        self.try_desk()
+        self.try_gate()
+        self.try_copy()
+        self.try_exchange()
+        self.try_two_users()
+        self.try_refusals()
+
+    def units(self):
+        return sorted(file.name for file in self.container.inside(FOLDER).glob("acd*.service"))
+
+    def try_scores(self):
+        self.expect("units that are no cases here", [unit for unit in self.units() if unit not in MAY], [])
+        for unit in self.units():
+            said = self.run("systemd-analyze", "security", "--offline=true", "--no-pager", f"{FOLDER}/{unit}")[1].splitlines()[-1]
+            score = float(said.split(":")[1].split()[0])
+            self.expect(f"{unit} at {score}", score <= HIGHEST)
+
+    def process(self, unit):
+        return self.done("systemctl", "show", "--value", "-p", "MainPID", unit).strip()
+
+    # their work
+
+    def try_desk(self):
+        """The desk answers, and its ticks take an offer back."""
+        wanted = [("plan", 1, "addGroup", {"device": "100", "name": "Billing", "ring": 3, "wrap": 0}), ("plan", 2, "addStation", {"device": "201"}),
+                  ("plan", 3, "addAgent", {"agent": "7", "name": "Ana"}),
+                  ("pbx", 1, "setAgentState", {"agent": "7", "requested": "loggedOn", "device": "201", "group": "100"}),
+                  ("pbx", 2, "setAgentState", {"agent": "7", "requested": "ready"}), ("pbx", 3, "arriveCall", {"caller": "0301234", "called": "100"})]
+        for requester, invoke, service, members in wanted:
+            self.expect(f"{service} is taken", "result" in self.service(requester, invoke, service, **members))
+        self.expect("a tick takes the offer back", self.eventually(lambda: '"noAnswer"' in self.read("/events?after=0"), True), True)
+        self.done("kill", "-KILL", self.process("acd"))
+        self.expect("behind a kill it is there again", self.eventually(lambda: '"Billing"' in self.read("/snapshot"), True), True)
+        self.expect("its file is nobody else's", self.done("stat", "-c", "%U %a", "/var/lib/acd/desk.db"), "acd 600\n")
+
+    def try_gate(self):
+        """The gate judges, by the roles that it alone reads."""
+        for login, service, wanted in (("pbx", "tick", "result"), ("nobody", "tick", "error")):
+            reply = self.service(login, 60, service, "http://127.0.0.1:8081/csta", ("-H", f"X-Login: {login}"))
+            self.expect(f"{service} by {login}", wanted in reply)
+
+    def try_copy(self):
+        self.done("systemctl", "start", "acd-copy")
+        said = self.journal("acd-copy")
+        self.expect_in("the desk is halted, and the copy sound", said, r"the desk was halted for \d+ ms\nsound: /var/lib/acd/copies/")
+        self.expect_in("the desk goes on", self.read("/queues/100"), '"group":"100"')
+        self.expect("nothing else is told of it", [line for line in said.splitlines() if line.startswith(("cp:", "nice:", "find:", "stat:", "mv:"))], [])
+
+    def try_exchange(self):
+        """A phone registers, its agent logs off, a caller waits, and somebody speaks TLS; none of it by a second start."""
+        edge = self.container.inside("/etc/acd/edge")
+        subprocess.run(["openssl", "req", "-x509", "-newkey", "rsa:2048", "-nodes", "-subj", "/CN=edge", "-keyout", edge / "edge.key", "-out", edge / "edge.crt"],
+                       stderr=subprocess.DEVNULL, check=True)
+        self.done("chgrp", "acd-exchange", "/etc/acd/edge/edge.key")
+        self.done("chmod", "640", "/etc/acd/edge/edge.key")
+        for name in ("201", "trunk"):
+            self.expect(f"the account {name}", self.container.shell(f"echo open-sesame | acd-account {name}"), (0, ""))
+        self.run("systemctl", "disable", "--now", "kamailio")
+        self.done("systemctl", "enable", "--now", "acd-exchange", "acd-edge")
+        self.expect("the edge listens", self.eventually(lambda: "5060" in self.run("ss", "-Hlun", "sport", "=", "5060")[1], True), True)
+        self.expect("a phone by its password, by another, the log-off of its agent, a caller's call, TLS", self.phones(), [200, 401, 200, 182, "SIP/2.0"])
+        self.expect("the agent at the desk", self.eventually(lambda: '"device":"201"' in self.read("/agents/7"), False), False)
+        self.expect("the caller at the desk", self.eventually(lambda: '"caller":"0409876"' in self.read("/snapshot"), True), True)
+        for unit in ("acd-exchange", "acd-edge"):
+            self.expect(f"{unit} was started once", self.done("systemctl", "show", "--value", "-p", "NRestarts", unit), "0\n")
+
+    def phones(self):
+        """What phones are answered, from within the container's network."""
+        words = ["nsenter", "--target", str(self.container.leader), "--net", sys.executable, __file__]
+        return json.loads(subprocess.run(words, stdout=subprocess.PIPE, check=True, text=True).stdout)
+
+    # what they may not
+
+    def try_two_users(self):
+        """Gate and desk: neither reads what is the other's, and neither touches the other's process."""
+        for unit, user, other, files in (("acd", "acd", "acd-gate", ["/etc/acd/users", "/etc/acd/roles"]),
+                                         ("acd-gate", "acd-gate", "acd", ["/var/lib/acd/desk.db", "/var/lib/acd/copies/."])):
+            process = self.process(unit)
+            self.expect(f"the user of {unit}", self.done("stat", "-c", "%U", f"/proc/{process}"), f"{user}\n")
+            self.expect(f"{other} signals it", self.run("kill", "-0", process, user=other)[0] != 0)
+            for file in files:
+                self.expect(f"{user} reads {file}", self.run("test", "-r", file, user=user)[0], 1)
+                self.expect(f"{other} reads {file}", self.run("test", "-r", file, user=other)[0], 0)
+
+    def try_refusals(self):
+        """A probe in each unit's place. Unconfined it can do all that it tries, which shows that each attempt is one."""
+        self.prepare()
+        self.expect("what root, unconfined, can't", sorted(set(self.attempts()) - self.probed(["User=root"])), [])
+        self.expect("what acd, unconfined, can't", sorted({"gain", "new namespace", "executable memory", "read a home"} - self.probed(["User=acd"])), [])
+        for unit in self.units():
+            own, root = MAY[unit]
+            settings = [line for line in self.settings(unit) if name_of(line) not in LEFT_OUT]
+            self.expect(f"{unit} may", sorted(self.probed(settings)), sorted(own))
+            as_root = [line for line in settings if name_of(line) not in AS_ROOT]
+            self.expect(f"{unit}, were it root's, may", sorted(self.probed(as_root) - {"gain"}), sorted(root))
+
+    def settings(self, unit):
+        """The lines of its part Service."""
+        text = self.container.inside(f"{FOLDER}/{unit}").read_text()
+        return [line for line in text.partition("[Service]")[2].partition("\n[")[0].splitlines() if line and not line.startswith("#")]
+
+    def attempts(self):
+        return self.probed([], "--list")
+
+    def prepare(self):
+        """What the probe tries to read, to see and to reach."""
+        self.container.put(PROBE, (Path(__file__).parent / "probe").read_text(), 0o755)
+        for note in ("/home/ben/note", "/root/note"):
+            self.container.put(note, "a note\n")
+        self.done("chmod", "755", "/home/ben")
+        self.done("touch", "/tmp/note")
+        self.done("install", "-m", "4755", "/usr/bin/id", "/usr/local/bin/gain")
+        self.done("ip", "address", "replace", "10.9.9.1/32", "dev", "lo")
+        self.done("systemd-run", "--quiet", "--collect", "--unit=elsewhere", "--uid=www-data", "python3", "-m", "http.server", "9000", "--bind", "0.0.0.0", "--directory", "/srv")
+        self.done("systemd-run", "--quiet", "--collect", "--unit=another", "--uid=ben", "sleep", "infinity")
+
+    def probed(self, settings, *words):
+        """What the probe could do under these settings."""
+        others = [self.process(unit) for unit in ("another", "acd")]
+        command = " ".join([PROBE, *(words or others)])
+        text = "\n".join(["[Service]", *settings, "Type=oneshot", f"ExecStart={command}", "StandardOutput=truncate:/run/probe.json", "StandardError=journal"])
+        self.done("sh", "-c", 'rm -f /run/probe.json; printf "%s\\n" "$0" >/run/systemd/system/probe.service && systemctl daemon-reload', text)
+        self.done("systemctl", "start", "probe")
+        status, said = self.run("cat", "/run/probe.json")
+        return set(json.loads(said)) if status == 0 else set()
+
+
+def name_of(line):
+    return line.partition("=")[0]
+
+
+SDP = "v=0\r\no=- 1 1 IN IP4 127.0.0.1\r\ns=-\r\nc=IN IP4 127.0.0.1\r\nt=0 0\r\nm=audio 6000 RTP/AVP 8\r\n"
+
+
+def call(asks, ground):
+    """A call of the trunk, by its password: the first answer of the exchange behind the one that asks for it and that says 'trying'."""
+    more = ""
+    asks.settimeout(5)
+    for cseq in (1, 2):
+        asks.sendto((f"INVITE sip:100@127.0.0.1 SIP/2.0\r\nVia: SIP/2.0/UDP 127.0.0.1:{asks.getsockname()[1]};rport;branch=z9hG4bKcall{cseq}\r\n"
+                     f"From: <sip:0409876@127.0.0.1>;tag=call\r\nTo: <sip:100@127.0.0.1>\r\nCall-ID: call\r\nCSeq: {cseq} INVITE\r\n{more}"
+                     f"Contact: <sip:0409876@127.0.0.1:{asks.getsockname()[1]}>\r\nMax-Forwards: 70\r\nContent-Type: application/sdp\r\n"
+                     f"Content-Length: {len(SDP)}\r\n\r\n{SDP}").encode(), ("127.0.0.1", 5060))
+        status, text = 100, ""
+        while status == 100:
+            text = asks.recv(8192).decode("latin-1")
+            status = int(text.split(" ")[1])
+        if status not in (401, 407):
+            break
+        more = ground.credentials(text, status, "INVITE", "sip:100@127.0.0.1", "trunk", ground.PASSWORD)
+    return status
+
+
+def ask_edge():
+    """Asks the edge as phones and a caller do, by hand, and prints the statuses; 182 is that of a caller who waits."""
+    sys.path.insert(0, str(Path(__file__).resolve().parents[2] / "exchange/trial"))
+    import ground
+    with ground.Phone(5060) as asks:
+        contact = "Contact: <sip:201@127.0.0.1:5999>;expires=60\r\n"
+        told = [asks.request("REGISTER", "sip:127.0.0.1", "201", contact)[0], asks.request("REGISTER", "sip:127.0.0.1", "201", contact, password="wrong")[0],
+                asks.request("MESSAGE", "sip:*23@127.0.0.1", "201")[0], call(asks.socket, ground)]
+    unchecked = ssl.SSLContext(ssl.PROTOCOL_TLS_CLIENT)
+    unchecked.check_hostname, unchecked.verify_mode = False, ssl.CERT_NONE
+    with socket.create_connection(("127.0.0.1", 5061), timeout=5) as plain, unchecked.wrap_socket(plain) as secret:
+        secret.sendall(b"OPTIONS sip:127.0.0.1 SIP/2.0\r\nVia: SIP/2.0/TLS 127.0.0.1:5999;branch=z9hG4bKtls;rport\r\nFrom: <sip:201@127.0.0.1>;tag=tls\r\n"
+                       b"To: <sip:127.0.0.1>\r\nCall-ID: tls\r\nCSeq: 1 OPTIONS\r\nMax-Forwards: 70\r\nContent-Length: 0\r\n\r\n")
+        told.append(secret.recv(100).decode().partition(" ")[0])
+    print(json.dumps(told))
+
+
+if __name__ == "__main__":
+    ask_edge()
