@@ -137,6 +137,20 @@ class Course:
         for n in self.agents:
             self.ask("setGroupPriority", device=self.group(n), priority=n // self.groups % 10)
 
+    def change_groups(self):
+        """Names alone, so that what is overdue stays so."""
+        for n in self.agents:
+            self.ask("changeGroup", device=self.group(n), name=f"Group {n}", ring=HOUR, wrap=HOUR)
+
+    def change_agents(self):
+        for agent in self.agents:
+            self.ask("changeAgent", agent=str(agent + 1), name=f"Agent {agent + 1}, changed")
+
+    def reject(self):
+        """Each offer that rings; nobody else is ready, so the call waits at its old place."""
+        for call, agent, _ in self.ringing:
+            self.ask("rejectCall", call=call, device=self.station(agent))
+
     def tick(self, step=1, count=None):
         for _ in range(count or self.count):
             self.ask("tick")
@@ -227,12 +241,16 @@ class Course:
         self.overdue(began)
         yield self.block("tick that takes back one offer of many", self.tick)
         yield self.block("setAgentState ready, one waits: offered", self.take_waiting)
+        yield self.block("rejectCall, nobody else is ready", self.reject)
+        yield self.block("setAgentState ready, one waits: offered, again", self.take_waiting)
         yield self.block("clearConnection, rings", lambda: self.clear(self.ringing))
 
     def little(self):
         yield self.block("monitorStart", self.watch)
         yield self.block("monitorStop", self.watch_no_more)
         yield self.block("setGroupPriority", self.rank)
+        yield self.block("changeGroup", self.change_groups)
+        yield self.block("changeAgent", self.change_agents)
         yield self.block("tick, nothing to do", lambda: self.tick(0))
         yield self.block("a repeat", self.again)
         yield self.block("answerCall, refused (unknownCall)", lambda: self.refused("answerCall", call=1000000000, device="20000"))

@@ -135,6 +135,8 @@ struct NoNotes {
     void agent(uint64_t) {}
     void call(uint64_t, const Call *) {}
     void monitor(uint64_t) {}
+    void changed_group(uint64_t) {}
+    void changed_agent(uint64_t) {}
 };
 
 template <class Notes> class Switch {
@@ -354,6 +356,22 @@ template <class Notes> class Switch {
         notes.group(device);
         return nullptr;
     }
+    const char *change_group(const Members &m) {
+        uint64_t device = m.digits("device");
+        auto it = groups.find(device);
+        if (it == groups.end()) return planned(device) ? "notGroup" : "unknownDevice";
+        it->second.name = m.text("name"), it->second.ring = m.number("ring"), it->second.wrap = m.number("wrap");
+        notes.changed_group(device);
+        return nullptr;
+    }
+    const char *change_agent(const Members &m) {
+        uint64_t number = m.digits("agent");
+        auto it = agents.find(number);
+        if (it == agents.end()) return "unknownAgent";
+        it->second.name = m.text("name");
+        notes.changed_agent(number);
+        return nullptr;
+    }
     const char *answer_call(const Members &m) {
         uint64_t number;
         Connection *c;
@@ -473,6 +491,23 @@ template <class Notes> class Switch {
         result.append("\"state\":\"").append(state_names[int(a.state)]).append("\"}");
         return nullptr;
     }
+    // An offered call goes back to its place in its group's queue.
+    void take_back(uint64_t number, Connection &c) {
+        notes.call(number, &calls.at(number));
+        Connection old = c;
+        report(Kind::Diverted, number, old.device, 0, old.group, old.group, Cause::NoAnswer);
+        c.device = c.group, c.offered = 0;
+        enter(number, c, Cause::NoAnswer);
+        leave(number, old, true);
+    }
+    const char *reject_call(const Members &m) {
+        uint64_t number;
+        Connection *c;
+        if (const char *refusal = taken(m, c, number)) return refusal;
+        if (c->state != ConnectionState::Alerting || !c->group) return "wrongConnectionState";
+        take_back(number, *c);
+        return nullptr;
+    }
     const char *tick() {
         std::vector<uint64_t> late, done;
         for (uint64_t number : ringing)
@@ -481,14 +516,7 @@ template <class Notes> class Switch {
                     if (unsigned ring = groups.at(c.group).ring; ring && moment - c.offered >= ring) late.push_back(number);
         for (uint64_t number : late)
             for (auto &c : calls.at(number).connections)
-                if (c.state == ConnectionState::Alerting) {
-                    notes.call(number, &calls.at(number));
-                    Connection old = c;
-                    report(Kind::Diverted, number, old.device, 0, old.group, old.group, Cause::NoAnswer);
-                    c.device = c.group, c.offered = 0;
-                    enter(number, c, Cause::NoAnswer);
-                    leave(number, old, true);
-                }
+                if (c.state == ConnectionState::Alerting) take_back(number, c);
         for (uint64_t number : working) {
             const Agent &a = agents.at(number);
             if (unsigned wrap = groups.at(a.group).wrap; wrap && moment - a.since >= wrap) done.push_back(number);
@@ -526,6 +554,9 @@ template <class Notes> class Switch {
         if (service == "makeCall") return make_call(m);
         if (service == "phoneOffHook") return phone_off_hook(m);
         if (service == "setGroupPriority") return set_group_priority(m);
+        if (service == "rejectCall") return reject_call(m);
+        if (service == "changeGroup") return change_group(m);
+        if (service == "changeAgent") return change_agent(m);
         if (service == "monitorStart" || service == "monitorStop") return monitor(m, service == "monitorStart");
         return "unknownService";
     }

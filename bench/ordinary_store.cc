@@ -49,7 +49,7 @@ static const char *const schema =
     "COMMIT;";
 
 enum {
-    BEGIN, COMMIT, META, NEW_GROUP, GROUP, NEW_STATION, NEW_AGENT, AGENT, NEW_CALL, END_CALL, NEW_CONNECTION, CONNECTION, END_CONNECTIONS,
+    BEGIN, COMMIT, META, NEW_GROUP, GROUP, CHANGED_GROUP, NEW_STATION, NEW_AGENT, AGENT, CHANGED_AGENT, NEW_CALL, END_CALL, NEW_CONNECTION, CONNECTION, END_CONNECTIONS,
     NEW_MONITOR, END_MONITOR, NEW_EVENT, NEW_KEPT, FOUND, PAGE, MONITOR_PAGE, STATEMENTS
 };
 
@@ -60,9 +60,11 @@ static const char *const texts[STATEMENTS] = {
     "UPDATE meta SET last_stamp = ?, last_moment = ?, last_call = ?, last_monitor = ?, last_event = ? WHERE id = 1",
     "INSERT INTO acd_groups VALUES (?, ?, ?, ?, 0, 0, 0, 0, 0)",
     "UPDATE acd_groups SET entered = ?, answered = ?, abandoned = ?, moved = ?, waited = ? WHERE device = ?",
+    "UPDATE acd_groups SET name = ?, ring = ?, wrap = ? WHERE device = ?",
     "INSERT INTO stations VALUES (?)",
     "INSERT INTO agents VALUES (?, ?, 0, NULL, NULL, NULL, ?, ?)",
     "UPDATE agents SET state = ?, pending = ?, station = ?, grp = ?, stamp = ?, since = ? WHERE agent = ?",
+    "UPDATE agents SET name = ? WHERE agent = ?",
     "INSERT INTO calls VALUES (?, ?, ?, ?)",
     "DELETE FROM calls WHERE call = ?",
     "INSERT INTO connections VALUES (?, ?, ?, ?, ?, ?, ?)",
@@ -79,17 +81,22 @@ static const char *const texts[STATEMENTS] = {
 
 // What a request changed: a call with its connections as they were before.
 struct Changes {
-    std::set<uint64_t> groups, stations, agents, monitors;
+    std::set<uint64_t> groups, stations, agents, monitors, changed_groups, changed_agents;
     std::map<uint64_t, std::vector<Connection>> calls;
 
     void group(uint64_t n) { groups.insert(n); }
     void station(uint64_t n) { stations.insert(n); }
     void agent(uint64_t n) { agents.insert(n); }
     void monitor(uint64_t n) { monitors.insert(n); }
+    void changed_group(uint64_t n) { changed_groups.insert(n); }
+    void changed_agent(uint64_t n) { changed_agents.insert(n); }
     void call(uint64_t n, const Call *before) {
         if (!calls.count(n)) calls[n] = before ? before->connections : std::vector<Connection>();
     }
-    void clear() { groups.clear(), stations.clear(), agents.clear(), monitors.clear(), calls.clear(); }
+    void clear() {
+        groups.clear(), stations.clear(), agents.clear(), monitors.clear(), calls.clear();
+        changed_groups.clear(), changed_agents.clear();
+    }
 };
 
 // A number that is NULL where it is 0, or where it doesn't hold.
@@ -201,6 +208,9 @@ static string canonical(const Members &m) {
         {"monitorStart", {"device", "invoke", "requester", "service"}},
         {"monitorStop", {"invoke", "monitor", "requester", "service"}},
         {"tick", {"invoke", "requester", "service"}},
+        {"rejectCall", {"call", "device", "invoke", "requester", "service"}},
+        {"changeGroup", {"device", "invoke", "name", "requester", "ring", "service", "wrap"}},
+        {"changeAgent", {"agent", "invoke", "name", "requester", "service"}},
     };
     bool on = m.text("service") == "setAgentState" && m.text("requested") == "loggedOn";
     auto it = members.find(on ? "loggedOn" : m.text("service"));
@@ -292,6 +302,11 @@ class Store : Switch<Changes> {
             db.run(GROUP, g.entered, g.answered, g.abandoned, g.moved, g.waited, n);
             if (!db.changed()) db.run(NEW_GROUP, n, string_view(g.name), uint64_t(g.ring), uint64_t(g.wrap));
         }
+        for (uint64_t n : notes.changed_groups) {
+            const Group &g = groups.at(n);
+            db.run(CHANGED_GROUP, string_view(g.name), uint64_t(g.ring), uint64_t(g.wrap), n);
+        }
+        for (uint64_t n : notes.changed_agents) db.run(CHANGED_AGENT, string_view(agents.at(n).name), n);
         for (uint64_t n : notes.stations) db.run(NEW_STATION, n);
         for (uint64_t n : notes.agents) write_agent(n, agents.at(n));
         for (auto &[n, before] : notes.calls) write_call(n, before);

@@ -70,7 +70,7 @@ export type Follower = {tell: (course: Course) => void, begin: (snapshot: Snapsh
 // the agent's page
 
 export type Requested = 'loggedOn' | 'ready' | 'notReady' | 'workingAfterCall' | 'loggedOff';
-export type CallService = 'answerCall' | 'holdCall' | 'retrieveCall' | 'clearConnection' | 'singleStepTransfer' | 'deflectCall';
+export type CallService = 'answerCall' | 'holdCall' | 'retrieveCall' | 'clearConnection' | 'rejectCall' | 'singleStepTransfer' | 'deflectCall';
 /** A request that has no answer yet, and what it asks for. */
 export type Kept = {body: string, words: string};
 export type Told = {kind: 'sent' | 'waits' | 'done' | 'refused' | 'dropped', words: string, result?: {pending?: string}};

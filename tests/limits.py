@@ -220,6 +220,16 @@ class Course:
             if self.switch.waiting(group):
                 self.by_desk("deflectCall", call=self.switch.waiting(group)[0][1], device=group, to=self.rng.choice(GROUPS))
 
+    def correct(self):
+        """Offers are rejected, and groups and agents get other names of full length; ring and wrap stay, so that as much goes back at a tick."""
+        for call, device in self.some(self.at_agents("alerting"), 20):
+            self.by_desk("rejectCall", call=call, device=device)
+        for place in self.some(range(64), 8):
+            ring, wrap = seconds(place)
+            self.ask(PLANNER, "changeGroup", device=GROUPS[place], name=(f"{self.now}" + SIGNS[place % len(SIGNS)] * 40)[:40], ring=ring, wrap=wrap)
+        for agent in self.some(AGENTS, 20):
+            self.ask(PLANNER, "changeAgent", agent=agent, name=(self.rng.choice(SIGNS) * 40 + f"{self.now}")[-40:])
+
     def call_inside(self):
         """Private calls, which some answer, and one that is dialled to a group."""
         for agent in self.some(self.agents("notReady", "workingAfterCall"), 30):
@@ -230,6 +240,7 @@ class Course:
     def work(self):
         """Calls are answered, held, retrieved, given away and cleared, others come, and the wrap and the ring pass."""
         self.pass_by(7)
+        self.correct()
         for call, device in self.ends("alerting")[:500]:
             self.by_desk("answerCall", call=call, device=device)
         for call, device in self.some(self.at_agents("connected"), 150):
@@ -280,7 +291,8 @@ class Course:
 
 
 WANTED = {"offers that go back at one tick": 400, "agents who become ready at one tick": 300, "offers at one tick": 300,
-          "most events of one request": 2000, "planFull": 4, "tooManyCalls": 2, "monitorStart": 256, "addGroup": 64, "addStation": 1000, "addAgent": 1000}
+          "most events of one request": 2000, "planFull": 4, "tooManyCalls": 2, "monitorStart": 256, "addGroup": 64, "addStation": 1000, "addAgent": 1000,
+          "rejectCall": 200, "changeGroup": 100, "changeAgent": 200}
 
 
 def wide(moment, members, length):

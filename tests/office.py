@@ -37,7 +37,8 @@ DESKS = [f"help-line-office-of-the-city-00{n}" for n in range(1, 5)]
 WANTED = {"tick with several overdue offers": 8, "several offers after one request": 15, "several offers, not after tick": 3,
           "queued call deflected": 30, "offered call deflected": 30, "offered call deflected to its own group": 5,
           "call transferred": 30, "private call answered": 20, "two agents released": 1, "state pending": 20, "call abandoned": 20,
-          "call failed": 10, "monitorStart": 20, "monitorStop": 10, "moment before the last": 20}
+          "call failed": 10, "monitorStart": 20, "monitorStop": 10, "moment before the last": 20,
+          "rejectCall": 10, "rejected call offered at once": 3, "changeGroup": 20, "changeAgent": 20}
 MIXED = {"log-on in several groups": 20, "log-on in eight groups": 5, "log-on with both members": 3, "setGroupPriority": 20,
          "offer of a group of higher priority": 20, "repeat in another order": 5}
 UNREACHED = {"tooManyCalls", "planFull"}  # the limits are greater than this office
@@ -45,8 +46,9 @@ UNREACHED = {"tooManyCalls", "planFull"}  # the limits are greater than this off
 # an office and how long it is watched: wanted is what has to come up, and named the refusals that have to
 # mixed: its agents serve several groups, of three priorities
 Size = namedtuple("Size", "seed requests repeats reused live_calls wild signs groups stations agents wanted named mixed")
-DAY = Size(3000, 3000, 300, 10, 60, 3, "\"\\", GROUPS, STATIONS, AGENTS, WANTED | MIXED, set(REFUSALS) - UNREACHED, True)
-MORNING = Size(12, 280, 5, 2, 8, 8, "'/", GROUPS[2:6], STATIONS[::5], AGENTS[::5], dict.fromkeys(WANTED, 1), DAY.named, False)
+DAY = Size(3004, 3000, 300, 10, 60, 3, "\"\\", GROUPS, STATIONS, AGENTS, WANTED | MIXED, set(REFUSALS) - UNREACHED, True)
+SELDOM = {"rejected call offered at once": 0}  # where so few agents are ready
+MORNING = Size(543, 300, 5, 2, 8, 8, "'/", GROUPS[2:6], STATIONS[::5], AGENTS[::5], dict.fromkeys(WANTED, 1) | SELDOM, DAY.named, False)
 PRIORITIES = [0, 5, 9]
 RELEASE = Path(__file__).resolve().parent.parent / "release/acd"
 COLUMNS = "number,moment,event,call,device,agent,group,to,cause,waited".split(",")
@@ -124,6 +126,7 @@ class Office:
             self.seen["offered call deflected"] += offered
             self.seen["offered call deflected to its own group"] += offered and first["group"] == first["to"]
             self.seen["queued call deflected"] += first["device"] in self.switch.groups
+        self.seen["rejected call offered at once"] += service == "rejectCall" and offers > 0
         self.seen["call transferred"] += first["event"] == "transferred"
         self.seen["private call answered"] += first["event"] == "established" and "group" not in first
         names = Counter(event["event"] for event in events)
@@ -209,6 +212,13 @@ class Office:
     def set_priority(self, device):
         self.ask(PLANNER, "setGroupPriority", device=device, priority=self.rng.choice(PRIORITIES))
 
+    def change_group(self, device):
+        self.ask(PLANNER, "changeGroup", device=device, name=f"Group {device}, {self.now}"[:40],
+                 ring=self.rng.choice([0, 5, 15, 20, 40]), wrap=self.rng.choice([0, 1, 20, 30, 60]))
+
+    def change_agent(self, agent):
+        self.ask(PLANNER, "changeAgent", agent=agent, name=f"Agent {agent}, {self.now}"[:40])
+
     def place(self, devices):
         """One of these devices; at times one of the other kind."""
         return self.rng.choice(devices if self.rng.random() < 0.9 else [self.station_names[0], self.group_names[0]])
@@ -278,8 +288,11 @@ class Office:
         if not self.switch.planned(device) and device.startswith(("5", "0312")):
             device = self.group_names[0]  # the plan stays as it is
         ring, wrap = self.rng.choice([0, 20, 3600]), self.rng.choice([0, 30])
+        agent = self.rng.choice(self.agent_names)
         return self.rng.choice([("addGroup", {"device": device, "name": " ", "ring": ring, "wrap": wrap}),
-                                ("addStation", {"device": device}), ("addAgent", {"agent": self.rng.choice(self.agent_names), "name": "~"})])
+                                ("addStation", {"device": device}), ("addAgent", {"agent": agent, "name": "~"}),
+                                ("changeGroup", {"device": self.any_device(), "name": "~", "ring": ring, "wrap": wrap}),
+                                ("changeAgent", {"agent": self.rng.choice([agent, "5555"]), "name": " "})])
 
     def wild_agent(self):
         agent = self.rng.choice(self.agent_names) if self.rng.random() < 0.8 else "5555"
@@ -295,7 +308,7 @@ class Office:
     def wild_call(self):
         call, device = self.any_end()
         to = self.any_device() if self.rng.random() < 0.8 else self.any_end()[1]
-        service = self.rng.choice(["phoneOffHook", "answerCall", "holdCall", "retrieveCall", "deflectCall", "singleStepTransfer"])
+        service = self.rng.choice(["phoneOffHook", "answerCall", "holdCall", "retrieveCall", "deflectCall", "singleStepTransfer", "rejectCall"])
         given = {"to": to} if service in ("deflectCall", "singleStepTransfer") else {}
         return service, {"call": call, "device": device, **given}
 
@@ -321,6 +334,7 @@ class Office:
         return [
             (6 * self.pace, self.act("answerCall"), self.connections("alerting", distributed=True)),
             (4, self.act("answerCall"), self.connections("alerting", distributed=False)),
+            (1, self.act("rejectCall"), self.connections("alerting", distributed=True)),
             (4, self.act("phoneOffHook"), self.connections("initiated")),
             (3, self.act("holdCall"), self.at_stations("connected")), (3, self.act("retrieveCall"), self.connections("hold")),
             (2, self.clear, own_calls), (3, self.clear, self.at_stations("connected", "hold")),
@@ -338,6 +352,7 @@ class Office:
             (1, lambda device: self.ask(WATCHER, "monitorStart", device=device), self.station_names),
             (1, lambda monitor: self.ask(WATCHER, "monitorStop", monitor=monitor), list(self.switch.monitors)),
             (1, self.set_priority, self.group_names if self.size.mixed else []),
+            (1, self.change_group, self.group_names), (1, self.change_agent, self.agent_names),
         ]
 
     def work(self):

@@ -330,6 +330,16 @@ class Switch:
         refuse_if(device not in self.groups, "notGroup")
         self.groups[device].priority = priority
 
+    def change_group(self, device, name, ring, wrap):
+        refuse_if(not self.planned(device), "unknownDevice")
+        refuse_if(device not in self.groups, "notGroup")
+        group = self.groups[device]
+        group.name, group.ring, group.wrap = name, ring, wrap
+
+    def change_agent(self, agent, name):
+        refuse_if(agent not in self.agents, "unknownAgent")
+        self.agents[agent].name = name
+
     def monitor_start(self, device):
         refuse_if(not self.planned(device), "unknownDevice")
         refuse_if(len(self.monitors) >= self.limits["monitors"], "planFull")
@@ -348,14 +358,24 @@ class Switch:
                 if connection.state == "alerting" and self.distributed(device, connection)
                 and 0 < self.groups[connection.group].ring <= self.moment - connection.offered]
 
+    def take_back(self, number, device, connection):
+        """An offered call goes back to its place in its group's queue."""
+        connections, group = self.calls[number].connections, connection.group
+        del connections[device]
+        self.report("diverted", device=device, call=number, to=group, cause="noAnswer", group=group)
+        connections[group] = Connection("queued", group, connection.place, connection.queued)
+        self.report("queued", device=group, call=number, cause="noAnswer")
+        self.release(device, connection, "noAnswer")
+
+    def reject_call(self, call, device):
+        _, connection = self.found(call, device)
+        is_offered = connection.state == "alerting" and self.distributed(device, connection)
+        refuse_if(not is_offered, "wrongConnectionState")
+        self.take_back(call, device, connection)
+
     def tick(self):
         for number, device, connection in self.overdue():
-            group = connection.group
-            del self.calls[number].connections[device]
-            self.report("diverted", device=device, call=number, to=group, cause="noAnswer", group=group)
-            self.calls[number].connections[group] = Connection("queued", group, connection.place, connection.queued)
-            self.report("queued", device=group, call=number, cause="noAnswer")
-            self.release(device, connection, "noAnswer")
+            self.take_back(number, device, connection)
         for agent, record in sorted(self.agents.items(), key=lambda entry: order(entry[0])):
             if record.state == "workingAfterCall" and 0 < self.groups[record.groups[0]].wrap <= self.moment - record.since:
                 self.become(agent, "ready")
@@ -379,6 +399,7 @@ class Switch:
         "retrieveCall": retrieve_call, "clearConnection": clear_connection, "deflectCall": deflect_call,
         "singleStepTransfer": single_step_transfer, "setAgentState": set_agent_state, "monitorStart": monitor_start,
         "monitorStop": monitor_stop, "tick": tick, "setGroupPriority": set_group_priority,
+        "rejectCall": reject_call, "changeGroup": change_group, "changeAgent": change_agent,
     }
 
     def step(self, moment, service, members):

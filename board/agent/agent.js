@@ -14,7 +14,7 @@ import {Requests} from './requests.js';
 const RENEW = 300000, AGAIN = 2000, MOST_GROUPS = 8;
 
 /** @type {Record<CallService, string>} */
-const BUTTONS = {answerCall: 'Answer', holdCall: 'Hold', retrieveCall: 'Retrieve', clearConnection: 'Hang up', singleStepTransfer: 'Transfer', deflectCall: 'Deflect'};
+const BUTTONS = {answerCall: 'Answer', holdCall: 'Hold', retrieveCall: 'Retrieve', clearConnection: 'Hang up', rejectCall: 'Not now', singleStepTransfer: 'Transfer', deflectCall: 'Deflect'};
 
 const query = new URLSearchParams(location.search), base = location.origin;
 let id = query.get('agent') ?? '', state = new State(), offset = 0, live = false;
@@ -117,6 +117,8 @@ function drawCall(call, station) {
     button.disabled = !live || !may.has(service);
     button.classList.toggle('main', service === 'answerCall');
   }
+  // an agent who has no time for a caller isn't to throw the caller out
+  for (const service of /** @type {CallService[]} */ (['clearConnection', 'rejectCall'])) toggle(/** @type {Element} */ (card.buttons.get(service)), 'hidden', may.has('rejectCall') !== (service === 'rejectCall'));
   card.to.disabled = !may.has('singleStepTransfer') && !may.has('deflectCall');
 }
 
@@ -130,7 +132,7 @@ function addCard(number) {
     button.addEventListener('click', () => act(/** @type {CallService} */ (service), number, to));
     buttons.set(service, button);
   }
-  const all = [...buttons.values()], card = make('li', {}, line, about, make('div', {class: 'buttons'}, ...all.slice(0, 4), to, ...all.slice(4)));
+  const all = [...buttons.values()], card = make('li', {}, line, about, make('div', {class: 'buttons'}, ...all.slice(0, 5), to, ...all.slice(5)));
   byId('calls').append(card);
   const made = {card, line, about, to, buttons};
   cards.set(number, made);

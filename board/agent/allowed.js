@@ -31,6 +31,7 @@ export function services(state, call, station) {
   if (!here) return new Set();
   /** @type {Set<CallService>} */ const found = new Set(['clearConnection']);
   if (here.state === 'alerting') found.add('answerCall').add('deflectCall');
+  if (here.state === 'alerting' && here.group) found.add('rejectCall');
   if (here.state === 'connected') {
     found.add('holdCall');
     // an external caller's side, which no event tells, is connected

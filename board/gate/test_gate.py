@@ -38,8 +38,8 @@ ana-b agent agent=8
 # of "secret" by SHA-1, as `htpasswd -s` makes it
 SECRET = "{SHA}5en6G6MezRroT3XKqkdPOmY/BfQ="
 USERS = "".join(f"{login}:{SECRET}\n" for login in ("pbx", "planner", "sup", "ana", "ana-b", "nobody", "Jürgen"))
-CALL_SERVICES = ["makeCall", "phoneOffHook", "answerCall", "holdCall", "retrieveCall", "clearConnection", "deflectCall", "singleStepTransfer"]
-PLAN_SERVICES = ["addGroup", "addStation", "addAgent", "setGroupPriority"]
+CALL_SERVICES = ["makeCall", "phoneOffHook", "answerCall", "rejectCall", "holdCall", "retrieveCall", "clearConnection", "deflectCall", "singleStepTransfer"]
+PLAN_SERVICES = ["addGroup", "addStation", "addAgent", "setGroupPriority", "changeGroup", "changeAgent"]
 OTHERS = ["arriveCall", "monitorStart", "monitorStop", "tick"]
 FORBIDDEN = (403, b'{"error":{"code":41,"name":"forbidden"}}')
 REPLY = b'{"error":{"code":3,"name":"unknownCall"},  "odd":1}'

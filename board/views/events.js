@@ -44,7 +44,7 @@ export function sentence(state, report) {
   }
   const call = `Call ${report.call}`;
   switch (report.event) {
-    case 'queued': return `${call} waits in ${named(report.device)}${{newCall: '', deflected: ', sent there', transferred: ', transferred', noAnswer: ' again: it was not answered'}[report.cause]}`;
+    case 'queued': return `${call} waits in ${named(report.device)}${{newCall: '', deflected: ', sent there', transferred: ', transferred', noAnswer: ' again: it was not taken'}[report.cause]}`;
     case 'delivered': return `${call} rings at ${named(report.device)}${report.group ? ` for ${named(report.group)}` : ''}`;
     case 'diverted': return report.cause === 'deflected' ? `${call} is sent on from ${named(report.device)} to ${named(report.to)}` : '';
     case 'established': return `${named(report.device)} answers call ${report.call}${report.waited === undefined ? '' : ` after ${clock(report.waited)}`}`;

@@ -138,6 +138,24 @@ class SetGroupPriority(RequestKey):
     priority: Priority
 
 
+class RejectCall(ConnectionRequest):
+    service: Literal['rejectCall']
+
+
+class ChangeGroup(RequestKey):
+    service: Literal['changeGroup']
+    device: DeviceId
+    name: Name
+    ring: Timeout
+    wrap: Timeout
+
+
+class ChangeAgent(RequestKey):
+    service: Literal['changeAgent']
+    agent: AgentId
+    name: Name
+
+
 class Reply(TypedDict):
     invoke: Invoke
     requester: Requester
@@ -585,7 +603,7 @@ class AgentWorkingAfterCall(AgentReport):
 LogOn = Union[LogOnInGroup, LogOnInGroups]
 SetAgentState = Union[LogOn, ChangeState]
 ServiceRequest = Union[AddGroup, AddStation, AddAgent, ArriveCall, MakeCall, PhoneOffHook, AnswerCall, HoldCall, RetrieveCall, ClearConnection,
-    DeflectCall, SingleStepTransfer, SetAgentState, MonitorStart, MonitorStop, Tick, SetGroupPriority]
+    DeflectCall, SingleStepTransfer, SetAgentState, MonitorStart, MonitorStop, Tick, SetGroupPriority, RejectCall, ChangeGroup, ChangeAgent]
 RefusalError = Union[UnknownDevice, UnknownAgent, UnknownCall, UnknownConnection, WrongConnectionState, WrongAgentState, DeviceExists, AgentExists,
     NotStation, NotGroup, DestinationBusy, SameDevice, StationTaken, StationBusy, TooManyCalls, PlanFull, UnknownMonitor, CallerPlanned]
 UnavailableError = Union[NoMemory, StoreFault]

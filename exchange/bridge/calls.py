@@ -18,7 +18,7 @@ class Calls:
         # who takes the reply to a request
         self.takers: dict[str, Callable[[Request, Leg | None, Answer], None]] = {
             "arrived": self.arrived, "went_off_hook": self.went_off_hook, "answered": self.answered, "deflected": self.deflected,
-            "ticked": self.ticked}
+            "rejected": self.rejected, "ticked": self.ticked}
 
     def take_reply(self, row: Request, answer: Answer) -> None:
         self.rows.requests.remove(row.key)
@@ -71,6 +71,11 @@ class Calls:
         call = self.rows.calls.get(str(row.body["call"]))
         if answer.status != 200 and call is not None:
             self.dialogs.decline(call, row.body["device"], 486)
+
+    def rejected(self, row: Request, leg: Leg | None, answer: Answer) -> None:
+        """By 409 a tick, the caller or somebody else was first. A desk that is older than the service answers 400."""
+        if answer.status not in (200, 409):
+            self.steps.say_hourly(f"a rejectCall is answered {answer.status} {answer.error}".rstrip() + ": the offer waits for the end of its ring")
 
     def ticked(self, row: Request, leg: Leg | None, answer: Answer) -> None:
         if answer.status != 200:

@@ -12,6 +12,8 @@ from .steps import Steps
 from .transactions import ALLOW, Transactions
 
 LEAST_SESSION = 90
+# what tells of the phone, and not of this very call; the edge says 408 for one that is silent, 477 for one whose connection is gone
+UNAVAILABLE = (404, 408, 477, 480, 486, 603)
 # seconds: between two 182, since proxies give up behind three minutes; for an answer to a CANCEL; before a new offer
 REMIND, AFTER_CANCEL, AGAIN = 45.0, 4.0, 1.0
 
@@ -124,15 +126,12 @@ class Dialogs:
                 self.decline(call, leg.device, status)
 
     def decline(self, call: Call, device: str, status: int) -> None:
-        """A private call ends; one that a group offered waits for the end of its ring, or is deflected."""
-        group, agent = call.offers.get(device), self.rows.agents.get(device)
-        if not group:
+        """A private call ends; one that a group offered goes back to its place at once, or waits for the end of its ring."""
+        if not call.offers.get(device):
             call.failure = status if status in (404, 480, 486, 603) else 480
             self.steps.ask("clearConnection", call=int(call.key), device=device)
-        elif self.settings.refused == "deflect":
-            if agent is not None:
-                self.steps.ask("setAgentState", agent=agent.agent, requested="notReady")
-            self.steps.ask("deflectCall", call=int(call.key), device=device, to=group)
+        elif self.settings.refused == "reject" and (status < 400 or status in UNAVAILABLE):
+            self.steps.ask("rejectCall", "rejected", call=int(call.key), device=device)
 
     # session timers: whoever refreshes does so in the middle of the interval; who waits in vain hangs up before its end
     def offer(self, leg: Leg, body: str = "", then: str = "", fields: Fields = (), served: str = "") -> None:

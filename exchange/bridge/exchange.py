@@ -79,7 +79,8 @@ class Exchange:
     def compare(self, key: str, answer: Answer) -> None:
         """Holds the desk's connections of a call against its legs: what lacks the other ends, and so does a call that
         no phone has a part in. What the file lost by a power cut is made up for."""
-        states = {each["device"]: each["state"] for each in answer.body["connections"]} if answer.status == 200 else {}
+        shown = answer.body["connections"] if answer.status == 200 else []
+        states = {each["device"]: each["state"] for each in shown}
         call, asked = self.rows.calls.get(key), {row.leg for row in self.rows.requests.values() if row.then == "answered"}
         legs = {device: self.rows.legs.get(leg) for device, leg in call.legs.items()} if call is not None else {}
         if call is not None and states:
@@ -96,9 +97,9 @@ class Exchange:
         if any(legs.get(device) is None for device in parts):
             self.steps.ask("clearConnection", call=int(key), device=min(states))
         elif call is not None and states:
-            for device, state in states.items():
-                if state == "alerting" and device not in legs:
-                    self.calls.delivered(call, device, "")
+            for each in shown:
+                if each["state"] == "alerting" and each["device"] not in legs:
+                    self.calls.delivered(call, each["device"], each.get("group", ""))
             call.connected = len(states) == 2 and set(states.values()) <= {"connected", "hold"}
             # by then a re-INVITE of before has come to its end
             call.due = self.now() + GRACE

@@ -28,7 +28,7 @@ class Settings:
     poll: float = option(0.1, "seconds between two looks for events")
     tick: int = option(0, "sends the desk's ticks too, each so many seconds; with 0 acd-tick does")
     waiting: str = option("queued", "callers who wait get 182, or are answered with music", choices=("queued", "music"))
-    refused: str = option("wait", "offers that a phone refuses ring out, or are deflected", choices=("wait", "deflect"))
+    refused: str = option("reject", "offers that a phone refuses are rejected, or wait for the end of their ring", choices=("reject", "wait"))
     music: str = option("", "a WAV file of 8000 Hz, 16 bits, one channel; without it silence")
     music_port: int = option(16000, "where the music is sent from")
     media: str = option("", "NETWORKS as 192.0.2.0/24,198.51.100.7: where music may go besides the address that its caller sends from")

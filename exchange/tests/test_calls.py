@@ -130,14 +130,6 @@ class Queued(OnABench):
         b.pass_time(100)
         self.assertEqual(b.firsts(), ["SIP/2.0 182"] * 2)
 
-    def test_a_phone_that_is_silent_and_refused(self) -> None:
-        b = self.bench
-        b.waiting()
-        b.tell("diverted@100/100", "delivered@201/100")
-        b.take()
-        b.pass_time(33)
-        self.assertEqual((set(b.firsts()), b.asked(), len(b.x.rows.legs)), ({"INVITE"}, [], 1))
-
     def test_no_ack(self) -> None:
         b = self.bench
         b.talking()
@@ -286,25 +278,6 @@ class Music(OnABench):
         sent = b.take()
         self.assertEqual([(to, message.method, "m=audio 7500" in message.body) for to, message in sent], [(CALLER, "ACK", False), (PHONE, "INVITE", True)])
         self.assertEqual((leg.music, b.x.rows.calls["1"].joined), (False, True))
-
-
-class Deflecting(OnABench):
-    settings = {"refused": "deflect"}
-
-    def test_a_busy_phone(self) -> None:
-        b = self.bench
-        b.tell("agentLoggedOn@201")
-        b.reply(b.ringing(), 486)
-        self.assertEqual(b.asked(), [("setAgentState", {"agent": "1", "requested": "notReady"}), ("deflectCall", {"call": 1, "device": "201", "to": "100"})])
-
-    def test_a_phone_that_moved(self) -> None:
-        b = self.bench
-        invite = b.ringing()
-        b.receive(f"SIP/2.0 302 Moved\r\n{''.join(f'{n}: {v}' + chr(13) + chr(10) for n, v in invite.some('via', 'from', 'call-id', 'cseq'))}"
-                  f"To: {invite.get('to')};tag=p\r\nContact: <sip:202@elsewhere>\r\n\r\n", PHONE)
-        self.assertEqual(b.asked(), [("deflectCall", {"call": 1, "device": "201", "to": "202"})])
-        b.answer("destinationBusy")
-        self.assertEqual(b.asked(), [("deflectCall", {"call": 1, "device": "201", "to": "100"})])
 
 
 EDGE = "127.0.0.1:5060"

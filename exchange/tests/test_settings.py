@@ -3,6 +3,8 @@ from __future__ import annotations
 
 import os
 import unittest
+from contextlib import redirect_stderr
+from io import StringIO
 from typing import Any
 from unittest import mock
 
@@ -32,6 +34,16 @@ class Command(unittest.TestCase):
         for environment, words, wanted in cases:
             with mock.patch.dict(os.environ, environment), mock.patch("sys.argv", ["acd-exchange", "--edge", "127.0.0.1:5060", *words]):
                 self.assertEqual(Settings.read().desk, wanted)
+
+    def test_what_becomes_of_an_offer_that_is_refused(self) -> None:
+        cases: list[tuple[list[str], str]] = [([], "reject"), (["--refused", "reject"], "reject"), (["--refused", "wait"], "wait")]
+        for words, wanted in cases:
+            with mock.patch("sys.argv", ["acd-exchange", "--edge", "127.0.0.1:5060", *words]):
+                self.assertEqual(Settings.read().refused, wanted)
+        with mock.patch("sys.argv", ["acd-exchange", "--edge", "127.0.0.1:5060", "--refused", "deflect"]), redirect_stderr(StringIO()):
+            with self.assertRaises(SystemExit) as ended:
+                Settings.read()
+        self.assertEqual(ended.exception.code, 2)
 
     def test_networks(self) -> None:
         self.assertEqual([str(each) for each in Settings(media=" 198.51.100.0/24,203.0.113.9 ").networks], ["198.51.100.0/24", "203.0.113.9/32"])

@@ -8,15 +8,16 @@ import time
 from collections.abc import Callable
 from concurrent.futures import ThreadPoolExecutor
 from pathlib import Path
+from typing import Any
 
 import scenarios
-from ground import Ground, wait_for
+from ground import PASSWORD, Ground, wait_for
 
 BUSY = "486 Busy Here"
 
 
 class Features:
-    """Each scenario has a ground of its own, with three phones, two agents and two groups, and everybody is logged off at first. `down` is how many
+    """Each scenario has a ground of its own, with three phones, two agents or three, and two groups, and everybody is logged off at first. `down` is how many
     seconds an exchange is down that phones hang up meanwhile."""
 
     def __init__(self, folder: Path, program: str, base: int, down: float = 12):
@@ -38,8 +39,8 @@ class Features:
 
     def run_all(self, cases: list[tuple[int, str, str]]) -> None:
         for base, name, waiting in cases:
-            options = ("--waiting", waiting, "--trace", *OPTIONS.get(name, ()))
-            with Ground(self.folder / f"{name.replace(' ', '-')}-{waiting}", self.program, base, groups="100 101", options=options) as ground:
+            folder, options = self.folder / f"{name.replace(' ', '-')}-{waiting}", ("--waiting", waiting, "--trace", *OPTIONS.get(name, ()))
+            with Ground(folder, self.program, base, groups="100 101", options=options, **GROUNDS.get(name, {})) as ground:
                 FEATURES[name](self, ground, waiting == "music")
                 self.see(f"{name}: steps undone", ground.said("exchange").count("a step was undone"), 0)
                 ground.end(ground.exchange)
@@ -66,6 +67,7 @@ def cleared(*devices: str) -> str:
 
 
 OFFERED = "queued@100 diverted@100 delivered@201"
+BACK = "diverted@201 queued@100"
 ESTABLISHED = f"{OFFERED} established@201"
 
 
@@ -197,11 +199,11 @@ def late_answer(self: Features, ground: Ground, music: bool) -> None:
     time.sleep(0.5)
     ground.log_on(2)
     self.ends("a late answer", caller, first, second, seconds=30)
-    self.story("a late answer", ground, f"{OFFERED} diverted@201 queued@100 diverted@100 delivered@202 established@202 {cleared('0309999', '202')}")
+    self.story("a late answer", ground, f"{OFFERED} {BACK} diverted@100 delivered@202 established@202 {cleared('0309999', '202')}")
 
 
 def refused_and_waits(self: Features, ground: Ground, music: bool) -> None:
-    """A phone is busy: the offer waits for the end of its ring, and the call keeps its place."""
+    """With --refused wait the offer of a busy phone waits for the end of its ring, and the call keeps its place."""
     ground.start_ticks()
     ground.log_on(1)
     phone = ground.phone("201", scenarios.refusing(BUSY))
@@ -211,19 +213,43 @@ def refused_and_waits(self: Features, ground: Ground, music: bool) -> None:
     self.arise(ground, "queued", 2)
     ground.log_on(2)
     self.ends("a refused ring", caller, second)
-    self.story("a refused ring", ground, f"{OFFERED} diverted@201 queued@100 diverted@100 delivered@202 established@202 {cleared('0301010', '202')}")
+    self.story("a refused ring", ground, f"{OFFERED} {BACK} diverted@100 delivered@202 established@202 {cleared('0301010', '202')}")
 
 
-def refused_and_deflected(self: Features, ground: Ground, music: bool) -> None:
-    """With --refused deflect the agent is not ready at once, and the call goes to the end of its queue."""
+def gone_while_three_are_ready(self: Features, ground: Ground, music: bool) -> None:
+    """A phone isn't registered any more: the second agent's rings within a second, by the desk's clock, though nobody ticks; the first agent is not ready."""
+    ground.log_on(1, 2, 3)
+    self.see("a phone that goes", ground.register("201", 0), 200)
+    second = ground.phone("202", scenarios.phone(300))
+    caller = ground.caller("caller", scenarios.caller(talks=3000, music=music, account=f"trunk:{PASSWORD}"), ["0302020"])
+    self.ends("a gone phone", caller, second)
+    self.story("a gone phone", ground, f"{OFFERED} {BACK} diverted@100 delivered@202 established@202 {cleared('0302020', '202')}")
+    self.see("the agents", [state(ground, agent) for agent in (1, 3)], ["notReady", "ready"])
+    first, then = [event["moment"] for event in ground.events() if event["event"] == "delivered"]
+    self.see(f"the second phone rings {then - first} s behind the first offer", then - first <= 1, True)
+
+
+def gone_and_alone(self: Features, ground: Ground, music: bool) -> None:
+    """A phone is registered and silent, and no other agent is ready: its call waits before one that came later, and each rings at whoever gets ready."""
+    callers = []
+    for place, number in enumerate(("0303030", "0303131"), 1):
+        callers.append(ground.caller(f"caller{place}", scenarios.caller(talks=3000, music=music, account=f"trunk:{PASSWORD}"), [number]))
+        self.arise(ground, "queued", place)
     ground.log_on(1)
-    phone, second = ground.phone("201", scenarios.refusing(BUSY)), ground.phone("202", scenarios.phone(300))
-    caller = ground.caller("caller", scenarios.caller(talks=3000, music=music), ["0302020"])
-    self.ends("a busy phone", phone)
+    self.arise(ground, "agentNotReady", 1)
+    self.see("alone: who waits", [call["call"] for call in (ground.client.read("/queues/100") or {})["calls"]], [1, 2])
+    second = ground.phone("202", scenarios.phone(300))
     ground.log_on(2)
-    self.ends("a deflected ring", caller, second)
-    self.story("a deflected ring", ground, f"{OFFERED} diverted@201 queued@100 diverted@100 delivered@202 established@202 {cleared('0302020', '202')}")
-    self.see("the agent", (ground.client.read("/agents/1") or {}).get("state"), "notReady")
+    self.ends("alone, the other agent", callers[0], second)
+    first = ground.phone("201", scenarios.phone(300))
+    self.see("alone: ready again", ground.key("201", "*24"), 200)
+    self.ends("alone, the same agent", callers[1], first)
+    self.story("alone", ground, f"queued@100 {OFFERED} {BACK} diverted@100 delivered@202 established@202 {cleared('0303030', '202')} "
+                                f"diverted@100 delivered@201 established@201 {cleared('0303131', '201')}")
+
+
+def state(ground: Ground, agent: int) -> str:
+    return str((ground.client.read(f"/agents/{agent}") or {}).get("state"))
 
 
 def without_an_ack(self: Features, ground: Ground, music: bool) -> None:
@@ -332,6 +358,8 @@ def another_history(self: Features, ground: Ground, music: bool) -> None:
 FEATURES: dict[str, Callable[[Features, Ground, bool], None]] = {
     "log on and off": log_on_and_off, "hold": hold_and_retrieve, "transfer": transfer_to_a_station, "transfer into a queue": transfer_into_a_queue,
     "deflection": deflection, "private calls": between_phones, "unknown": unknown, "click to dial": click_to_dial, "a supervisor": cleared_by_a_supervisor,
-    "strange numbers": strange_numbers, "a late answer": late_answer, "a refused ring": refused_and_waits, "a deflected ring": refused_and_deflected,
-    "no ACK": without_an_ack, "a silent desk": silent_desk, "hang-ups": hang_ups_while_it_is_down, "orphans": orphans, "another history": another_history}
-OPTIONS = {"a deflected ring": ("--refused", "deflect")}
+    "strange numbers": strange_numbers, "a late answer": late_answer, "a refused ring": refused_and_waits,
+    "a gone phone": gone_while_three_are_ready, "alone": gone_and_alone, "no ACK": without_an_ack, "a silent desk": silent_desk,
+    "hang-ups": hang_ups_while_it_is_down, "orphans": orphans, "another history": another_history}
+OPTIONS = {"a refused ring": ("--refused", "wait")}
+GROUNDS: dict[str, dict[str, Any]] = {"a gone phone": {"agents": 3, "edge": True}, "alone": {"edge": True}}

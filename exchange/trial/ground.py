@@ -226,10 +226,10 @@ class Ground(Programs):
         """A feature code, sent as a message: its status."""
         return self.keys.request("MESSAGE", f"sip:{code}@127.0.0.1", station)[0]
 
-    def register(self, station: str) -> int:
-        """From the phone's own port, before its program has it."""
+    def register(self, station: str, expires: int = 3600) -> int:
+        """From the phone's own port, before its program has it; with 0 it is unreachable from then on."""
         with Phone(self.edge_port, self.phone_port(station)) as phone:
-            contact = f"Contact: <sip:{station}@127.0.0.1:{self.phone_port(station)}>;expires=3600\r\n"
+            contact = f"Contact: <sip:{station}@127.0.0.1:{self.phone_port(station)}>;expires={expires}\r\n"
             return phone.request("REGISTER", "sip:127.0.0.1", station, contact)[0]
 
     def log_on(self, *agents: int, group: str = "100") -> None:

@@ -6,7 +6,8 @@ import re
 GOOD = {"requester": "edge", "device": "201", "name": "Ana", "ring": 20, "wrap": 30, "priority": 5, "agent": "7", "caller": "0301", "called": "100", "call": 1,
         "to": "202", "monitor": 1, "group": "100", "groups": ["100", "110"]}
 TEXTS = ["", "0", "7", "007", "1" * 8, "1" * 9, "1" * 10, "1" * 15, "1" * 16, " ", "~", "\x7f", "\x1f", "é", "a", "Z", "-", "_", "a" * 32, "a" * 33, "A" * 40,
-         "A" * 41, "12\n", "+1", "ready", "notReady", "workingAfterCall", "loggedOn", "loggedOff", "null", "busy", "Ready", "tick", "setGroupPriority"]
+         "A" * 41, "12\n", "+1", "ready", "notReady", "workingAfterCall", "loggedOn", "loggedOff", "null", "busy", "Ready", "tick", "setGroupPriority",
+         "rejectCall", "changeGroup", "changeAgent"]
 NUMBERS = [0, 1, -1, 9, 10, 3600, 3601, 999999999, 10 ** 9, 10 ** 9 + 1, 2 ** 63, 2 ** 64, 10 ** 30]
 EIGHT = [str(number) for number in range(100, 108)]
 LISTS = [[], ["100"], ["100", "100"], ["7", "07"], EIGHT, EIGHT + ["108"], EIGHT[:7] + ["100"], ["100", "x"], [100], [None], [["100"]], ["1" * 15, "1" * 16]]
@@ -48,7 +49,8 @@ def lengthen(chance, request, member, body):
 
 
 def rename(chance, request, member, body):
-    request["service"] = chance.choice(["tick", "Tick", "holdCall", "setAgentState", "arriveCall", "addGroup", "setGroupPriority"])
+    request["service"] = chance.choice(["tick", "Tick", "holdCall", "setAgentState", "arriveCall", "addGroup", "setGroupPriority", "rejectCall",
+                                         "changeGroup", "changeAgent"])
 
 
 def add_member(chance, request, member, body):

@@ -8,12 +8,17 @@ export async function shift(): Promise<number | undefined> {
   await ask({ requester: 'desk', invoke: 1, service: 'setAgentState', agent: '7', requested: 'loggedOn', device: '201', group: '100' });
   await ask({ requester: 'desk', invoke: 2, service: 'setAgentState', agent: '8', requested: 'loggedOn', device: '202', groups: ['100', '110'] });
   await ask({ requester: 'plan', invoke: 3, service: 'setGroupPriority', device: '100', priority: 5 });
+  await ask({ requester: 'plan', invoke: 4, service: 'changeGroup', device: '100', name: 'Billing', ring: 15, wrap: 30 });
+  await ask({ requester: 'plan', invoke: 5, service: 'changeAgent', agent: '7', name: 'Anna' });
+  await ask({ requester: 'desk', invoke: 7, service: 'rejectCall', call: 1, device: '201' });
   // @ts-expect-error a log-on without a group
   await ask({ requester: 'desk', invoke: 3, service: 'setAgentState', agent: '7', requested: 'loggedOn', device: '201' });
   // @ts-expect-error groups that are no list
   await ask({ requester: 'desk', invoke: 3, service: 'setAgentState', agent: '7', requested: 'loggedOn', device: '201', groups: '100' });
   // @ts-expect-error a member of another service
   await ask({ requester: 'desk', invoke: 4, service: 'answerCall', call: 1, device: '201', to: '202' });
+  // @ts-expect-error a change that leaves a member out
+  await ask({ requester: 'plan', invoke: 6, service: 'changeGroup', device: '100', ring: 15 });
   // @ts-expect-error no such service
   await ask({ requester: 'desk', invoke: 5, service: 'parkCall', call: 1, device: '201' });
   // @ts-expect-error a number for a text

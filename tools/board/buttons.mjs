@@ -1,5 +1,5 @@
 // Whether the buttons of an agent's page are enabled exactly where the desk grants what they ask for.
-const SERVICES = ['answerCall', 'holdCall', 'retrieveCall', 'clearConnection', 'singleStepTransfer', 'deflectCall'], STATES = ['loggedOn', 'ready', 'notReady', 'workingAfterCall', 'loggedOff'];
+const SERVICES = ['answerCall', 'holdCall', 'retrieveCall', 'clearConnection', 'rejectCall', 'singleStepTransfer', 'deflectCall'], STATES = ['loggedOn', 'ready', 'notReady', 'workingAfterCall', 'loggedOff'];
 
 /** Asks a desk in work for what is disabled, which has to be refused, and each time for one thing that is enabled, which has to be granted. */
 export async function buttons({State, services, states}, desk, rounds) {

@@ -22,7 +22,7 @@ const service = name => `#calls [data-service=${name}]:enabled`, requested = nam
 /** The shift: what is clicked, and the events of the agent or the station that have to come of it, in their order. */
 export async function shift(see, browser, desk, front, folder) {
   let invoke = 0;
-  const call = async () => (await desk.post({requester: 'try', invoke: ++invoke, service: 'arriveCall', caller: '0301234567', called: '110'})).result.call;
+  const call = async (called = '110') => (await desk.post({requester: 'try', invoke: ++invoke, service: 'arriveCall', caller: '0301234567', called})).result.call;
   const said = words => until(async () => (await browser.text('#told')).includes(words), 10);
   const click = async (selector, words) => {
     see(`the button ${selector}`, Boolean(await until(() => browser.click(selector).then(() => true), 10)));
@@ -48,16 +48,30 @@ export async function shift(see, browser, desk, front, folder) {
   await until(() => browser.find(service('deflectCall')), 10);
   await browser.run('document.querySelector("#calls input").value = "120"');
   await click(service('deflectCall'), `✓ Deflect call ${second} to 120`);
+  const own = await call(STATION);
+  see('a call of the own is hung up', String(await ends(own, browser)) === 'Hang up', String(await ends(own, browser)));
+  await click(service('clearConnection'), `✓ Hang up call ${own}`);
   const third = await call();
+  see('a call of a group is rejected', String(await ends(third, browser)) === 'Not now', String(await ends(third, browser)));
+  await click(service('rejectCall'), `✓ Not now call ${third}`);
+  see('and waits in its queue', Boolean(await until(() => browser.run('return !document.querySelector("#calls li") && window.agent.state().groups.get("110").waiting.size === 1'), 10)));
+  await click(requested('ready'), '✓ Ready');
   await click(service('answerCall'), `✓ Answer call ${third}`);
+  see('one that was answered is hung up', String(await ends(third, browser, 'connected')) === 'Hang up', String(await ends(third, browser, 'connected')));
   await click(requested('loggedOff'), '✓ Log off');
   see('what is pending is shown', Boolean(await until(async () => await browser.text('#pending') === 'logs off after this call', 5)), await browser.text('#pending'));
   await click(service('clearConnection'), `✓ Hang up call ${third}`);
   see('the agent is logged off behind it', Boolean(await until(() => browser.run('return !document.querySelector("#log-on").hidden'), 10)));
   const mine = (await desk.events(0)).filter(event => event.agent === AGENT || event.device === STATION).map(event => `${event.event} ${event.call ?? ''}`.trim());
   const wanted = ['agentLoggedOn', 'agentReady', `delivered ${first}`, `established ${first}`, 'agentBusy', `held ${first}`, `retrieved ${first}`, `transferred ${first}`, 'agentWorkingAfterCall', 'agentReady',
-    `delivered ${second}`, `diverted ${second}`, `delivered ${third}`, `established ${third}`, 'agentBusy', `connectionCleared ${third}`, 'agentLoggedOff'];
+    `delivered ${second}`, `diverted ${second}`, `delivered ${own}`, `connectionCleared ${own}`, `delivered ${third}`, `diverted ${third}`, 'agentNotReady', 'agentReady', `delivered ${third}`, `established ${third}`, 'agentBusy', `connectionCleared ${third}`, 'agentLoggedOff'];
   see('the events are what the buttons said', String(mine) === String(wanted), `${mine}`);
+}
+
+/** The buttons that end a call at the own side, where it has come to this state. */
+async function ends(call, browser, state = 'alerting') {
+  await until(() => browser.find(`#calls [data-state=${state}] [aria-label$=" call ${call}"]`), 10);
+  return browser.run(`return [...document.querySelectorAll('#calls [data-service=clearConnection], #calls [data-service=rejectCall]')].filter(button => button.checkVisibility()).map(button => button.textContent)`);
 }
 
 async function looks(see, browser, folder) {
@@ -174,13 +188,17 @@ export async function refused(see, browser, desk, front) {
   const forbidden = '{"error":{"code":41,"name":"forbidden"}}', before = (await desk.get('/snapshot')).groups.length;
   const ask = async (login, request, ...more) => front.ask(login, '/csta', {requester: `${login}-try`, invoke: 1, ...request}, ...more);
   for (const [login, request] of [['ana', {service: 'addGroup', device: '999', name: 'No', ring: 1, wrap: 1}], ['ana', {service: 'setAgentState', agent: '8', requested: 'loggedOn', device: '208', group: '100'}],
-    ['ana', {service: 'holdCall', call: 1, device: '208'}], ['ana', {service: 'arriveCall', caller: '1', called: '100'}], ['sup', {service: 'tick'}], ['sup', {service: 'setAgentState', agent: '7', requested: 'ready'}],
+    ['ana', {service: 'holdCall', call: 1, device: '208'}], ['ana', {service: 'rejectCall', call: 1, device: '208'}],
+    ['ana', {service: 'changeAgent', agent: '7', name: 'Ana'}], ['ana', {service: 'changeGroup', device: '100', name: 'No', ring: 1, wrap: 1}], ['planner', {service: 'rejectCall', call: 1, device: '208'}],
+    ['ana', {service: 'arriveCall', caller: '1', called: '100'}], ['sup', {service: 'tick'}], ['sup', {service: 'setAgentState', agent: '7', requested: 'ready'}],
     ['planner', {service: 'arriveCall', caller: '1', called: '100'}], ['ana', {requester: 'clock', service: 'setAgentState', agent: '7', requested: 'ready'}], ['pbx', {requester: 'ana-try', service: 'tick'}]]) {
     const {status, text} = await ask(login, request);
     see(`${login} may not ask for ${request.service}`, status === 403 && text === forbidden, `${status} ${text}`);
   }
-  const granted = await ask('planner', {service: 'addStation', device: '210'});
-  see('the office plans', granted.status === 200, granted.text);
+  for (const [place, request] of [{service: 'addStation', device: '210'}, {service: 'changeGroup', device: '120', name: 'Orders', ring: 25, wrap: 30}, {service: 'changeAgent', agent: '8', name: 'Ben B. Berg'}].entries()) {
+    const granted = await ask('planner', {invoke: 1 + place, ...request});
+    see(`the office asks for ${request.service}`, granted.status === 200, granted.text);
+  }
   see('who has no password reads nothing', (await front.ask('nobody', '/snapshot')).text === '{"error":{"code":42,"name":"unauthorized"}}');
   for (const path of ['/events', '/csta/', '//snapshot']) see(`no service by ${path}`, (await front.ask('pbx', path, {requester: 'pbx-x', invoke: 1, service: 'tick'})).status === 403);
   await elsewhere(see, browser, front, desk);

@@ -14,7 +14,7 @@ import {alarm, looks, losses, numbers, people, settings, still} from './page.mjs
 import {lostReply, olderPage, owners, PLAN, refused, shift} from './shift.mjs';
 
 const NEEDED = {chromedriver: 'chromium-driver', chromium: 'chromium', nginx: 'nginx-light', tsc: 'node-typescript', openssl: 'openssl', curl: 'curl', python3: 'python3'};
-const PARTS = ['files', 'gate', 'state', 'load', 'buttons', 'board', 'agent', 'full'], MOST_BYTES = 100000, MOST_CALLS = 2000, ROUNDS = 50;
+const PARTS = ['files', 'gate', 'state', 'load', 'buttons', 'board', 'agent', 'full'], MOST_BYTES = 105000, MOST_CALLS = 2000, ROUNDS = 50;
 const ROLES = [['pbx', 'exchange'], ['planner', 'office'], ['sup', 'supervisor'], ['ana', 'agent', '7']];
 
 class Trial {

@@ -1,4 +1,4 @@
-# completion of acd in bash; tools/package compares its commands and options with what --help says
+# completion of acd and acd-plan in bash; tools/package compares their commands and options with what --help says
 _acd() {
     local word=${COMP_WORDS[COMP_CWORD]} before=${COMP_WORDS[COMP_CWORD - 1]} command=${COMP_WORDS[1]} offered
     COMPREPLY=()
@@ -24,3 +24,14 @@ _acd() {
     mapfile -t COMPREPLY < <(compgen -W "$offered" -- "$word")
 }
 complete -F _acd acd
+_acd_plan() {
+    local word=${COMP_WORDS[COMP_CWORD]} before=${COMP_WORDS[COMP_CWORD - 1]}
+    COMPREPLY=()
+    if [[ $before == --changes || $before == --ca ]]; then
+        mapfile -t COMPREPLY < <(compgen -f -- "$word")
+        compopt -o filenames 2>/dev/null
+    elif [[ $before != --from && $before != --login ]]; then
+        mapfile -t COMPREPLY < <(compgen -W '--from --login --ca --priorities --changes --send --help' -- "$word")
+    fi
+}
+complete -F _acd_plan acd-plan

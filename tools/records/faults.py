@@ -1,4 +1,4 @@
-"""Faults that are planted in acd-calls and acd-plan: what each is, the text that it changes, and what it changes it to."""
+"""Faults that are planted in acd-calls, acd-plan and acd_reach.py: what each is, the text that it changes, and what it changes it to."""
 
 CALLS = [
     ("the ring isn't waited", '        if "queued" in states or "offered" in states:\n            self.waited', '        if "queued" in states:\n            self.waited'),
@@ -16,6 +16,9 @@ CALLS = [
     ("days of 24 hours", "midnight(self.day + datetime.timedelta(days=1))", "midnight(self.day) + 86400"),
     ("entered in another zone", "datetime.datetime.fromtimestamp(self.entered)", "datetime.datetime.utcfromtimestamp(self.entered)"),
     ("every diversion isn't answered", 'if cause == "noAnswer":', 'if kind == "diverted" and device in self.at:'),
+    ("a rejected ring isn't answered", "is_refused = not self.by_ticks[moment, call, device]", "is_refused = False"),
+    ("a reject of a tick's second isn't answered", "        self.by_ticks[moment, call, device] = 0\n", ""),
+    ("refused rejects count", "SELECT moment, request FROM kept WHERE status = 200 AND request", "SELECT moment, request FROM kept WHERE request"),
     ("what goes on isn't counted", "            if not call.is_cleared:\n                call.pass_to(moment)", "            pass"),
     ("agents who are logged on aren't counted", "        for number, agent in self.agents.items():\n            self.pass_to(moment, number, agent)\n", ""),
     ("caller and called exchanged", 'request["device"], request["called"], moment', 'request["called"], request["device"], moment'),
@@ -29,12 +32,31 @@ PLAN = [
     ("no stations", 'for station in desk["stations"]', 'for station in []'),
     ("names without quotes", 'csv.writer(sys.stdout, lineterminator="\\n").writerows([HEADER, *rows])',
      'sys.stdout.writelines(",".join(map(str, row)) + "\\n" for row in [HEADER, *rows])'),
-    ("priorities under invoke numbers of the plan", "requester_of(options.address), len(rows))", "requester_of(options.address), 0)"),
+    ("priorities under invoke numbers of the plan", "requester_of(options.login), len(rows))", "requester_of(options.login), 0)"),
     ("another group's priority", '"device": group["device"], "priority"', '"device": desk["groups"][0]["device"], "priority"'),
     ("an answer of any status", 'if status != b"200":', "if False:"),
     ("lines aren't taken", "if not status.isdigit():", "if True:"),
-    ("the login isn't told", 'if parts.username:', "if False:"),
-    ("the requester isn't the login's", 'return f"{login}-plan" if', 'return f"{login}-plan" if not'),
+    ("priorities of no login", 'return f"{owner}-plan" if owner', 'return f"{owner}-plan" if not owner'),
+    ("ring and wrap aren't compared", "if present.get(what) != row]", "if present.get(what, [])[:3] != row[:3]]"),
+    ("a number of a device is an agent's too", 'return row[0] == "agent", row[1]', "return row[1], row[1]"),
+    ("what the desk has more isn't told", "if key(row) not in wanted):", "if False):"),
+    ("a crossed number goes out", "    if crossed:\n        raise Fault(*crossed)\n", ""),
+    ("a number may stand there twice", "        if key(row) in found:", "        if False:"),
+    ("what is refused has the status 0", "            good = False\n", ""),
+    ("one requester for ever", 'acd_reach.new_requester(options.login, "plan")', '"plan-0123456789abcdef"'),
+    ("it sends what it is to print", "    if options.send:", "    if client:"),
+    ("one mark alone", "data.removeprefix(MARK).removeprefix(MARK)", "data.removeprefix(MARK)"),
+    ("more than an hour", " or (form == SECONDS and int(member) > MOST_SECONDS)", ""),
+    ("what is no text", " or not all(map(is_text, fields))", ""),
+    ("a plan of any length", "    if len(data) > LONGEST:", "    if False:"),
+]
+REACH = [
+    ("it isn't sent again", "            if time.monotonic() > end:", "            if True:"),
+    ("the password is shown", "return getpass.getpass(", "return input("),
+    ("any certificate", "ssl.create_default_context(cafile=options.ca)", "ssl._create_unverified_context()"),
+    ("the login isn't told", "    if options.login:\n        parts", "    if False:\n        parts"),
+    ("the requester isn't the login's", "return login if re.fullmatch(", "return otherwise if re.fullmatch("),
+    ("a login in the address", """    if not good or "@" in parts.netloc:""", "    if not good:"),
 ]
 
 

@@ -10,6 +10,7 @@ sys.path.insert(0, str(Path(__file__).resolve().parents[2] / "tests"))
 from switch import Desk, order  # noqa: E402
 
 COLUMNS = {"ready": "ready", "busy": "talking", "workingAfterCall": "wrap_up"}
+RETURNS = {"tick": "rings_not_answered", "rejectCall": "rings_refused"}
 OUTSIDE = ("note",)  # members that the office's lines have besides
 
 
@@ -25,7 +26,7 @@ class Reckoning:
         self.desk = Desk()
         self.switch = self.desk.switch
         self.calls, self.places, self.wraps = {}, defaultdict(set), {}
-        self.days = defaultdict(lambda: dict.fromkeys(("logged_on", "ready", "talking", "wrap_up", "rings_not_answered"), 0))
+        self.days = defaultdict(lambda: dict.fromkeys(("logged_on", "ready", "talking", "wrap_up", "rings_not_answered", "rings_refused"), 0))
         moments = [int(line.partition(" ")[0]) for line in lines]
         self.first, last = min(moments), max(moments)
         self.dates = [time.strftime("%Y-%m-%d", time.localtime(second)) for second in range(self.first, last + 1)]
@@ -105,8 +106,9 @@ class Reckoning:
                 self.days[self.date(self.switch.moment), agent]["logged_on"] += 0
             for number, how, _, place in at_it:
                 now = self.switch.calls[number].connections.get(station) if number in self.switch.calls else None
-                if request["service"] == "tick" and how == "alerting" and (now is None or now.place != place):
-                    self.days[self.date(self.switch.moment), agent]["rings_not_answered"] += 1
+                column = RETURNS.get(request["service"])
+                if column and how == "alerting" and (now is None or now.place != place):
+                    self.days[self.date(self.switch.moment), agent][column] += 1
 
     def call_lines(self):
         yield "number,caller,called,entered,groups,rings,agent,station,waited,talked,held,wrapped_up,ended"
@@ -114,7 +116,7 @@ class Reckoning:
             yield ",".join(" ".join(value) if isinstance(value, list) else str(value) for value in row.values())
 
     def day_lines(self):
-        yield "day,agent,name,logged_on,ready,talking,wrap_up,rings_not_answered"
+        yield "day,agent,name,logged_on,ready,talking,wrap_up,rings_not_answered,rings_refused"
         for date, agent in sorted(self.days, key=lambda key: (key[0], order(key[1]))):
             name = self.switch.agents[agent].name
             quoted = '"' + name.replace('"', '""') + '"' if set(name) & set(',"') else name

@@ -32,9 +32,17 @@ LINES = """\
 86500 {"requester":"clock","invoke":2,"service":"tick"}
 86510 {"requester":"pbx","invoke":9,"service":"arriveCall","caller":"0305","called":"100"}
 86520 {"requester":"desk","invoke":15,"service":"setAgentState","agent":"8","requested":"loggedOff"}
+86525 {"requester":"desk","invoke":16,"service":"rejectCall","call":6,"device":"201"}
+86525 {"requester":"desk","invoke":17,"service":"setAgentState","agent":"7","requested":"ready"}
+86545 {"requester":"clock","invoke":3,"service":"tick"}
+86545 {"requester":"desk","invoke":18,"service":"rejectCall","call":6,"device":"201"}
+86545 {"requester":"desk","invoke":19,"service":"setAgentState","agent":"7","requested":"ready"}
+86545 {"requester":"desk","invoke":20,"service":"rejectCall","call":6,"device":"201"}
 """
 # call 1 was on hold from 86335 to 86345; the wrap-up behind it ended as the agent was ready, at 86380, that behind call 3 by the tick at 86500.
-# Call 2 rang from 86380 on and wasn't answered; call 3 was answered at 86430, waited from 86440 and was answered again at 86455
+# Call 2 rang from 86380 on and wasn't answered; call 3 was answered at 86430, waited from 86440 and was answered again at 86455. Call 6 rang from
+# 86510 on and was rejected at 86525; it rang anew, and a tick took it back at 86545; in the same second a reject came too late and was refused,
+# and the call rang once more and was rejected
 CALLS = """\
 number,caller,called,entered,groups,rings,agent,station,waited,talked,held,wrapped_up,ended
 1,0301,100,1970-01-01 23:58:40,100,1,7,201,5,25,10,20,by caller
@@ -42,14 +50,14 @@ number,caller,called,entered,groups,rings,agent,station,waited,talked,held,wrapp
 3,202,201,1970-01-02 00:00:20,100,2,7 7,201 201,15,25,0,30,by other
 4,0303,201,1970-01-02 00:01:20,,1,,,0,0,0,0,not answered
 5,0304,201,1970-01-02 00:01:22,,0,,,0,0,0,0,busy
-6,0305,100,1970-01-02 00:01:50,100,1,,,10,0,0,0,live
+6,0305,100,1970-01-02 00:01:50,100,3,,,35,0,0,0,live
 """
-# ready from 86310 to 86325 and from 86380 to midnight; busy up to 86360; and on the next day ready from 86450 to 86455 and from 86500 on.
-# Ben was logged on from 86390 to 86520, and nothing else
+# ready from 86310 to 86325 and from 86380 to midnight; busy up to 86360; and on the next day ready from 86450 to 86455 and from 86500 on, up to
+# the end at 86545. Ticks took offers back at 86400 and 86545. Ben was logged on from 86390 to 86520, and nothing else
 DAYS = """\
-day,agent,name,logged_on,ready,talking,wrap_up,rings_not_answered
-1970-01-01,7,Ana,90,35,35,20,0
-1970-01-01,8,"Ben, senior",10,0,0,0,0
-1970-01-02,7,Ana,120,25,15,30,1
-1970-01-02,8,"Ben, senior",120,0,0,0,0
+day,agent,name,logged_on,ready,talking,wrap_up,rings_not_answered,rings_refused
+1970-01-01,7,Ana,90,35,35,20,0,0
+1970-01-01,8,"Ben, senior",10,0,0,0,0,0
+1970-01-02,7,Ana,145,50,15,30,2,2
+1970-01-02,8,"Ben, senior",120,0,0,0,0,0
 """

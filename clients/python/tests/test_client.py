@@ -179,13 +179,14 @@ class FalseDesk(threading.Thread):
     def __init__(self, answers: list[bytes]):
         super().__init__(daemon=True)
         self.socket, self.answers = socket.create_server(("127.0.0.1", 0)), answers
+        self.asked: list[bytes] = []
         self.address = f"http://127.0.0.1:{self.socket.getsockname()[1]}"
         self.start()
 
     def run(self) -> None:
         for answer in self.answers:
             connection, _ = self.socket.accept()
-            connection.recv(65536)
+            self.asked.append(connection.recv(65536))
             connection.sendall(answer)
             connection.close()
         self.socket.close()
@@ -214,6 +215,14 @@ class AgainstAFalseDesk(unittest.TestCase):
         client = Client(FalseDesk(answers + [reply(good)]).address, requester="pbx", invoke=4, pause=0.01)
         self.assertEqual(client.ask("tick").body, good)
         client.disconnect()
+
+    def test_below_a_path(self) -> None:
+        """A proxy may have several desks, each below a path."""
+        desk = FalseDesk([reply({"requester": "pbx", "invoke": 5, "result": {}}), reply(SHOWN)])
+        with Client(f"{desk.address}/berlin/", requester="pbx", invoke=4) as client:
+            self.assertEqual(client.ask("tick").status, 200)
+            client.snapshot()
+        self.assertEqual([asked.partition(b" HTTP/")[0] for asked in desk.asked], [b"POST /berlin/csta", b"GET /berlin/snapshot"])
 
     def test_from_a_snapshot_on(self) -> None:
         """What a snapshot shows, and then the events behind its last one; a page that fails is asked for again."""

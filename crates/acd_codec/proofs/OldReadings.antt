@@ -37,13 +37,17 @@ then_kept {A} {B} x f g k = kept_then x x f g (λ a e. e) k
 found_first : {A : Type 0} (p : A → Bool) (xs ys : List A) (a : A) → find p xs ≡ Some a → find p (xs ++ ys) ≡ Some a
 found_first {A} p xs ys a e = find-append p xs ys ∙ rw e refl
 
+-- those that came since
+abbrev later_services : List Service
+later_services = service.SetGroupPriority ∷ service.RejectCall ∷ service.ChangeGroup ∷ service.ChangeAgent ∷ []
+
 kept_name : (o : Option (List ℕ)) → Kept (ok_or (option_and_then old_service_of o) member.Service) (ok_or (option_and_then service_of o) member.Service)
 kept_name None s e = e
 kept_name (Some text) s e = by (old_service_of text) refl e
   where
     by : (found : Option Service) → old_service_of text ≡ found → ok_or found member.Service ≡ Ok s → ok_or (service_of text) member.Service ≡ Ok s
     by None q e = absurd (cc (e))
-    by (Some t) q e = rw (found_first (λ s. bytes_eq text (service_name s)) old_services (service.SetGroupPriority ∷ []) t q) e
+    by (Some t) q e = rw (found_first (λ s. bytes_eq text (service_name s)) old_services later_services t q) e
 
 kept_service : (d : Data) → Kept (old_service_in d) (service_in d)
 unfolding old_service_in service_in
@@ -88,6 +92,9 @@ kept_command : (s : Service) (d : Data) → Kept (old_command_in s d) (command_i
 unfolding old_command_in command_in
 kept_command service.SetAgentState d = kept_set_agent_state d
 kept_command service.SetGroupPriority d = λ c e. absurd (cc (e))
+kept_command service.RejectCall d = λ c e. absurd (cc (e))
+kept_command service.ChangeGroup d = λ c e. absurd (cc (e))
+kept_command service.ChangeAgent d = λ c e. absurd (cc (e))
 kept_command s d = λ c e. e
 
 kept_request : (d : Data) → Kept (old_request_in d) (request_in d)

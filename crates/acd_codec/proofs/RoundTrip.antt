@@ -15,7 +15,7 @@ use Rattle.acd_terms.specs.declared.state.Pending.TheVariants as pending
 use Rattle.acd_terms.specs.declared.command.Request.{Request}
 use Rattle.acd_terms.specs.declared.command.Requested.TheVariants as requested
 use Rattle.acd_terms.specs.declared.command.Command.{Command}
-use Rattle.acd_terms.specs.declared.command.Command.TheVariants.{AddGroup, AddStation, AddAgent, ArriveCall, MakeCall, PhoneOffHook, AnswerCall, HoldCall, RetrieveCall, ClearConnection, DeflectCall, SingleStepTransfer, SetAgentState, MonitorStart, MonitorStop, Tick, SetGroupPriority}
+use Rattle.acd_terms.specs.declared.command.Command.TheVariants.{AddGroup, AddStation, AddAgent, ArriveCall, MakeCall, PhoneOffHook, AnswerCall, HoldCall, RetrieveCall, ClearConnection, DeflectCall, SingleStepTransfer, SetAgentState, MonitorStart, MonitorStop, Tick, SetGroupPriority, RejectCall, ChangeGroup, ChangeAgent}
 use Rattle.acd_terms.proofs.Identifiers.{ascii_name, ascii_requester, digits_ascii}
 use Rattle.acd_terms.proofs.Texts.{utf8_ascii}
 use Rattle.acd_terms.proofs.ReadBack.{id_again, text_again, number_again}
@@ -24,7 +24,7 @@ use Rattle.acd_codec.specs.declared.member.Member.TheVariants as member
 use Rattle.acd_codec.specs.declared.service.RequestedState.TheVariants as requested_state
 use Rattle.acd_codec.specs.Services.{requested_state_of}
 use Rattle.acd_codec.specs.MemberReading.{list_in, device_in, agent_in, name_in, requester_in, invoke_in, seconds_in, priority_in, serial_in, service_in, requested_state_in, devices_of, groups_in}
-use Rattle.acd_codec.specs.Reading.{reads_as, request_in, command_in, add_group_in, add_agent_in, two_devices_in, connection_in, one_group_in, chosen_in, requested_in, set_agent_state_in, set_group_priority_in}
+use Rattle.acd_codec.specs.Reading.{reads_as, request_in, command_in, group_in, named_agent_in, two_devices_in, connection_in, one_group_in, chosen_in, requested_in, set_agent_state_in, set_group_priority_in}
 use Rattle.acd_codec.specs.Parts.{digits_data, groups_parts, items_of, written_before}
 use Rattle.acd_codec.specs.RequestTexts.{request_members, request_data, request_text}
 use Rattle.acd_codec.specs.Formed.{IsDevice, IsCommand, IsRequest}
@@ -80,6 +80,9 @@ plain q i (SetAgentState agent (requested.State state)) hq hi hc = (word _ refl,
 plain q i (MonitorStart device) hq hi hc = (word _ refl, digits_word 15 device hc, (word _ refl, small 1 999999999 i (lit< tt) hi, (word _ refl, requester_word q hq, (word _ refl, word _ refl, tt))))
 plain q i (MonitorStop monitor) hq hi hc = (word _ refl, small 1 999999999 i (lit< tt) hi, (word _ refl, small 1 1000000000 monitor (lit< tt) hc, (word _ refl, requester_word q hq, (word _ refl, word _ refl, tt))))
 plain q i (SetGroupPriority device priority) hq hi hc = (word _ refl, digits_word 15 device hc.0, (word _ refl, small 1 999999999 i (lit< tt) hi, (word _ refl, small 0 9 priority (lit< tt) hc.1, (word _ refl, requester_word q hq, (word _ refl, word _ refl, tt)))))
+plain q i (RejectCall call device) hq hi hc = (word _ refl, small 1 1000000000 call (lit< tt) hc.0, (word _ refl, digits_word 15 device hc.1, (word _ refl, small 1 999999999 i (lit< tt) hi, (word _ refl, requester_word q hq, (word _ refl, word _ refl, tt)))))
+plain q i (ChangeGroup device name ring wrap) hq hi hc = (word _ refl, digits_word 15 device hc.0, (word _ refl, small 1 999999999 i (lit< tt) hi, (word _ refl, name_word name hc.1, (word _ refl, requester_word q hq, (word _ refl, small 0 3600 ring (lit< tt) hc.2, (word _ refl, word _ refl, (word _ refl, small 0 3600 wrap (lit< tt) hc.3, tt)))))))
+plain q i (ChangeAgent agent name) hq hi hc = (word _ refl, digits_word 9 agent hc.0, (word _ refl, small 1 999999999 i (lit< tt) hi, (word _ refl, name_word name hc.1, (word _ refl, requester_word q hq, (word _ refl, word _ refl, tt)))))
 plain q i Tick hq hi hc = (word _ refl, small 1 999999999 i (lit< tt) hi, (word _ refl, requester_word q hq, (word _ refl, word _ refl, tt)))
 
 listed_again : (gs : List ℕ) → of_items (items_outline (items_of digits_data gs)) ≡ Some (items_of digits_data gs)
@@ -107,6 +110,9 @@ keyed q i (SetAgentState agent (requested.State state)) hi hc = rw (number_of-de
 keyed q i (MonitorStart device) hi hc = rw (number_of-decimal i (small 1 999999999 i (lit< tt) hi)) refl
 keyed q i (MonitorStop monitor) hi hc = rw (number_of-decimal i (small 1 999999999 i (lit< tt) hi), number_of-decimal monitor (small 1 1000000000 monitor (lit< tt) hc)) refl
 keyed q i (SetGroupPriority device priority) hi hc = rw (number_of-decimal i (small 1 999999999 i (lit< tt) hi), number_of-decimal priority (small 0 9 priority (lit< tt) hc.1)) refl
+keyed q i (RejectCall call device) hi hc = rw (number_of-decimal i (small 1 999999999 i (lit< tt) hi), number_of-decimal call (small 1 1000000000 call (lit< tt) hc.0)) refl
+keyed q i (ChangeGroup device name ring wrap) hi hc = rw (number_of-decimal i (small 1 999999999 i (lit< tt) hi), number_of-decimal ring (small 0 3600 ring (lit< tt) hc.2), number_of-decimal wrap (small 0 3600 wrap (lit< tt) hc.3)) refl
+keyed q i (ChangeAgent agent name) hi hc = rw (number_of-decimal i (small 1 999999999 i (lit< tt) hi)) refl
 keyed q i Tick hi hc = rw (number_of-decimal i (small 1 999999999 i (lit< tt) hi)) refl
 
 flat : (gs : List ℕ) → tree.items_depth (items_outline (items_of digits_data gs)) ≡ 0
@@ -133,6 +139,9 @@ shallow q i (SetAgentState agent (requested.State state)) = lit≤ tt
 shallow q i (MonitorStart device) = lit≤ tt
 shallow q i (MonitorStop monitor) = lit≤ tt
 shallow q i (SetGroupPriority device priority) = lit≤ tt
+shallow q i (RejectCall call device) = lit≤ tt
+shallow q i (ChangeGroup device name ring wrap) = lit≤ tt
+shallow q i (ChangeAgent agent name) = lit≤ tt
 shallow q i Tick = lit≤ tt
 
 state_again : (p : Pending) → requested_state_of (pending_name p) ≡ Some (requested_state.State p)
@@ -151,7 +160,7 @@ groups_again d gs e choice h = rw (e, devices_again gs h, choice_again gs choice
 
 -- reading the members of the value
 taken : (q : List ℕ) (i : ℕ) (c : Command) → IsRequester q → IsBetween 1 999999999 i → IsCommand c → request_in (object (request_members q i c)) ≡ Ok (record { requester = q; invoke = i; command = c })
-unfolding request_in requester_in invoke_in service_in command_in device_in agent_in name_in seconds_in serial_in requested_state_in add_group_in add_agent_in two_devices_in connection_in one_group_in chosen_in requested_in set_agent_state_in priority_in set_group_priority_in
+unfolding request_in requester_in invoke_in service_in command_in device_in agent_in name_in seconds_in serial_in requested_state_in group_in named_agent_in two_devices_in connection_in one_group_in chosen_in requested_in set_agent_state_in priority_in set_group_priority_in
 taken q i (AddGroup device name ring wrap) hq hi hc = rw (text_again is_requester_byte 32 q hq, number_again 1 999999999 i hi, id_again 15 device hc.0, text_again is_name_byte 40 name hc.1, number_again 0 3600 ring hc.2, number_again 0 3600 wrap hc.3) refl
 taken q i (AddStation device) hq hi hc = rw (text_again is_requester_byte 32 q hq, number_again 1 999999999 i hi, id_again 15 device hc) refl
 taken q i (AddAgent agent name) hq hi hc = rw (text_again is_requester_byte 32 q hq, number_again 1 999999999 i hi, id_again 9 agent hc.0, text_again is_name_byte 40 name hc.1) refl
@@ -173,6 +182,9 @@ taken q i (SetAgentState agent (requested.State state)) hq hi hc = rw (text_agai
 taken q i (MonitorStart device) hq hi hc = rw (text_again is_requester_byte 32 q hq, number_again 1 999999999 i hi, id_again 15 device hc) refl
 taken q i (MonitorStop monitor) hq hi hc = rw (text_again is_requester_byte 32 q hq, number_again 1 999999999 i hi, number_again 1 1000000000 monitor hc) refl
 taken q i (SetGroupPriority device priority) hq hi hc = rw (text_again is_requester_byte 32 q hq, number_again 1 999999999 i hi, id_again 15 device hc.0, number_again 0 9 priority hc.1) refl
+taken q i (RejectCall call device) hq hi hc = rw (text_again is_requester_byte 32 q hq, number_again 1 999999999 i hi, number_again 1 1000000000 call hc.0, id_again 15 device hc.1) refl
+taken q i (ChangeGroup device name ring wrap) hq hi hc = rw (text_again is_requester_byte 32 q hq, number_again 1 999999999 i hi, id_again 15 device hc.0, text_again is_name_byte 40 name hc.1, number_again 0 3600 ring hc.2, number_again 0 3600 wrap hc.3) refl
+taken q i (ChangeAgent agent name) hq hi hc = rw (text_again is_requester_byte 32 q hq, number_again 1 999999999 i hi, id_again 9 agent hc.0, text_again is_name_byte 40 name hc.1) refl
 taken q i Tick hq hi hc = rw (text_again is_requester_byte 32 q hq, number_again 1 999999999 i hi) refl
 
 -- what is written for a request reads as it

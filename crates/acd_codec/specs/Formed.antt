@@ -7,7 +7,7 @@ use Rattle.acd_terms.specs.declared.command.Request.{Request}
 use Rattle.acd_terms.specs.declared.command.Requested.{Requested}
 use Rattle.acd_terms.specs.declared.command.Requested.TheVariants as requested
 use Rattle.acd_terms.specs.declared.command.Command.{Command}
-use Rattle.acd_terms.specs.declared.command.Command.TheVariants.{AddGroup, AddStation, AddAgent, ArriveCall, MakeCall, PhoneOffHook, AnswerCall, HoldCall, RetrieveCall, ClearConnection, DeflectCall, SingleStepTransfer, SetAgentState, MonitorStart, MonitorStop, Tick, SetGroupPriority}
+use Rattle.acd_terms.specs.declared.command.Command.TheVariants.{AddGroup, AddStation, AddAgent, ArriveCall, MakeCall, PhoneOffHook, AnswerCall, HoldCall, RetrieveCall, ClearConnection, DeflectCall, SingleStepTransfer, SetAgentState, MonitorStart, MonitorStop, Tick, SetGroupPriority, RejectCall, ChangeGroup, ChangeAgent}
 
 abbrev pub IsDevice : ℕ → Type 0
 IsDevice n = IsNumberOf device_digits n
@@ -47,6 +47,9 @@ IsCommand (MonitorStart device) = IsDevice device
 IsCommand (MonitorStop monitor) = IsSerial monitor
 IsCommand Tick = Unit {0}
 IsCommand (SetGroupPriority device priority) = IsDevice device × IsPriority priority
+IsCommand (RejectCall call device) = IsSerial call × IsDevice device
+IsCommand (ChangeGroup device name ring wrap) = IsDevice device × IsName name × IsSeconds ring × IsSeconds wrap
+IsCommand (ChangeAgent agent name) = IsAgent agent × IsName name
 
 -- each part is of its form
 pub record IsRequest (r : Request) : Type 0 where

@@ -74,7 +74,7 @@ priority_in d = number_within 0 9 member.Priority d
 unfoldable pub serial_in : Member → Data → Result ℕ Member
 serial_in m d = number_within 1 1000000000 m d
 
--- a service goes by one of the seventeen names
+-- a service goes by one of the names
 unfoldable pub service_in : Data → Result Service Member
 service_in d = read_in service_of member.Service d
 

@@ -11,7 +11,7 @@ use Rattle.acd_terms.specs.declared.command.Request.{Request}
 use Rattle.acd_terms.specs.declared.command.Requested.{Requested}
 use Rattle.acd_terms.specs.declared.command.Requested.TheVariants as requested
 use Rattle.acd_terms.specs.declared.command.Command.{Command}
-use Rattle.acd_terms.specs.declared.command.Command.TheVariants.{AddStation, ArriveCall, MakeCall, PhoneOffHook, AnswerCall, HoldCall, RetrieveCall, ClearConnection, DeflectCall, SingleStepTransfer, SetAgentState, MonitorStart, Tick}
+use Rattle.acd_terms.specs.declared.command.Command.TheVariants.{AddGroup, AddStation, AddAgent, ArriveCall, MakeCall, PhoneOffHook, AnswerCall, HoldCall, RetrieveCall, ClearConnection, DeflectCall, SingleStepTransfer, SetAgentState, MonitorStart, Tick}
 use Rattle.acd_codec.specs.declared.member.Member.{Member}
 use Rattle.acd_codec.specs.declared.member.Member.TheVariants as member
 use Rattle.acd_codec.specs.declared.service.RequestedState.{RequestedState}
@@ -20,7 +20,7 @@ use Rattle.acd_codec.specs.declared.service.Service.{Service}
 use Rattle.acd_codec.specs.declared.service.Service.TheVariants as service
 use Rattle.acd_codec.specs.Services.{service_name}
 use Rattle.acd_codec.specs.MemberReading.{read_in, agent_in, requester_in, invoke_in, requested_state_in}
-use Rattle.acd_codec.specs.Reading.{add_group_in, add_agent_in, two_devices_in, at_device, at_devices, at_connection, to_device, monitor_stop_in, reads_as}
+use Rattle.acd_codec.specs.Reading.{two_devices_in, at_group, at_agent, at_device, at_devices, at_connection, to_device, monitor_stop_in, reads_as}
 
 -- the sixteen services
 abbrev pub old_services : List Service
@@ -50,11 +50,11 @@ old_set_agent_state_in d = do
   requested ← old_requested_in d state
   Ok (SetAgentState agent requested)
 
--- the seventeenth service had no name that could be read
+-- the services that came later had no name that could be read
 unfoldable pub old_command_in : Service → Data → Result Command Member
-old_command_in service.AddGroup d = add_group_in d
+old_command_in service.AddGroup d = at_group AddGroup d
 old_command_in service.AddStation d = at_device AddStation d
-old_command_in service.AddAgent d = add_agent_in d
+old_command_in service.AddAgent d = at_agent AddAgent d
 old_command_in service.ArriveCall d = at_devices ArriveCall member.Caller member.Called d
 old_command_in service.MakeCall d = at_devices MakeCall member.Device member.Called d
 old_command_in service.PhoneOffHook d = at_connection PhoneOffHook d
@@ -69,6 +69,9 @@ old_command_in service.MonitorStart d = at_device MonitorStart d
 old_command_in service.MonitorStop d = monitor_stop_in d
 old_command_in service.Tick d = Ok Tick
 old_command_in service.SetGroupPriority d = Err member.Service
+old_command_in service.RejectCall d = Err member.Service
+old_command_in service.ChangeGroup d = Err member.Service
+old_command_in service.ChangeAgent d = Err member.Service
 
 unfoldable pub old_request_in : Data → Result Request Member
 old_request_in d = do

@@ -10,7 +10,7 @@ use Rattle.acd_terms.specs.declared.command.Request.{Request}
 use Rattle.acd_terms.specs.declared.command.Requested.{Requested}
 use Rattle.acd_terms.specs.declared.command.Requested.TheVariants as requested
 use Rattle.acd_terms.specs.declared.command.Command.{Command}
-use Rattle.acd_terms.specs.declared.command.Command.TheVariants.{AddGroup, AddStation, AddAgent, ArriveCall, MakeCall, PhoneOffHook, AnswerCall, HoldCall, RetrieveCall, ClearConnection, DeflectCall, SingleStepTransfer, SetAgentState, MonitorStart, MonitorStop, Tick, SetGroupPriority}
+use Rattle.acd_terms.specs.declared.command.Command.TheVariants.{AddGroup, AddStation, AddAgent, ArriveCall, MakeCall, PhoneOffHook, AnswerCall, HoldCall, RetrieveCall, ClearConnection, DeflectCall, SingleStepTransfer, SetAgentState, MonitorStart, MonitorStop, Tick, SetGroupPriority, RejectCall, ChangeGroup, ChangeAgent}
 use Rattle.acd_codec.specs.declared.member.Member.{Member}
 use Rattle.acd_codec.specs.declared.member.Member.TheVariants as member
 use Rattle.acd_codec.specs.declared.fault.ReadFault.{ReadFault}
@@ -21,14 +21,20 @@ use Rattle.acd_codec.specs.declared.service.Service.{Service}
 use Rattle.acd_codec.specs.declared.service.Service.TheVariants as service
 use Rattle.acd_codec.specs.MemberReading.{is_there, device_in, agent_in, name_in, requester_in, invoke_in, seconds_in, priority_in, serial_in, service_in, requested_state_in, groups_in}
 
--- the members of addGroup, the first faulty one first
-unfoldable pub add_group_in : Data → Result Command Member
-add_group_in d = do
+-- a group, its name, its ring and its wrap, the first faulty one first
+unfoldable pub group_in : Data → Result (ℕ × List ℕ × ℕ × ℕ) Member
+group_in d = do
   device ← device_in member.Device d
   name ← name_in d
   ring ← seconds_in member.Ring d
   wrap ← seconds_in member.Wrap d
-  Ok (AddGroup device name ring wrap)
+  Ok (device, name, ring, wrap)
+
+-- a service that says of a group what a plan says of it
+abbrev pub at_group : (ℕ → List ℕ → ℕ → ℕ → Command) → Data → Result Command Member
+at_group make d = do
+  g ← group_in d
+  Ok (make g.0 g.1 g.2 g.3)
 
 -- two devices, the first member before the second
 unfoldable pub two_devices_in : Member → Member → Data → Result (ℕ × ℕ) Member
@@ -98,11 +104,17 @@ at_device make d = do
   Ok (make device)
 
 -- an agent, then a name
-unfoldable pub add_agent_in : Data → Result Command Member
-add_agent_in d = do
+unfoldable pub named_agent_in : Data → Result (ℕ × List ℕ) Member
+named_agent_in d = do
   agent ← agent_in d
   name ← name_in d
-  Ok (AddAgent agent name)
+  Ok (agent, name)
+
+-- a service that says of an agent what a plan says of it
+abbrev pub at_agent : (ℕ → List ℕ → Command) → Data → Result Command Member
+at_agent make d = do
+  a ← named_agent_in d
+  Ok (make a.0 a.1)
 
 abbrev pub monitor_stop_in : Data → Result Command Member
 monitor_stop_in d = do
@@ -118,9 +130,9 @@ set_group_priority_in d = do
 
 -- the members of a service, in their order
 unfoldable pub command_in : Service → Data → Result Command Member
-command_in service.AddGroup d = add_group_in d
+command_in service.AddGroup d = at_group AddGroup d
 command_in service.AddStation d = at_device AddStation d
-command_in service.AddAgent d = add_agent_in d
+command_in service.AddAgent d = at_agent AddAgent d
 command_in service.ArriveCall d = at_devices ArriveCall member.Caller member.Called d
 command_in service.MakeCall d = at_devices MakeCall member.Device member.Called d
 command_in service.PhoneOffHook d = at_connection PhoneOffHook d
@@ -135,6 +147,9 @@ command_in service.MonitorStart d = at_device MonitorStart d
 command_in service.MonitorStop d = monitor_stop_in d
 command_in service.Tick d = Ok Tick
 command_in service.SetGroupPriority d = set_group_priority_in d
+command_in service.RejectCall d = at_connection RejectCall d
+command_in service.ChangeGroup d = at_group ChangeGroup d
+command_in service.ChangeAgent d = at_agent ChangeAgent d
 
 -- the key, then the service, then its members; all other members are ignored
 unfoldable pub request_in : Data → Result Request Member

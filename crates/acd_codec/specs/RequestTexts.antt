@@ -7,7 +7,7 @@ use Rattle.acd_terms.specs.declared.command.Request.{Request}
 use Rattle.acd_terms.specs.declared.command.Requested.{Requested}
 use Rattle.acd_terms.specs.declared.command.Requested.TheVariants as requested
 use Rattle.acd_terms.specs.declared.command.Command.{Command}
-use Rattle.acd_terms.specs.declared.command.Command.TheVariants.{AddGroup, AddStation, AddAgent, ArriveCall, MakeCall, PhoneOffHook, AnswerCall, HoldCall, RetrieveCall, ClearConnection, DeflectCall, SingleStepTransfer, SetAgentState, MonitorStart, MonitorStop, Tick, SetGroupPriority}
+use Rattle.acd_terms.specs.declared.command.Command.TheVariants.{AddGroup, AddStation, AddAgent, ArriveCall, MakeCall, PhoneOffHook, AnswerCall, HoldCall, RetrieveCall, ClearConnection, DeflectCall, SingleStepTransfer, SetAgentState, MonitorStart, MonitorStop, Tick, SetGroupPriority, RejectCall, ChangeGroup, ChangeAgent}
 use Rattle.acd_codec.specs.declared.member.Member.{Member}
 use Rattle.acd_codec.specs.declared.member.Member.TheVariants as m
 use Rattle.acd_codec.specs.declared.service.RequestedState.{RequestedState}
@@ -38,12 +38,12 @@ sent requester invoke s more = whole m.Invoke invoke (text m.Requester requester
 abbrev pub named : List ℕ → ℕ → List ℕ → Members → Members
 named requester invoke name more = whole m.Invoke invoke (text m.Name name (text m.Requester requester more))
 
-abbrev pub add_group : List ℕ → ℕ → ℕ → List ℕ → ℕ → ℕ → Members
-add_group requester invoke device name ring wrap =
-    digits m.Device device (named requester invoke name (whole m.Ring ring (text m.Service (service_name service.AddGroup) (whole m.Wrap wrap no_members))))
+abbrev pub at_group : List ℕ → ℕ → Service → ℕ → List ℕ → ℕ → ℕ → Members
+at_group requester invoke s device name ring wrap =
+    digits m.Device device (named requester invoke name (whole m.Ring ring (text m.Service (service_name s) (whole m.Wrap wrap no_members))))
 
-abbrev pub add_agent : List ℕ → ℕ → ℕ → List ℕ → Members
-add_agent requester invoke agent name = digits m.Agent agent (named requester invoke name (text m.Service (service_name service.AddAgent) no_members))
+abbrev pub at_agent : List ℕ → ℕ → Service → ℕ → List ℕ → Members
+at_agent requester invoke s agent name = digits m.Agent agent (named requester invoke name (text m.Service (service_name s) no_members))
 
 abbrev pub at_device : List ℕ → ℕ → Service → ℕ → Members
 at_device requester invoke s device = digits m.Device device (sent requester invoke s no_members)
@@ -80,9 +80,9 @@ set_group_priority requester invoke device priority =
     digits m.Device device (whole m.Invoke invoke (whole m.Priority priority (text m.Requester requester (text m.Service (service_name service.SetGroupPriority) no_members))))
 
 abbrev pub request_members : List ℕ → ℕ → Command → Members
-request_members q i (AddGroup device name ring wrap) = add_group q i device name ring wrap
+request_members q i (AddGroup device name ring wrap) = at_group q i service.AddGroup device name ring wrap
 request_members q i (AddStation device) = at_device q i service.AddStation device
-request_members q i (AddAgent agent name) = add_agent q i agent name
+request_members q i (AddAgent agent name) = at_agent q i service.AddAgent agent name
 request_members q i (ArriveCall caller called) = arrive_call q i caller called
 request_members q i (MakeCall device called) = make_call q i device called
 request_members q i (PhoneOffHook call device) = at_connection q i service.PhoneOffHook call device
@@ -97,6 +97,9 @@ request_members q i (MonitorStart device) = at_device q i service.MonitorStart d
 request_members q i (MonitorStop monitor) = monitor_stop q i monitor
 request_members q i Tick = sent q i service.Tick no_members
 request_members q i (SetGroupPriority device priority) = set_group_priority q i device priority
+request_members q i (RejectCall call device) = at_connection q i service.RejectCall call device
+request_members q i (ChangeGroup device name ring wrap) = at_group q i service.ChangeGroup device name ring wrap
+request_members q i (ChangeAgent agent name) = at_agent q i service.ChangeAgent agent name
 
 unfoldable pub request_data : Request → Data
 request_data r = object (request_members r.requester r.invoke r.command)

@@ -9,7 +9,7 @@ use Rattle.acd_terms.specs.declared.state.Pending.TheVariants as pending
 use Rattle.acd_codec.specs.declared.service.RequestedState.{RequestedState}
 use Rattle.acd_codec.specs.declared.service.RequestedState.TheVariants as requested_state
 use Rattle.acd_codec.specs.declared.service.Service.{Service}
-use Rattle.acd_codec.specs.declared.service.Service.TheVariants.{AddGroup, AddStation, AddAgent, ArriveCall, MakeCall, PhoneOffHook, AnswerCall, HoldCall, RetrieveCall, ClearConnection, DeflectCall, SingleStepTransfer, SetAgentState, MonitorStart, MonitorStop, Tick, SetGroupPriority}
+use Rattle.acd_codec.specs.declared.service.Service.TheVariants.{AddGroup, AddStation, AddAgent, ArriveCall, MakeCall, PhoneOffHook, AnswerCall, HoldCall, RetrieveCall, ClearConnection, DeflectCall, SingleStepTransfer, SetAgentState, MonitorStart, MonitorStop, Tick, SetGroupPriority, RejectCall, ChangeGroup, ChangeAgent}
 
 abbrev pub service_name : Service → List ℕ
 service_name AddGroup = codes "addGroup"
@@ -29,12 +29,15 @@ service_name MonitorStart = codes "monitorStart"
 service_name MonitorStop = codes "monitorStop"
 service_name Tick = codes "tick"
 service_name SetGroupPriority = codes "setGroupPriority"
+service_name RejectCall = codes "rejectCall"
+service_name ChangeGroup = codes "changeGroup"
+service_name ChangeAgent = codes "changeAgent"
 
 abbrev pub services : List Service
 services =
     AddGroup ∷ AddStation ∷ AddAgent ∷ ArriveCall ∷ MakeCall ∷ PhoneOffHook ∷ AnswerCall ∷ HoldCall
     ∷ RetrieveCall ∷ ClearConnection ∷ DeflectCall ∷ SingleStepTransfer ∷ SetAgentState ∷ MonitorStart
-    ∷ MonitorStop ∷ Tick ∷ SetGroupPriority ∷ []
+    ∷ MonitorStop ∷ Tick ∷ SetGroupPriority ∷ RejectCall ∷ ChangeGroup ∷ ChangeAgent ∷ []
 
 -- the service with this name
 abbrev pub service_of : List ℕ → Option Service
@@ -59,6 +62,9 @@ service_of_command (command.MonitorStart device) = MonitorStart
 service_of_command (command.MonitorStop monitor) = MonitorStop
 service_of_command command.Tick = Tick
 service_of_command (command.SetGroupPriority device priority) = SetGroupPriority
+service_of_command (command.RejectCall call device) = RejectCall
+service_of_command (command.ChangeGroup device name ring wrap) = ChangeGroup
+service_of_command (command.ChangeAgent agent name) = ChangeAgent
 
 abbrev pub requested_state_name : RequestedState → List ℕ
 requested_state_name requested_state.LoggedOn = codes "loggedOn"

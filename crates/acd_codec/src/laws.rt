@@ -43,6 +43,12 @@ fn command_formed(command: &Command)
             name,
             ring,
             wrap,
+        }
+        | Command::ChangeGroup {
+            device,
+            name,
+            ring,
+            wrap,
         } => {
             device.number();
             name.as_str();
@@ -52,7 +58,7 @@ fn command_formed(command: &Command)
         Command::AddStation { device } | Command::MonitorStart { device } => {
             device.number();
         }
-        Command::AddAgent { agent, name } => {
+        Command::AddAgent { agent, name } | Command::ChangeAgent { agent, name } => {
             agent.number();
             name.as_str();
         }
@@ -68,7 +74,8 @@ fn command_formed(command: &Command)
         | Command::AnswerCall { call, device }
         | Command::HoldCall { call, device }
         | Command::RetrieveCall { call, device }
-        | Command::ClearConnection { call, device } => connection_formed(call, device),
+        | Command::ClearConnection { call, device }
+        | Command::RejectCall { call, device } => connection_formed(call, device),
         Command::DeflectCall { call, device, to }
         | Command::SingleStepTransfer { call, device, to } => {
             connection_formed(call, device);

@@ -7,7 +7,7 @@ ghost use Rattle.serde_json.specs.Read.{of_json, of_items};
 ghost use Rattle.acd_terms.specs.Groups.{with_all};
 ghost use Rattle.acd_codec.specs.Documents.{data_of};
 ghost use Rattle.acd_codec.specs.MemberReading.{device_of, device_in, agent_in, name_in, requester_in, invoke_in, seconds_in, priority_in, serial_in, service_in, requested_state_in, devices_of, choice_of, groups_in};
-ghost use Rattle.acd_codec.specs.Reading.{Gives, IsReadFault, at_connection, at_device, at_devices, to_device, add_group_in, add_agent_in, monitor_stop_in, two_devices_in, connection_in, one_group_in, chosen_in, requested_in, set_agent_state_in, set_group_priority_in, command_in, request_in, request_from, reads_as};
+ghost use Rattle.acd_codec.specs.Reading.{Gives, IsReadFault, at_group, at_agent, at_connection, at_device, at_devices, to_device, group_in, named_agent_in, monitor_stop_in, two_devices_in, connection_in, one_group_in, chosen_in, requested_in, set_agent_state_in, set_group_priority_in, command_in, request_in, request_from, reads_as};
 
 use crate::document::Document;
 use crate::fault::ReadFault;
@@ -166,14 +166,22 @@ fn groups_in(document: &Document<'_>) -> Result<SomeGroups, Member>
     }
 }
 
-#[tactic(auto, unfolding(crate::specs::Reading::add_group_in))]
-fn add_group_in(document: &Document<'_>) -> Result<Command, Member>
-    ensures { result ≡ add_group_in (data_of document.now) }
+// A group, its name, its ring and its wrap.
+#[tactic(auto, unfolding(crate::specs::Reading::group_in))]
+fn group_in(document: &Document<'_>) -> Result<(DeviceId, Name, Seconds, Seconds), Member>
+    ensures { result ≡ group_in (data_of document.now) }
 {
     let device = device_in(document, Member::Device)?;
     let name = name_in(document)?;
     let ring = seconds_in(document, Member::Ring)?;
     let wrap = seconds_in(document, Member::Wrap)?;
+    Ok((device, name, ring, wrap))
+}
+
+fn add_group_in(document: &Document<'_>) -> Result<Command, Member>
+    ensures { result ≡ at_group Command.AddGroup (data_of document.now) }
+{
+    let (device, name, ring, wrap) = group_in(document)?;
     Ok(Command::AddGroup {
         device,
         name,
@@ -182,13 +190,40 @@ fn add_group_in(document: &Document<'_>) -> Result<Command, Member>
     })
 }
 
-#[tactic(auto, unfolding(crate::specs::Reading::add_agent_in))]
-fn add_agent_in(document: &Document<'_>) -> Result<Command, Member>
-    ensures { result ≡ add_agent_in (data_of document.now) }
+fn change_group_in(document: &Document<'_>) -> Result<Command, Member>
+    ensures { result ≡ at_group Command.ChangeGroup (data_of document.now) }
+{
+    let (device, name, ring, wrap) = group_in(document)?;
+    Ok(Command::ChangeGroup {
+        device,
+        name,
+        ring,
+        wrap,
+    })
+}
+
+// An agent and a name.
+#[tactic(auto, unfolding(crate::specs::Reading::named_agent_in))]
+fn named_agent_in(document: &Document<'_>) -> Result<(AgentId, Name), Member>
+    ensures { result ≡ named_agent_in (data_of document.now) }
 {
     let agent = agent_in(document)?;
     let name = name_in(document)?;
+    Ok((agent, name))
+}
+
+fn add_agent_in(document: &Document<'_>) -> Result<Command, Member>
+    ensures { result ≡ at_agent Command.AddAgent (data_of document.now) }
+{
+    let (agent, name) = named_agent_in(document)?;
     Ok(Command::AddAgent { agent, name })
+}
+
+fn change_agent_in(document: &Document<'_>) -> Result<Command, Member>
+    ensures { result ≡ at_agent Command.ChangeAgent (data_of document.now) }
+{
+    let (agent, name) = named_agent_in(document)?;
+    Ok(Command::ChangeAgent { agent, name })
 }
 
 // Two devices that are named one after the other.
@@ -319,6 +354,13 @@ fn clear_connection_in(document: &Document<'_>) -> Result<Command, Member>
     Ok(Command::ClearConnection { call, device })
 }
 
+fn reject_call_in(document: &Document<'_>) -> Result<Command, Member>
+    ensures { result ≡ at_connection Command.RejectCall (data_of document.now) }
+{
+    let (call, device) = connection_in(document)?;
+    Ok(Command::RejectCall { call, device })
+}
+
 fn deflect_call_in(document: &Document<'_>) -> Result<Command, Member>
     ensures { result ≡ to_device Command.DeflectCall (data_of document.now) }
 {
@@ -381,6 +423,9 @@ fn command_in(service: Service, document: &Document<'_>) -> Result<Command, Memb
         Service::MonitorStop => monitor_stop_in(document),
         Service::Tick => Ok(Command::Tick),
         Service::SetGroupPriority => set_group_priority_in(document),
+        Service::RejectCall => reject_call_in(document),
+        Service::ChangeGroup => change_group_in(document),
+        Service::ChangeAgent => change_agent_in(document),
     }
 }
 

@@ -3,7 +3,7 @@
 ghost use Rattle.std.specs.Prelude.{◌≡◌, codes, IfOk, string_bytes};
 ghost use Rattle.serde_json.specs.Data.{string, member, no_members};
 ghost use Rattle.acd_codec.specs.Services.{service_name};
-ghost use Rattle.acd_codec.specs.RequestTexts.{named, asked, add_group, add_agent, arrive_call, make_call, at_device, at_connection, to_device, set_agent_state, set_group_priority, monitor_stop, sent, request_members, request_text};
+ghost use Rattle.acd_codec.specs.RequestTexts.{named, asked, at_group, at_agent, arrive_call, make_call, at_device, at_connection, to_device, set_agent_state, set_group_priority, monitor_stop, sent, request_members, request_text};
 ghost use Rattle.acd_codec.specs.Tokens.{tokens_of, AddsTokens};
 
 use crate::service::{RequestedState, Service};
@@ -47,9 +47,10 @@ fn put_named(out: &mut Writer, request: &Request, name: &Name) -> Result<(), All
     put_requester(out, &request.requester)
 }
 
-fn put_add_group(
+fn put_at_group(
     out: &mut Writer,
     request: &Request,
+    service: Service,
     device: DeviceId,
     name: &Name,
     ring: Seconds,
@@ -57,28 +58,29 @@ fn put_add_group(
 ) -> Result<(), AllocError>
     ensures { let r = request.now in
         AddsTokens result out.old out.new
-        (tokens_of (add_group r.requester r.invoke device name.now ring wrap)) }
+        (tokens_of (at_group r.requester r.invoke service device name.now ring wrap)) }
 {
     put_device(out, "device", Some(device))?;
     put_named(out, request, name)?;
     put_seconds(out, "ring", ring)?;
-    put_service(out, Service::AddGroup)?;
+    put_service(out, service)?;
     put_seconds(out, "wrap", wrap)
 }
 
-fn put_add_agent(
+fn put_at_agent(
     out: &mut Writer,
     request: &Request,
+    service: Service,
     agent: AgentId,
     name: &Name,
 ) -> Result<(), AllocError>
     ensures { let r = request.now in
         AddsTokens result out.old out.new
-        (tokens_of (add_agent r.requester r.invoke agent name.now)) }
+        (tokens_of (at_agent r.requester r.invoke service agent name.now)) }
 {
     put_agent(out, "agent", Some(agent))?;
     put_named(out, request, name)?;
-    put_service(out, Service::AddAgent)
+    put_service(out, service)
 }
 
 fn put_at_device(
@@ -226,8 +228,16 @@ fn put_request(out: &mut Writer, request: &Request) -> Result<(), AllocError>
             name,
             ring,
             wrap,
-        } => put_add_group(out, request, *device, name, *ring, *wrap),
-        Command::AddAgent { agent, name } => put_add_agent(out, request, *agent, name),
+        }
+        | Command::ChangeGroup {
+            device,
+            name,
+            ring,
+            wrap,
+        } => put_at_group(out, request, service, *device, name, *ring, *wrap),
+        Command::AddAgent { agent, name } | Command::ChangeAgent { agent, name } => {
+            put_at_agent(out, request, service, *agent, name)
+        }
         Command::AddStation { device } | Command::MonitorStart { device } => {
             put_at_device(out, request, service, *device)
         }
@@ -237,7 +247,8 @@ fn put_request(out: &mut Writer, request: &Request) -> Result<(), AllocError>
         | Command::AnswerCall { call, device }
         | Command::HoldCall { call, device }
         | Command::RetrieveCall { call, device }
-        | Command::ClearConnection { call, device } => {
+        | Command::ClearConnection { call, device }
+        | Command::RejectCall { call, device } => {
             put_at_connection(out, request, service, *call, *device)
         }
         Command::DeflectCall { call, device, to }

@@ -25,6 +25,9 @@ pub enum Service {
     MonitorStop,
     Tick,
     SetGroupPriority,
+    RejectCall,
+    ChangeGroup,
+    ChangeAgent,
 }
 
 impl Service {
@@ -50,6 +53,9 @@ impl Service {
             Command::MonitorStop { .. } => Service::MonitorStop,
             Command::Tick => Service::Tick,
             Command::SetGroupPriority { .. } => Service::SetGroupPriority,
+            Command::RejectCall { .. } => Service::RejectCall,
+            Command::ChangeGroup { .. } => Service::ChangeGroup,
+            Command::ChangeAgent { .. } => Service::ChangeAgent,
         }
     }
 
@@ -75,6 +81,9 @@ impl Service {
             "monitorStop" => Some(Service::MonitorStop),
             "tick" => Some(Service::Tick),
             "setGroupPriority" => Some(Service::SetGroupPriority),
+            "rejectCall" => Some(Service::RejectCall),
+            "changeGroup" => Some(Service::ChangeGroup),
+            "changeAgent" => Some(Service::ChangeAgent),
             _ => None,
         }
     }
@@ -101,6 +110,9 @@ impl Service {
             Service::MonitorStop => "monitorStop",
             Service::Tick => "tick",
             Service::SetGroupPriority => "setGroupPriority",
+            Service::RejectCall => "rejectCall",
+            Service::ChangeGroup => "changeGroup",
+            Service::ChangeAgent => "changeAgent",
         }
     }
 }

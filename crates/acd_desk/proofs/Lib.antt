@@ -36,3 +36,4 @@ pub mod ReadsAhead
 pub mod PlaceLemmas
 pub mod Courses
 pub mod Comparing
+pub mod NamesInert

@@ -10,7 +10,7 @@ use Rattle.acd_terms.specs.declared.command.Arrival.{Arrival}
 use Rattle.acd_terms.specs.declared.command.Requested.{Requested}
 use Rattle.acd_terms.specs.declared.command.Requested.TheVariants as requested
 use Rattle.acd_terms.specs.declared.command.Command.{Command}
-use Rattle.acd_terms.specs.declared.command.Command.TheVariants.{SetAgentState, SetGroupPriority}
+use Rattle.acd_terms.specs.declared.command.Command.TheVariants.{SetAgentState, SetGroupPriority, RejectCall, ChangeGroup, ChangeAgent}
 use Rattle.acd_terms.specs.declared.answer.Answer.TheVariants as answer
 use Rattle.acd_terms.specs.declared.answer.Refusal.{Refusal}
 use Rattle.acd_terms.specs.declared.answer.Refusal.TheVariants.{UnknownAgent, WrongAgentState, UnknownDevice, NotStation, StationTaken, NotGroup}
@@ -63,6 +63,9 @@ same_set_agent_state s turn agent (requested.State wanted) h = refl
 same_serve : (s : Rows) (turn : Turn) (c : Command) → IsOldCommand c → old_serve s turn c ≡ serve s turn c
 same_serve s turn (SetAgentState agent q) h = same_set_agent_state s turn agent q h
 same_serve s turn (SetGroupPriority device priority) h = absurd h
+same_serve s turn (RejectCall call device) h = absurd h
+same_serve s turn (ChangeGroup device name ring wrap) h = absurd h
+same_serve s turn (ChangeAgent agent name) h = absurd h
 same_serve s turn _ h = refl
 
 same_step : (s : Rows) (moment : ℕ) (c : Command) → IsOldCommand c → IsOldState s → old_step s moment c ≡ step s moment c

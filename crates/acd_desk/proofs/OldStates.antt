@@ -11,7 +11,7 @@ use Rattle.acd_terms.specs.declared.answer.Refusal.{Refusal}
 use Rattle.acd_terms.specs.declared.answer.Refusal.TheVariants.{UnknownAgent, UnknownMonitor}
 use Rattle.acd_terms.specs.declared.record.MonitorRecord.{MonitorRecord}
 use Rattle.acd_terms.specs.declared.command.Requested.TheVariants as requested
-use Rattle.acd_terms.specs.declared.command.Command.TheVariants.{AddGroup, AddStation, AddAgent, ArriveCall, MakeCall, PhoneOffHook, AnswerCall, HoldCall, RetrieveCall, ClearConnection, DeflectCall, SingleStepTransfer, SetAgentState, MonitorStart, MonitorStop, Tick, SetGroupPriority}
+use Rattle.acd_terms.specs.declared.command.Command.TheVariants.{AddGroup, AddStation, AddAgent, ArriveCall, MakeCall, PhoneOffHook, AnswerCall, HoldCall, RetrieveCall, ClearConnection, DeflectCall, SingleStepTransfer, SetAgentState, MonitorStart, MonitorStop, Tick, SetGroupPriority, RejectCall, ChangeGroup, ChangeAgent}
 use Rattle.acd_model.specs.Offers.{GroupsAscend}
 use Rattle.acd_model.specs.Figures.{counting, with_figures}
 use Rattle.acd_terms.specs.declared.record.CallRecord.{CallRecord}
@@ -327,6 +327,9 @@ serve_old s turn (MonitorStart device) h o = (monitor_start_old s device).old
 serve_old s turn (MonitorStop monitor) h o = (monitor_stop_old s monitor).old
 serve_old s turn Tick h o = tick_old s turn o
 serve_old s turn (SetGroupPriority device priority) h o = absurd h
+serve_old s turn (RejectCall call device) h o = absurd h
+serve_old s turn (ChangeGroup device name ring wrap) h o = absurd h
+serve_old s turn (ChangeAgent agent name) h o = absurd h
 
 -- a whole step
 

@@ -27,3 +27,4 @@ pub mod Following
 pub mod GroupStates
 pub mod Pages
 pub mod Noting
+pub mod NameLaws

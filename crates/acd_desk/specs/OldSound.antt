@@ -9,7 +9,7 @@ use Rattle.acd_terms.specs.declared.command.Arrival.{Arrival}
 use Rattle.acd_terms.specs.declared.command.Requested.{Requested}
 use Rattle.acd_terms.specs.declared.command.Requested.TheVariants as requested
 use Rattle.acd_terms.specs.declared.command.Command.{Command}
-use Rattle.acd_terms.specs.declared.command.Command.TheVariants.{SetAgentState, SetGroupPriority}
+use Rattle.acd_terms.specs.declared.command.Command.TheVariants.{SetAgentState, SetGroupPriority, RejectCall, ChangeGroup, ChangeAgent}
 use Rattle.acd_model.specs.Step.{Stepped, executed_moment, next_stamp}
 use Rattle.acd_book.specs.declared.kept.Kept.{Kept}
 use Rattle.acd_book.specs.Content.{Content, empty_content, committed}
@@ -42,10 +42,13 @@ abbrev pub IsOldRequested : Requested → Type 0
 IsOldRequested (requested.LoggedOn device groups) = length groups ≡ 1
 IsOldRequested (requested.State wanted) = Unit {0}
 
--- what could be asked for: all but setGroupPriority, and no log-on in more groups than one
+-- what could be asked for: none of the services that came later, and no log-on in more groups than one
 abbrev pub IsOldCommand : Command → Type 0
 IsOldCommand (SetAgentState agent requested) = IsOldRequested requested
 IsOldCommand (SetGroupPriority device priority) = ⊥
+IsOldCommand (RejectCall call device) = ⊥
+IsOldCommand (ChangeGroup device name ring wrap) = ⊥
+IsOldCommand (ChangeAgent agent name) = ⊥
 IsOldCommand _ = Unit {0}
 
 -- the limits fit, the kept keys are distinct and not too many, each kept request could be asked for, and all that is kept is

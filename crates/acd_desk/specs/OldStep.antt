@@ -14,7 +14,7 @@ use Rattle.acd_terms.specs.declared.event.Report.TheVariants.{AgentLoggedOn}
 use Rattle.acd_terms.specs.declared.command.Requested.{Requested}
 use Rattle.acd_terms.specs.declared.command.Requested.TheVariants as requested
 use Rattle.acd_terms.specs.declared.command.Command.{Command}
-use Rattle.acd_terms.specs.declared.command.Command.TheVariants.{AddGroup, AddStation, AddAgent, ArriveCall, MakeCall, PhoneOffHook, AnswerCall, HoldCall, RetrieveCall, ClearConnection, DeflectCall, SingleStepTransfer, SetAgentState, MonitorStart, MonitorStop, Tick, SetGroupPriority}
+use Rattle.acd_terms.specs.declared.command.Command.TheVariants.{AddGroup, AddStation, AddAgent, ArriveCall, MakeCall, PhoneOffHook, AnswerCall, HoldCall, RetrieveCall, ClearConnection, DeflectCall, SingleStepTransfer, SetAgentState, MonitorStart, MonitorStop, Tick, SetGroupPriority, RejectCall, ChangeGroup, ChangeAgent}
 use Rattle.acd_terms.specs.declared.answer.Answer.TheVariants as answer
 use Rattle.acd_terms.specs.declared.answer.Refusal.TheVariants.{UnknownAgent, WrongAgentState, UnknownDevice, NotStation, StationTaken, NotGroup}
 use Rattle.acd_model.specs.Scans.{agent_of, agent_at, is_group, is_station, is_planned}
@@ -64,7 +64,7 @@ old_set_agent_state s turn agent (requested.LoggedOn device (group ∷ [])) = ol
 old_set_agent_state s turn agent (requested.LoggedOn device _) = Err NotGroup
 old_set_agent_state s turn agent (requested.State wanted) = change_state s turn agent wanted
 
--- sixteen services: the seventeenth was none
+-- sixteen services: those that came later were none
 abbrev pub old_serve : Rows → Turn → Command → Served
 old_serve s turn (AddGroup device name ring wrap) = add_group s device name ring wrap
 old_serve s turn (AddStation device) = add_station s device
@@ -83,6 +83,9 @@ old_serve s turn (MonitorStart device) = monitor_start s device
 old_serve s turn (MonitorStop monitor) = monitor_stop s monitor
 old_serve s turn Tick = gives answer.Nothing (tick s turn)
 old_serve s turn (SetGroupPriority device priority) = Err NotGroup
+old_serve s turn (RejectCall call device) = Err NotGroup
+old_serve s turn (ChangeGroup device name ring wrap) = Err NotGroup
+old_serve s turn (ChangeAgent agent name) = Err NotGroup
 
 -- the moves of a whole step: the service's, then the distribution's from the state that these leave
 abbrev pub old_step_moves : Rows → Moment → Served → List Move

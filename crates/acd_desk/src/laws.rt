@@ -6,6 +6,7 @@ ghost use Rattle.acd_desk.specs.Feeding.{AgainAddsNothing, FedHoldsTheLog, Desks
 ghost use Rattle.acd_desk.specs.AuditLaws.{HasOneAudit, SoundIsOrdered, SoundAgrees};
 ghost use Rattle.acd_desk.specs.OldSound.{OldSoundIsSound};
 ghost use Rattle.acd_desk.specs.Following.{SnapshotLeadsOn};
+ghost use Rattle.acd_desk.specs.NameLaws.{ContentIgnoresNames, AnswersIgnoreNames};
 
 /// One more arrival leads from the run of a list to the run of the longer list.
 pub fn one_more_arrival()
@@ -66,4 +67,11 @@ pub fn old_sound_is_sound()
 /// who takes a snapshot and then follows the events misses none, and is told none twice.
 pub fn snapshot_leads_on()
     ensures { SnapshotLeadsOn }
+{}
+
+/// Lists of arrivals that differ in names alone leave the same events and replies, and rows that differ in names alone;
+/// and where in neither list two arrivals have one key and ask something else, each is answered as its fellow.
+pub fn names_are_inert()
+    ensures content { ContentIgnoresNames }
+    ensures answers { AnswersIgnoreNames }
 {}

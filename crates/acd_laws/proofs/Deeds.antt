@@ -1,31 +1,32 @@
 -- What a service does, as deeds: the one walk over refusals; and the rounds of a step.
-use Rattle.std.proofs.Common.{◌≡◌, Bool, true, false, Option, Some, None, refl, ℕ, ◌⊎◌, inl, inr, not, ◌&&◌, ◌||◌, cond, List, [], ◌∷◌, length, ◌∙◌, ap, subst, Err}
+use Rattle.std.proofs.Common.{◌≡◌, ◌≤◌, arith, Bool, true, false, Option, Some, None, refl, ℕ, ◌⊎◌, inl, inr, not, ◌&&◌, ◌||◌, cond, List, [], ◌∷◌, length, ◌∙◌, ap, subst, sym, Err}
 use Rattle.std.specs.Option.{ok_or}
-use Rattle.acd_lemmas.proofs.Words.{Rows, AgentRecord, CallRecord, ConnectionRecord, Pending, Command, Move, Offer, Refusal, Requested, Served, is_null, is_working_after_call, state_wanted, is_in, is_initiated, is_alerting, is_connected, is_hold, is_queued, agent_of, call_of, connection_of, is_group, is_station, is_planned, agent_at, other_of, is_live_at, is_occupied, silent, group_of, Every, GroupRecord}
+use Rattle.acd_lemmas.proofs.Words.{Rows, AgentRecord, CallRecord, ConnectionRecord, Pending, Command, Move, Offer, Refusal, Requested, Served, is_null, is_working_after_call, state_wanted, is_in, is_initiated, is_alerting, is_connected, is_hold, is_queued, agent_of, call_of, connection_of, is_group, is_station, is_planned, agent_at, other_of, is_live_at, is_occupied, silent, group_of, Every, GroupRecord, is_distributed}
 use Rattle.acd_model.specs.Scans.{is_used, monitor_of}
 use Rattle.acd_terms.specs.declared.record.MonitorRecord.{MonitorRecord}
 use Rattle.acd_terms.specs.Results.{◌>>=◌, ◌>>◌}
 use Rattle.acd_model.specs.Served.{refuse_if, moves_of, gives}
-use Rattle.std.specs.Prelude.{◌==◌, is_some, nat_le, min, Result, Ok}
+use Rattle.std.specs.Prelude.{◌==◌, is_some, nat_le, Result, Ok}
 use Rattle.acd_terms.specs.Limits.{greatest_priority}
 use Rattle.acd_terms.specs.Groups.{is_choice}
 use Rattle.acd_terms.specs.declared.answer.Refusal.TheVariants.{UnknownDevice, NotGroup, UnknownMonitor}
 use Rattle.acd_terms.specs.declared.answer.Answer.TheVariants.{Nothing}
 use Rattle.acd_lemmas.proofs.Facts.{ArePlannedGroups}
 use Rattle.std.proofs.lemmas.Bool.{not-false, and_parts}
-use Rattle.acd_terms.specs.declared.command.Command.TheVariants.{AddGroup, AddStation, AddAgent, ArriveCall, MakeCall, PhoneOffHook, AnswerCall, HoldCall, RetrieveCall, ClearConnection, DeflectCall, SingleStepTransfer, SetAgentState, MonitorStart, MonitorStop, Tick, SetGroupPriority}
+use Rattle.acd_terms.specs.declared.command.Command.TheVariants.{AddGroup, AddStation, AddAgent, ArriveCall, MakeCall, PhoneOffHook, AnswerCall, HoldCall, RetrieveCall, ClearConnection, DeflectCall, SingleStepTransfer, SetAgentState, MonitorStart, MonitorStop, Tick, SetGroupPriority, RejectCall, ChangeGroup, ChangeAgent}
 use Rattle.acd_terms.specs.declared.command.Requested.TheVariants as requested
 use Rattle.acd_terms.specs.declared.event.Cause.TheVariants.{NewCall, Deflected, Transferred}
 use Rattle.acd_model.specs.CallMoves.{begin, connect_caller, initiate, originate, arrive, answer, hold, retrieve, divert, transfer}
 use Rattle.acd_model.specs.AgentMoves.{go_from, log_on_at, wait_for}
 use Rattle.acd_model.specs.Release.{release, ending_of}
-use Rattle.acd_model.specs.Services.{add_group, add_station, add_agent, new_group, new_agent, arrive_call, make_call, phone_off_hook, has_no_call_left, next_call, occupy, answer_call, hold_call, retrieve_call, clearing, clear_connection, is_in_call, is_answered_by, deflect_call, single_step_transfer, all_groups, log_on, change_state, set_agent_state, monitor_start, monitor_stop, set_group_priority, next_monitor}
+use Rattle.acd_model.specs.Services.{add_group, add_station, add_agent, new_group, new_agent, arrive_call, make_call, phone_off_hook, has_no_call_left, next_call, occupy, answer_call, hold_call, retrieve_call, clearing, clear_connection, is_in_call, is_answered_by, deflect_call, single_step_transfer, all_groups, log_on, change_state, set_agent_state, monitor_start, monitor_stop, set_group_priority, reject_call, change_group, change_agent, next_monitor}
 use Rattle.acd_model.specs.Services.Serve.{serve}
 use Rattle.acd_model.specs.Distribution.{offer_at}
 use Rattle.acd_model.specs.Tick.{return_to, rest_moves, tick}
 use Rattle.acd_model.specs.declared.moves.Change.TheVariants.{PutGroup, PutStation, PutAgent, PutMonitor, RemoveMonitor}
-use Rattle.acd_lemmas.proofs.Lists.{none_from}
-use Rattle.acd_lemmas.proofs.State.{found_key, own_key, agent_own}
+use Rattle.acd_lemmas.proofs.Lists.{none_from, some_from}
+use Rattle.acd_lemmas.proofs.State.{found_key, own_key, agent_own, group_key}
+use Rattle.acd_laws.specs.FigureLaws.{regroups, group_given}
 use Rattle.acd_laws.proofs.Offers.Distributing.{Offering}
 use Rattle.acd_terms.specs.declared.command.Turn.{Turn}
 
@@ -84,18 +85,35 @@ pub data Deed (s : Rows) (turn : Turn) : List Move → Type 0 where
       → Deed s turn (transfer p.x to ∷ arrive s turn p.x.call to Transferred ∷ release s turn p.x (ending_of p.x) ∷ [])
   logs_on : (a : AgentRecord) (device : ℕ) (groups : List ℕ) → agent_of s a.agent ≡ Some a → is_null a.state ≡ true → is_station s device ≡ true → agent_at s device ≡ None → ArePlannedGroups s groups
       → Deed s turn (log_on_at turn a device groups ∷ [])
+  rejects : (p : Party s) (g : ℕ) → is_alerting p.x.state ≡ true → p.x.group ≡ Some g → Deed s turn (return_to s turn p.x (Some g))
+  renames : (a : AgentRecord) (name : List ℕ) → agent_of s a.agent ≡ Some a → Deed s turn (silent (PutAgent (record a { name = name })) ∷ [])
   waits : (a : AgentRecord) (wanted : Pending) → agent_of s a.agent ≡ Some a → is_null a.state ≡ false → is_occupied s a ≡ true → Deed s turn (wait_for a (Some wanted) ∷ [])
   goes : (a : AgentRecord) (wanted : Pending) → agent_of s a.agent ≡ Some a → is_null a.state ≡ false → is_occupied s a ≡ false → Deed s turn (go_from turn a a.station (state_wanted wanted) ∷ [])
 
--- what setGroupPriority does: no deed, so that its command alone changes a planned group's record
-pub data Ranks (s : Rows) : Command → List Move → Type 0 where
-  refuses : (device priority : ℕ) → group_of s device ≡ None → Ranks s (SetGroupPriority device priority) []
-  ranks : (device priority : ℕ) (g : GroupRecord) → group_of s device ≡ Some g
-      → Ranks s (SetGroupPriority device priority) (silent (PutGroup (record g { priority = min priority greatest_priority })) ∷ [])
+-- what setGroupPriority and changeGroup do: no deeds, so that these commands alone change a planned group's record
+pub data Regroups (s : Rows) (c : Command) : List Move → Type 0 where
+  refuses : (device : ℕ) → regroups c ≡ Some device → group_of s device ≡ None → Regroups s c []
+  puts : (device : ℕ) (g : GroupRecord) → regroups c ≡ Some device → group_of s device ≡ Some g → Regroups s c (silent (PutGroup (group_given c g)) ∷ [])
 
-abbrev pub is_ranking : Command → Bool
-is_ranking (SetGroupPriority device priority) = true
-is_ranking _ = false
+-- what it puts is the same group, with the same figures
+
+pub given_device : (c : Command) (g : GroupRecord) → (group_given c g).device ≡ g.device
+given_device (SetGroupPriority device priority) g = refl
+given_device (ChangeGroup device name ring wrap) g = refl
+given_device _ g = refl
+
+pub given_figures : (c : Command) (g : GroupRecord) → (group_given c g).figures ≡ g.figures
+given_figures (SetGroupPriority device priority) g = refl
+given_figures (ChangeGroup device name ring wrap) g = refl
+given_figures _ g = refl
+
+pub given_priority : (c : Command) (g : GroupRecord) → g.priority ≤ greatest_priority → (group_given c g).priority ≤ greatest_priority
+given_priority (SetGroupPriority device priority) g l = omega arith
+given_priority (ChangeGroup device name ring wrap) g l = l
+given_priority _ g l = l
+
+pub given_planned : (s : Rows) (c : Command) (device : ℕ) (g : GroupRecord) → group_of s device ≡ Some g → is_group s (group_given c g).device ≡ true
+given_planned s c device g own = ap (is_group s) (given_device c g ∙ group_key s device g own) ∙ ap is_some own
 
 -- the walk over refusals
 
@@ -229,22 +247,34 @@ unfolding monitor_stop
 deed_monitor_stop s turn monitor =
     with {T = MonitorRecord} {o = monitor_of s monitor} UnknownMonitor (λ _. gives Nothing (silent (RemoveMonitor monitor) ∷ [])) (λ w _. unwatches monitor)
 
-ranks_of : (s : Rows) (device priority : ℕ) → Ranks s (SetGroupPriority device priority) (moves_of (set_group_priority s device priority))
-unfolding set_group_priority refuse_if
-ranks_of s device priority = by (group_of s device) refl
+deed_reject_call : (s : Rows) (turn : Turn) (call device : ℕ) → DeedBy s turn (reject_call s turn call device)
+unfolding reject_call
+deed_reject_call s turn call device = party _ _ _ (λ p _ _. unless _ _ (λ state.
+    let rings = and_parts (is_alerting p.x.state) (is_distributed p.x) (not-false (is_alerting p.x.state && is_distributed p.x) state) in
+    let g = some_from p.x.group (and_parts (is_some p.x.group) (not (is_queued p.x.state)) rings.1).0 in
+    subst (λ o. Deed s turn (return_to s turn p.x o)) (sym g.1) (rejects p g.0 rings.0 g.1)))
+
+deed_change_agent : (s : Rows) (turn : Turn) (agent : ℕ) (name : List ℕ) → DeedBy s turn (change_agent s agent name)
+unfolding change_agent
+deed_change_agent s turn agent name = with _ _ (λ a ea. renames a name (agent_own s agent a ea))
+
+-- a planned device that is a group gets what the command gives
+regroups_of : (s : Rows) (c : Command) (device : ℕ) → regroups c ≡ Some device
+    → Regroups s c (moves_of (refuse_if (not (is_planned s device)) UnknownDevice >> (ok_or (group_of s device) NotGroup >>= (λ g. gives Nothing (silent (PutGroup (group_given c g)) ∷ [])))))
+unfolding refuse_if
+regroups_of s c device it = by (group_of s device) refl
   where
     put : GroupRecord → Served
-    put g = gives Nothing (silent (PutGroup (record g { priority = min priority greatest_priority })) ∷ [])
+    put g = gives Nothing (silent (PutGroup (group_given c g)) ∷ [])
 
-    by : (o : Option GroupRecord) → group_of s device ≡ o
-        → Ranks s (SetGroupPriority device priority) (moves_of (refuse_if (not (is_some o || is_station s device)) UnknownDevice >> (ok_or o NotGroup >>= put)))
-    by None e = by_refusal (λ (v : Served). Ranks s (SetGroupPriority device priority) (moves_of v)) (not (is_station s device)) UnknownDevice (ok_or None NotGroup >>= put)
-        (λ _. refuses device priority e) (λ _. refuses device priority e)
-    by (Some g) e = ranks device priority g e
+    by : (o : Option GroupRecord) → group_of s device ≡ o → Regroups s c (moves_of (refuse_if (not (is_some o || is_station s device)) UnknownDevice >> (ok_or o NotGroup >>= put)))
+    by None e = by_refusal (λ (v : Served). Regroups s c (moves_of v)) (not (is_station s device)) UnknownDevice (ok_or None NotGroup >>= put) (λ _. refuses device it e) (λ _. refuses device it e)
+    by (Some g) e = puts device g it e
 
--- what a command does: a deed or what tick does, and setGroupPriority what it does
+-- what a command does: a deed or what tick does, or what is done to a planned group's record
 pub deed_of_serve : (s : Rows) (turn : Turn) (c : Command)
-    → ((is_ranking c ≡ false) × (DeedBy s turn (serve s turn c) ⊎ (moves_of (serve s turn c) ≡ tick s turn))) ⊎ Ranks s c (moves_of (serve s turn c))
+    → ((regroups c ≡ None) × (DeedBy s turn (serve s turn c) ⊎ (moves_of (serve s turn c) ≡ tick s turn))) ⊎ Regroups s c (moves_of (serve s turn c))
+unfolding set_group_priority change_group
 deed_of_serve s turn (AddGroup device name ring wrap) = inl (refl, inl (deed_add_group s turn device name ring wrap))
 deed_of_serve s turn (AddStation device) = inl (refl, inl (deed_add_station s turn device))
 deed_of_serve s turn (AddAgent agent name) = inl (refl, inl (deed_add_agent s turn agent name))
@@ -261,4 +291,7 @@ deed_of_serve s turn (SetAgentState agent q) = inl (refl, inl (deed_set_agent_st
 deed_of_serve s turn (MonitorStart device) = inl (refl, inl (deed_monitor_start s turn device))
 deed_of_serve s turn (MonitorStop monitor) = inl (refl, inl (deed_monitor_stop s turn monitor))
 deed_of_serve s turn Tick = inl (refl, inr refl)
-deed_of_serve s turn (SetGroupPriority device priority) = inr (ranks_of s device priority)
+deed_of_serve s turn (SetGroupPriority device priority) = inr (regroups_of s (SetGroupPriority device priority) device refl)
+deed_of_serve s turn (RejectCall call device) = inl (refl, inl (deed_reject_call s turn call device))
+deed_of_serve s turn (ChangeGroup device name ring wrap) = inr (regroups_of s (ChangeGroup device name ring wrap) device refl)
+deed_of_serve s turn (ChangeAgent agent name) = inl (refl, inl (deed_change_agent s turn agent name))

@@ -8,3 +8,4 @@ pub mod Places
 pub mod Figures
 pub mod Watched
 pub mod Made
+pub mod Names

@@ -2,9 +2,9 @@
 use Rattle.std.proofs.Common.{◌≡◌, ℕ, Bool, true, false, cond, Option, Some, None, refl, ◌∙◌, ap, List, [], ◌∷◌}
 use Rattle.std.specs.Prelude.{◌==◌}
 use Rattle.std.proofs.lemmas.Bool.{cond-false}
-use Rattle.acd_lemmas.proofs.Words.{Rows, AgentRecord, ConnectionRecord, AgentState, Pending, Cause, Change, Ending, Move, Release, find_by, Every, IsAscending, at_connection, group_of, station_of, agent_of, connection_of, is_group, is_planned, agent_at, is_distributed, is_idle, with_group, with_station, with_agent, with_call, with_connection, with_monitor, without_call, without_connection, without_monitor, no_move, reported, changed, moved, agent_order}
+use Rattle.acd_lemmas.proofs.Words.{Rows, AgentRecord, ConnectionRecord, AgentState, Pending, Cause, Change, Ending, Move, Release, find_by, Every, IsAscending, at_connection, group_of, station_of, agent_of, connection_of, is_group, is_planned, agent_at, is_distributed, is_idle, with_group, with_station, with_agent, with_call, with_connection, with_monitor, without_call, without_connection, without_monitor, no_move, silent, reported, changed, moved, agent_order}
 use Rattle.acd_terms.specs.declared.state.AgentState.TheVariants as A
-use Rattle.acd_model.specs.AgentMoves.{while_logged_on, in_state, state_report, go_from, wait_for}
+use Rattle.acd_model.specs.AgentMoves.{while_logged_on, in_state, state_report, go_from}
 use Rattle.acd_model.specs.Release.{release_of, released, release_agent, release}
 use Rattle.acd_model.specs.Services.{busy_agent, occupy}
 use Rattle.acd_model.specs.declared.moves.Change.TheVariants.{PutAgent, PutConnection, PutGroup, PutStation, RemoveConnection}
@@ -22,10 +22,10 @@ pub record Reseated (turn : Turn) (a b : AgentRecord) : Type 0 where
   pub stamp : b.stamp ≡ turn.stamp
   pub since : b.since ≡ turn.moment
 
--- a move of an agent of whom K holds
+-- a move of an agent of whom K holds: none, one to another name or pending state, which nothing tells, or one to another state
 pub data AgentMove (K : AgentRecord → Type 0) (turn : Turn) : Move → Type 0 where
   stays : AgentMove K turn no_move
-  waits : (a : AgentRecord) (pending : Option Pending) → K a → AgentMove K turn (wait_for a pending)
+  remains : (a : AgentRecord) (name : List ℕ) (pending : Option Pending) → K a → AgentMove K turn (silent (PutAgent (record a { name = name; pending = pending })))
   tells : (a b : AgentRecord) (d : ℕ) → K a → Reseated turn a b → AgentMove K turn (reported (PutAgent b) (state_report b.state b.agent d))
 
 pub goes_from : (K : AgentRecord → Type 0) (turn : Turn) (a : AgentRecord) (o : Option ℕ) (st : AgentState) → K a → AgentMove K turn (go_from turn a o st)
@@ -41,7 +41,7 @@ releases_agent K turn d None how h = stays
 releases_agent K turn d (Some a) how h = by (release_of how a.pending)
   where
     by : (to : Release) → AgentMove K turn (released turn a d to)
-    by Stays = waits a None (h a refl)
+    by Stays = remains a a.name None (h a refl)
     by (Goes st) = goes_from K turn a (Some d) st (h a refl)
 
 pub releases : (K : AgentRecord → Type 0) (s : Rows) (turn : Turn) (x : ConnectionRecord) (how : Ending) → ((a : AgentRecord) → agent_at s x.device ≡ Some a → K a) → AgentMove K turn (release s turn x how)
@@ -81,12 +81,12 @@ occupied_by s turn x = occupies Anyone s turn x (λ _ _. tt)
 pub agent_connections : {K : AgentRecord → Type 0} (turn : Turn) (t : Rows) (x : Move) → AgentMove K turn x → (changed t x.change).connections ≡ t.connections
 unfolding with_agent
 agent_connections turn t x stays = refl
-agent_connections turn t x (waits a pending _) = refl
+agent_connections turn t x (remains _ _ _ _) = refl
 agent_connections turn t x (tells a b d _ _) = refl
 
 pub agent_others : (turn : Turn) (n : ℕ) (t : Rows) (x : Move) → AgentMove (λ a. (a.agent == n) ≡ false) turn x → agent_of (changed t x.change) n ≡ agent_of t n
 agent_others turn n t x stays = refl
-agent_others turn n t x (waits a pending h) = agent_put t (record a { pending = pending }) n ∙ cond-false (a.agent == n) _ _ h
+agent_others turn n t x (remains a name pending h) = agent_put t (record a { name = name; pending = pending }) n ∙ cond-false (a.agent == n) _ _ h
 agent_others turn n t x (tells a b d h r) = agent_put t b n ∙ cond-false (b.agent == n) _ _ (ap (λ v. v == n) r.agent ∙ h)
 
 pub data Arrival (s : Rows) (turn : Turn) (call to : ℕ) (why : Cause) : Move → Type 0 where

@@ -1,5 +1,5 @@
 -- The figures that a group keeps are those counted from all events.
-use Rattle.std.specs.Prelude.{◌≡◌, ◌==◌, min, true, false, List, ◌++◌, Some, if◌then◌else◌}
+use Rattle.std.specs.Prelude.{◌≡◌, min, true, false, List, ◌++◌, Option, Some, None, if◌then◌else◌}
 use Rattle.acd_terms.specs.Lists.{Among}
 use Rattle.acd_terms.specs.Rows.{empty_rows}
 use Rattle.acd_terms.specs.Numbers.{Device, Moment}
@@ -9,9 +9,9 @@ use Rattle.acd_terms.specs.declared.record.GroupRecord.{GroupRecord}
 use Rattle.acd_terms.specs.declared.record.ConnectionRecord.{ConnectionRecord}
 use Rattle.acd_terms.specs.Limits.{greatest_priority}
 use Rattle.acd_terms.specs.declared.command.Command.{Command}
-use Rattle.acd_terms.specs.declared.command.Command.TheVariants.{SetGroupPriority}
+use Rattle.acd_terms.specs.declared.command.Command.TheVariants.{SetGroupPriority, ChangeGroup}
 use Rattle.acd_terms.specs.declared.event.Event.{Event}
-use Rattle.acd_model.specs.Scans.{group_of, is_group}
+use Rattle.acd_model.specs.Scans.{group_of, is_group, has}
 use Rattle.acd_model.specs.Figures.{figures_of, counting}
 use Rattle.acd_model.specs.Services.{no_figures}
 use Rattle.acd_model.specs.Step.{step}
@@ -35,12 +35,24 @@ abbrev pub RunKeepsFigures : Type 0
 RunKeepsFigures = (limits : Limits) (commands : List TimedCommand) (g : GroupRecord) → Among g (run (empty_rows limits) commands).rows.groups
     → g.figures ≡ figures_of g.device (run (empty_rows limits) commands).events
 
--- the group with the priority that a command gives it
-abbrev pub ranked : Command → GroupRecord → GroupRecord
-ranked (SetGroupPriority device priority) g = if device == g.device then record g { priority = min priority greatest_priority } else g
-ranked _ g = g
+-- the group whose record a command changes
+abbrev pub regroups : Command → Option Device
+regroups (SetGroupPriority device priority) = Some device
+regroups (ChangeGroup device name ring wrap) = Some device
+regroups _ = None
 
--- of a planned group's record a step of rows that break no rule changes the figures, by what its events count, and by setGroupPriority of it the priority
+-- a group with what such a command gives it
+abbrev pub group_given : Command → GroupRecord → GroupRecord
+group_given (SetGroupPriority device priority) g = record g { priority = min priority greatest_priority }
+group_given (ChangeGroup device name ring wrap) g = record g { name = name; ring = ring; wrap = wrap }
+group_given _ g = g
+
+-- a group as a command leaves it
+abbrev pub regrouped : Command → GroupRecord → GroupRecord
+regrouped command g = if has (regroups command) g.device then group_given command g else g
+
+-- of a planned group's record a step of rows that break no rule changes the figures, by what its events count, by setGroupPriority of it the
+-- priority, and by changeGroup of it name, ring and wrap
 abbrev pub StepAddsFigures : Type 0
 StepAddsFigures = (s : Rows) (moment : Moment) (command : Command) (d : Device) (g : GroupRecord) → BreaksNoRule s → group_of s d ≡ Some g
-    → group_of (step s moment command).rows d ≡ Some (counting (step s moment command).events (ranked command g))
+    → group_of (step s moment command).rows d ≡ Some (counting (step s moment command).events (regrouped command g))

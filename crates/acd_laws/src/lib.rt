@@ -7,6 +7,8 @@
 
 ghost use Rattle.acd_model.specs.Offers.{FindsFirstWaiting, FindsFirstEligible, FindsTheOffer};
 ghost use Rattle.acd_laws.specs.RefusalLaws.{RefusalChangesNothing};
+ghost use Rattle.acd_laws.specs.CorrectionLaws.{ChangesChangeOnly};
+ghost use Rattle.acd_laws.specs.RejectLaws.{RejectsAsATick};
 ghost use Rattle.acd_laws.specs.FigureLaws.{StepKeepsFigures, RunKeepsFigures, StepAddsFigures};
 ghost use Rattle.acd_laws.specs.WatchedLaws.{StepKeepsWatched, RunIsWatched, RunTellsNoMore};
 ghost use Rattle.acd_laws.specs.BalanceLaws.{StepBalances, RunIsBalanced};
@@ -15,6 +17,7 @@ ghost use Rattle.acd_laws.specs.PlacedLaws.{StepNamesNoLaterCall, RunNamesNoLate
 ghost use Rattle.acd_laws.specs.RuleLaws.{StepKeepsRules, RunKeepsRules, RulesBound, RulesLeaveRoom};
 ghost use Rattle.acd_laws.specs.ChangeLaws.{StepMakesItsChanges};
 ghost use Rattle.acd_laws.specs.AllLaws.{StepKeepsLaws, RunKeepsLaws};
+ghost use Rattle.acd_laws.specs.NameLaws.{NamesAreInert, RunIgnoresNames};
 ghost use Rattle.acd_laws.specs.OneOfferLaws.{RulesGiveOneOffer, StepKeepsOneOffer, RunHasOneOffer};
 
 /// The call that is found to wait first in a group has the least place there, and one is found wherever one waits.
@@ -49,7 +52,8 @@ pub fn run_keeps_figures()
     ensures { RunKeepsFigures }
 {}
 
-/// Where rows break no rule, a step changes of a planned group the figures alone, by what its events count.
+/// Where rows break no rule, a step changes of a planned group the figures, by what its events count; `setGroupPriority` of it the
+/// priority too, and `changeGroup` of it name, ring and wrap.
 pub fn step_adds_figures()
     ensures { StepAddsFigures }
 {}
@@ -57,6 +61,17 @@ pub fn step_adds_figures()
 /// A refused request takes a stamp and a moment, and changes nothing else.
 pub fn refusal_changes_nothing()
     ensures { RefusalChangesNothing }
+{}
+
+/// Where rows break no rule, `changeGroup` changes name, ring and wrap of one group, `changeAgent` the name of one agent, and nothing
+/// else but the last stamp and moment.
+pub fn changes_change_only()
+    ensures { ChangesChangeOnly }
+{}
+
+/// Where rows break no rule, one offer is overdue and no after-call work is over, `rejectCall` of that offer is what a tick does.
+pub fn rejects_as_a_tick()
+    ensures { RejectsAsATick }
 {}
 
 /// What the reports tell a watcher of rows that break no rule, and no more, they tell of the next state with the reports of the step.
@@ -185,4 +200,15 @@ pub fn step_keeps_laws()
 /// All laws hold of every run of at most as many requests as are allowed.
 pub fn run_keeps_laws()
     ensures { RunKeepsLaws }
+{}
+
+/// Lists of commands at moments that differ in names alone, run from rows that differ in names alone, have the same outcomes and events, and
+/// leave rows that differ in names alone.
+pub fn names_are_inert()
+    ensures { NamesAreInert }
+{}
+
+/// So it is of runs from the empty state.
+pub fn run_ignores_names()
+    ensures { RunIgnoresNames }
 {}

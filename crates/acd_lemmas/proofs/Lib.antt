@@ -1,5 +1,6 @@
 pub mod Words
 pub mod Lists
+pub mod MappedLists
 pub mod Least
 pub mod Keyed
 pub mod States

@@ -180,6 +180,13 @@ pub filter_all : {X : Type 0} (p : X → Bool) (xs : List X) → ((x : X) → Am
 filter_all p [] h = refl
 filter_all p (y ∷ ys) h = rw (h y (inl refl)) (ap (λ r. y ∷ r) (filter_all p ys (λ x a. h x (inr a))))
 
+pub filter_none : {X : Type 0} (p : X → Bool) (xs : List X) → ((x : X) → Among x xs → p x ≡ false) → filter p xs ≡ []
+filter_none p [] h = refl
+filter_none p (y ∷ ys) h = rw (h y (inl refl)) (filter_none p ys (λ x a. h x (inr a)))
+
+pub none_filtered : {X : Type 0} (p : X → Bool) (xs : List X) → filter p xs ≡ [] → (x : X) → Among x xs → p x ≡ false
+none_filtered p xs e x a = false_from_ne_true (p x) (λ q. subst (Among x) e (among-filter p xs x a q))
+
 -- in an ascending list a removal leaves those with other keys
 pub remove_is : {X : Type 0} (cmp : X → X → Ordering) (at : X → Ordering) (k : X → Bool) → ((x : X) → is_eq (at x) ≡ k x) → ((y z : X) → k y ≡ true → k z ≡ true → cmp y z ≡ Equal)
     → (xs : List X) → IsAscending cmp xs → remove_by at xs ≡ filter (λ y. not (k y)) xs
@@ -430,6 +437,10 @@ among_put at r (x ∷ xs) z a =
       | Equal ↦ λ b. elim b [ inl e ↦ inl e | inr w ↦ inr (inr w) ]
       | Greater ↦ λ b. elim b [ inl e ↦ inr (inl e) | inr w ↦ elim (among_put at r xs z w) [ inl e ↦ inl e | inr v ↦ inr (inr v) ] ]
     ]) a
+
+-- a filter that finds none finds none behind a put of what doesn't pass
+pub filter_put : {X : Type 0} (p : X → Bool) (at : X → Ordering) (r : X) (xs : List X) → filter p xs ≡ [] → p r ≡ false → filter p (put_by at xs r) ≡ []
+filter_put p at r xs e fails = filter_none p (put_by at xs r) (λ z a. elim (among_put at r xs z a) [ inl q ↦ ap p q ∙ fails | inr old ↦ none_filtered p xs e z old ])
 
 pub found_among : {T : Type 0} (at : T → Ordering) (xs : List T) (x : T) → find_by at xs ≡ Some x → Among x xs
 found_among at [] x e = absurd (cc (e))

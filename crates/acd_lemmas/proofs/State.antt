@@ -1,5 +1,5 @@
 -- What the look-ups of a state answer after each change, and what the rules of rows tell of a record that is found.
-use Rattle.std.proofs.Common.{◌≡◌, ℕ, Bool, true, false, ◌&&◌, ◌||◌, cond, List, [], ◌∷◌, Option, Some, None, refl, sym, ◌∙◌, ap, subst, map, eq-eqb, ◌+◌, ◌<◌, ◌≤◌, not, arith}
+use Rattle.std.proofs.Common.{◌≡◌, ℕ, Bool, true, false, ◌&&◌, ◌||◌, cond, List, Option, Some, None, refl, sym, ◌∙◌, ap, subst, map, eq-eqb, ◌+◌, ◌<◌, ◌≤◌, not, arith}
 use Rattle.std.specs.Prelude.{◌==◌, is_some, find, option_map}
 use Rattle.std.specs.List.{list_any}
 use Rattle.std.specs.Cmp.{IsTotalOrder, both_ways}
@@ -10,6 +10,7 @@ use Rattle.std.proofs.lemmas.Cmp.{nat_cmp_total, on_total, then_total}
 use Rattle.acd_lemmas.proofs.Words.{Rows, GroupRecord, StationRecord, AgentRecord, CallRecord, ConnectionRecord, MonitorRecord, Event, find_by, put_by, remove_by, count, Among, IsAscending, at_group, at_connection, group_of, station_of, agent_of, call_of, connection_of, monitor_of, is_group, is_station, has, agent_at, other_of, with_group, with_station, with_agent, with_call, with_connection, without_call, without_connection, group_order, station_order, agent_order, call_order, connection_order, monitor_order, parties_of}
 use Rattle.acd_model.specs.Figures.{counting}
 use Rattle.acd_lemmas.proofs.Lists.{eq_is, is_eq_of, one, find_passes, find_among, filter_among, count-removed, every_among, counted, none_from, some_is}
+use Rattle.acd_lemmas.proofs.MappedLists.{find_by-map, of-option_map}
 use Rattle.acd_lemmas.proofs.Keyed.{Keyed, by_number, cmp_equal, cmp_self, find_is, some_is_any, found_among, found_has, found_own, found_put, some_put, found_left, eqb_swap, counted_new, counted_old, others_left}
 use Rattle.acd_lemmas.proofs.Facts.{Rules, CallRule, ConnectionRule, seated_at, two_if}
 use Rattle.acd_lemmas.proofs.Numbers.{then_equal}
@@ -110,16 +111,10 @@ pub group_found_put : (d : ℕ) (g : GroupRecord) (gs : List GroupRecord) → fi
 group_found_put d g gs = found_put by_group gs g d
 
 pub group_counted_found : (d : ℕ) (es : List Event) (gs : List GroupRecord) → find_by (at_group d) (map (counting es) gs) ≡ option_map (counting es) (find_by (at_group d) gs)
-group_counted_found d es [] = refl
-group_counted_found d es (g ∷ gs) =
-    elim (is_eq (at_group d g)) as (λ b. cond b (Some (counting es g)) (find_by (at_group d) (map (counting es) gs)) ≡ option_map (counting es) (cond b (Some g) (find_by (at_group d) gs))) [
-      | true ↦ refl
-      | false ↦ group_counted_found d es gs
-    ]
+group_counted_found d es gs = find_by-map (counting es) (at_group d) (at_group d) (λ g. refl) gs
 
 pub is_some_mapped : {T S : Type 0} (f : T → S) (o : Option T) → is_some (option_map f o) ≡ is_some o
-is_some_mapped f None = refl
-is_some_mapped f (Some x) = refl
+is_some_mapped f o = of-option_map f is_some is_some refl (λ x. refl) o
 
 pub station_put : (s : Rows) (t : StationRecord) (d : ℕ) → is_station (with_station s t) d ≡ (t.device == d || is_station s d)
 unfolding with_station station_of

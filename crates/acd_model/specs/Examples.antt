@@ -8,3 +8,5 @@ pub mod Plan
 pub mod Releases
 pub mod Refusals
 pub mod Priorities
+pub mod Rejections
+pub mod Corrections

@@ -17,6 +17,9 @@ pub mod SetAgentState
 pub mod MonitorStart
 pub mod MonitorStop
 pub mod SetGroupPriority
+pub mod RejectCall
+pub mod ChangeGroup
+pub mod ChangeAgent
 pub mod Serve
 unfoldable pub use Rattle.acd_model.specs.Services.AddGroup.{no_figures, new_group, add_group}
 unfoldable pub use Rattle.acd_model.specs.Services.AddStation.{add_station}
@@ -36,3 +39,6 @@ unfoldable pub use Rattle.acd_model.specs.Services.SetAgentState.{all_groups, lo
 unfoldable pub use Rattle.acd_model.specs.Services.MonitorStart.{next_monitor, monitor_start}
 unfoldable pub use Rattle.acd_model.specs.Services.MonitorStop.{monitor_stop}
 unfoldable pub use Rattle.acd_model.specs.Services.SetGroupPriority.{set_group_priority}
+unfoldable pub use Rattle.acd_model.specs.Services.RejectCall.{reject_call}
+unfoldable pub use Rattle.acd_model.specs.Services.ChangeGroup.{change_group}
+unfoldable pub use Rattle.acd_model.specs.Services.ChangeAgent.{change_agent}

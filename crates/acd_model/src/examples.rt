@@ -1,279 +1,133 @@
-//! Worked examples of the abstract switch, computed by the check: each contract is what the definitions
-//! answer and report, from the plan on.
+//! Worked examples of the abstract switch, computed by the check: each clause is one, what the definitions
+//! answer and report from the plan on, and each function is a family, a file of `specs/Examples`.
 
 ghost use Rattle.acd_model.specs.Examples.Words.{NumbersOfDigits};
 ghost use Rattle.acd_model.specs.Examples.Plan.{RecordsOfTheEmptyState, Monitors};
-ghost use Rattle.acd_model.specs.Examples.Queue.{CallWaits, OfferedToTheReadyAgent, AnsweredCall, LongestReadyFirst, TwoCallsAnswered, WrapUpAndTick, NoAnswerReturnsToItsPlace, MomentNeverGoesBack, RefusalTakesAStamp, CallerNumberTaken, CallerNumberShared, LeastPlaceFirst, AbandonedInQueue};
+ghost use Rattle.acd_model.specs.Examples.Queue.{CallWaits, OfferedToTheReadyAgent, AnsweredCall, LongestReadyFirst, WrapUpAndTick, TwoCallsAnswered, NoAnswerReturnsToItsPlace, MomentNeverGoesBack, RefusalTakesAStamp, CallerNumberTaken, CallerNumberShared, LeastPlaceFirst, AbandonedInQueue};
 ghost use Rattle.acd_model.specs.Examples.Waiting.{OffersGoBack, Ticks, Never, WhoIsReadyLongest, TwoGroupsAtOnce};
-ghost use Rattle.acd_model.specs.Examples.Agents.{PendingLogOff, PresentStatePending, TransferToStation, DeflectedToStation, HoldAndPending, TransferToGroup, SecondCallWhileHolding};
-ghost use Rattle.acd_model.specs.Examples.Releases.{ReleasedAfterAnAnswer, ReleasedUnanswered, ReleasedByNoAnswer};
-ghost use Rattle.acd_model.specs.Examples.Refusals.{RefusalsOfPlanAndCalls, RefusalsOfAnAnsweredCall, RefusalsOfAHeldCall, RefusalsOfAnOfferedCall, RefusalsOfAnUnansweredCall, RefusalsOfAgents};
+ghost use Rattle.acd_model.specs.Examples.Agents.{PendingLogOff, PresentStatePending, HoldAndPending, TransferToStation, TransferToGroup, DeflectedToStation, SecondCallWhileHolding};
+ghost use Rattle.acd_model.specs.Examples.Stations.{BusyStationFails, PrivateCallThenDistribution, LoggedOffWithAPrivateCall, HeldPrivateCall, CallToABusyAgentStation, PrivateCalls};
 ghost use Rattle.acd_model.specs.Examples.HandedOn.{DeflectedToAnotherQueue, DeflectedFromQueueToStationAndBack, DeflectedToItsOwnGroup, DeflectedWithAStatePending, TransferredWhileHeld, TwoAgentsReleased, TransferredBack};
 ghost use Rattle.acd_model.specs.Examples.Priorities.{HigherPriorityFirst, EqualPriorities, PriorityChanged};
-ghost use Rattle.acd_model.specs.Examples.Stations.{BusyStationFails, PrivateCallThenDistribution, LoggedOffWithAPrivateCall, HeldPrivateCall, CallToABusyAgentStation, PrivateCalls};
+ghost use Rattle.acd_model.specs.Examples.Releases.{ReleasedAfterAnAnswer, ReleasedUnanswered, ReleasedByNoAnswer};
+ghost use Rattle.acd_model.specs.Examples.Refusals.{RefusalsOfPlanAndCalls, RefusalsOfAnAnsweredCall, RefusalsOfAHeldCall, RefusalsOfAnOfferedCall, RefusalsOfAnUnansweredCall, RefusalsOfAgents};
+ghost use Rattle.acd_model.specs.Examples.Rejections.{RejectedToTheSecondAgent, RejectedByOneAfterTheOther, RejectedWithNobodyReady, RejectedBehindAnOlderCall, ReleasedByARejection, RejectedInAFurtherGroup, RejectedWithoutARingTime, RejectedAndGivenUp, RejectionAndTick, RefusalsOfRejections};
+ghost use Rattle.acd_model.specs.Examples.Corrections.{RingShortened, RingProlonged, WrapShortened, WrapProlonged, WrapOfTheLeastGroup, ChangedGroup, ChangedAgent, ChangedAgentKeepsTheTurn, ChangedToTheSame, NamesOfOneAndForty, RefusalsOfCorrections};
 
-/// The numbers of identifiers are the digit 1 followed by their digits.
-pub fn numbers_of_digits()
-    ensures { NumbersOfDigits }
+/// Numbers of identifiers, records as they are added, and monitors.
+pub fn plan()
+    ensures numbers_of_digits { NumbersOfDigits }
+    ensures records_of_the_empty_state { RecordsOfTheEmptyState }
+    ensures monitors { Monitors }
 {}
 
-/// An agent is new since the request that added it.
-pub fn records_of_the_empty_state()
-    ensures { RecordsOfTheEmptyState }
+/// Calls that wait, are offered, answered, abandoned and given back.
+pub fn queue()
+    ensures call_waits { CallWaits }
+    ensures offered_to_the_ready_agent { OfferedToTheReadyAgent }
+    ensures answered_call { AnsweredCall }
+    ensures longest_ready_first { LongestReadyFirst }
+    ensures wrap_up_and_tick { WrapUpAndTick }
+    ensures two_calls_answered { TwoCallsAnswered }
+    ensures no_answer_returns_to_its_place { NoAnswerReturnsToItsPlace }
+    ensures moment_never_goes_back { MomentNeverGoesBack }
+    ensures refusal_takes_a_stamp { RefusalTakesAStamp }
+    ensures caller_number_taken { CallerNumberTaken }
+    ensures caller_number_shared { CallerNumberShared }
+    ensures least_place_first { LeastPlaceFirst }
+    ensures abandoned_in_queue { AbandonedInQueue }
 {}
 
-/// A monitor tells what comes after its start, and its number is not used again.
-pub fn monitors()
-    ensures { Monitors }
+/// What waits for time, and who is ready longest.
+pub fn waiting()
+    ensures offers_go_back { OffersGoBack }
+    ensures ticks { Ticks }
+    ensures never { Never }
+    ensures who_is_ready_longest { WhoIsReadyLongest }
+    ensures two_groups_at_once { TwoGroupsAtOnce }
 {}
 
-/// A call that arrives with no agent ready waits in the queue.
-pub fn call_waits()
-    ensures { CallWaits }
+/// What is pending for a busy agent, holding, and giving a call away.
+pub fn agents()
+    ensures pending_log_off { PendingLogOff }
+    ensures present_state_pending { PresentStatePending }
+    ensures hold_and_pending { HoldAndPending }
+    ensures transfer_to_station { TransferToStation }
+    ensures transfer_to_group { TransferToGroup }
+    ensures deflected_to_station { DeflectedToStation }
+    ensures second_call_while_holding { SecondCallWhileHolding }
 {}
 
-/// A waiting call is offered to the agent who becomes ready.
-pub fn offered_to_the_ready_agent()
-    ensures { OfferedToTheReadyAgent }
+/// Busy stations and private calls.
+pub fn stations()
+    ensures busy_station_fails { BusyStationFails }
+    ensures private_call_then_distribution { PrivateCallThenDistribution }
+    ensures logged_off_with_a_private_call { LoggedOffWithAPrivateCall }
+    ensures held_private_call { HeldPrivateCall }
+    ensures call_to_a_busy_agent_station { CallToABusyAgentStation }
+    ensures private_calls { PrivateCalls }
 {}
 
-/// An offered call is answered, and its agent is busy.
-pub fn answered_call()
-    ensures { AnsweredCall }
+/// Calls that are handed on, from a queue, from an agent and between stations.
+pub fn handed_on()
+    ensures deflected_to_another_queue { DeflectedToAnotherQueue }
+    ensures deflected_from_queue_to_station_and_back { DeflectedFromQueueToStationAndBack }
+    ensures deflected_to_its_own_group { DeflectedToItsOwnGroup }
+    ensures deflected_with_a_state_pending { DeflectedWithAStatePending }
+    ensures transferred_while_held { TransferredWhileHeld }
+    ensures two_agents_released { TwoAgentsReleased }
+    ensures transferred_back { TransferredBack }
 {}
 
-/// Of two ready agents the one who is ready longest gets the call.
-pub fn longest_ready_first()
-    ensures { LongestReadyFirst }
+/// Agents of several groups, and groups with priority.
+pub fn priorities()
+    ensures higher_priority_first { HigherPriorityFirst }
+    ensures equal_priorities { EqualPriorities }
+    ensures priority_changed { PriorityChanged }
 {}
 
-/// Two calls are answered and cleared, and their agents have after-call work.
-pub fn two_calls_answered()
-    ensures { TwoCallsAnswered }
+/// Each cell of the table of release.
+pub fn releases()
+    ensures released_after_an_answer { ReleasedAfterAnAnswer }
+    ensures released_unanswered { ReleasedUnanswered }
+    ensures released_by_no_answer { ReleasedByNoAnswer }
 {}
 
-/// After-call work ends by a tick; of agents ready at once the least number is first.
-pub fn wrap_up_and_tick()
-    ensures { WrapUpAndTick }
+/// Each refusal of each service, in the order in which they are tested.
+pub fn refusals()
+    ensures refusals_of_plan_and_calls { RefusalsOfPlanAndCalls }
+    ensures refusals_of_an_answered_call { RefusalsOfAnAnsweredCall }
+    ensures refusals_of_a_held_call { RefusalsOfAHeldCall }
+    ensures refusals_of_an_offered_call { RefusalsOfAnOfferedCall }
+    ensures refusals_of_an_unanswered_call { RefusalsOfAnUnansweredCall }
+    ensures refusals_of_agents { RefusalsOfAgents }
 {}
 
-/// A busy agent who asks to log off is logged off when the call ends.
-pub fn pending_log_off()
-    ensures { PendingLogOff }
+/// Calls that ring at an agent and are rejected.
+pub fn rejections()
+    ensures rejected_to_the_second_agent { RejectedToTheSecondAgent }
+    ensures rejected_by_one_after_the_other { RejectedByOneAfterTheOther }
+    ensures rejected_with_nobody_ready { RejectedWithNobodyReady }
+    ensures rejected_behind_an_older_call { RejectedBehindAnOlderCall }
+    ensures released_by_a_rejection { ReleasedByARejection }
+    ensures rejected_in_a_further_group { RejectedInAFurtherGroup }
+    ensures rejected_without_a_ring_time { RejectedWithoutARingTime }
+    ensures rejected_and_given_up { RejectedAndGivenUp }
+    ensures rejection_and_tick { RejectionAndTick }
+    ensures refusals_of_rejections { RefusalsOfRejections }
 {}
 
-/// An occupied agent who asks for the present state waits for it.
-pub fn present_state_pending()
-    ensures { PresentStatePending }
-{}
-
-/// An offer that rings too long goes back to its old place.
-pub fn no_answer_returns_to_its_place()
-    ensures { NoAnswerReturnsToItsPlace }
-{}
-
-/// A moment that goes back is taken as the last one.
-pub fn moment_never_goes_back()
-    ensures { MomentNeverGoesBack }
-{}
-
-/// A refused request takes a stamp and a moment, and changes nothing else.
-pub fn refusal_takes_a_stamp()
-    ensures { RefusalTakesAStamp }
-{}
-
-/// A call to a busy station fails.
-pub fn busy_station_fails()
-    ensures { BusyStationFails }
-{}
-
-/// While an agent's station has a private call no call is offered there.
-pub fn private_call_then_distribution()
-    ensures { PrivateCallThenDistribution }
-{}
-
-/// An agent with a private call logs off at once.
-pub fn logged_off_with_a_private_call()
-    ensures { LoggedOffWithAPrivateCall }
-{}
-
-/// While a station has a call on hold, another call to it fails and none is offered there.
-pub fn held_private_call()
-    ensures { HeldPrivateCall }
-{}
-
-/// The number of an external caller of a live call is taken.
-pub fn caller_number_taken()
-    ensures { CallerNumberTaken }
-{}
-
-/// Two live calls may come from one number, which is taken until both are cleared.
-pub fn caller_number_shared()
-    ensures { CallerNumberShared }
-{}
-
-/// A call that is deflected back to its group waits behind one that came in the meantime.
-pub fn least_place_first()
-    ensures { LeastPlaceFirst }
-{}
-
-/// After a transfer to a station the transferring agent has after-call work.
-pub fn transfer_to_station()
-    ensures { TransferToStation }
-{}
-
-/// A call that is cleared in the queue is abandoned.
-pub fn abandoned_in_queue()
-    ensures { AbandonedInQueue }
-{}
-
-/// A deflected offer leaves its agent ready, without an event.
-pub fn deflected_to_station()
-    ensures { DeflectedToStation }
-{}
-
-/// A later pending state takes the place of an earlier one.
-pub fn hold_and_pending()
-    ensures { HoldAndPending }
-{}
-
-/// A call that is transferred to a group enters its queue anew.
-pub fn transfer_to_group()
-    ensures { TransferToGroup }
-{}
-
-/// With a second call begun, the held one can't be retrieved.
-pub fn second_call_while_holding()
-    ensures { SecondCallWhileHolding }
-{}
-
-/// A waiting call that is deflected to another group enters its queue anew.
-pub fn deflected_to_another_queue()
-    ensures { DeflectedToAnotherQueue }
-{}
-
-/// It goes on to a station and back to its first group, where it can neither be held nor transferred.
-pub fn deflected_from_queue_to_station_and_back()
-    ensures { DeflectedFromQueueToStationAndBack }
-{}
-
-/// An offer that is deflected to its own group comes back to the same agent.
-pub fn deflected_to_its_own_group()
-    ensures { DeflectedToItsOwnGroup }
-{}
-
-/// Deflected to a station with a state pending, the agent is released last.
-pub fn deflected_with_a_state_pending()
-    ensures { DeflectedWithAStatePending }
-{}
-
-/// A held call is transferred to the group again by the station that made it.
-pub fn transferred_while_held()
-    ensures { TransferredWhileHeld }
-{}
-
-/// Of two agents in a call the one at the named station is released first.
-pub fn two_agents_released()
-    ensures { TwoAgentsReleased }
-{}
-
-/// A call that a station transferred may be transferred back to it.
-pub fn transferred_back()
-    ensures { TransferredBack }
-{}
-
-/// Offers that rang too long go back at one tick, one after the other.
-pub fn offers_go_back()
-    ensures { OffersGoBack }
-{}
-
-/// Offers and after-call work end when their time is over and not before.
-pub fn ticks()
-    ensures { Ticks }
-{}
-
-/// With no ring time and no wrap time nothing ends by itself.
-pub fn never()
-    ensures { Never }
-{}
-
-/// Asking for the present state and losing an offer keep an agent's turn.
-pub fn who_is_ready_longest()
-    ensures { WhoIsReadyLongest }
-{}
-
-/// Agents of two groups become ready at one tick, and the group of least number is served first.
-pub fn two_groups_at_once()
-    ensures { TwoGroupsAtOnce }
-{}
-
-/// A call to the station of an agent who makes a call fails.
-pub fn call_to_a_busy_agent_station()
-    ensures { CallToABusyAgentStation }
-{}
-
-/// Private calls at the station of an agent change no agent.
-pub fn private_calls()
-    ensures { PrivateCalls }
-{}
-
-/// The agent of an answered call that ends goes to what is pending, or to after-call work.
-pub fn released_after_an_answer()
-    ensures { ReleasedAfterAnAnswer }
-{}
-
-/// The agent of an offer that is cleared stays ready, unless another state is pending.
-pub fn released_unanswered()
-    ensures { ReleasedUnanswered }
-{}
-
-/// The agent of an offer that rang too long is not ready, unless another state is pending.
-pub fn released_by_no_answer()
-    ensures { ReleasedByNoAnswer }
-{}
-
-/// What is refused of plans, priorities, new calls and monitors, and in which order.
-pub fn refusals_of_plan_and_calls()
-    ensures { RefusalsOfPlanAndCalls }
-{}
-
-/// What is refused of a call that was answered, and in which order.
-pub fn refusals_of_an_answered_call()
-    ensures { RefusalsOfAnAnsweredCall }
-{}
-
-/// What is refused of a call on hold.
-pub fn refusals_of_a_held_call()
-    ensures { RefusalsOfAHeldCall }
-{}
-
-/// What is refused of a call that rings, and in which order.
-pub fn refusals_of_an_offered_call()
-    ensures { RefusalsOfAnOfferedCall }
-{}
-
-/// What is refused of a call whose other party rings, waits or has failed.
-pub fn refusals_of_an_unanswered_call()
-    ensures { RefusalsOfAnUnansweredCall }
-{}
-
-/// A call of the group of highest priority is offered first; after-call work lasts as long as the group of
-/// least number has it.
-pub fn higher_priority_first()
-    ensures { HigherPriorityFirst }
-{}
-
-/// Of groups of equal priority the one of least number is served first.
-pub fn equal_priorities()
-    ensures { EqualPriorities }
-{}
-
-/// A priority that is changed while calls wait is the one that counts.
-pub fn priority_changed()
-    ensures { PriorityChanged }
-{}
-
-/// What is refused of agents, and in which order.
-pub fn refusals_of_agents()
-    ensures { RefusalsOfAgents }
+/// Groups and agents that are corrected.
+pub fn corrections()
+    ensures ring_shortened { RingShortened }
+    ensures ring_prolonged { RingProlonged }
+    ensures wrap_shortened { WrapShortened }
+    ensures wrap_prolonged { WrapProlonged }
+    ensures wrap_of_the_least_group { WrapOfTheLeastGroup }
+    ensures changed_group { ChangedGroup }
+    ensures changed_agent { ChangedAgent }
+    ensures changed_agent_keeps_the_turn { ChangedAgentKeepsTheTurn }
+    ensures changed_to_the_same { ChangedToTheSame }
+    ensures names_of_one_and_forty { NamesOfOneAndForty }
+    ensures refusals_of_corrections { RefusalsOfCorrections }
 {}

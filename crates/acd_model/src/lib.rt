@@ -2,19 +2,16 @@
 //! program.
 //!
 //! The definitions stand in `specs`, and `docs/MODEL.md` is the guide to them: the scans of the
-//! rows, the moves, the sixteen services, distribution and tick, a step and a run, and the rules
+//! rows, the moves, the nineteen services, distribution and tick, a step and a run, and the rules
 //! that rows keep. The program is proved to do just that.
 //!
 //! The code here is what the crates above share: what a service answers is a [`Served`], a refusal
-//! or an answer and the [`Moves`] that it makes, and [`scans`] has the look-ups of [`Rows`], each a
-//! scan of its lists. [`examples`] are runs that the check computes over the definitions.
-//!
-//! [`Rows`]: acd_terms::Rows
+//! or an answer and the [`Moves`] that it makes. [`examples`] are runs that the check computes over the
+//! definitions.
 #![tactic(auto)]
 
 pub mod examples;
 mod moves;
-pub mod scans;
 
 pub use moves::{
     Change, Destination, Done, Ending, Move, Moves, Offer, Release, Served, gives, no_move,

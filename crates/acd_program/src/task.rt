@@ -39,7 +39,7 @@ pub(crate) enum Task<'a> {
 }
 
 /// What `acd --version` tells behind the program's name: the version, and the toolchain that proved it.
-const VERSION: &str = "1.7 (rattle-kit-13f)";
+const VERSION: &str = "1.8 (rattle-kit-13f)";
 
 const FILE: &str = "file";
 

@@ -11,6 +11,8 @@ use crate::add_group::add_group;
 use crate::add_station::add_station;
 use crate::answer_call::answer_call;
 use crate::arrive_call::arrive_call;
+use crate::change_agent::change_agent;
+use crate::change_group::change_group;
 use crate::clear_connection::clear_connection;
 use crate::deflect_call::deflect_call;
 use crate::hold_call::hold_call;
@@ -19,6 +21,7 @@ use crate::make_call::make_call;
 use crate::monitor_start::monitor_start;
 use crate::monitor_stop::monitor_stop;
 use crate::phone_off_hook::phone_off_hook;
+use crate::reject_call::reject_call;
 use crate::retrieve_call::retrieve_call;
 use crate::set_agent_state::set_agent_state;
 use crate::set_group_priority::set_group_priority;
@@ -67,6 +70,14 @@ pub fn decide(tables: &Tables, at: Turn, command: &Command) -> Served
         Command::SetGroupPriority { device, priority } => {
             set_group_priority(tables, device, priority)
         }
+        Command::RejectCall { call, device } => reject_call(tables, at, call.number(), device),
+        Command::ChangeGroup {
+            device,
+            name,
+            ring,
+            wrap,
+        } => change_group(tables, device, name, ring, wrap),
+        Command::ChangeAgent { agent, name } => change_agent(tables, agent, name),
         Command::Tick => unreachable!(),
     }
 }

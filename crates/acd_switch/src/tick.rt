@@ -6,10 +6,9 @@ ghost use Rattle.acd_model.specs.Tick.{is_over, ring_of, wrap_of, is_overdue, ov
 ghost use Rattle.acd_switch.specs.CarryingOut.{CarriesOut};
 
 use crate::journal::Journal;
-use acd_model::Ending;
-use acd_services::{divert, go_back, go_from, release};
+use acd_services::{go_from, return_moves};
 use acd_tables::Tables;
-use acd_terms::{AgentRecord, AgentState, Cause, ConnectionRecord, DeviceId, Turn};
+use acd_terms::{AgentRecord, AgentState, ConnectionRecord, DeviceId, Turn};
 use std::alloc::{AllocError, Global};
 
 // So many seconds have passed since then. 0 seconds mean never.
@@ -111,15 +110,8 @@ fn take_back(
         at.moment (return_moves tables.old at connection.now)
         tables.old journal.old tables.new journal.new) }
 {
-    let Some(group) = connection.group else {
-        return Ok(());
-    };
-    let moves = [
-        divert(connection, group, Cause::NoAnswer),
-        go_back(connection, group),
-        release(tables, at, connection, Ending::NoAnswer),
-    ];
-    journal.make_all(tables, at.moment, &moves)
+    let moves = return_moves(tables, at, connection);
+    journal.make_all(tables, at.moment, moves.as_slice())
 }
 
 // The agent's after-call work ends.

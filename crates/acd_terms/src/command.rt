@@ -90,6 +90,23 @@ pub enum Command {
         device: DeviceId,
         priority: Priority,
     },
+    /// A call that distribution offered at the station isn't taken, and goes back to its queue.
+    RejectCall {
+        call: Serial,
+        device: DeviceId,
+    },
+    /// A planned group gets another name, ring and wrap.
+    ChangeGroup {
+        device: DeviceId,
+        name: Name,
+        ring: Seconds,
+        wrap: Seconds,
+    },
+    /// A planned agent gets another name.
+    ChangeAgent {
+        agent: AgentId,
+        name: Name,
+    },
 }
 
 /// A command with its key: who sends it, and its number among the sender's requests.

@@ -29,6 +29,8 @@ mod reference;
 #[cfg(test)]
 mod reports;
 #[cfg(test)]
+mod scans;
+#[cfg(test)]
 mod scenes;
 #[cfg(test)]
 mod script;

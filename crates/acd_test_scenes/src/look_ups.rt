@@ -1,6 +1,6 @@
 //! Look-ups of the switch's tables are the scans of the rows, after each request of the scenes.
 
-use acd_model::scans;
+use crate::scans;
 use acd_switch::Switch;
 use acd_tables::Tables;
 use acd_terms::{AgentRecord, CallRecord, ConnectionRecord, DeviceId, Rows};

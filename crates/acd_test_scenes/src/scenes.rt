@@ -2,6 +2,7 @@
 
 pub mod agents;
 pub mod calls;
+pub mod corrections;
 pub mod limits;
 pub mod morning;
 pub mod office;
@@ -75,6 +76,30 @@ both_tables_in_one_commit
 both_tables_in_a_commit_that_stops
 altered_further_groups_and_priorities
 altered_log_on_in_three_groups
+rejected_with_a_second_ready
+rejected_with_three_ready
+rejected_with_nobody_ready
+rejected_with_nothing_pending
+rejected_with_ready_pending
+rejected_with_not_ready_pending
+rejected_with_working_after_call_pending
+rejected_with_logged_off_pending
+rejected_in_a_further_group
+what_is_no_offer
+what_is_no_offer_any_more
+rejected_before_a_tick
+rejected_after_a_tick
+rejected_where_nothing_rings_out
+ring_made_shorter
+answered_though_overdue
+wrap_changed
+group_changed
+agent_changed
+turn_kept_with_another_name
+rejected_in_the_last_place
+corrections_between_requests
+rejected_call_stops
+changes_stop
 refusals_of_plan_and_calls
 refusals_of_an_answered_call
 refusals_of_an_offered_call

@@ -1,7 +1,9 @@
 //! All scenes.
 
 use crate::many_events;
-use crate::scenes::{self, agents, calls, limits, morning, office, priorities, refusals, told};
+use crate::scenes::{
+    self, agents, calls, corrections, limits, morning, office, priorities, refusals, told,
+};
 use crate::script::Script;
 use crate::texts::same_text;
 
@@ -11,6 +13,7 @@ fn all_scenes(rt: HostRuntime) {
     script.play(&rt, calls::lines());
     script.play(&rt, agents::lines());
     script.play(&rt, priorities::lines());
+    script.play(&rt, corrections::lines());
     script.play(&rt, refusals::lines());
     script.play(&rt, told::lines());
     same_text(&rt, script.told(), scenes::names());

@@ -1,8 +1,7 @@
 -- The figures that a group keeps are those counted from all events: by each deed, step and run.
-use Rattle.std.proofs.Common.{◌≡◌, ℕ, ◌⊎◌, inl, inr, true, false, ◌||◌, cond, List, [], ◌∷◌, Option, Some, None, refl, subst, ◌+◌, ◌++◌, sym, ◌∙◌, ap, length, append-nil, eq-eqb}
+use Rattle.std.proofs.Common.{◌≡◌, ℕ, ◌⊎◌, inl, inr, true, false, true≢false, ◌||◌, cond, List, [], ◌∷◌, Option, Some, None, refl, subst, ◌+◌, ◌++◌, sym, ◌∙◌, ap, length, append-nil, eq-eqb}
 use Rattle.std.specs.Prelude.{is_some, option_map, ◌==◌}
 use Rattle.std.proofs.lemmas.Bool.{or_parts, eqb-true, false_from_ne_true}
-use Rattle.std.specs.Prelude.{min}
 use Rattle.acd_lemmas.proofs.Words.{Rows, Limits, GroupRecord, AgentRecord, ConnectionRecord, AgentState, Cause, Command, Event, Move, Report, find_by, put_by, Among, Every, state_wanted, is_alerting, is_queued, at_group, group_of, is_group, is_station, is_planned, has, other_of, is_calling, empty_rows, with_group, with_last, silent, reported, changed, moved, event_at, with_event, events_of, is_group_or_none}
 use Rattle.acd_terms.specs.declared.state.AgentState.TheVariants.{Null, Ready}
 use Rattle.acd_terms.specs.declared.event.Report.TheVariants.{Established}
@@ -13,18 +12,16 @@ use Rattle.acd_model.specs.Services.{no_figures, new_group, waiting_group, first
 use Rattle.acd_model.specs.declared.moves.Ending.TheVariants.{NoAnswer}
 use Rattle.acd_model.specs.declared.moves.Change.TheVariants.{PutGroup, PutAgent}
 use Rattle.acd_lemmas.proofs.Facts.{Rules, GroupColumn, ConnectionRule}
-use Rattle.acd_laws.proofs.MoveKinds.{LeavesGroups, left_groups, AgentMove, stays, waits as puts, tells, Anyone, goes_from, released_by, occupied_by, Arrival, queues, alerts, fails, arrival_of}
+use Rattle.acd_laws.proofs.MoveKinds.{LeavesGroups, left_groups, AgentMove, stays, remains, tells, Anyone, goes_from, released_by, occupied_by, Arrival, queues, alerts, fails, arrival_of}
 use Rattle.acd_lemmas.proofs.Lists.{every_among, among_put, mapped_among, some_is}
 use Rattle.acd_lemmas.proofs.State.{connection_among, other_among, group_found_put, group_counted_found, is_some_mapped, group_among, group_key, group_put_found}
 use Rattle.acd_laws.proofs.Figures.CountedEvents.{group_counted, quiet, figures_joined, figures_numbered, figures_skipped, no_events, nothing_sum}
-use Rattle.acd_laws.proofs.Deeds.{Party, Round, offers, returns, rests, Deed, nothing, adds_group, adds_station, adds_agent, watches, unwatches, arrives, makes, goes_out, answers, holds, retrieves, clears, deflects, transfers, logs_on, waits, goes, Ranks, refuses, ranks, is_ranking}
+use Rattle.acd_laws.proofs.Deeds.{Party, Round, offers, returns, rests, Deed, nothing, adds_group, adds_station, adds_agent, watches, unwatches, arrives, makes, goes_out, answers, holds, retrieves, clears, deflects, transfers, logs_on, rejects, renames, waits, goes, Regroups, refuses, puts, given_device, given_figures}
 use Rattle.acd_model.specs.Figures.{figures_of, sum_of_figures, counting, with_figures}
 use Rattle.acd_model.specs.Services.Serve.{serve}
 use Rattle.acd_model.specs.Run.{TimedCommand, run}
 use Rattle.acd_model.specs.Step.{numbered, step_moves, step, next_turn}
-use Rattle.acd_laws.specs.FigureLaws.{KeepsFigures, RunKeepsFigures, ranked}
-use Rattle.acd_terms.specs.Limits.{greatest_priority}
-use Rattle.acd_terms.specs.declared.command.Command.TheVariants.{SetGroupPriority}
+use Rattle.acd_laws.specs.FigureLaws.{KeepsFigures, RunKeepsFigures, regroups, group_given, regrouped}
 use Rattle.acd_laws.proofs.Rules.Ended.{rules_step, rules_first, kept_by_run, KeptByRules}
 use Rattle.acd_laws.proofs.Offers.Distributing.{Kept}
 use Rattle.acd_laws.proofs.Rules.RulesKept.{by_deeds, by_parts}
@@ -67,7 +64,7 @@ fits_state gs a _ agent station = (tt, tt)
 
 fits_agent : {K : AgentRecord → Type 0} {turn : Turn} {x : Move} (gs : List GroupRecord) → AgentMove K turn x → Fits gs x
 fits_agent gs stays = (tt, tt)
-fits_agent gs (puts a pending _) = (tt, tt)
+fits_agent gs (remains _ _ _ _) = (tt, tt)
 fits_agent gs (tells a b d _ _) = fits_state gs b b.state b.agent d
 
 fits_arrival : (s : Rows) {turn : Turn} {call to : ℕ} {why : Cause} {x : Move} → Arrival s turn call to why x → Fits s.groups x
@@ -97,6 +94,14 @@ fits_clearing s turn x (Some y) h g =
     let first = among_first s.groups (waiting_group x) (waiting_group y) (among_waiting s.groups x h) (among_waiting s.groups y (g y refl)) in
     ((tt, tt), ((tt, tt), ((tt, first), (fits_agent s.groups (released_by s turn x (ending_of x)), (fits_agent s.groups (released_by s turn y (ending_of y)), tt)))))
 
+-- each round
+
+pub fits_round : (s : Rows) (turn : Turn) (ms : List Move) → Round s turn ms → Rules s → AllFit s.groups ms
+fits_round s turn _ (offers o x a d h) r = ((tt, known s x r h.there), ((tt, tt), tt))
+fits_round s turn _ (returns x g there _ e) r =
+    let own = known s x r (connection_among s x.call x.device x there) in ((tt, own), ((tt, subst (IsAmongGroups s.groups) e own), (fits_agent s.groups (released_by s turn x NoAnswer), tt)))
+fits_round s turn _ (rests a _ _) r = (fits_agent s.groups (goes_from Anyone turn a a.station Ready tt), tt)
+
 -- each deed: it fits, or adds a group
 
 pub record Adds (s : Rows) (ms : List Move) : Type 0 where
@@ -123,14 +128,10 @@ fits_deed s turn _ (clears p) r = inl (fits_clearing s turn p.x (other_of s p.x)
 fits_deed s turn _ (deflects p to _ _) r = inl ((tt, party_known s p r), (fits_arrive s turn _ to _, (fits_agent s.groups (released_by s turn p.x (ending_of p.x)), tt)))
 fits_deed s turn _ (transfers p to _ _ _) r = inl ((tt, tt), (fits_arrive s turn _ to _, (fits_agent s.groups (released_by s turn p.x (ending_of p.x)), tt)))
 fits_deed s turn _ (logs_on _ _ _ _ _ _ _ _) r = inl ((tt, tt), tt)
+fits_deed s turn _ (rejects p g alerting group) r = inl (fits_round s turn _ (returns p.x g p.found alerting group) r)
+fits_deed s turn _ (renames _ _ _) r = inl ((tt, tt), tt)
 fits_deed s turn _ (waits _ _ _ _ _) r = inl ((tt, tt), tt)
 fits_deed s turn _ (goes a wanted _ _ _) r = inl (fits_agent s.groups (goes_from Anyone turn a a.station (state_wanted wanted) tt), tt)
-
-pub fits_round : (s : Rows) (turn : Turn) (ms : List Move) → Round s turn ms → Rules s → AllFit s.groups ms
-fits_round s turn _ (offers o x a d h) r = ((tt, known s x r h.there), ((tt, tt), tt))
-fits_round s turn _ (returns x g there _ e) r =
-    let own = known s x r (connection_among s x.call x.device x there) in ((tt, own), ((tt, subst (IsAmongGroups s.groups) e own), (fits_agent s.groups (released_by s turn x NoAnswer), tt)))
-fits_round s turn _ (rests a _ _) r = (fits_agent s.groups (goes_from Anyone turn a a.station Ready tt), tt)
 
 -- moves that fit leave the groups, and what they report counts for these alone
 
@@ -174,8 +175,8 @@ uncounted_added old gs es g fresh new k = record {
 }
 
 -- and where one is put in place of another with the same figures
-uncounted_ranked : (old : List Event) (gs : List GroupRecord) (es : List Event) (was g : GroupRecord) → Among was gs → g.device ≡ was.device → g.figures ≡ was.figures → Uncounted old gs es → Uncounted old (put_by (at_group g.device) gs g) es
-uncounted_ranked old gs es was g there device figures k = record {
+uncounted_regrouped : (old : List Event) (gs : List GroupRecord) (es : List Event) (was g : GroupRecord) → Among was gs → g.device ≡ was.device → g.figures ≡ was.figures → Uncounted old gs es → Uncounted old (put_by (at_group g.device) gs g) es
+uncounted_regrouped old gs es was g there device figures k = record {
   groups = λ z a. elim (among_put (at_group g.device) g gs z a) [
     | inl e ↦ subst (λ (y : GroupRecord). y.figures ≡ figures_of y.device old) (sym e) (figures ∙ k.groups was there ∙ ap (λ d. figures_of d old) (sym device))
     | inr b ↦ k.groups z b
@@ -206,12 +207,12 @@ uncounted_deed old turn s es ms d r h =
       | inr a ↦ subst (Kept (UncountedIn old) turn.moment s es) (sym a.alone) (uncounted_with old turn.moment s es a.group a.fresh a.new h)
     ]
 
-uncounted_ranks : (old : List Event) (m : ℕ) (s : Rows) (es : List Event) (c : Command) (ms : List Move) → Ranks s c ms → UncountedIn old s es → Kept (UncountedIn old) m s es ms
+uncounted_regroups : (old : List Event) (m : ℕ) (s : Rows) (es : List Event) (c : Command) (ms : List Move) → Regroups s c ms → UncountedIn old s es → Kept (UncountedIn old) m s es ms
 unfolding with_group
-uncounted_ranks old m s es _ _ (refuses device priority none) k = subst (UncountedIn old s) (sym (append-nil es)) k
-uncounted_ranks old m s es _ _ (ranks device priority g own) k =
-    let h : GroupRecord = record g { priority = min priority greatest_priority } in
-    subst (Uncounted old (put_by (at_group g.device) s.groups h)) (sym (append-nil es)) (uncounted_ranked old s.groups es g h (group_among s device g own) refl refl k)
+uncounted_regroups old m s es c _ (refuses device it none) k = subst (UncountedIn old s) (sym (append-nil es)) k
+uncounted_regroups old m s es c _ (puts device g it own) k =
+    let h : GroupRecord = group_given c g in
+    subst (Uncounted old (put_by (at_group h.device) s.groups h)) (sym (append-nil es)) (uncounted_regrouped old s.groups es g h (group_among s device g own) (given_device c g) (given_figures c g) k)
 
 -- the end of a step
 
@@ -246,7 +247,7 @@ step_keeps_figures s events moment command r k =
     let m : ℕ = turn.moment in
     let ms : List Move = step_moves s m (serve s turn command) in
     keeps_ended (moved s ms) events (events_of m ms) s.last_event turn.stamp m (s.last_event + length (events_of m ms)) (rules_step s moment command r)
-    (by_deeds (UncountedIn events) turn command (λ _ t es ns d rt h. uncounted_deed events turn t es ns d rt h) (λ t es ns d rt h. uncounted_ranks events m t es command ns d h)
+    (by_deeds (UncountedIn events) turn command (λ _ t es ns d rt h. uncounted_deed events turn t es ns d rt h) (λ t es ns d rt h. uncounted_regroups events m t es command ns d h)
     (λ t es ns d rt h. uncounted_moved events m t es ns (fits_round t turn ns d rt) h) s [] r (over_lists s events k))
 
 -- runs
@@ -267,7 +268,7 @@ figures_kept limits commands =
 pub run_keeps_figures : RunKeepsFigures
 run_keeps_figures limits commands g a = (figures_kept limits commands).groups g a
 
--- of a planned group a step changes the figures, and setGroupPriority the priority
+-- of a planned group a step changes the figures, setGroupPriority the priority, and changeGroup name, ring and wrap
 
 found_ended : (t : Rows) (es : List Event) (n a b c d : ℕ) (g : GroupRecord) → group_of t d ≡ Some g → group_of (with_last (with_figures t es) a b c) d ≡ Some (counting (numbered n es) g)
 unfolding with_last with_figures group_of
@@ -289,42 +290,39 @@ found_moved : (s : Rows) (ms : List Move) (d : ℕ) (g : GroupRecord) → AllFit
 unfolding group_of
 found_moved s ms d g fit e = ap (find_by (at_group d)) (groups_moved s.groups s ms fit) ∙ e
 
--- what setGroupPriority does to a planned group's record
-unranked : (c : Command) (g : GroupRecord) → is_ranking c ≡ false → ranked c g ≡ g
-unranked (SetGroupPriority device priority) g e = absurd (cc (e))
-unranked _ g e = refl
+-- a command that changes no group's record, or another's, leaves this one
+not_regrouped : (c : Command) (g : GroupRecord) → has (regroups c) g.device ≡ false → regrouped c g ≡ g
+not_regrouped c g e = rw e refl
 
-differs : (device priority : ℕ) (g : GroupRecord) → (device == g.device) ≡ false → ranked (SetGroupPriority device priority) g ≡ g
-differs device priority g e = rw e refl
-
-found_ranks : (s : Rows) (c : Command) (ms : List Move) (d : ℕ) (g : GroupRecord) → Ranks s c ms → group_of s d ≡ Some g → group_of (moved s ms) d ≡ Some (ranked c g)
-found_ranks s _ _ d g (refuses device priority none) e =
-    e ∙ ap Some (sym (differs device priority g (false_from_ne_true (device == g.device) (λ q. cc (none, e, ap (group_of s) (eqb-true device g.device q ∙ group_key s d g e))))))
-found_ranks s _ _ d g (ranks device priority was own) e =
-    let h : GroupRecord = record was { priority = min priority greatest_priority } in
-    let at : was.device ≡ device = group_key s device was own in
+-- and else it is put, as the one that was there
+found_regroups : (s : Rows) (c : Command) (ms : List Move) (d : ℕ) (g : GroupRecord) → Regroups s c ms → group_of s d ≡ Some g → group_of (moved s ms) d ≡ Some (regrouped c g)
+found_regroups s c _ d g (refuses device it none) e =
+    e ∙ ap Some (sym (not_regrouped c g (rw it (false_from_ne_true (device == g.device) (λ q. cc (none, e, ap (group_of s) (eqb-true device g.device q ∙ group_key s d g e)))))))
+found_regroups s c _ d g (puts device was it own) e =
+    let h : GroupRecord = group_given c was in
+    let at : h.device ≡ device = given_device c was ∙ group_key s device was own in
     let key : g.device ≡ d = group_key s d g e in
     group_put_found s h d ∙
-    (elim (was.device == d) as (λ b. (was.device == d) ≡ b → cond b (Some h) (group_of s d) ≡ Some (ranked (SetGroupPriority device priority) g)) [
+    (elim (h.device == d) as (λ b. (h.device == d) ≡ b → cond b (Some h) (group_of s d) ≡ Some (regrouped c g)) [
       | true ↦ λ q.
-          let here : d ≡ device = sym (eqb-true was.device d q) ∙ at in
+          let here : d ≡ device = sym (eqb-true h.device d q) ∙ at in
           let same : was ≡ g = some_is was g (sym own ∙ ap (group_of s) (sym here) ∙ e) in
           let own_number : (device == g.device) ≡ true = eq-eqb device g.device (sym here ∙ sym key) in
-          rw own_number (ap (λ (v : GroupRecord). let w : GroupRecord = record v { priority = min priority greatest_priority } in Some w) same)
-      | false ↦ λ q. e ∙ ap Some (sym (differs device priority g (false_from_ne_true (device == g.device) (λ p. cc (q, eq-eqb was.device d (at ∙ eqb-true device g.device p ∙ key))))))
+          rw (it, own_number) (ap (λ v. Some (group_given c v)) same)
+      | false ↦ λ q. e ∙ ap Some (sym (not_regrouped c g (rw it (false_from_ne_true (device == g.device) (λ p. true≢false (sym (eq-eqb h.device d (at ∙ eqb-true device g.device p ∙ key)) ∙ q))))))
     ]) refl
 
 pub step_adds_figures : (s : Rows) (moment : ℕ) (command : Command) (d : ℕ) (g : GroupRecord) → Rules s → group_of s d ≡ Some g
-    → group_of (step s moment command).rows d ≡ Some (counting (step s moment command).events (ranked command g))
+    → group_of (step s moment command).rows d ≡ Some (counting (step s moment command).events (regrouped command g))
 unfolding step
 step_adds_figures s moment command d g r e =
     let turn : Turn = next_turn s moment in
     let ms : List Move = step_moves s turn.moment (serve s turn command) in
-    let left : is_ranking command ≡ false → (t : Rows) → group_of t d ≡ Some g → group_of t d ≡ Some (ranked command g) = λ other t h. h ∙ ap Some (sym (unranked command g other)) in
-    found_ended (moved s ms) (events_of turn.moment ms) s.last_event turn.stamp turn.moment (s.last_event + length (events_of turn.moment ms)) d (ranked command g)
-    (by_parts (λ t es. group_of t d ≡ Some g) (λ t es. group_of t d ≡ Some (ranked command g)) turn command
+    let left : regroups command ≡ None → (t : Rows) → group_of t d ≡ Some g → group_of t d ≡ Some (regrouped command g) = λ other t h. h ∙ ap Some (sym (not_regrouped command g (ap (λ o. has o g.device) other))) in
+    found_ended (moved s ms) (events_of turn.moment ms) s.last_event turn.stamp turn.moment (s.last_event + length (events_of turn.moment ms)) d (regrouped command g)
+    (by_parts (λ t es. group_of t d ≡ Some g) (λ t es. group_of t d ≡ Some (regrouped command g)) turn command
     (λ other t es ns deed rt h. left other (moved t ns) (elim (fits_deed t turn ns deed rt) [
       | inl f ↦ found_moved t ns d g f h
       | inr a ↦ subst (λ w. group_of (moved t w) d ≡ Some g) (sym a.alone) (found_added t a.group g d a.fresh h)
-    ])) (λ t es ns rank rt h. found_ranks t command ns d g rank h) (λ other t es h. left other t h)
-    (λ t es ns round rt h. found_moved t ns d (ranked command g) (fits_round t turn ns round rt) h) s [] r e)
+    ])) (λ t es ns regroup rt h. found_regroups t command ns d g regroup h) (λ other t es h. left other t h)
+    (λ t es ns round rt h. found_moved t ns d (regrouped command g) (fits_round t turn ns round rt) h) s [] r e)

@@ -1,5 +1,5 @@
 -- What a step changes: its changes make its rows, and a refused request changes nothing.
-use Rattle.std.proofs.Common.{◌≡◌, ℕ, suc, ◌+◌, true, false, not, cond, List, [], ◌∷◌, Some, None, refl, sym, ◌∙◌, ap, subst, inl, inr, length, map, add-zero, Ok, Err}
+use Rattle.std.proofs.Common.{◌≡◌, ℕ, suc, ◌+◌, true, false, not, cond, List, [], ◌∷◌, Some, None, refl, sym, ◌∙◌, ap, subst, inl, inr, length, map, add-zero, append-nil, Ok, Err}
 use Rattle.std.specs.Prelude.{◌==◌}
 use Rattle.std.specs.Cmp.{IsTotalOrder}
 use Rattle.std.specs.Ordering.{ordering_reverse, is_eq, nat_cmp}
@@ -161,27 +161,35 @@ step_makes_its_changes s moment command h =
     ap (λ t. with_last t (next_stamp s) m (s.last_event + length (numbered s.last_event (events_of m ms)))) (changes_made s m ms (keeps_read s h).rules.orders.groups)
     ∙ ap (λ n. with_last (with_figures (moved s ms) (events_of m ms)) (next_stamp s) m (s.last_event + n)) (length-numbered s.last_event (events_of m ms))
 
--- a refused request, where no offer is left
+-- a step that reports nothing, where no offer is left
+
+-- it makes its service's moves alone
+alone : (s : Rows) (m : ℕ) (v : Served) (ms : List Move) → moves_of v ≡ ms → offer_of (moved s ms) ≡ None → step_moves s m v ≡ ms
+unfolding distribution
+alone s m v ms e h = rw (e, no_offers (length (queued_in_all (moved s ms))) (moved s ms) m h) (append-nil ms)
+
+unreported : (s : Rows) (k m : ℕ) (ms : List Move) → events_of m ms ≡ [] → counted s (turn_at m k) ms ≡ with_last (moved s ms) k m s.last_event
+unfolding with_last
+unreported s k m ms e = rw e (rw (figures_none (moved s ms), add-zero) refl)
+
+pub quiet_step : (s : Rows) (moment : ℕ) (command : Command) (ms : List Move) → moves_of (serve s (next_turn s moment) command) ≡ ms → events_of (executed_moment s moment) ms ≡ [] → offer_of (moved s ms) ≡ None
+    → ((step s moment command).events ≡ []) × ((step s moment command).rows ≡ with_last (moved s ms) (next_stamp s) (executed_moment s moment) s.last_event)
+unfolding step
+quiet_step s moment command ms e none h =
+    let m : ℕ = executed_moment s moment in
+    let all : step_moves s m (serve s (next_turn s moment) command) ≡ ms = alone s m (serve s (next_turn s moment) command) ms e h in (
+      ap (λ (ns : List Move). numbered s.last_event (events_of m ns)) all ∙ ap (numbered s.last_event) none,
+      ap (counted s (next_turn s moment)) all ∙ unreported s (next_stamp s) m ms none,
+    )
+
+-- a refused request
 
 refused_moves : (v : Served) (r : Refusal) → outcome_of v ≡ outcome.Refused r → moves_of v ≡ []
 refused_moves (Err x) r e = refl
 refused_moves (Ok done) r e = absurd cc
 
-no_moves : (s : Rows) (m : ℕ) (v : Served) → moves_of v ≡ [] → offer_of s ≡ None → step_moves s m v ≡ []
-unfolding distribution
-no_moves s m v e h = rw e (no_offers (length (queued_in_all s)) s m h)
-
-nothing_changed : (s : Rows) (k m : ℕ) (moves : List Move) → moves ≡ [] → counted s (turn_at m k) moves ≡ with_last s k m s.last_event
-unfolding with_last
-nothing_changed s k m moves e = rw e (rw (figures_none s, add-zero) refl)
-
 -- for a state with no offer left
 pub refused : (s : Rows) (moment : ℕ) (command : Command) (r : Refusal) → offer_of s ≡ None → (step s moment command).outcome ≡ outcome.Refused r → ChangesNothing s moment command
 unfolding step
 refused s moment command r h e =
-    let v = serve s (next_turn s moment) command in
-    let none = no_moves s (executed_moment s moment) v (refused_moves v r e) h in
-    record {
-      events = ap (λ (ms : List Move). numbered s.last_event (events_of (executed_moment s moment) ms)) none;
-      rows = nothing_changed s (next_stamp s) (executed_moment s moment) (step_moves s (executed_moment s moment) v) none;
-    }
+    let q = quiet_step s moment command [] (refused_moves (serve s (next_turn s moment) command) r e) refl h in record { events = q.0; rows = q.1 }

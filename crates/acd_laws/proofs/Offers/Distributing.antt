@@ -246,10 +246,10 @@ abbrev pub RestKeeps : (Rows → List Event → Type 0) → Turn → Type 0
 RestKeeps P turn = (t : Rows) (es : List Event) (a : AgentRecord) → Rules t → P t es → agent_of t a.agent ≡ Some a → is_working_after_call a.state ≡ true → Kept P turn.moment t es (rest_moves turn a)
 
 -- a connection that is to go back
-record Back (t : Rows) (z : ConnectionRecord) : Type 0 where
-  there : Among z t.connections
-  alerting : is_alerting z.state ≡ true
-  grouped : is_some z.group ≡ true
+pub record Back (t : Rows) (z : ConnectionRecord) : Type 0 where
+  pub there : Among z t.connections
+  pub alerting : is_alerting z.state ≡ true
+  pub grouped : is_some z.group ≡ true
 
 grouped_offer : (s : Rows) (m : ℕ) (g o : Option ℕ) → is_overdue_offer s m g o ≡ true → is_some g ≡ true
 grouped_offer s m None o e = absurd (cc (e))
@@ -291,7 +291,7 @@ rests_keep P turn f t es (a ∷ xs) so b r h =
     (agent_others turn c.agent t _ (goes_from (λ d. (d.agent == c.agent) ≡ false) turn a a.station A.Ready (false_from_ne_true (a.agent == c.agent) (λ q. cc (after_among agent_order a xs c so.0 i, cmp_self a.agent c.agent (eqb-true a.agent c.agent q))))) ∙ bc.0, bc.1)) r1 h1 in
     (subst Rules (sym (moved_append t one rest)) ih.0, kept-append P turn.moment t es one rest ih.1)
 
-overdue_back : (s : Rows) (m : ℕ) (z : ConnectionRecord) → Among z (overdue_in s m) → Back s z
+pub overdue_back : (s : Rows) (m : ℕ) (z : ConnectionRecord) → Among z (overdue_in s m) → Back s z
 unfolding overdue_in is_overdue
 overdue_back s m z a =
     let w = filter_among (is_overdue s m) s.connections z a in

@@ -5,7 +5,7 @@ use Rattle.std.proofs.lemmas.Bool.Decides.{nat_tests}
 use Rattle.acd_model.specs.Choice.{waiting_pair, ready_pair, first_waiting, first_eligible, offer_by, offer_in, offer_of, is_served_before, first_served, has_both}
 use Rattle.acd_model.specs.Offers.{HasNoOffer, IsOffer, FindsTheOffer, GroupsAscend}
 use Rattle.std.proofs.lemmas.Bool.{false_from_ne_true}
-use Rattle.acd_lemmas.proofs.Lists.{some_is, filter_among, among-filter}
+use Rattle.acd_lemmas.proofs.Lists.{some_is, filter_among, among-filter, filter_none}
 use Rattle.std.specs.Ordering.{nat_cmp}
 use Rattle.std.specs.declared.cmp.Ordering.TheVariants.{Less}
 use Rattle.acd_lemmas.proofs.Words.{Rows, GroupRecord, Offer, Among, AllAfter, IsAscending}
@@ -35,8 +35,7 @@ no_offer_there s g e = by (first_waiting s g.device) (first_eligible s g.device)
 
 -- none of these groups has both
 none_has_both : (s : Rows) (gs : List GroupRecord) → ((g : GroupRecord) → Among g gs → HasNoOffer s g.device) → filter (has_both s) gs ≡ []
-none_has_both s [] h = refl
-none_has_both s (g ∷ gs) h = rw (not_both s g (h g (inl refl))) (none_has_both s gs (λ k there. h k (inr there)))
+none_has_both s gs h = filter_none (has_both s) gs (λ g there. not_both s g (h g there))
 
 -- the offer that is found
 

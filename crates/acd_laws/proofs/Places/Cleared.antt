@@ -16,13 +16,13 @@ use Rattle.acd_model.specs.AgentMoves.{state_report}
 use Rattle.acd_lemmas.proofs.Facts.{Rules}
 use Rattle.acd_lemmas.proofs.Keyed.{eqb_self}
 use Rattle.acd_lemmas.proofs.State.{call_put, call_remove, connection_among, call_known, none_of_call, other_device}
-use Rattle.acd_laws.proofs.MoveKinds.{AgentMove, stays, waits as pends, tells, Anyone, goes_from, released_by, occupied_by, Arrival, queues, alerts, fails, arrival_of}
+use Rattle.acd_laws.proofs.MoveKinds.{AgentMove, stays, remains, tells, Anyone, goes_from, released_by, occupied_by, Arrival, queues, alerts, fails, arrival_of}
 use Rattle.acd_terms.specs.declared.state.AgentState.TheVariants.{Ready}
 use Rattle.acd_terms.specs.declared.event.Cause.TheVariants.{NewCall}
 use Rattle.acd_model.specs.Release.{release, ending_of}
 use Rattle.acd_model.specs.Services.{next_call, cleared_group, clear_other, release_other, clearing}
 use Rattle.acd_model.specs.declared.moves.Ending.TheVariants.{NoAnswer}
-use Rattle.acd_laws.proofs.Deeds.{new_call, Party, Round, offers, returns, rests, Deed, nothing, adds_group, adds_station, adds_agent, watches, unwatches, arrives, makes, goes_out, answers, holds, retrieves, clears as clears_call, deflects, transfers, logs_on, waits, goes, Ranks, refuses, ranks}
+use Rattle.acd_laws.proofs.Deeds.{new_call, Party, Round, offers, returns, rests, Deed, nothing, adds_group, adds_station, adds_agent, watches, unwatches, arrives, makes, goes_out, answers, holds, retrieves, clears as clears_call, deflects, transfers, logs_on, rejects, renames, waits, goes, Regroups, refuses, puts}
 use Rattle.acd_terms.specs.declared.command.Turn.{Turn}
 
 -- what a report that may be there clears and names
@@ -200,7 +200,7 @@ plain_state a st n d = plain_reported tt (λ n. refl) tt
 
 pub plain_agent : {K : AgentRecord → Type 0} {last : ℕ} {turn : Turn} {x : Move} → AgentMove K turn x → Plain last x
 plain_agent stays = plain_nothing
-plain_agent (pends a pending _) = plain_silent tt
+plain_agent (remains _ _ _ _) = plain_silent tt
 plain_agent (tells a b d _ _) = plain_state b b.state b.agent d
 
 -- a new call is one above the last
@@ -310,6 +310,13 @@ counted_clearing s turn p r =
 counted_new : (s : Rows) (c : CallRecord) (ms : List Move) → Rules s → c.call ≡ s.last_call + 1 → ((l : ℕ) → c.call ≤ l → Every (Plain l) ms) → AllCounted s (begin c ∷ ms)
 counted_new s c ms r n h = (counted_begin s c r n, counted_plain (with_call s c) ms (h (with_call s c).last_call (let e = last_begun s c in omega (arith, e))))
 
+pub counted_round : (s : Rows) (turn : Turn) (ms : List Move) → Round s turn ms → Rules s → AllCounted s ms
+counted_round s turn ms (offers o x a d h) r = let le = up_to s r x h.there in counted_plain s ms (plain_reported tt (λ _. refl) le, (plain_reported tt (λ _. refl) le, tt))
+counted_round s turn ms (returns x g there _ _) r =
+    let le = up_to s r x (connection_among s x.call x.device x there) in
+    counted_plain s ms (plain_reported tt (λ _. refl) le, (plain_reported tt (λ _. refl) le, (plain_agent (released_by s turn x NoAnswer), tt)))
+counted_round s turn ms (rests a _ _) r = counted_plain s ms (plain_agent (goes_from Anyone turn a a.station Ready tt), tt)
+
 pub counted_deed : (s : Rows) (turn : Turn) (ms : List Move) → Deed s turn ms → Rules s → AllCounted s ms
 counted_deed s turn _ nothing r = tt
 counted_deed s turn ms (adds_group _ _ _ _ _ _) r = counted_plain s ms (plain_silent tt, tt)
@@ -330,16 +337,11 @@ counted_deed s turn ms (deflects p to _ _) r =
 counted_deed s turn ms (transfers p to _ _ _) r =
     let le = party_up_to s p r in counted_plain s ms (plain_reported tt (λ _. refl) le, (plain_arrive s turn _ _ _ le, (plain_agent (released_by s turn p.x (ending_of p.x)), tt)))
 counted_deed s turn ms (logs_on _ _ _ _ _ _ _ _) r = counted_plain s ms (plain_reported tt (λ _. refl) tt, tt)
+counted_deed s turn ms (rejects p g alerting group) r = counted_round s turn ms (returns p.x g p.found alerting group) r
+counted_deed s turn ms (renames _ _ _) r = counted_plain s ms (plain_silent tt, tt)
 counted_deed s turn ms (waits _ _ _ _ _) r = counted_plain s ms (plain_silent tt, tt)
 counted_deed s turn ms (goes a wanted _ _ _) r = counted_plain s ms (plain_agent (goes_from Anyone turn a a.station (state_wanted wanted) tt), tt)
 
-pub counted_ranks : (s : Rows) (c : Command) (ms : List Move) → Ranks s c ms → AllCounted s ms
-counted_ranks s _ _ (refuses _ _ _) = tt
-counted_ranks s _ ms (ranks _ _ _ _) = counted_plain s ms (plain_silent tt, tt)
-
-pub counted_round : (s : Rows) (turn : Turn) (ms : List Move) → Round s turn ms → Rules s → AllCounted s ms
-counted_round s turn ms (offers o x a d h) r = let le = up_to s r x h.there in counted_plain s ms (plain_reported tt (λ _. refl) le, (plain_reported tt (λ _. refl) le, tt))
-counted_round s turn ms (returns x g there _ _) r =
-    let le = up_to s r x (connection_among s x.call x.device x there) in
-    counted_plain s ms (plain_reported tt (λ _. refl) le, (plain_reported tt (λ _. refl) le, (plain_agent (released_by s turn x NoAnswer), tt)))
-counted_round s turn ms (rests a _ _) r = counted_plain s ms (plain_agent (goes_from Anyone turn a a.station Ready tt), tt)
+pub counted_regroups : (s : Rows) (c : Command) (ms : List Move) → Regroups s c ms → AllCounted s ms
+counted_regroups s c _ (refuses _ _ _) = tt
+counted_regroups s c ms (puts _ _ _ _) = counted_plain s ms (plain_silent tt, tt)

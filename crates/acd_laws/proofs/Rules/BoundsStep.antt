@@ -3,8 +3,6 @@ use Rattle.acd_lemmas.proofs.Keyed.{counted_old}
 use Rattle.std.proofs.Common.{◌≡◌, ℕ, ◌+◌, ◌≤◌, ◌⊎◌, inl, inr, Bool, true, false, List, [], ◌∷◌, Option, Some, None, refl, sym, ◌∙◌, ap, subst, arith, length, cond, ◌++◌}
 use Rattle.std.specs.Prelude.{◌==◌, is_some, nat_le}
 use Rattle.std.proofs.lemmas.Bool.{or_cases, or_parts, or_right, or_left, leb-false}
-use Rattle.std.specs.Prelude.{min}
-use Rattle.acd_terms.specs.Limits.{greatest_priority}
 use Rattle.acd_terms.specs.Groups.{only_group}
 use Rattle.acd_lemmas.proofs.Words.{Rows, GroupRecord, StationRecord, AgentRecord, CallRecord, ConnectionRecord, MonitorRecord, Cause, Change, Command, Event, Move, Report, put_by, count, Among, Every, IsAscending, state_wanted, at_group, at_station, at_agent, at_call, at_monitor, group_of, station_of, is_group, is_station, is_planned, other_of, is_calling, with_group, with_station, with_agent, with_call, with_monitor, silent, reported, moved, events_of, agent_order, group_order}
 use Rattle.acd_terms.specs.declared.state.AgentState.TheVariants as A
@@ -16,13 +14,14 @@ use Rattle.acd_model.specs.CallMoves.{plain, connect_caller, initiate, arrive, t
 use Rattle.acd_model.specs.Release.{release, ending_of}
 use Rattle.acd_model.specs.Services.{new_group, new_agent, next_call, cleared_group, clear_other, release_other, next_monitor}
 use Rattle.std.specs.declared.cmp.Ordering.{Ordering}
-use Rattle.acd_laws.proofs.MoveKinds.{LeavesConnections, AgentMove, stays, waits as pends, Recorded, goes_from, releases_here, occupies_here}
+use Rattle.acd_laws.proofs.MoveKinds.{LeavesConnections, AgentMove, stays, remains, Recorded, goes_from, releases_here, occupies_here}
 use Rattle.acd_lemmas.proofs.Facts.{Rules, Sizes, AgentTimed, ConnectionTimed, Timed, MonitorRule, Monitored, at_place}
 use Rattle.acd_lemmas.proofs.Lists.{every_among, every_from, every-put, one, count-append, among_put, every-append, some_from, length-put, count_all}
-use Rattle.acd_lemmas.proofs.State.{group_put, station_put, group_among, group_key, by_group}
+use Rattle.acd_lemmas.proofs.State.{group_put, station_put, group_among, by_group}
 use Rattle.acd_laws.proofs.Watched.Order.{entry_by}
-use Rattle.acd_laws.proofs.Deeds.{new_call, Deed, nothing, adds_group, adds_station, adds_agent, watches, unwatches, arrives, makes, goes_out, answers, holds, retrieves, clears, deflects, transfers, logs_on, waits, goes, Ranks, refuses, ranks, deed_of_serve}
-use Rattle.acd_laws.proofs.Rules.Orderly.{Steady, knows, AllSteady, IsNew, IsRanked, IsGroupAfter, Steadied, Settled, settled, steadied, sizes_steadied, monitored_steadied, WaitsUpTo, Neat, Steps, done, neat, comes, neat_quiet, neat_silent, neat_agent, neat_remove, neat_put, neat_turned, timed_plain, comes_to, steady_agent, steady_arrive, steps_timed, steps_place, Fit}
+use Rattle.acd_laws.specs.FigureLaws.{group_given}
+use Rattle.acd_laws.proofs.Deeds.{new_call, Deed, nothing, adds_group, adds_station, adds_agent, watches, unwatches, arrives, makes, goes_out, answers, holds, retrieves, clears, deflects, transfers, logs_on, rejects, renames, waits, goes, Regroups, refuses, puts, given_device, given_figures, given_priority, given_planned, deed_of_serve, returns}
+use Rattle.acd_laws.proofs.Rules.Orderly.{Steady, knows, AllSteady, IsNew, IsRegrouped, IsGroupAfter, Steadied, Settled, settled, steadied, sizes_steadied, monitored_steadied, WaitsUpTo, Neat, Steps, done, neat, comes, neat_quiet, neat_silent, neat_agent, neat_remove, neat_put, neat_turned, timed_plain, comes_to, steady_agent, steady_arrive, steps_timed, steps_place, Fit}
 use Rattle.acd_model.specs.Served.{moves_of}
 use Rattle.acd_model.specs.Figures.{is_entry}
 use Rattle.acd_model.specs.Services.Serve.{serve}
@@ -31,7 +30,7 @@ use Rattle.acd_model.specs.Tick.{tick}
 use Rattle.acd_model.specs.Step.{step_moves, turn_at}
 use Rattle.acd_model.proofs.MoveLemmas.{moved_append, events_of_append}
 use Rattle.acd_laws.proofs.Rules.RulesKept.{rules_serve}
-use Rattle.acd_laws.proofs.Rules.Rounds.{AllWait, Within, steps_entered, steps_wait, distribution_within, tick_within, returns_agents}
+use Rattle.acd_laws.proofs.Rules.Rounds.{AllWait, Within, round_steps, steps_entered, steps_wait, distribution_within, tick_within, returns_agents}
 use Rattle.acd_laws.proofs.Rules.Numbers.{events_length, connections_length, greatest, distribution_length, tick_length}
 use Rattle.acd_terms.specs.declared.command.Turn.{Turn}
 
@@ -86,8 +85,8 @@ planned_station s g d e = elim (or_cases (is_group s d) (is_station s d) e) [
   | inr w ↦ or_right (is_group (with_station s g) d) _ (station_put s g d ∙ or_right (g.device == d) (is_station s d) w)
 ]
 
-put_new : (s : Rows) (g z : GroupRecord) → IsNew s g ⊎ IsRanked s g → (z ≡ g) ⊎ Among z s.groups → IsGroupAfter s z
-put_new s g z new (inl e) = inr (subst (λ v. IsNew s v ⊎ IsRanked s v) (sym e) new)
+put_new : (s : Rows) (g z : GroupRecord) → IsNew s g ⊎ IsRegrouped s g → (z ≡ g) ⊎ Among z s.groups → IsGroupAfter s z
+put_new s g z new (inl e) = inr (subst (λ v. IsNew s v ⊎ IsRegrouped s v) (sym e) new)
 put_new s g z new (inr a) = inl a
 
 behaves_group : (s : Rows) (k m : ℕ) (g : GroupRecord) → nat_le s.limits.groups (length s.groups) ≡ false → IsNew s g → Behaves s k m (silent (PutGroup g) ∷ [])
@@ -104,16 +103,16 @@ behaves_group s k m g room new =
       last_event = refl;
     })
 
--- a planned group gets another priority
-behaves_rank : (s : Rows) (k m : ℕ) (g : GroupRecord) → IsAscending group_order s.groups → IsRanked s g → is_group s g.device ≡ true → Behaves s k m (silent (PutGroup g) ∷ [])
+-- a planned group gets another record
+behaves_regrouped : (s : Rows) (k m : ℕ) (g : GroupRecord) → IsAscending group_order s.groups → IsRegrouped s g → is_group s g.device ≡ true → Behaves s k m (silent (PutGroup g) ∷ [])
 unfolding with_group
-behaves_rank s k m g asc ranked planned =
+behaves_regrouped s k m g asc regrouped planned =
     let same : length (put_by (at_group g.device) s.groups g) ≡ length s.groups = length-put_group s g asc planned in
     let sizes : Sizes s → Sizes (with_group s g) = λ h. let n = h.groups in record { limits = h.limits; groups = omega (arith, n, same); stations = h.stations; agents = h.agents; calls = h.calls; monitors = h.monitors } in
     silently s k m (PutGroup g) tt tt (record {
       sizes = sizes;
       monitors = monitored_more s (with_group s g) (planned_group s g) refl refl refl;
-      groups = λ z a. put_new s g z (inr ranked) (among_put (at_group g.device) g s.groups z a);
+      groups = λ z a. put_new s g z (inr regrouped) (among_put (at_group g.device) g s.groups z a);
       limits = refl;
       last_call = omega arith;
       last_monitor = omega arith;
@@ -254,15 +253,16 @@ behaves_deed s k m _ (transfers p to _ _ _) b = given s k m to p.x (report.Trans
 behaves_deed s k m _ (logs_on a device groups own _ _ _ _) b =
     let c : AgentRecord = record a { state = A.NotReady; pending = None; station = Some device; groups = groups; stamp = k; since = m } in
     steadily b (neat (neat_quiet (PutAgent c) (Some (report.AgentLoggedOn a.agent device (only_group groups))) (record { above = b.stamp; stamp = omega arith; since = omega arith }) tt tt (λ g. refl)) done) (omega arith) (ap is_some own, tt)
-behaves_deed s k m _ (waits a wanted own _ _) b = agent_behaves s k m _ b (pends a (Some wanted) own)
+behaves_deed s k m _ (rejects p g alerting group) b = let f = round_steps s k m _ b.stamp (returns p.x g p.found alerting group) b.rules b.timed in steadily b f.0 (omega arith) f.1
+behaves_deed s k m _ (renames a name own) b = agent_behaves s k m _ b (remains a name a.pending own)
+behaves_deed s k m _ (waits a wanted own _ _) b = agent_behaves s k m _ b (remains a a.name (Some wanted) own)
 behaves_deed s k m _ (goes a wanted own _ _) b = agent_behaves s k m _ b (goes_from (Recorded s) (turn_at m k) a a.station (state_wanted wanted) own)
 
-behaves_ranks : (s : Rows) (k m : ℕ) (c : Command) (ms : List Move) → Ranks s c ms → Before s k m → Behaves s k m ms
-behaves_ranks s k m _ _ (refuses device priority none) b = steadily b done (omega arith) tt
-behaves_ranks s k m _ _ (ranks device priority g own) b =
-    let h : GroupRecord = record g { priority = min priority greatest_priority } in
-    behaves_rank s k m h b.rules.orders.groups (record { was = g; there = group_among s device g own; device = refl; figures = refl; in_range = omega arith })
-    (ap (is_group s) (group_key s device g own) ∙ ap is_some own)
+behaves_regroups : (s : Rows) (k m : ℕ) (c : Command) (ms : List Move) → Regroups s c ms → Before s k m → Behaves s k m ms
+behaves_regroups s k m c _ (refuses device it none) b = steadily b done (omega arith) tt
+behaves_regroups s k m c _ (puts device g it own) b =
+    behaves_regrouped s k m (group_given c g) b.rules.orders.groups
+    (record { was = g; there = group_among s device g own; device = given_device c g; figures = given_figures c g; in_range = given_priority c g }) (given_planned s c device g own)
 
 -- what holds after moves of a step, with their events
 pub record After (s : Rows) (k m most : ℕ) (t : Rows) (es : List Event) : Type 0 where
@@ -340,7 +340,7 @@ after_serve s k m c b = elim (deed_of_serve s (turn_at m k) c) [
     | inl d ↦ after_service s k m _ b (behaves_deed s k m _ d b)
     | inr e ↦ subst (λ ms. After s k m 13000 (moved s ms) (events_of m ms)) (sym e) (after_tick s k m b)
   ]
-  | inr d ↦ after_service s k m _ b (behaves_ranks s k m c _ d b)
+  | inr d ↦ after_service s k m _ b (behaves_regroups s k m c _ d b)
 ]
 
 -- the service, then the distribution

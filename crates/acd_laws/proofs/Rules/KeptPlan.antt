@@ -91,9 +91,9 @@ kept_group s g r free =
     }
 
 -- a planned group gets another record
-pub kept_rank : (s : Rows) (g : GroupRecord) → Rules s → is_group s g.device ≡ true → Rules (changed s (PutGroup g))
+pub kept_put_group : (s : Rows) (g : GroupRecord) → Rules s → is_group s g.device ≡ true → Rules (changed s (PutGroup g))
 unfolding with_group call_of connection_of agent_of station_of
-kept_rank s g r planned =
+kept_put_group s g r planned =
     let t : Rows = changed s (PutGroup g) in
     let same : (d : ℕ) → is_group t d ≡ is_group s d = group_kept s g planned in
     record {
@@ -240,15 +240,24 @@ may_wait s a d r there occupied =
       | false ↦ λ q. omega (arith, p)
     ]) refl
 
--- an occupied agent is asked: the pending state alone changes
-pub kept_wait : (s : Rows) (a : AgentRecord) (w : Pending) → Rules s → agent_of s a.agent ≡ Some a → is_null a.state ≡ false → is_occupied s a ≡ true → Rules (changed s (PutAgent (record a { pending = Some w })))
-kept_wait s a w r there seated occupied =
-    same_agent s a (record a { pending = Some w }) r there refl (rule a.state seated (every_among (AgentRule s) s.agents a r.agents (agent_among s a.agent a there)))
-    (λ d. let o = r.one_agent d in omega (arith, o)) (λ d. let o = r.ready d refl in omega (arith, o)) (λ d. refl) (λ d. may_wait s a d r there occupied)
+-- an agent remains in its state: its name changes, or what is pending, where it isn't in null and may wait
+kept_remains : (s : Rows) (a : AgentRecord) (name : List ℕ) (pending : Option Pending) → Rules s → agent_of s a.agent ≡ Some a → (is_null a.state ≡ true → pending ≡ a.pending)
+    → ((d : ℕ) → count (pending_at d) s.agents + one (is_some pending && has a.station d) ≤ count (is_distributed_at d) s.connections + one (pending_at d a))
+    → Rules (changed s (PutAgent (record a { name = name; pending = pending })))
+kept_remains s a name pending r there null may =
+    same_agent s a (record a { name = name; pending = pending }) r there refl (rule a.state null (every_among (AgentRule s) s.agents a r.agents (agent_among s a.agent a there)))
+    (λ d. let o = r.one_agent d in omega (arith, o)) (λ d. let o = r.ready d refl in omega (arith, o)) (λ d. refl) may
   where
-    rule : (st : AgentState) → is_null st ≡ false → SeatedAs s a st → SeatedAs s (record a { pending = Some w }) st
-    rule A.Null e h = absurd (cc (e))
+    rule : (st : AgentState) → (is_null st ≡ true → pending ≡ a.pending) → SeatedAs s a st → SeatedAs s (record a { name = name; pending = pending }) st
+    rule A.Null e h = (h.0, h.1, e refl ∙ h.2)
     rule _ e h = h
+
+-- an occupied agent is asked
+pub kept_wait : (s : Rows) (a : AgentRecord) (w : Pending) → Rules s → agent_of s a.agent ≡ Some a → is_null a.state ≡ false → is_occupied s a ≡ true → Rules (changed s (PutAgent (record a { pending = Some w })))
+kept_wait s a w r there seated occupied = kept_remains s a a.name (Some w) r there (λ e. absurd (cc (e, seated))) (λ d. may_wait s a d r there occupied)
+
+pub kept_rename : (s : Rows) (a : AgentRecord) (name : List ℕ) → Rules s → agent_of s a.agent ≡ Some a → Rules (changed s (PutAgent (record a { name = name })))
+kept_rename s a name r there = kept_remains s a name a.pending r there (λ _. refl) (λ d. let p = r.pending d refl in omega (arith, p))
 
 -- an unoccupied agent goes to a state other than busy
 kept_go_to : (s : Rows) (a : AgentRecord) (st : AgentState) (turn : Turn) (d : ℕ) → Rules s → agent_of s a.agent ≡ Some a → a.station ≡ Some d → is_occupied s a ≡ false → is_busy st ≡ false → Rules (changed s (go_to turn a d st).change)

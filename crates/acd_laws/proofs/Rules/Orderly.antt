@@ -17,7 +17,7 @@ use Rattle.acd_model.specs.Services.{no_figures}
 use Rattle.acd_model.specs.CallMoves.{plain, queueing, arrive}
 use Rattle.acd_model.specs.AgentMoves.{state_report}
 use Rattle.acd_model.specs.Figures.{is_entry}
-use Rattle.acd_laws.proofs.MoveKinds.{LeavesConnections, left_connections, AgentMove, stays, waits, tells, Recorded, Arrival, queues, alerts, fails, arrival_of}
+use Rattle.acd_laws.proofs.MoveKinds.{LeavesConnections, left_connections, AgentMove, stays, remains, tells, Recorded, Arrival, queues, alerts, fails, arrival_of}
 use Rattle.acd_laws.proofs.Watched.Order.{entries, entry_by}
 use Rattle.acd_terms.specs.declared.command.Turn.{Turn}
 use Rattle.acd_model.specs.Step.{turn_at}
@@ -141,17 +141,17 @@ monitored_steadied s t f h = every_from (MonitorRule t) t.monitors (λ w i.
 abbrev pub IsNew : Rows → GroupRecord → Type 0
 IsNew s g = (g.figures ≡ no_figures) × (is_group s g.device ≡ false) × (g.priority ≡ 0)
 
--- a group that was there with another priority
-pub record IsRanked (s : Rows) (g : GroupRecord) : Type 0 where
+-- a group that was there, with its figures
+pub record IsRegrouped (s : Rows) (g : GroupRecord) : Type 0 where
   pub was : GroupRecord
   pub there : Among was s.groups
   pub device : g.device ≡ was.device
   pub figures : g.figures ≡ was.figures
-  pub in_range : g.priority ≤ greatest_priority
+  pub in_range : was.priority ≤ greatest_priority → g.priority ≤ greatest_priority
 
 -- a group of the state after the moves
 abbrev pub IsGroupAfter : Rows → GroupRecord → Type 0
-IsGroupAfter s g = Among g s.groups ⊎ (IsNew s g ⊎ IsRanked s g)
+IsGroupAfter s g = Among g s.groups ⊎ (IsNew s g ⊎ IsRegrouped s g)
 
 -- what a service leaves of the bounds
 pub record Settled (s : Rows) (ms : List Move) : Type 0 where
@@ -303,12 +303,12 @@ agent_timed s k m a h e = every_among (AgentTimed k m) s.agents a h.agents (agen
 
 pub neat_agent : {k m : ℕ} {t : Rows} {x : Move} (s : Rows) → 1 ≤ k → Timed k m s → AgentMove (Recorded s) (turn_at m k) x → Neat k m t x
 neat_agent s l h stays = neat_silent Nothing tt tt
-neat_agent {k} {m} s l h (waits a pending e) = let w = agent_timed s k m a h e in neat_silent (PutAgent (record a { pending = pending })) (record { above = w.above; stamp = w.stamp; since = w.since }) tt
+neat_agent {k} {m} s l h (remains a name pending e) = let w = agent_timed s k m a h e in neat_silent (PutAgent (record a { name = name; pending = pending })) (record { above = w.above; stamp = w.stamp; since = w.since }) tt
 neat_agent {k} {m} s l h (tells a b d e r) = let x : b.stamp ≡ k = r.stamp in let y : b.since ≡ m = r.since in neat_state b b.state b.agent d (record { above = omega (arith, x, l); stamp = omega (arith, x); since = omega (arith, y) })
 
 pub steady_agent : {turn : Turn} {x : Move} (s : Rows) → AgentMove (Recorded s) turn x → Steady (knows s) x.change
 steady_agent s stays = tt
-steady_agent s (waits a pending e) = ap is_some e
+steady_agent s (remains a name pending e) = ap is_some e
 steady_agent s (tells a b d e r) = ap is_some (ap (agent_of s) r.agent ∙ e)
 
 -- a connection ends

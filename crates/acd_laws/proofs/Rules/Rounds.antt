@@ -7,10 +7,9 @@ use Rattle.acd_terms.specs.declared.state.AgentState.TheVariants.{Ready}
 use Rattle.acd_terms.specs.declared.event.Cause.TheVariants.{Distributed, NoAnswer as Unanswered}
 use Rattle.acd_terms.specs.declared.event.Report.TheVariants as report
 use Rattle.acd_model.specs.declared.moves.Ending.TheVariants.{NoAnswer}
-use Rattle.acd_model.specs.CallMoves.{queueing, ringing, divert, offer, go_back}
+use Rattle.acd_model.specs.CallMoves.{queueing, ringing}
 use Rattle.acd_model.specs.Figures.{is_entry}
 use Rattle.acd_model.specs.declared.moves.Change.TheVariants.{PutConnection, RemoveConnection}
-use Rattle.acd_model.specs.Release.{release}
 use Rattle.acd_model.specs.Distribution.{distribution}
 use Rattle.acd_model.specs.Tick.{returns as all_returns, tick}
 use Rattle.acd_lemmas.proofs.Facts.{Rules, IsMoment, IsAfter, ConnectionTimed, at_place, Timed}
@@ -19,7 +18,7 @@ use Rattle.acd_laws.proofs.Watched.Order.{entries, entry_by}
 use Rattle.acd_lemmas.proofs.State.{count_less, connection_there}
 use Rattle.acd_laws.proofs.Offers.Distributing.{returned}
 use Rattle.acd_laws.proofs.MoveKinds.{Recorded, goes_from, releases_here}
-use Rattle.acd_laws.proofs.Deeds.{offers, returns, rests}
+use Rattle.acd_laws.proofs.Deeds.{Round, offers, returns, rests}
 use Rattle.acd_laws.proofs.Rules.RulesKept.{RoundKeeps, by_rounds, by_tick}
 use Rattle.acd_laws.proofs.Rules.Orderly.{AllSteady, Steadied, steadied, steadied_then, unchanged, WaitsUpTo, Carries, Steps, done, neat, comes, carries, steps_timed, steps_enter, steps_place, places_put, connection_timed, neat_agent, steady_agent}
 use Rattle.acd_model.specs.Step.{turn_at}
@@ -97,17 +96,22 @@ carried : {k m : ℕ} (t : Rows) (x y : ConnectionRecord) (e f : Report) → Tim
     → ((g : ℕ) → entry_by g (Some e) + entry_by g (Some f) ≡ 0) → Carries k m t (reported (RemoveConnection x.call x.device) e) (reported (PutConnection y) f)
 carried {k} {m} t x y e f h ex same place we wf n = record { fit = (tt, same (connection_timed t k m x h ex)); waits = (we, wf); entry = n; places = λ p. places_carried t x y p ex place }
 
+-- each round
+pub round_steps : (t : Rows) (k m : ℕ) (ms : List Move) → 1 ≤ k → Round t (turn_at m k) ms → Rules t → Timed k m t → Steps k m false t ms × AllSteady t ms
+round_steps t k m _ l (offers o x a d i) r h = (
+  carries (carried t x (ringing m x d) (report.Diverted x.call x.device d Distributed x.group) (report.Delivered x.call d Distributed x.group) h (connection_there t r x i.there) (timed_ringing k m d x) refl tt tt (λ g. refl)) done,
+  (tt, (tt, tt)),
+)
+round_steps t k m _ l (returns x g own _ _) r h =
+    let w = releases_here t (turn_at m k) x NoAnswer r.orders.agents in (
+      carries (carried t x (queueing x.call g x.place x.queued) (report.Diverted x.call x.device g Unanswered x.group) (report.Queued x.call g Unanswered) h own (timed_back k m g x) refl tt tt (λ i. ap (λ b. 0 + one b) (and_right (g == i) false refl)))
+          (neat (neat_agent t l h w) done),
+      (tt, (tt, (steady_agent t w, tt))),
+    )
+round_steps t k m _ l (rests a own _) r h = let w = goes_from (Recorded t) (turn_at m k) a a.station Ready own in (neat (neat_agent t l h w) done, (steady_agent t w, tt))
+
 within_round : (s : Rows) (k m : ℕ) → 1 ≤ k → RoundKeeps (Within s k m) (turn_at m k)
-within_round s k m l t es _ (offers o x a d i) r h =
-    within s k m t es (divert x d Distributed ∷ offer m x d ∷ []) h
-    (carries (carried t x (ringing m x d) (report.Diverted x.call x.device d Distributed x.group) (report.Delivered x.call d Distributed x.group) h.timed (connection_there t r x i.there) (timed_ringing k m d x) refl tt tt (λ g. refl)) done) (tt, (tt, tt))
-within_round s k m l t es _ (returns x g own _ _) r h =
-    let w = releases_here t (turn_at m k) x NoAnswer r.orders.agents in
-    within s k m t es (divert x g Unanswered ∷ go_back x g ∷ release t (turn_at m k) x NoAnswer ∷ []) h
-    (carries (carried t x (queueing x.call g x.place x.queued) (report.Diverted x.call x.device g Unanswered x.group) (report.Queued x.call g Unanswered) h.timed own (timed_back k m g x) refl tt tt (λ i. ap (λ b. 0 + one b) (and_right (g == i) false refl)))
-    (neat (neat_agent t l h.timed w) done)) (tt, (tt, (steady_agent t w, tt)))
-within_round s k m l t es _ (rests a own _) r h =
-    let w = goes_from (Recorded t) (turn_at m k) a a.station Ready own in within s k m t es _ h (neat (neat_agent t l h.timed w) done) (steady_agent t w, tt)
+within_round s k m l t es ms d r h = let f = round_steps t k m ms l d r h.timed in within s k m t es ms h f.0 f.1
 
 pub distribution_within : (s : Rows) (k m : ℕ) → 1 ≤ k → Rules s → Timed k m s → Within s k m (moved s (distribution s m)) (events_of m (distribution s m))
 distribution_within s k m l r t = by_rounds (Within s k m) (turn_at m k) (within_round s k m l) s [] r (within_nothing s k m r.orders.agents t)

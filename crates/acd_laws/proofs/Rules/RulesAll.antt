@@ -121,7 +121,7 @@ was_kept s g h (inr (inr k)) =
       counted = subst (λ (f : Figures). (f.entered ≤ s.last_stamp) × (f.waited ≤ f.answered * s.last_moment)) (sym k.figures) w.counted;
       balanced = subst (λ (f : Figures). f.entered ≡ holding s g.device + f.answered + f.abandoned + f.moved) (sym k.figures)
           (subst (λ d. k.was.figures.entered ≡ holding s d + k.was.figures.answered + k.was.figures.abandoned + k.was.figures.moved) (sym k.device) w.balanced);
-      in_range = k.in_range;
+      in_range = k.in_range w.in_range;
     }
 
 -- the end of a step sets figures and counters

@@ -1,8 +1,6 @@
 -- The rules are kept by every deed, by distribution, and so by the moves of a step; and what deeds and rounds keep, a step keeps.
-use Rattle.std.proofs.Common.{◌≡◌, ℕ, inl, inr, List, [], sym, ap, subst, refl, arith, ◌++◌, false, ◌∙◌, is_some}
-use Rattle.std.specs.Prelude.{min}
-use Rattle.acd_terms.specs.Limits.{greatest_priority}
-use Rattle.acd_lemmas.proofs.Words.{Rows, Command, Event, Move, state_wanted, is_initiated, other_of, moved, events_of, is_open, is_group}
+use Rattle.std.proofs.Common.{◌≡◌, ℕ, None, inl, inr, List, [], sym, ap, subst, refl, arith, ◌++◌}
+use Rattle.acd_lemmas.proofs.Words.{Rows, Command, Event, Move, state_wanted, is_initiated, other_of, moved, events_of, is_open}
 use Rattle.acd_model.specs.CallMoves.{destination_of, arriving, arrive}
 use Rattle.acd_model.specs.Served.{moves_of}
 use Rattle.acd_model.specs.Services.{new_group, next_call, next_monitor}
@@ -11,16 +9,17 @@ use Rattle.acd_model.specs.Step.{step_moves}
 use Rattle.acd_model.specs.Distribution.{distribution}
 use Rattle.acd_lemmas.proofs.Facts.{Rules}
 use Rattle.acd_lemmas.proofs.Lists.{one}
-use Rattle.acd_lemmas.proofs.State.{connection_among, connection_rule, group_key}
+use Rattle.acd_lemmas.proofs.State.{connection_among, connection_rule}
 use Rattle.acd_model.specs.Release.{ending_of}
 use Rattle.acd_model.proofs.MoveLemmas.{moved_append}
 use Rattle.acd_laws.proofs.Offers.Distributing.{tick_keeps, Kept, kept-append, rules_distribution, offering, offer_moves_are, distribution_keeps}
-use Rattle.acd_laws.proofs.Deeds.{new_call, Deed, nothing, adds_group, adds_station, adds_agent, watches, unwatches, arrives, makes, goes_out, answers, holds, retrieves, clears, deflects, transfers, logs_on, waits, goes, Ranks, refuses, ranks, is_ranking, deed_of_serve, Round, offers, returns, rests}
+use Rattle.acd_laws.proofs.Deeds.{new_call, Deed, nothing, adds_group, adds_station, adds_agent, watches, unwatches, arrives, makes, goes_out, answers, holds, retrieves, clears, deflects, transfers, logs_on, rejects, renames, waits, goes, Regroups, refuses, puts, given_planned, deed_of_serve, Round, offers, returns, rests}
+use Rattle.acd_laws.specs.FigureLaws.{regroups, group_given}
 use Rattle.acd_laws.proofs.Arriving.{arrived}
 use Rattle.acd_laws.proofs.Releasing.{wanted_not_busy, ends_by}
 use Rattle.acd_laws.proofs.Rules.KeptOut.{begun, made, outgoing, gone_out, kept_answer, kept_hold, kept_retrieve}
-use Rattle.acd_laws.proofs.Rules.KeptEnds.{kept_clear, moved_on, open_cases, closed_call}
-use Rattle.acd_laws.proofs.Rules.KeptPlan.{kept_log_on, kept_wait, kept_go_from, kept_group, kept_rank, kept_station, kept_new_agent, started, stopped}
+use Rattle.acd_laws.proofs.Rules.KeptEnds.{kept_clear, kept_return_to, moved_on, open_cases, closed_call}
+use Rattle.acd_laws.proofs.Rules.KeptPlan.{kept_log_on, kept_wait, kept_rename, kept_go_from, kept_group, kept_put_group, kept_station, kept_new_agent, started, stopped}
 use Rattle.acd_lemmas.proofs.States.{connected_is}
 use Rattle.acd_model.specs.Tick.{tick}
 use Rattle.acd_terms.specs.declared.command.Turn.{Turn}
@@ -53,12 +52,14 @@ kept_deed s turn _ (transfers p to state other free) r =
     moved_on s turn p.x (arriving (destination_of s to) turn p.x.call to) to (ending_of p.x) r p.found (arrived s turn p.x.call to free.planned) free.apart (ap is_initiated (connected_is p.x.state state))
     (closed_call s p.x r (connection_among s p.x.call p.x.device p.x p.found) state other) (ends_by s p.x (connection_rule s r p.x.call p.x.device p.x p.found))
 kept_deed s turn _ (logs_on a device groups own null station free planned) r = kept_log_on s a device groups turn r own null station planned free
+kept_deed s turn _ (rejects p g alerting group) r = kept_return_to s turn g p.x r p.found alerting group
+kept_deed s turn _ (renames a name own) r = kept_rename s a name r own
 kept_deed s turn _ (waits a wanted own seated occupied) r = kept_wait s a wanted r own seated occupied
 kept_deed s turn _ (goes a wanted own _ free) r = kept_go_from s turn a (state_wanted wanted) r own free (wanted_not_busy wanted)
 
-kept_ranks : (s : Rows) (c : Command) (ms : List Move) → Ranks s c ms → Rules s → Rules (moved s ms)
-kept_ranks s _ _ (refuses device priority none) r = r
-kept_ranks s _ _ (ranks device priority g own) r = kept_rank s (record g { priority = min priority greatest_priority }) r (ap (is_group s) (group_key s device g own) ∙ ap is_some own)
+kept_regroups : (s : Rows) (c : Command) (ms : List Move) → Regroups s c ms → Rules s → Rules (moved s ms)
+kept_regroups s c _ (refuses device it none) r = r
+kept_regroups s c _ (puts device g it own) r = kept_put_group s (group_given c g) r (given_planned s c device g own)
 
 pub rules_serve : (s : Rows) (turn : Turn) (c : Command) → Rules s → Rules (moved s (moves_of (serve s turn c)))
 rules_serve s turn c r = elim (deed_of_serve s turn c) [
@@ -66,7 +67,7 @@ rules_serve s turn c r = elim (deed_of_serve s turn c) [
     | inl d ↦ kept_deed s turn _ d r
     | inr e ↦ subst (λ ms. Rules (moved s ms)) (sym e) (tick_keeps (λ t es. Unit {0}) turn (λ t es x g r h e f q. tt) (λ t es a r h e f. tt) s [] r tt).0
   ]
-  | inr d ↦ kept_ranks s c _ d r
+  | inr d ↦ kept_regroups s c _ d r
 ]
 
 pub rules_moves : (s : Rows) (turn : Turn) (c : Command) → Rules s → Rules (moved s (step_moves s turn.moment (serve s turn c)))
@@ -74,13 +75,13 @@ rules_moves s turn c r =
     let ms : List Move = moves_of (serve s turn c) in
     subst Rules (sym (moved_append s ms (distribution (moved s ms) turn.moment))) (rules_distribution (moved s ms) turn.moment (rules_serve s turn c r))
 
--- a deed leads from P to Q, where the command is another than setGroupPriority
+-- a deed leads from P to Q, where the command changes no planned group's record
 abbrev pub DeedLeads : (Rows → List Event → Type 0) → (Rows → List Event → Type 0) → Turn → Command → Type 0
-DeedLeads P Q turn c = is_ranking c ≡ false → (s : Rows) (es : List Event) (ms : List Move) → Deed s turn ms → Rules s → P s es → Kept Q turn.moment s es ms
+DeedLeads P Q turn c = regroups c ≡ None → (s : Rows) (es : List Event) (ms : List Move) → Deed s turn ms → Rules s → P s es → Kept Q turn.moment s es ms
 
--- and so does what setGroupPriority does
-abbrev pub RankLeads : (Rows → List Event → Type 0) → (Rows → List Event → Type 0) → ℕ → Command → Type 0
-RankLeads P Q m c = (s : Rows) (es : List Event) (ms : List Move) → Ranks s c ms → Rules s → P s es → Kept Q m s es ms
+-- and so does what a command does that changes one
+abbrev pub RegroupLeads : (Rows → List Event → Type 0) → (Rows → List Event → Type 0) → ℕ → Command → Type 0
+RegroupLeads P Q m c = (s : Rows) (es : List Event) (ms : List Move) → Regroups s c ms → Rules s → P s es → Kept Q m s es ms
 
 abbrev pub RoundKeeps : (Rows → List Event → Type 0) → Turn → Type 0
 RoundKeeps P turn = (s : Rows) (es : List Event) (ms : List Move) → Round s turn ms → Rules s → P s es → Kept P turn.moment s es ms
@@ -95,9 +96,9 @@ by_tick P turn f s es r h =
     (tick_keeps P turn (λ t fs x g rt p own alerting group. f t fs _ (returns x g own alerting group) rt p) (λ t fs a rt p own works. f t fs _ (rests a own works) rt p) s es r h).1
 
 -- the service leads from P to Q, and rounds keep Q
-pub by_parts : (P Q : Rows → List Event → Type 0) (turn : Turn) (c : Command) → DeedLeads P Q turn c → RankLeads P Q turn.moment c → (is_ranking c ≡ false → (s : Rows) (es : List Event) → P s es → Q s es) → RoundKeeps Q turn
+pub by_parts : (P Q : Rows → List Event → Type 0) (turn : Turn) (c : Command) → DeedLeads P Q turn c → RegroupLeads P Q turn.moment c → (regroups c ≡ None → (s : Rows) (es : List Event) → P s es → Q s es) → RoundKeeps Q turn
     → (s : Rows) (es : List Event) → Rules s → P s es → Kept Q turn.moment s es (step_moves s turn.moment (serve s turn c))
-by_parts P Q turn c f rank g rounds s es r h =
+by_parts P Q turn c f regroup g rounds s es r h =
     let ms : List Move = moves_of (serve s turn c) in
     let t : Rows = moved s ms in
     kept-append Q turn.moment s es ms (distribution t turn.moment) (by_rounds Q turn rounds t (es ++ events_of turn.moment ms) (rules_serve s turn c r) served)
@@ -108,10 +109,10 @@ by_parts P Q turn c f rank g rounds s es r h =
         | inl d ↦ f w.0 s es _ d r h
         | inr e ↦ subst (Kept Q turn.moment s es) (sym e) (by_tick Q turn rounds s es r (g w.0 s es h))
       ]
-      | inr d ↦ rank s es _ d r h
+      | inr d ↦ regroup s es _ d r h
     ]
 
 -- both keep P
-pub by_deeds : (P : Rows → List Event → Type 0) (turn : Turn) (c : Command) → DeedLeads P P turn c → RankLeads P P turn.moment c → RoundKeeps P turn
+pub by_deeds : (P : Rows → List Event → Type 0) (turn : Turn) (c : Command) → DeedLeads P P turn c → RegroupLeads P P turn.moment c → RoundKeeps P turn
     → (s : Rows) (es : List Event) → Rules s → P s es → Kept P turn.moment s es (step_moves s turn.moment (serve s turn c))
-by_deeds P turn c f rank rounds = by_parts P P turn c f rank (λ _ s es h. h) rounds
+by_deeds P turn c f regroup rounds = by_parts P P turn c f regroup (λ _ s es h. h) rounds

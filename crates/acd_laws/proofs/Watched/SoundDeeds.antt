@@ -1,11 +1,9 @@
 -- What deeds and rounds tell, balance and keep in order.
-use Rattle.std.proofs.Common.{◌≡◌, ℕ, ◌+◌, ◌<◌, ◌≤◌, inl, inr, true, false, ◌||◌, cond, List, [], ◌∷◌, Option, Some, None, refl, sym, ◌∙◌, ap, subst, arith, eq-eqb, is_some}
+use Rattle.std.proofs.Common.{◌≡◌, ℕ, ◌+◌, ◌<◌, ◌≤◌, inl, inr, true, false, ◌||◌, cond, List, [], ◌∷◌, Option, Some, None, refl, sym, ◌∙◌, ap, subst, arith, eq-eqb}
 use Rattle.std.specs.Prelude.{◌==◌}
 use Rattle.std.proofs.lemmas.Bool.{and_right, and_from, or_right}
-use Rattle.std.specs.Prelude.{min}
-use Rattle.acd_terms.specs.Limits.{greatest_priority}
 use Rattle.acd_terms.specs.Groups.{only_group}
-use Rattle.acd_lemmas.proofs.Words.{Rows, AgentRecord, CallRecord, ConnectionRecord, MonitorRecord, ConnectionState, Cause, Ending, Move, Report, count, Among, Every, state_wanted, is_initiated, is_alerting, is_connected, is_queued, connection_of, is_station, is_planned, has, other_of, with_call, with_connection, without_call, without_connection, no_move, changed, moved, is_open, parties_of, open_of, Command, GroupRecord, is_group}
+use Rattle.acd_lemmas.proofs.Words.{Rows, AgentRecord, CallRecord, ConnectionRecord, MonitorRecord, ConnectionState, Cause, Ending, Move, Report, count, Among, Every, state_wanted, is_initiated, is_alerting, is_connected, is_queued, connection_of, is_station, is_planned, has, other_of, with_call, with_connection, without_call, without_connection, no_move, changed, moved, is_open, parties_of, open_of, Command, GroupRecord}
 use Rattle.acd_terms.specs.Columns.{columns_of}
 use Rattle.acd_terms.specs.declared.state.AgentState.TheVariants as A
 use Rattle.acd_terms.specs.declared.state.ConnectionState.TheVariants as S
@@ -24,20 +22,21 @@ use Rattle.acd_model.specs.Tick.{return_to}
 use Rattle.acd_model.specs.declared.moves.Ending.TheVariants.{NoAnswer}
 use Rattle.acd_model.specs.declared.moves.Change.TheVariants.{Nothing, PutGroup, PutStation, PutAgent, PutCall, PutConnection, PutMonitor, RemoveCall, RemoveConnection, RemoveMonitor}
 use Rattle.acd_lemmas.proofs.Facts.{GroupColumn, StandsAt, Rules}
-use Rattle.acd_laws.proofs.MoveKinds.{left_connections, left_connection, LeavesAgents, left_agent, left_agents, left_plan, Recorded, releases, occupies, goes_from, arrival_of}
+use Rattle.acd_laws.proofs.MoveKinds.{remains, left_connections, left_connection, LeavesAgents, left_agent, left_agents, left_plan, Recorded, releases, occupies, goes_from, arrival_of}
 use Rattle.acd_lemmas.proofs.Lists.{one, none_from, two_counted, among_put}
 use Rattle.acd_lemmas.proofs.Keyed.{eqb_self}
-use Rattle.acd_lemmas.proofs.State.{found_key, connection_among, put_other, removed_other, still_none, connection_there, connection_rule, none_above, agent_there, other_agents, other_among, other_device, group_key}
+use Rattle.acd_lemmas.proofs.State.{found_key, connection_among, put_other, removed_other, still_none, connection_there, connection_rule, none_above, agent_there, other_agents, other_among, other_device}
 use Rattle.acd_laws.proofs.Releasing.{release_other_kept}
 use Rattle.acd_laws.proofs.Rules.KeptPlan.{nobody_at}
 use Rattle.acd_lemmas.proofs.States.{initiated_is, alerting_is, hold_is}
 use Rattle.acd_laws.proofs.Rules.KeptOut.{initiated_alone, outgoing}
 use Rattle.acd_laws.proofs.Rules.KeptEnds.{open_cases, closed_call, return_new}
 use Rattle.acd_laws.proofs.Rules.KeptOffer.{offer_station, offer_new}
-use Rattle.acd_laws.proofs.Watched.Told.{truthful_put, truthful_remove, truthful_outside, truthful_unseen, truthful_group, truthful_rank, truthful_station, truthful_end, truthful_agent, truthful_silent_agent}
+use Rattle.acd_laws.proofs.Watched.Told.{truthful_put, truthful_remove, truthful_outside, truthful_unseen, truthful_group, truthful_put_group, truthful_station, truthful_end, truthful_agent, truthful_silent_agent}
 use Rattle.acd_laws.proofs.Watched.Order.{holding, held, gone, holding_less, holding_new, stays, placed_put, placed_within}
 use Rattle.acd_laws.proofs.Watched.SoundMoves.{Sound, sound-append, sound_later, sound_nothing, sound_unheard, silently, sound_agent, put, remove, ungrouped, connections_put, removed_within, ascending_less, held_shut, held_is, waits_or_rings_is, waiting_alerting, waiting_open, sound_put_new, sound_put_old, sound_remove, sound_arrival, arrive_leaves, open_gone, planned_station, planned_group}
-use Rattle.acd_laws.proofs.Deeds.{new_call, Party, Free, Round, offers, returns, rests, Deed, nothing, adds_group, adds_station, adds_agent, watches, unwatches, arrives, makes, goes_out, answers, holds, retrieves, clears, deflects, transfers, logs_on, waits, goes, Ranks, refuses, ranks}
+use Rattle.acd_laws.specs.FigureLaws.{group_given}
+use Rattle.acd_laws.proofs.Deeds.{new_call, Party, Free, Round, offers, returns, rests, Deed, nothing, adds_group, adds_station, adds_agent, watches, unwatches, arrives, makes, goes_out, answers, holds, retrieves, clears, deflects, transfers, logs_on, rejects, renames, waits, goes, Regroups, refuses, puts as puts_group, given_planned}
 use Rattle.acd_lemmas.proofs.Bools.{and_yes, or_no}
 use Rattle.acd_terms.specs.declared.command.Turn.{Turn}
 
@@ -273,45 +272,6 @@ sound_transfers s m b to p r connected =
     let e : Report = report.Transferred x.call x.device to in
     sound_remove m b s x (Some e) (truthful_remove s x.call x.device e r.orders.connections refl refl refl refl) p.found (λ g. refl) (λ g. sym (held_shut g x (connected_shut x.state connected)))
 
--- each deed
-
-pub sound_deed : (s : Rows) (turn : Turn) (b : ℕ) (ms : List Move) → Deed s turn ms → Rules s → b < turn.stamp → Sound turn.moment b turn.stamp s ms
-sound_deed s turn b _ nothing r l = later l (sound_nothing turn.moment b s)
-sound_deed s turn b _ (adds_group device name ring wrap free _) r l = later l (silently (PutGroup (new_group device name ring wrap)) (truthful_group s (new_group device name ring wrap) (none_stands s device r free)) tt)
-sound_deed s turn b _ (adds_station device free _) r l = later l (silently (PutStation (record { device = device })) (truthful_station s (record { device = device }) (none_stands s device r free)) tt)
-sound_deed s turn b _ (adds_agent agent name new _) r l = later l (silently (PutAgent (new_agent turn agent name)) (truthful_silent_agent s (new_agent turn agent name) (ap seat_of (sym new))) tt)
-sound_deed s turn b _ (watches device _ _) r l =
-    let w : MonitorRecord = record { monitor = next_monitor s; device = device; after_event = s.last_event } in later l (silently (PutMonitor w) (truthful_unseen s (PutMonitor w) tt tt tt) tt)
-sound_deed s turn b _ (unwatches monitor) r l = later l (silently (RemoveMonitor monitor) (truthful_unseen s (RemoveMonitor monitor) tt tt tt) tt)
-sound_deed s turn b _ (arrives caller called outside inside _) r l = sound_arrives s turn b caller called r l outside inside
-sound_deed s turn b _ (makes device called planned _ _ _ _ _) r l = later l (sound_makes s turn.moment b device called r planned)
-sound_deed s turn b _ (goes_out p state) r l = sound_out s turn b p r l state
-sound_deed s turn b _ (answers p state) r l = later l (sound_answers s turn b p r state)
-sound_deed s turn b _ (holds p station state) r l = later l
-    (sound_turned s turn.moment b p.x S.Hold (report.Held p.x.call p.x.device) r p.found refl (planned_station s p.x.device station) (connected_shut p.x.state state) (λ g. refl) refl refl refl refl (λ g. refl))
-sound_deed s turn b _ (retrieves p state _) r l =
-    let is : p.x.state ≡ S.Hold = hold_is p.x.state state in
-    let station : is_station s p.x.device ≡ true = subst (StandsAt s p.x) is (connection_rule s r p.x.call p.x.device p.x p.found).2 in later l
-    (sound_turned s turn.moment b p.x S.Connected (report.Retrieved p.x.call p.x.device) r p.found refl (planned_station s p.x.device station) (rw is refl) (λ g. refl) refl refl refl refl (λ g. refl))
-sound_deed s turn b _ (clears p) r l = later l (sound_clearing s turn b p.x (other_of s p.x) r p.found refl)
-sound_deed s turn b _ (deflects p to state free) r l =
-    let o = r.one_open p.x.call in let f : one (is_open p.x.state) ≡ 1 = ap one (open_cases p.x.state state).1 in
-    sound_given s turn b to p (report.Diverted p.x.call p.x.device to cause.Deflected p.x.group) cause.Deflected r l (sound_deflects s turn.moment b to p r state) free refl (omega (arith, f, o))
-sound_deed s turn b _ (transfers p to state other free) r l =
-    sound_given s turn b to p (report.Transferred p.x.call p.x.device to) cause.Transferred r l (sound_transfers s turn.moment b to p r state) free refl
-    (closed_call s p.x r (connection_among s p.x.call p.x.device p.x p.found) state other)
-sound_deed s turn b _ (logs_on a device groups _ _ _ _ _) r l =
-    let c : AgentRecord = record a { state = A.NotReady; pending = None; station = Some device; groups = groups; stamp = turn.stamp; since = turn.moment } in
-    later l (sound_unheard turn.moment b s (log_on_at turn a device groups) (truthful_agent s c (report.AgentLoggedOn a.agent device (only_group groups)) refl refl refl) (record { leaves = tt; entry = λ g. refl; gone = λ g. refl }))
-sound_deed s turn b _ (waits a wanted own _ _) r l = later l (silently (PutAgent (record a { pending = Some wanted })) (truthful_silent_agent s (record a { pending = Some wanted }) (ap seat_of (sym own))) tt)
-sound_deed s turn b _ (goes a wanted own _ _) r l = later l (sound_agent (goes_from (Recorded s) turn a a.station (state_wanted wanted) own))
-
-pub sound_ranks : (s : Rows) (turn : Turn) (b : ℕ) (c : Command) (ms : List Move) → Ranks s c ms → b < turn.stamp → Sound turn.moment b turn.stamp s ms
-sound_ranks s turn b _ _ (refuses _ _ _) l = later l (sound_nothing turn.moment b s)
-sound_ranks s turn b _ _ (ranks device priority g own) l =
-    let h : GroupRecord = record g { priority = min priority greatest_priority } in
-    later l (silently (PutGroup h) (truthful_rank s h (ap (is_group s) (group_key s device g own) ∙ ap is_some own)) tt)
-
 -- an offer
 
 queued_group : (x : ConnectionRecord) → is_queued x.state ≡ true → waiting_group x ≡ x.group
@@ -390,3 +350,43 @@ sound_round s turn b _ (offers o x a d h) r =
     sound_offer_at s turn.moment b d x r own h.queued (planned_station s d at) (offer_new s x d r own h.queued at h.idle)
 sound_round s turn b _ (returns x g own alerting group) r = sound_return s turn b g x r own alerting group
 sound_round s turn b _ (rests a own _) r = sound_agent (goes_from (Recorded s) turn a a.station A.Ready own)
+
+-- each deed
+
+pub sound_deed : (s : Rows) (turn : Turn) (b : ℕ) (ms : List Move) → Deed s turn ms → Rules s → b < turn.stamp → Sound turn.moment b turn.stamp s ms
+sound_deed s turn b _ nothing r l = later l (sound_nothing turn.moment b s)
+sound_deed s turn b _ (adds_group device name ring wrap free _) r l = later l (silently (PutGroup (new_group device name ring wrap)) (truthful_group s (new_group device name ring wrap) (none_stands s device r free)) tt)
+sound_deed s turn b _ (adds_station device free _) r l = later l (silently (PutStation (record { device = device })) (truthful_station s (record { device = device }) (none_stands s device r free)) tt)
+sound_deed s turn b _ (adds_agent agent name new _) r l = later l (silently (PutAgent (new_agent turn agent name)) (truthful_silent_agent s (new_agent turn agent name) (ap seat_of (sym new))) tt)
+sound_deed s turn b _ (watches device _ _) r l =
+    let w : MonitorRecord = record { monitor = next_monitor s; device = device; after_event = s.last_event } in later l (silently (PutMonitor w) (truthful_unseen s (PutMonitor w) tt tt tt) tt)
+sound_deed s turn b _ (unwatches monitor) r l = later l (silently (RemoveMonitor monitor) (truthful_unseen s (RemoveMonitor monitor) tt tt tt) tt)
+sound_deed s turn b _ (arrives caller called outside inside _) r l = sound_arrives s turn b caller called r l outside inside
+sound_deed s turn b _ (makes device called planned _ _ _ _ _) r l = later l (sound_makes s turn.moment b device called r planned)
+sound_deed s turn b _ (goes_out p state) r l = sound_out s turn b p r l state
+sound_deed s turn b _ (answers p state) r l = later l (sound_answers s turn b p r state)
+sound_deed s turn b _ (holds p station state) r l = later l
+    (sound_turned s turn.moment b p.x S.Hold (report.Held p.x.call p.x.device) r p.found refl (planned_station s p.x.device station) (connected_shut p.x.state state) (λ g. refl) refl refl refl refl (λ g. refl))
+sound_deed s turn b _ (retrieves p state _) r l =
+    let is : p.x.state ≡ S.Hold = hold_is p.x.state state in
+    let station : is_station s p.x.device ≡ true = subst (StandsAt s p.x) is (connection_rule s r p.x.call p.x.device p.x p.found).2 in later l
+    (sound_turned s turn.moment b p.x S.Connected (report.Retrieved p.x.call p.x.device) r p.found refl (planned_station s p.x.device station) (rw is refl) (λ g. refl) refl refl refl refl (λ g. refl))
+sound_deed s turn b _ (clears p) r l = later l (sound_clearing s turn b p.x (other_of s p.x) r p.found refl)
+sound_deed s turn b _ (deflects p to state free) r l =
+    let o = r.one_open p.x.call in let f : one (is_open p.x.state) ≡ 1 = ap one (open_cases p.x.state state).1 in
+    sound_given s turn b to p (report.Diverted p.x.call p.x.device to cause.Deflected p.x.group) cause.Deflected r l (sound_deflects s turn.moment b to p r state) free refl (omega (arith, f, o))
+sound_deed s turn b _ (transfers p to state other free) r l =
+    sound_given s turn b to p (report.Transferred p.x.call p.x.device to) cause.Transferred r l (sound_transfers s turn.moment b to p r state) free refl
+    (closed_call s p.x r (connection_among s p.x.call p.x.device p.x p.found) state other)
+sound_deed s turn b _ (logs_on a device groups _ _ _ _ _) r l =
+    let c : AgentRecord = record a { state = A.NotReady; pending = None; station = Some device; groups = groups; stamp = turn.stamp; since = turn.moment } in
+    later l (sound_unheard turn.moment b s (log_on_at turn a device groups) (truthful_agent s c (report.AgentLoggedOn a.agent device (only_group groups)) refl refl refl) (record { leaves = tt; entry = λ g. refl; gone = λ g. refl }))
+sound_deed s turn b _ (rejects p g alerting group) r l = later l (sound_round s turn b _ (returns p.x g p.found alerting group) r)
+sound_deed s turn b _ (renames a name own) r l = later l (sound_agent {turn = turn} (remains a name a.pending own))
+sound_deed s turn b _ (waits a wanted own _ _) r l = later l (sound_agent {turn = turn} (remains a a.name (Some wanted) own))
+sound_deed s turn b _ (goes a wanted own _ _) r l = later l (sound_agent (goes_from (Recorded s) turn a a.station (state_wanted wanted) own))
+
+pub sound_regroups : (s : Rows) (turn : Turn) (b : ℕ) (c : Command) (ms : List Move) → Regroups s c ms → b < turn.stamp → Sound turn.moment b turn.stamp s ms
+sound_regroups s turn b c _ (refuses _ _ _) l = later l (sound_nothing turn.moment b s)
+sound_regroups s turn b c _ (puts_group device g it own) l =
+    let h : GroupRecord = group_given c g in later l (silently (PutGroup h) (truthful_put_group s h (given_planned s c device g own)) tt)

@@ -1,13 +1,13 @@
 -- What moves tell, balance and keep in order, all three together.
 use Rattle.std.proofs.Common.{◌≡◌, ℕ, ◌≤◌, List, [], ◌∷◌, ◌++◌, Option, Some, None, refl, sym, ◌∙◌, ap, subst, arith, ◌+◌, ◌<◌, Bool, true, false, not, ◌&&◌, ◌||◌, cond, eq-eqb}
-use Rattle.acd_lemmas.proofs.Words.{Rows, ConnectionRecord, ConnectionState, AgentState, Cause, Change, Move, Report, put_by, remove_by, count, Among, IsAscending, is_alerting, is_queued, at_connection, agent_of, connection_of, is_group, is_station, is_planned, has, with_connection, without_connection, silent, reported, changed, moved, connection_order, is_open, open_of}
+use Rattle.acd_lemmas.proofs.Words.{Rows, AgentRecord, ConnectionRecord, ConnectionState, AgentState, Cause, Change, Move, Report, put_by, remove_by, count, Among, IsAscending, is_alerting, is_queued, at_connection, agent_of, connection_of, is_group, is_station, is_planned, has, with_connection, without_connection, silent, reported, changed, moved, connection_order, is_open, open_of}
 use Rattle.acd_terms.specs.Columns.{columns_of}
 use Rattle.acd_terms.specs.declared.state.AgentState.TheVariants as A
 use Rattle.acd_model.specs.AgentMoves.{while_logged_on, state_report}
 use Rattle.acd_model.specs.Told.{Seat, seat_by}
 use Rattle.acd_model.specs.Watched.{seat_of, waits_or_rings}
 use Rattle.acd_model.specs.declared.moves.Change.TheVariants.{Nothing, PutAgent, PutConnection, RemoveConnection}
-use Rattle.acd_laws.proofs.MoveKinds.{LeavesConnections, left_connections, LeavesAgents, AgentMove, stays as nothing, waits, tells, Recorded, Arrival, queues, alerts, fails}
+use Rattle.acd_laws.proofs.MoveKinds.{LeavesConnections, left_connections, LeavesAgents, AgentMove, stays as nothing, remains, tells, Recorded, Arrival, queues, alerts, fails}
 use Rattle.acd_laws.proofs.Watched.Told.{Truthful, AllTruthful, truthful-append, truthful_unseen, truthful_agent, truthful_silent_agent, truthful_put}
 use Rattle.acd_laws.proofs.Watched.Order.{Balances, balances-append, holding, entry_by, gone_by, held, holding_new, holding_old, holding_less, OrderKept, stays, order-append, order_later, placed_within, placed_put, comes}
 use Rattle.std.specs.Prelude.{◌==◌}
@@ -18,8 +18,8 @@ use Rattle.acd_model.specs.CallMoves.{plain, queueing, arrive}
 use Rattle.acd_model.specs.Figures.{is_entry, is_no_answer}
 use Rattle.acd_model.specs.Services.{waiting_group}
 use Rattle.acd_lemmas.proofs.Facts.{HasColumns}
-use Rattle.acd_lemmas.proofs.Lists.{one, among-remove, counted, ascending-put, ascending-remove}
-use Rattle.acd_lemmas.proofs.State.{connections_total, count_less}
+use Rattle.acd_lemmas.proofs.Lists.{one, among-remove, counted, ascending-remove}
+use Rattle.acd_lemmas.proofs.State.{count_less}
 use Rattle.acd_lemmas.proofs.Bools.{and_yes, or_no}
 use Rattle.acd_terms.specs.declared.command.Turn.{Turn}
 
@@ -79,7 +79,8 @@ state_told st n d = record { agent = refl; call = refl; seat = λ old. refl; ent
 
 pub sound_agent : {turn : Turn} {b : ℕ} {t : Rows} {x : Move} → AgentMove (Recorded t) turn x → Sound turn.moment b b t (x ∷ [])
 sound_agent {turn} {b} {t} nothing = silently Nothing (truthful_unseen t Nothing tt tt tt) tt
-sound_agent {turn} {b} {t} (waits a pending e) = silently (PutAgent (record a { pending = pending })) (truthful_silent_agent t (record a { pending = pending }) (ap seat_of (sym e))) tt
+sound_agent {turn} {b} {t} (remains a name pending e) =
+    let c : AgentRecord = record a { name = name; pending = pending } in silently (PutAgent c) (truthful_silent_agent t c (ap seat_of (sym e))) tt
 sound_agent {turn} {b} {t} (tells a c d e h) =
     let r : Report = state_report c.state c.agent d in
     let w = state_told c.state c.agent d in

@@ -171,8 +171,8 @@ truthful_group s g h = record {
   agents = λ n. left_seat s (PutGroup g) n tt;
 }
 
-pub truthful_rank : (s : Rows) (g : GroupRecord) → is_group s g.device ≡ true → Truthful s (silent (PutGroup g))
-truthful_rank s g planned = record {
+pub truthful_put_group : (s : Rows) (g : GroupRecord) → is_group s g.device ≡ true → Truthful s (silent (PutGroup g))
+truthful_put_group s g planned = record {
   connections = λ c d. shown_group s g c d ∙ ap (λ v. cond (v || is_station s d) (state_at s c d) None) (group_kept s g planned d);
   agents = λ n. left_seat s (PutGroup g) n tt;
 }

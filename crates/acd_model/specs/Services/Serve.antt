@@ -4,7 +4,7 @@ use Rattle.acd_terms.specs.declared.command.Turn.{Turn}
 use Rattle.acd_terms.specs.declared.rows.Rows.{Rows}
 use Rattle.acd_terms.specs.declared.answer.Answer.TheVariants.{Nothing}
 use Rattle.acd_terms.specs.declared.command.Command.{Command}
-use Rattle.acd_terms.specs.declared.command.Command.TheVariants.{AddGroup, AddStation, AddAgent, ArriveCall, MakeCall, PhoneOffHook, AnswerCall, HoldCall, RetrieveCall, ClearConnection, DeflectCall, SingleStepTransfer, SetAgentState, MonitorStart, MonitorStop, Tick, SetGroupPriority}
+use Rattle.acd_terms.specs.declared.command.Command.TheVariants.{AddGroup, AddStation, AddAgent, ArriveCall, MakeCall, PhoneOffHook, AnswerCall, HoldCall, RetrieveCall, ClearConnection, DeflectCall, SingleStepTransfer, SetAgentState, MonitorStart, MonitorStop, Tick, SetGroupPriority, RejectCall, ChangeGroup, ChangeAgent}
 use Rattle.acd_model.specs.Services.AddGroup.{add_group}
 use Rattle.acd_model.specs.Services.AddStation.{add_station}
 use Rattle.acd_model.specs.Services.AddAgent.{add_agent}
@@ -21,6 +21,9 @@ use Rattle.acd_model.specs.Services.SetAgentState.{set_agent_state}
 use Rattle.acd_model.specs.Services.MonitorStart.{monitor_start}
 use Rattle.acd_model.specs.Services.MonitorStop.{monitor_stop}
 use Rattle.acd_model.specs.Services.SetGroupPriority.{set_group_priority}
+use Rattle.acd_model.specs.Services.RejectCall.{reject_call}
+use Rattle.acd_model.specs.Services.ChangeGroup.{change_group}
+use Rattle.acd_model.specs.Services.ChangeAgent.{change_agent}
 use Rattle.acd_model.specs.Tick.{tick}
 use Rattle.acd_model.specs.Served.{Served, gives}
 
@@ -42,3 +45,6 @@ serve s turn (MonitorStart device) = monitor_start s device
 serve s turn (MonitorStop monitor) = monitor_stop s monitor
 serve s turn Tick = gives Nothing (tick s turn)
 serve s turn (SetGroupPriority device priority) = set_group_priority s device priority
+serve s turn (RejectCall call device) = reject_call s turn call device
+serve s turn (ChangeGroup device name ring wrap) = change_group s device name ring wrap
+serve s turn (ChangeAgent agent name) = change_agent s agent name

@@ -85,6 +85,10 @@ service {"requester":"pbx","invoke":1,"service":"Tick"}
 service {"requester":"pbx","invoke":1,"service":"tick "}
 service {"requester":"pbx","invoke":1,"service":"tick\u0000"}
 service {"requester":"pbx","invoke":1,"service":"setgroupPriority","device":"110","priority":5}
+service {"requester":"pbx","invoke":1,"service":"RejectCall","call":1,"device":"201"}
+service {"requester":"pbx","invoke":1,"service":"rejectcall","call":1,"device":"201"}
+service {"requester":"pbx","invoke":1,"service":"changeGroups","device":"100","name":"Billing","ring":20,"wrap":30}
+service {"requester":"pbx","invoke":1,"service":"changeagent","agent":"7","name":"Ana"}
 service {"requester":"pbx","invoke":1,"service":["tick"]}
 service {"requester":"pbx","invoke":1,"service":"tick","service":"tock"}
 service {"requester":"pbx","invoke":1,"service":"tock","device":""}
@@ -170,6 +174,53 @@ device {"requester":"pbx","invoke":1,"service":"monitorStart"}
 monitor {"requester":"pbx","invoke":1,"service":"monitorStop","device":"100"}
 monitor {"requester":"pbx","invoke":1,"service":"monitorStop","monitor":0}
 monitor {"requester":"pbx","invoke":1,"service":"monitorStop","monitor":"1"}
+# an offer that is rejected
+call {"requester":"desk","invoke":1,"service":"rejectCall","device":""}
+call {"requester":"desk","invoke":1,"service":"rejectCall","device":"201"}
+call {"requester":"desk","invoke":1,"service":"rejectCall","call":0,"device":"201"}
+call {"requester":"desk","invoke":1,"service":"rejectCall","call":1000000001,"device":"201"}
+call {"requester":"desk","invoke":1,"service":"rejectCall","call":"1","device":""}
+call {"requester":"desk","invoke":1,"service":"rejectCall","call":1.0,"device":"201"}
+call {"requester":"desk","invoke":1,"service":"rejectCall","call":null,"device":"201"}
+device {"requester":"desk","invoke":1,"service":"rejectCall","call":1}
+device {"requester":"desk","invoke":1,"service":"rejectCall","call":1,"device":201}
+device {"requester":"desk","invoke":1,"service":"rejectCall","call":1,"device":"20a"}
+device {"requester":"desk","invoke":1,"service":"rejectCall","call":1,"device":"1111111111111111"}
+device {"requester":"desk","invoke":1,"service":"rejectCall","call":1,"device":null}
+# another name, ring and wrap of a group
+device {"requester":"plan","invoke":1,"service":"changeGroup"}
+device {"requester":"plan","invoke":1,"service":"changeGroup","name":"","ring":3601,"wrap":3601}
+device {"requester":"plan","invoke":1,"service":"changeGroup","device":100,"name":"Billing","ring":20,"wrap":30}
+device {"requester":"plan","invoke":1,"service":"changeGroup","device":"1111111111111111","name":"","ring":20,"wrap":30}
+name {"requester":"plan","invoke":1,"service":"changeGroup","device":"100","ring":3601,"wrap":3601}
+name {"requester":"plan","invoke":1,"service":"changeGroup","device":"100","name":"","ring":20,"wrap":30}
+name {"requester":"plan","invoke":1,"service":"changeGroup","device":"100","name":"nnnnnnnnnnnnnnnnnnnnnnnnnnnnnnnnnnnnnnnnn","ring":3601,"wrap":30}
+name {"requester":"plan","invoke":1,"service":"changeGroup","device":"100","name":"a\u001fb","ring":20,"wrap":30}
+name {"requester":"plan","invoke":1,"service":"changeGroup","device":"100","name":1,"ring":20,"wrap":30}
+name {"requester":"plan","invoke":1,"service":"changeGroup","device":"100","name":null,"ring":20,"wrap":30}
+ring {"requester":"plan","invoke":1,"service":"changeGroup","device":"100","name":"Billing","wrap":3601}
+ring {"requester":"plan","invoke":1,"service":"changeGroup","device":"100","name":"Billing","ring":3601,"wrap":3601}
+ring {"requester":"plan","invoke":1,"service":"changeGroup","device":"100","name":"Billing","ring":-1,"wrap":30}
+ring {"requester":"plan","invoke":1,"service":"changeGroup","device":"100","name":"Billing","ring":"20","wrap":30}
+ring {"requester":"plan","invoke":1,"service":"changeGroup","device":"100","name":"Billing","ring":1.5,"wrap":30}
+ring {"requester":"plan","invoke":1,"service":"changeGroup","device":"100","name":"Billing","ring":-0,"wrap":30}
+ring {"requester":"plan","invoke":1,"service":"changeGroup","device":"100","name":"Billing","ring":null,"wrap":30}
+wrap {"requester":"plan","invoke":1,"service":"changeGroup","device":"100","name":"Billing","ring":20}
+wrap {"requester":"plan","invoke":1,"service":"changeGroup","device":"100","name":"Billing","ring":20,"wrap":3601}
+wrap {"requester":"plan","invoke":1,"service":"changeGroup","device":"100","name":"Billing","ring":20,"wrap":"30"}
+wrap {"requester":"plan","invoke":1,"service":"changeGroup","device":"100","name":"Billing","ring":20,"wrap":null}
+# another name of an agent
+agent {"requester":"plan","invoke":1,"service":"changeAgent"}
+agent {"requester":"plan","invoke":1,"service":"changeAgent","name":""}
+agent {"requester":"plan","invoke":1,"service":"changeAgent","agent":7,"name":"Ana"}
+agent {"requester":"plan","invoke":1,"service":"changeAgent","agent":"","name":"Ana"}
+agent {"requester":"plan","invoke":1,"service":"changeAgent","agent":"1234567890","name":""}
+name {"requester":"plan","invoke":1,"service":"changeAgent","agent":"7"}
+name {"requester":"plan","invoke":1,"service":"changeAgent","agent":"7","name":""}
+name {"requester":"plan","invoke":1,"service":"changeAgent","agent":"7","name":"nnnnnnnnnnnnnnnnnnnnnnnnnnnnnnnnnnnnnnnnn"}
+name {"requester":"plan","invoke":1,"service":"changeAgent","agent":"7","name":"a\u001fb"}
+name {"requester":"plan","invoke":1,"service":"changeAgent","agent":"7","name":["Ana"]}
+name {"requester":"plan","invoke":1,"service":"changeAgent","agent":"7","name":null}
 "##
 }
 
@@ -192,6 +243,8 @@ requester {\"requester\":\"caf\u{e9}\"}
 device {\"requester\":\"pbx\",\"invoke\":1,\"service\":\"addStation\",\"device\":\"\u{ff12}\"}
 name {\"requester\":\"pbx\",\"invoke\":1,\"service\":\"addGroup\",\"device\":\"100\",\"name\":\"a\x7f\",\"ring\":20,\"wrap\":30}
 name {\"requester\":\"pbx\",\"invoke\":1,\"service\":\"addGroup\",\"device\":\"100\",\"name\":\"Caf\u{e9}\",\"ring\":20,\"wrap\":30}
+name {\"requester\":\"plan\",\"invoke\":1,\"service\":\"changeGroup\",\"device\":\"100\",\"name\":\"a\x7f\",\"ring\":20,\"wrap\":30}
+name {\"requester\":\"plan\",\"invoke\":1,\"service\":\"changeAgent\",\"agent\":\"7\",\"name\":\"Zo\u{eb}\"}
 "
 }
 

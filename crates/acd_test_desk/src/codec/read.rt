@@ -30,10 +30,18 @@ fn requests() -> &'static str {
 {"device":"110","invoke":7,"priority":5,"requester":"plan","service":"setGroupPriority"}
 {"device":"110","invoke":7,"priority":0,"requester":"plan","service":"setGroupPriority"}
 {"device":"110","invoke":7,"priority":9,"requester":"plan","service":"setGroupPriority"}
+{"call":1,"device":"202","invoke":5,"requester":"desk","service":"rejectCall"}
+{"device":"100","invoke":8,"name":"Billing","requester":"plan","ring":15,"service":"changeGroup","wrap":45}
+{"agent":"7","invoke":9,"name":"Anna","requester":"plan","service":"changeAgent"}
 {"device":"999999999999999","invoke":999999999,"name":"~~~~~~~~~~~~~~~~~~~~~~~~~~~~~~~~~~~~~~~~","requester":"a-9a-9a-9a-9a-9a-9a-9a-9a-9a-9zz","ring":3600,"service":"addGroup","wrap":0}
+{"device":"999999999999999","invoke":999999999,"name":"~~~~~~~~~~~~~~~~~~~~~~~~~~~~~~~~~~~~~~~~","requester":"a-9a-9a-9a-9a-9a-9a-9a-9a-9a-9zz","ring":0,"service":"changeGroup","wrap":3600}
+{"device":"07","invoke":1,"name":" ","requester":"-","ring":3600,"service":"changeGroup","wrap":0}
 {"agent":"000000000","invoke":1,"name":"   ","requester":"-","service":"addAgent"}
+{"agent":"999999999","invoke":1,"name":"~~~~~~~~~~~~~~~~~~~~~~~~~~~~~~~~~~~~~~~~","requester":"-","service":"changeAgent"}
+{"agent":"000000000","invoke":1,"name":" ","requester":"-","service":"changeAgent"}
 {"agent":"7","invoke":1,"name":"\"Ana\\","requester":"plan","service":"addAgent"}
 {"call":1000000000,"device":"000000000000000","invoke":1,"requester":"pbx","service":"holdCall"}
+{"call":1000000000,"device":"000000000000000","invoke":1,"requester":"pbx","service":"rejectCall"}
 { "wrap":30, "ring":20, "name":"Billing", "device":"100", "service":"addGroup", "invoke":1, "requester":"plan" } => {"device":"100","invoke":1,"name":"Billing","requester":"plan","ring":20,"service":"addGroup","wrap":30}
 {"requester":"pbx","invoke":1,"service":"tick","device":"","x":null,"y":[1.5,-2e3,{"z":"\u0000"}]} => {"invoke":1,"requester":"pbx","service":"tick"}
 {"requester":"","service":"tock","invoke":"1","requester":"pbx","invoke":1,"service":"tick"} => {"invoke":1,"requester":"pbx","service":"tick"}
@@ -49,6 +57,9 @@ fn requests() -> &'static str {
 {"requester":"desk","invoke":1,"service":"setAgentState","agent":"7","requested":"loggedOn","device":"201","groups":["100","100"],"gro\u0075ps":["1\u00310"]} => {"agent":"7","device":"201","group":"110","invoke":1,"requested":"loggedOn","requester":"desk","service":"setAgentState"}
 {"requester":"desk","invoke":2,"service":"setAgentState","agent":"7","requested":"ready","groups":[1]} => {"agent":"7","invoke":2,"requested":"ready","requester":"desk","service":"setAgentState"}
 {"requester":"plan","invoke":7,"service":"setGroupPriority","device":"110","priority":10,"priority":5,"group":""} => {"device":"110","invoke":7,"priority":5,"requester":"plan","service":"setGroupPriority"}
+{"requester":"desk","invoke":5,"service":"rejectCall","device":"202","call":2,"call":1,"to":"","group":1} => {"call":1,"device":"202","invoke":5,"requester":"desk","service":"rejectCall"}
+{"requester":"plan","invoke":8,"service":"changeGroup","wrap":45,"priority":10,"ring":15,"name":"B\u0069lling","device":"100"} => {"device":"100","invoke":8,"name":"Billing","requester":"plan","ring":15,"service":"changeGroup","wrap":45}
+{"requester":"plan","invoke":9,"service":"changeAgent","name":"Anna","ring":-1,"device":"x","agent":"7"} => {"agent":"7","invoke":9,"name":"Anna","requester":"plan","service":"changeAgent"}
 {"requester":"plan","invoke":1,"service":"addAgent","agent":"7","name":"\u0022Ana\u005c"} => {"agent":"7","invoke":1,"name":"\"Ana\\","requester":"plan","service":"addAgent"}
 {"requester":"plan","invoke":2,"service":"addStation","device":"202","device":"201"} => {"device":"201","invoke":2,"requester":"plan","service":"addStation"}
 {"requester":"pbx","invoke":1,"invoke":2,"service":"tick"} => {"invoke":2,"requester":"pbx","service":"tick"}

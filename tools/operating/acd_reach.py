@@ -1,0 +1,108 @@
+"""How a person's command reaches a desk: by its address, over TLS, and with a login whose password stands on no command line."""
+import argparse
+import getpass
+import os
+import re
+import secrets
+import ssl
+import time
+import warnings
+from urllib.parse import quote, urlsplit
+
+from acd_client import Client, Unanswered
+
+# seconds: of one attempt, between two, and of all attempts where nothing was asked of the desk yet, and where something was
+WAIT, PAUSE, SOON, PATIENCE = 10, 1, 5, 60
+THIS_MACHINE = ("127.0.0.1", "::1", "localhost")
+
+
+class Fault(Exception):
+    """Why the desk isn't asked, or gave no answer."""
+
+
+def address(text):
+    """An address of a desk, which names no login."""
+    try:
+        parts = urlsplit(text)
+        good = parts.scheme in ("http", "https") and parts.hostname and (parts.port is None or parts.port) and not (parts.query or parts.fragment)
+    except ValueError:
+        good = False
+    if not good or "@" in parts.netloc:
+        raise argparse.ArgumentTypeError(f"{text.rpartition('@')[2]!r} is no address as https://desk.example:8443, without a login, which --login has")
+    return text
+
+
+def add_options(parser):
+    parser.add_argument("--from", dest="address", type=address, metavar="ADDRESS", help="ask the desk at this address, as http://127.0.0.1:8080 or https://desk.example:8443")
+    parser.add_argument("--login", metavar="LOGIN", help="ask by this login; its password is asked for, or that of the variable ACD_PASSWORD")
+    parser.add_argument("--ca", metavar="FILE", help="trust the certificates in this file, in place of this machine's")
+
+
+def check(parser, options):
+    """Refuses options that don't fit together."""
+    parts = urlsplit(options.address or "")
+    if options.ca and parts.scheme != "https":
+        parser.error("--ca is for a desk --from https://")
+    if options.login is not None and (not options.login or ":" in options.login):
+        parser.error("a login has a letter at least, and no colon")
+    if options.login and parts.scheme == "http" and parts.hostname not in THIS_MACHINE:
+        parser.error("a password goes to another machine over https alone")
+
+
+def owner(login, otherwise):
+    """What requesters begin with: the login, as the gate wants it, where a requester may."""
+    return login if re.fullmatch("[a-z0-9-]{1,15}", login or "") else otherwise
+
+
+def new_requester(login, otherwise):
+    """One that nobody has used."""
+    return f"{owner(login, otherwise)}-{secrets.token_hex(8)}"
+
+
+def password(login):
+    if "ACD_PASSWORD" in os.environ:
+        return os.environ["ACD_PASSWORD"]
+    with warnings.catch_warnings():
+        warnings.simplefilter("error", getpass.GetPassWarning)
+        try:
+            return getpass.getpass(f"Password of {login}: ")
+        except (getpass.GetPassWarning, EOFError):
+            raise Fault("there is no terminal to ask for the password on, and no ACD_PASSWORD") from None
+
+
+def desk_at(options):
+    """A client of the desk that the options name."""
+    parts, context = urlsplit(options.address), None
+    if options.ca:
+        try:
+            context = ssl.create_default_context(cafile=options.ca)
+        except OSError as fault:
+            raise Fault(f"{options.ca}: {fault.strerror or fault}") from None
+    if options.login:
+        parts = parts._replace(netloc=f"{quote(options.login, '')}:{quote(password(options.login), '')}@{parts.netloc}")
+    return Client(parts.geturl(), wait=WAIT, context=context)
+
+
+def insisted(attempt, patience):
+    """The answer to an attempt, which is made again while there is none, or one that says no more than that (429, 502, 503, 504)."""
+    end = time.monotonic() + patience
+    while True:
+        try:
+            return attempt()
+        except Unanswered as fault:
+            if time.monotonic() > end:
+                raise Fault(f"no answer: {fault.__cause__ or fault}") from None
+            time.sleep(PAUSE)
+
+
+def read(desk, path):
+    """What the desk has at a path."""
+    answer = insisted(lambda: desk.attempt("GET", path), SOON)
+    if answer.status != 200:
+        raise Fault(f"the desk answered {answer.status} {answer.error}".rstrip())
+    return answer.body
+
+
+def sent(desk, request):
+    """The answer to a request, which acts once however often it is sent."""
+    return insisted(lambda: desk.send(request), PATIENCE)
