@@ -343,14 +343,14 @@ part groups_that_are_changed
 = figures of 110: entered 1, answered 0, abandoned 0, moved 0, waited 0
 = call 2 at 201 alerting of group 110
 = last stamp 15, moment 19, event 6
-> 19 {"device":"110","invoke":25,"name":"Claims and complaints of the whole city..","requester":"plan","ring":20,"service":"changeGroup","wrap":45}
+> 19 {"device":"110","invoke":25,"name":"Claims and complaints of the whole city.","requester":"plan","ring":20,"service":"changeGroup","wrap":45}
 < 200 {"invoke":25,"requester":"plan","result":{}}
 = last stamp 16, moment 19, event 6
-> 19 {"device":"110","invoke":26,"name":"Claims and complaints of the whole city..","requester":"plan","ring":20,"service":"changeGroup","wrap":45}
+> 19 {"device":"110","invoke":26,"name":"Claims and complaints of the whole city.","requester":"plan","ring":20,"service":"changeGroup","wrap":45}
 < 200 {"invoke":26,"requester":"plan","result":{}}
 = last stamp 17, moment 19, event 6
 ? device 110
-. {"device":"110","kind":"group","name":"Claims and complaints of the whole city..","priority":5,"ring":20,"wrap":45}
+. {"device":"110","kind":"group","name":"Claims and complaints of the whole city.","priority":5,"ring":20,"wrap":45}
 
 scene group_changed: plan claims a_call_in_each ana_serves_both groups_that_are_changed
 
