@@ -20,7 +20,7 @@ use Rattle.acd_desk.proofs.Telling.{told_seen, told_no_memory}
 use Rattle.acd_codec.specs.declared.fault.FixedAnswer.TheVariants as fixed
 use Rattle.acd_lines.specs.Answers.{fixed_line}
 use Rattle.acd_lines.specs.Input.{no_moment, too_long, faulty, arrival, text_of}
-use Rattle.acd_read_lines.specs.ReadingLines.{ReadingLine, plain, get, reading_line_of, told_line, Tells, IsTold, ReadingAnswers, asked_by, all_asked, ServesReads, arrivals_of, answers_of, LinesLeadToTheRun, ReadsTellOfTheRun}
+use Rattle.acd_http.specs.ReadingLines.{ReadingLine, plain, get, reading_line_of, told_line, Tells, IsTold, ReadingAnswers, asked_by, all_asked, ServesReads, arrivals_of, answers_of, LinesLeadToTheRun, ReadsTellOfTheRun}
 
 -- what the desk told, or noMemory in its place
 pub tells_look : {D Z : Type 0} (stands : D → Standing) (d e : D) (moment : ℕ) (question : Question) (as_text : Bool) (found : Result (Option (String Z)) DeskFault) (out : List ℕ) → as_text ≡ is_plain question

@@ -1,7 +1,7 @@
 use Rattle.acd_desk.specs.Ran.{standing}
 use Rattle.acd_lines.specs.Parts.{answered_text}
-use Rattle.acd_read_lines.proofs.ReadingLines.{tells_look}
-use Rattle.acd_read_lines.proofs.reading_lines.look.Goals as goal
+use Rattle.acd_http.proofs.ReadingLines.{tells_look}
+use Rattle.acd_http.proofs.reading_lines.look.Goals as goal
 
 pub returns : goal.returns
 returns g c =

@@ -1,20 +1,18 @@
 //! Lines that ask what a GET asks, beside those that ask for a service.
 
-ghost use Rattle.std.specs.Prelude.{◌≡◌, ◌⊎◌, IfOk, IfErr, OnOk, OnErr, Option, Ok, Some, string_bytes, true, false};
-ghost use Rattle.std.specs.Io.KnownBytes.{Appends};
+ghost use Rattle.std.specs.Prelude.{◌≡◌, ◌⊎◌, IfOk, OnErr, Ok, Some, string_bytes};
 ghost use Rattle.acd_desk.specs.Ran.{standing};
 ghost use Rattle.acd_desk.specs.AnswerTexts.{seen};
 ghost use Rattle.acd_lines.specs.Answers.{fixed_line};
+ghost use Rattle.acd_lines.specs.Lines.{LinesDone, streams};
 ghost use Rattle.acd_lines.specs.Parts.{answered_text};
 ghost use Rattle.acd_http.specs.Lookups.{target_looked};
-ghost use Rattle.acd_read_lines.specs.ReadingLines.{is_read, json_told, told_line, Tells, ReadInTurn};
-ghost use Rattle.acd_lines.specs.Lines.{LinesAnswered, AllLines, FirstLines, EndedLines};
-ghost use Rattle.acd_io.specs.Sent.{Begins, Breaks};
+ghost use Rattle.acd_http.specs.ReadingLines.{is_read, json_told, told_line, Tells, ReadInTurn};
 
+use crate::routes::Routes;
 use acd_book::Book;
 use acd_codec::{FixedAnswer, quoted};
 use acd_desk::{AnswerText, Desk, DeskFault, Question};
-use acd_http::Routes;
 use acd_lines::{Answering, LinesFault, Requests, answer_lines};
 use std::alloc::{AllocError, Global};
 use std::io::{Read, Write};
@@ -90,16 +88,29 @@ fn is_read(text: &[u8]) -> bool
 
 /// Requests, and reads.
 #[derive(Drop)]
-struct RequestsAndReads {
+pub struct RequestsAndReads {
     routes: Routes,
     requests: Requests,
+}
+
+impl RequestsAndReads {
+    /// The routes that reads ask for take memory.
+    pub fn new(alloc: Global) -> Result<RequestsAndReads, AllocError> {
+        match Routes::new(alloc) {
+            Ok(routes) => Ok(RequestsAndReads {
+                routes,
+                requests: Requests::new(alloc),
+            }),
+            Err(_) => Err(AllocError),
+        }
+    }
 }
 
 impl<B: Book> Answering<B> for RequestsAndReads {
     ghost use Rattle.std.specs.Prelude.{refl};
     ghost use Rattle.acd_desk.specs.Ran.{standing};
     ghost use Rattle.acd_lines.specs.Input.{no_moment, too_long};
-    ghost use Rattle.acd_read_lines.specs.ReadingLines.{ReadingLine, plain, text_asked, ReadingAnswers};
+    ghost use Rattle.acd_http.specs.ReadingLines.{ReadingLine, plain, text_asked, ReadingAnswers};
 
     ghost Asked = { ReadingLine };
 
@@ -140,39 +151,10 @@ pub fn lines_with_reads<B: Book, R: Read, W: Write>(
     reader: &mut R,
     writer: &mut W,
 ) -> Result<(), LinesFault>
-    // each line was answered in turn, by a desk that hasn't failed where that was to end them
-    ensures ok { OnOk result ((ends ≡ true → (standing B.Book desk.new).failed ≡ false)
-        → LinesAnswered (AllLines (R.remaining reader.old))
-        (ReadInTurn B.Book desk.old desk.new)
-        (Appends (W.contents writer.old) (W.contents writer.new))) }
-    // those that were answered are the first, and all of their answers were written
-    ensures first { OnOk result (LinesAnswered (FirstLines (R.remaining reader.old))
-        (ReadInTurn B.Book desk.old desk.new)
-        (Appends (W.contents writer.old) (W.contents writer.new))) }
-    // where reading failed, for the lines that had ended in what was read
-    ensures read { IfErr result (λ fault. fault ≡ LinesFault.Read → LinesAnswered
-        (EndedLines (R.remaining reader.old) (R.remaining reader.new))
-        (ReadInTurn B.Book desk.old desk.new)
-        (Appends (W.contents writer.old) (W.contents writer.new))) }
-    // where writing failed, not all that was answered was written
-    ensures write { IfErr result (λ fault. fault ≡ LinesFault.Write → LinesAnswered
-        (FirstLines (R.remaining reader.old))
-        (ReadInTurn B.Book desk.old desk.new)
-        (Breaks (W.contents writer.old) (W.contents writer.new))) }
-    // after any fault, for a beginning of the input
-    ensures stopped { OnErr result (LinesAnswered (FirstLines (R.remaining reader.old))
-        (ReadInTurn B.Book desk.old desk.new)
-        (Begins (W.contents writer.old) (W.contents writer.new))) }
-    // without memory nothing was read
-    ensures memory { IfErr result (λ fault. fault ≡ LinesFault.NoMemory
-        → (reader.new ≡ reader.old) × (writer.new ≡ writer.old) × (desk.new ≡ desk.old)) }
+    ensures { LinesDone (standing B.Book) (ReadInTurn B.Book) ends
+        (streams R.remaining W.contents (reader.old, reader.new) (writer.old, writer.new))
+        desk.old desk.new result }
 {
-    let Ok(routes) = Routes::new(alloc) else {
-        return Err(LinesFault::NoMemory);
-    };
-    let mut lines = RequestsAndReads {
-        routes,
-        requests: Requests::new(alloc),
-    };
+    let mut lines = RequestsAndReads::new(alloc)?;
     answer_lines(alloc, &mut lines, desk, ends, reader, writer)
 }
