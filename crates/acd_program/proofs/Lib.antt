@@ -8,5 +8,6 @@ pub mod Tasks
 pub mod Begun
 pub mod Sending
 pub mod Served
-pub mod ReadsAnswered
+pub mod LinesOver
+pub mod Inputs
 pub mod Plans

@@ -2,6 +2,7 @@
 
 ghost use Rattle.std.specs.Prelude.{◌≡◌, ◌⊎◌, ℕ, true, false, IsTrue, Ok, IfOk, OnOk};
 ghost use Rattle.sqlite_std_file.specs.File.{file_is_usable, IsFresh};
+ghost use Rattle.acd_program.specs.Faults.{by_memory};
 ghost use Rattle.acd_program.specs.Files.{IsOpenedIn};
 ghost use Rattle.acd_program.specs.Tasks.{IsOpenedFrom};
 ghost use Rattle.acd_program.specs.InFiles.{IsLaidIn};
@@ -93,7 +94,9 @@ fn is_new<'a>(found: Found, makes: bool, path: &'a str) -> Result<bool, Fault<'a
 }
 
 // What kept the store from opening the files, as a fault.
-fn opening_fault<'a>(error: Error, path: &'a str) -> Fault<'a> {
+fn opening_fault<'a>(error: Error, path: &'a str) -> Fault<'a>
+    ensures { result ≡ by_memory error Fault.NoMemory (Fault.CannotOpen path.entry) }
+{
     match error {
         Error::SqliteFailure(ErrorCode::OutOfMemory) => Fault::NoMemory,
         _ => Fault::CannotOpen(path),
@@ -152,14 +155,14 @@ pub(crate) fn connect<'a, S: Start>(
     if let Found::Bytes(len) = found {
         announce(rt, path, len);
     }
-    match open_connection(rt, path, start) {
-        Ok(conn) => Ok((conn, is_new)),
-        Err(fault) => Err(fault),
-    }
+    let conn = open_connection(rt, path, start)?;
+    Ok((conn, is_new))
 }
 
 // What closing found, as a fault.
-fn closing_fault<'a>(error: Error) -> Fault<'a> {
+fn closing_fault<'a>(error: Error) -> Fault<'a>
+    ensures { result ≡ by_memory error Fault.NoMemory Fault.Store }
+{
     match error {
         Error::SqliteFailure(ErrorCode::OutOfMemory) => Fault::NoMemory,
         _ => Fault::Store,
