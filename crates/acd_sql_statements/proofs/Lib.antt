@@ -15,3 +15,4 @@ mod BlamedPlan
 mod Grouped
 mod Picked
 mod Compared
+mod Unconnected

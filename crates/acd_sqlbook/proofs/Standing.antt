@@ -7,7 +7,7 @@ use Rattle.acd_model.specs.declared.moves.Change.{Change}
 use Rattle.acd_book.specs.Content.{Content}
 use Rattle.acd_book.specs.declared.kept.Kept.{Kept}
 use Rattle.acd_sql_columns.specs.declared.meta.Meta.{Meta}
-use Rattle.acd_sqlbook.specs.Commit.{counted, made_by, written_by}
+use Rattle.acd_sqlbook.specs.Commit.{counted, counters_of, made_by, written_by}
 use Rattle.acd_sql_columns.specs.Relations.{meta_of}
 use Rattle.acd_sql_columns.specs.Content.{Encodes}
 use Rattle.acd_sqlbook.specs.Calls.{HasRead, HasCommitted}
@@ -48,11 +48,11 @@ pub reads_fail : {A B : Type 0} (old new : State) (e : Error) (P : Content → A
 reads_fail old new e P Q h = record { quiet = h.quiet; up = λ k. tt; stops = h.stops; value = λ k. tt }
 
 pub reads_counters : (old new : State) (meta : Meta) (r : Result (ℕ × Meta) Error) (changes : List Change) (events : ℕ) (kept : Kept) → HasRead old new (Ok meta) (λ c found. found ≡ meta_of c.rows)
-    → IfOk r (λ next. next.1 ≡ counted meta changes events kept) → HasRead old new r (λ c next. next.1 ≡ counted (meta_of c.rows) changes events kept)
+    → IfOk r (λ next. next ≡ (meta.last_call, counted meta changes events kept)) → HasRead old new r (λ c next. next ≡ counters_of changes events kept c)
 reads_counters old new meta r changes events kept h is =
-    reads_on old new meta r (λ c found. found ≡ meta_of c.rows) (λ c next. next.1 ≡ counted (meta_of c.rows) changes events kept) h
-    (ok_map (λ (next : ℕ × Meta). next.1 ≡ counted meta changes events kept) (λ (next : ℕ × Meta). (c : Content) → meta ≡ meta_of c.rows → next.1 ≡ counted (meta_of c.rows) changes events kept) r
-    (λ next e c same. e ∙ ap (λ m. counted m changes events kept) same) is)
+    reads_on old new meta r (λ c found. found ≡ meta_of c.rows) (λ c next. next ≡ counters_of changes events kept c) h
+    (ok_map (λ (next : ℕ × Meta). next ≡ (meta.last_call, counted meta changes events kept)) (λ (next : ℕ × Meta). (c : Content) → meta ≡ meta_of c.rows → next ≡ counters_of changes events kept c) r
+    (λ next e c same. e ∙ ap (λ (m : Meta). (m.last_call, counted m changes events kept)) same) is)
 
 -- ---- commits
 
@@ -113,14 +113,14 @@ module _ (old mid new : State) (r : Result (Unit {0}) Error) (made after : Conte
   }
 
 pub commits_counted : (old mid new : State) (r : Result (Unit {0}) Error) (last : ℕ) (next : Meta) (changes : List Change) (events : List Event) (kept : Kept)
-    → HasRead {A = ℕ × Meta} old mid (Ok (last, next)) (λ c found. found.1 ≡ counted (meta_of c.rows) changes (length events) kept)
+    → HasRead {A = ℕ × Meta} old mid (Ok (last, next)) (λ c found. found ≡ counters_of changes (length events) kept c)
     → (HasCleanDisk new → HasCleanDisk mid) → (HasCleanDisk new → OnOk r (IsTrue mid.is_open × IsTrue new.is_open)) → (HasCleanDisk new → IsTrue new.is_open → IsTrue mid.is_open)
     → (HasCleanDisk new → OnOk r ((c : Content) → HoldsContent mid c → HoldsContent new (made_by changes events kept next c)))
     → (HasCleanDisk new → OnErr r ((c : Content) → HoldsContent mid c → IsTrue new.is_open → HoldsContent new c))
     → (HasCleanDisk new → AddsStop mid new (made_by changes events kept next)) → HasCommitted old new r (written_by changes events kept)
 commits_counted old mid new r last next changes events kept read =
-    commits_behind old mid new r (made_by changes events kept next) (written_by changes events kept) (last, next) (λ c found. found.1 ≡ counted (meta_of c.rows) changes (length events) kept) read
-    (λ c is. ap (λ m. made_by changes events kept m c) is)
+    commits_behind old mid new r (made_by changes events kept next) (written_by changes events kept) (last, next) (λ c found. found ≡ counters_of changes (length events) kept c) read
+    (λ c is. ap (λ (p : ℕ × Meta). made_by changes events kept p.1 c) is)
 
 -- two reads, one behind the other, where the first one's answer is of use to what the second asks
 pub reads_two : {A B : Type 0} (old mid new : State) (a : A) (r : Result B Error) (P : Content → A → Type 0) (Q W : Content → B → Type 0) → HasRead old mid (Ok a) P

@@ -1,6 +1,6 @@
 //! A book over a connection.
 
-ghost use Rattle.std.specs.Prelude.{◌≡◌, ◌≢◌, ◌≤◌, false, Err, is_ok, IsTrue, IfOk, IfErr};
+ghost use Rattle.std.specs.Prelude.{◌≡◌, ◌≢◌, ◌⊎◌, ◌≤◌, false, None, Err, is_ok, IsTrue, IfOk, IfErr};
 ghost use Rattle.sqlite.specs.State.{HasCleanDisk};
 ghost use Rattle.sqlite.specs.Held.{state};
 ghost use Rattle.acd_sql_columns.specs.Schema.{no_schema};
@@ -88,7 +88,8 @@ impl<S: Alter> SqlBook<S> {
     /// Makes the tables of a new book, in one transaction.
     ///
     /// Limits that no INTEGER column can hold, and a database that has any table, index or view, are
-    /// [`BookFault::Store`]. The connection is handed back beside a fault.
+    /// [`BookFault::Store`]. The connection is handed back beside a fault. A limit of steps that was set on it is taken
+    /// off before anything is made, and isn't put back, since a connection doesn't tell it.
     pub fn create(
         alloc: Global,
         mut conn: Connection<S>,
@@ -99,12 +100,15 @@ impl<S: Alter> SqlBook<S> {
             → IsNewBook (book_state (state S.Store b.conn) b.failures) limits) }
         ensures counted { IfOk result (λ b. b.failures ≡ 0) }
         ensures unnoted { IfOk result (λ b. IsBlank b.noted) }
+        ensures unlimited { IfOk result (λ b. b.conn.step_limit ≡ None) }
         ensures clean { IfOk result
             (λ b. HasCleanDisk (state S.Store b.conn) → HasCleanDisk (state S.Store conn)) }
         ensures refused { ¬ (LimitsFit limits) → result ≡ Err (BookFault.Store, conn) }
         ensures occupied { (state S.Store conn).now.schema ≢ no_schema
             → result ≡ Err (BookFault.Store, conn) }
         ensures handed_back { IfErr result (λ e. e.1.in_transaction ≡ false) }
+        ensures limit { IfErr result
+            (λ e. (e.1.step_limit ≡ None) ⊎ (e.1.step_limit ≡ conn.step_limit)) }
         ensures doubted { IfErr result
             (λ e. HasCleanDisk (state S.Store e.1) → HasCleanDisk (state S.Store conn)) }
         ensures stops { IfErr result (λ e. HasCleanDisk (state S.Store e.1)
@@ -118,6 +122,7 @@ impl<S: Alter> SqlBook<S> {
         if !has_no_tables(conn.schema()) {
             return Err((BookFault::Store, conn));
         }
+        conn.set_step_limit(None);
         match set_up(&mut conn, limits) {
             Ok(()) => Ok(SqlBook {
                 alloc,
@@ -132,6 +137,7 @@ impl<S: Alter> SqlBook<S> {
     /// Gives the connection up. It takes no memory.
     pub fn into_connection(self) -> Connection<S>
         ensures idle { result.in_transaction ≡ false }
+        ensures unlimited { result.step_limit ≡ None }
         ensures same { result ≡ self.conn }
     {
         let SqlBook {

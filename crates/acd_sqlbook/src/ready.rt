@@ -1,12 +1,12 @@
 //! A connection that may have failed before. Its store is tried first where it isn't known to serve, since a failure
 //! may have shut it.
 
-ghost use Rattle.std.specs.Prelude.{◌≡◌, ◌↔◌, false, IsTrue, IfOk, IfErr, OnOk};
+ghost use Rattle.std.specs.Prelude.{◌≡◌, ◌↔◌, false, None, IsTrue, IfOk, IfErr, OnOk};
 ghost use Rattle.sqlite.specs.State.{HasCleanDisk};
 ghost use Rattle.sqlite.specs.Held.{state};
 ghost use Rattle.acd_book.specs.Content.{events_behind, kept_of};
 ghost use Rattle.acd_sqlbook.specs.Calls.{HasRead, HasCommitted};
-ghost use Rattle.acd_sqlbook.specs.Commit.{counted, written_by};
+ghost use Rattle.acd_sqlbook.specs.Commit.{counted, counters_of, written_by};
 ghost use Rattle.acd_sql_columns.specs.Finding.{kept_behind};
 ghost use Rattle.acd_sql_columns.specs.Relations.{meta_of};
 ghost use Rattle.acd_sql_columns.specs.Draft.{Quiet, NoStop, Fits, LimitsFit, MetaFits};
@@ -25,13 +25,14 @@ use acd_terms::{Event, Invoke, Limits, Requester, Rows};
 use sqlite::{Alter, Connection, Error};
 use std::alloc::Global;
 
-/// A connection between transactions.
+/// A connection between transactions, without a limit of steps.
 #[derive(Drop)]
 pub(crate) struct Ready<S: Alter> {
     pub(crate) conn: Connection<S>,
     // Whether the last call succeeded, so that the store still serves. While a call runs it isn't known.
     pub(crate) fresh: bool,
     ghost idle: { conn.in_transaction ≡ false },
+    ghost unlimited: { conn.step_limit ≡ None },
     ghost serves: { IsTrue fresh → HasCleanDisk (state S.Store conn)
         → IsTrue (state S.Store conn).is_open },
 }
@@ -174,7 +175,7 @@ impl<S: Alter> Ready<S> {
         kept: &Kept,
     ) -> Result<(u64, Meta), Error>
         ensures read { HasRead (state S.Store self.old.conn) (state S.Store self.new.conn) result
-            (λ c found. found.1 ≡ counted (meta_of c.rows) changes.now events kept.now) }
+            (λ c found. found ≡ counters_of changes.now events kept.now c) }
         ensures fits { IfOk result (λ found. MetaFits found.1) }
         ensures stamp { OnOk result (Fits kept.now.stamp) }
         ensures blamed { BlamesOr (IsUncounted changes.now events kept.now)
@@ -205,6 +206,7 @@ impl<S: Alter> Ready<S> {
             Ok((last, meta)) => {
                 self.fresh = false;
                 let conn = &mut self.conn;
+                let last = Some(last);
                 commit_all(conn, last, changes, events, kept, request.as_str(), &meta)
             }
             Err(error) => Err(error),

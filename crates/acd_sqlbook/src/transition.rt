@@ -108,7 +108,7 @@ pub(crate) fn commit_rows<S: Alter>(
             ready.fresh = false;
             let conn = &mut ready.conn;
             // Calls of any number may have rows.
-            let last = u64::MAX;
+            let last = None;
             commit_all(conn, last, &changes, events, kept, request.as_str(), &meta)
         }
         Err(error) => Err(error),

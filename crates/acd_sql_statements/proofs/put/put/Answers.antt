@@ -42,7 +42,7 @@ returns-in_err-changed g c = record {
       let mid = state g.S.Store c.run.new.tx.conn.now in
       let x = c.args.item.now in
       let values = g.R.Described.descr.values x in
-      by_more old mid (RefusesOn g.R.Changed.update values) (RefusesPut g.R.Described.descr g.R.Changed.update x) c.from_residual.result (λ limit r h. inl h)
+      by_more old mid (RefusesOn g.R.Changed.update values) (RefusesPut g.R.Described.descr g.R.Changed.update x) c.from_residual.result (λ r h. inl h)
       (by_same old mid (RefusesOn g.R.Changed.update values) c.in_err-changed.field-0.0 c.from_residual.result (search rules)
       (λ clean r d. refused_on old mid g.R.Changed.update values c.in_err-changed.field-0.0 r d (rw c.update_text.ensures at (c.in_err-changed.ensures.failed clean d.inside))));
 }
@@ -63,7 +63,7 @@ returns-in_err-run g c = record {
       (λ clean r drafts.
       let middle : HasCleanDisk mid = omega (arith, clean, c.run-2.ensures.works.survives.clean) in
       none_in d g.R.Described.filed g.R.Changed.update g.met.R.Changed.updates x r old mid c.in_ok-changed.changed drafts (rw c.update_text.ensures at (c.in_ok-changed.ensures.ran middle)) none)
-      (λ limit r none h. inr (none, h))
+      (λ r none h. inr (none, h))
       (by_same old new (RefusesOn d.insert (d.values x)) c.in_err-run.field-0.0 c.from_residual-in_err-run.result (search rules)
       (by_later {A = ℕ} old mid new (λ r. r) (RefusesOn d.insert (d.values x)) (Err c.in_err-run.field-0.0) c.run.ensures.works c.run-2.ensures.works
       (λ middle r drafts. still_drafts d g.R.Described.filed g.R.Changed.update g.met.R.Changed.updates x r old mid c.in_ok-changed.changed drafts (rw c.update_text.ensures at (c.in_ok-changed.ensures.ran middle)) none)

@@ -25,4 +25,4 @@ returns-clause-caused g c =
     let new = state g.S.Store c.commit_changes-done.new.self.conn in
     rw (← c.self.view_is)
     (noted_cause (change c.args.changes.now c.args.events.now c.args.kept.now) old new c.self.inside.failures c.noted.new.failures c.noted.result c.noted.ensures.failures
-    (changes_caused c.args.changes.now c.args.events.now c.args.kept.now old new c.commit_changes-done.result c.noted.result c.noted.ensures.answer c.commit_changes-done.ensures.blamed))
+    (changes_caused c.args.changes.now c.args.events.now c.args.kept.now old new c.self.inside.ready.unlimited c.commit_changes-done.result c.noted.result c.noted.ensures.answer c.commit_changes-done.ensures.blamed))

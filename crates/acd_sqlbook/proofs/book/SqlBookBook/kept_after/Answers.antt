@@ -21,4 +21,4 @@ pub returns-clause-caused : goal.returns-clause-caused
 returns-clause-caused g c =
     rw (← c.self.view_is)
     (noted_cause read (state g.S.Store c.self.inside.ready.conn) (state g.S.Store c.kept_followed-found.new.ready.conn) c.self.inside.failures c.noted.new.failures c.noted.result c.noted.ensures.failures
-    (reads_caused (state g.S.Store c.self.inside.ready.conn) (state g.S.Store c.kept_followed-found.new.ready.conn) c.kept_followed-found.result c.noted.result c.noted.ensures.answer c.kept_followed-found.ensures.blamed))
+    (reads_caused (state g.S.Store c.self.inside.ready.conn) (state g.S.Store c.kept_followed-found.new.ready.conn) c.kept_followed-found.result c.noted.result c.self.inside.ready.unlimited c.noted.ensures.answer c.kept_followed-found.ensures.blamed))

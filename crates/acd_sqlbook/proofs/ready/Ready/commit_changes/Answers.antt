@@ -1,7 +1,6 @@
 use Rattle.std.proofs.Common.{◌≡◌, ℕ, length}
 use Rattle.sqlite.specs.Held.{state}
-use Rattle.acd_sqlbook.specs.Commit.{counted, written_by}
-use Rattle.acd_sql_columns.specs.Relations.{meta_of}
+use Rattle.acd_sqlbook.specs.Commit.{counters_of, written_by}
 use Rattle.acd_sql_columns.specs.declared.meta.Meta.{Meta}
 use Rattle.acd_sqlbook.proofs.Standing.{commits_not, commits_counted}
 use Rattle.std.proofs.Common.{refl, rules}
@@ -13,7 +12,7 @@ use Rattle.acd_sqlbook.proofs.ready.Ready.commit_changes.Goals as goal
 
 pub returns-clause-commits : goal.returns-clause-commits
 returns-clause-commits g c =
-    commits_not (state g.S.Store c.args.self.now.conn) (state g.S.Store c.counters.new.self.conn) c.in-Err.error (λ c' (found : ℕ × Meta). found.1 ≡ counted (meta_of c'.rows) c.args.changes.now (length c.args.events.now) c.args.kept.now)
+    commits_not (state g.S.Store c.args.self.now.conn) (state g.S.Store c.counters.new.self.conn) c.in-Err.error (λ c' (found : ℕ × Meta). found ≡ counters_of c.args.changes.now (length c.args.events.now) c.args.kept.now c')
     (written_by c.args.changes.now c.args.events.now c.args.kept.now) c.in-Err.ensures.read
 
 pub returns-in-Ok-clause-commits : goal.returns-in-Ok-clause-commits

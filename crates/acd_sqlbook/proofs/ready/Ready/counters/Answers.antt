@@ -1,5 +1,6 @@
-use Rattle.std.proofs.Common.{Ok}
+use Rattle.std.proofs.Common.{Ok, ap}
 use Rattle.sqlite.specs.Held.{state}
+use Rattle.acd_sql_columns.specs.declared.meta.Meta.{Meta}
 use Rattle.acd_sqlbook.proofs.Standing.{reads_counters}
 use Rattle.std.proofs.Common.{rules}
 use Rattle.acd_sqlbook.specs.Stopping.{IsUncounted}
@@ -9,7 +10,7 @@ use Rattle.acd_sqlbook.proofs.ready.Ready.counters.Goals as goal
 pub returns-in-Ok-clause-read : goal.returns-in-Ok-clause-read
 returns-in-Ok-clause-read g c =
     reads_counters (state g.S.Store c.args.self.now.conn) (state g.S.Store c.meta.new.self.conn) c.in_ok-meta.meta (Ok (c.in_ok-meta.meta.last_call, c.in-Ok.next)) c.args.changes.now c.args.events c.args.kept.now
-    c.in_ok-meta.ensures.read c.in-Ok.ensures.is
+    c.in_ok-meta.ensures.read (ap (λ (next : Meta). (c.in_ok-meta.meta.last_call, next)) c.in-Ok.ensures.is)
 
 pub returns-in_err-meta-clause-blamed : goal.returns-in_err-meta-clause-blamed
 returns-in_err-meta-clause-blamed g c =
