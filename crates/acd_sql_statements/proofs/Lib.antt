@@ -1,4 +1,3 @@
-mod Bounds
 pub mod Named
 pub mod Chained
 mod Planned
@@ -16,3 +15,4 @@ mod Grouped
 mod Picked
 mod Compared
 mod Unconnected
+mod TheTexts

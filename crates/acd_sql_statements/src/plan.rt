@@ -10,22 +10,12 @@ ghost use Rattle.acd_sql_columns.specs.Relations.{group_part, agent_part, priori
 ghost use Rattle.acd_sql_statements.specs.Between.{LooksUp};
 
 use crate::query::further_rows;
-use crate::reads::records;
+use crate::reads::{add, records};
 use crate::select;
 use acd_sql_columns::{AgentRow, GroupPriority, GroupRow};
 use acd_terms::{AgentId, AgentRecord, DeviceId, Few, GroupRecord, Groups, Priority};
 use sqlite::{Alter, Connection, Error, ErrorCode};
 use std::alloc::Global;
-
-fn push<R: Drop>(records: &mut Vec<R>, one: R) -> Result<(), Error>
-    ensures added { OnOk result (records.new.items ≡ records.old.items ++ one ∷ []) }
-    ensures full { IfErr result IsMemory }
-{
-    match records.push(one) {
-        Ok(()) => Ok(()),
-        Err(_) => Err(Error::SqliteFailure(ErrorCode::OutOfMemory)),
-    }
-}
 
 // The priority that stands for a group, and 0 where none does.
 fn priority_of(priorities: &[GroupPriority], device: DeviceId) -> Priority
@@ -56,7 +46,7 @@ fn joined_groups(
 {
     let mut groups = Vec::new(alloc);
     for part in parts {
-        push(&mut groups, joined_group(part, priorities))?;
+        add(&mut groups, joined_group(part, priorities))?;
     }
     Ok(groups)
 }
@@ -155,7 +145,7 @@ fn joined_agents(
     let mut agents = Vec::new(alloc);
     for part in parts {
         match joined_agent(part, further) {
-            Some(agent) => push(&mut agents, agent)?,
+            Some(agent) => add(&mut agents, agent)?,
             None => return Err(Error::SqliteFailure(ErrorCode::DatabaseCorrupt)),
         }
     }

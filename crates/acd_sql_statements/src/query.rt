@@ -17,7 +17,7 @@ ghost use Rattle.acd_sql_statements.specs.Between.{LooksUp, SeesOf};
 ghost use Rattle.acd_sql_statements.specs.Looking.{BlamesOver};
 
 use crate::read::read;
-use crate::{bind, select};
+use acd_sql_columns::bind;
 use acd_sql_columns::texts::{
     SELECT_AGENT_GROUPS, SELECT_CONNECTIONS, SELECT_EVENTS_AFTER, SELECT_EVENTS_AT_DEVICE,
     SELECT_KEPT_AFTER, SELECT_KEPT_OF_REQUEST, SELECT_MONITOR,

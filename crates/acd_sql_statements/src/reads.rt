@@ -89,7 +89,8 @@ fn read_one<R: Decoded>(alloc: Global, row: &Row) -> Result<R, Error>
     }
 }
 
-fn add<R: Drop>(records: &mut Vec<R>, one: R) -> Result<(), Error>
+/// Adds a record behind others.
+pub(crate) fn add<R: Drop>(records: &mut Vec<R>, one: R) -> Result<(), Error>
     ensures added { OnOk result (records.new.items ≡ records.old.items ++ one ∷ []) }
     ensures full { IfErr result IsMemory }
 {

@@ -5,63 +5,84 @@ ghost use Rattle.sqlite.specs.Values.{bound_value, or_null};
 ghost use Rattle.sqlite_value.specs.Value.{owned};
 ghost use Rattle.sqlite_value.specs.declared.value.Value.TheVariants.{Text};
 ghost use Rattle.acd_sql_columns.specs.Values.{id_value};
-ghost use Rattle.acd_sql_columns.specs.Codes.{pending_code, cause_code};
+ghost use Rattle.acd_sql_columns.specs.Codes.{agent_code, pending_code, connection_code, kind_code, cause_code};
 ghost use Rattle.acd_sql_columns.specs.Draft.{Fits};
 
-use acd_sql_columns::codes::{cause_code, pending_code};
-use acd_terms::{AgentId, Cause, DeviceId, Name, Pending, Priority, Seconds};
+use crate::codes::{agent_code, cause_code, connection_code, kind_code, pending_code};
+use acd_terms::{
+    AgentId, AgentState, Cause, ConnectionState, DeviceId, EventKind, Name, Pending, Priority,
+    Seconds,
+};
 use sqlite::types::ValueRef;
 
-pub(crate) fn integer(number: u64) -> ValueRef<'static>
+pub fn integer(number: u64) -> ValueRef<'static>
     requires { Fits number }
     ensures { bound_value (owned result) ≡ id_value number }
 {
     ValueRef::Int(number as i64)
 }
 
-pub(crate) fn small(number: u32) -> ValueRef<'static>
+pub fn small(number: u32) -> ValueRef<'static>
     ensures { bound_value (owned result) ≡ id_value number }
 {
     ValueRef::Int(i64::from(number))
 }
 
-pub(crate) fn device(device: DeviceId) -> ValueRef<'static>
+pub fn device(device: DeviceId) -> ValueRef<'static>
     ensures { bound_value (owned result) ≡ id_value device }
 {
     integer(device.number())
 }
 
-pub(crate) fn agent(agent: AgentId) -> ValueRef<'static>
+pub fn agent(agent: AgentId) -> ValueRef<'static>
     ensures { bound_value (owned result) ≡ id_value agent }
 {
     integer(agent.number())
 }
 
-pub(crate) fn text(text: &[u8]) -> ValueRef<'_>
+pub fn text(text: &[u8]) -> ValueRef<'_>
     ensures { bound_value (owned result) ≡ Text text.now }
 {
     ValueRef::Text(text)
 }
 
-pub(crate) fn name(name: &Name) -> ValueRef<'_>
+pub fn name(name: &Name) -> ValueRef<'_>
     ensures { bound_value (owned result) ≡ Text name.now }
 {
     ValueRef::Text(name.as_bytes())
 }
 
-pub(crate) fn seconds(seconds: Seconds) -> ValueRef<'static>
+pub fn seconds(seconds: Seconds) -> ValueRef<'static>
     ensures { bound_value (owned result) ≡ id_value seconds }
 {
     small(u32::from(seconds.number()))
 }
 
-pub(crate) fn priority(priority: Priority) -> ValueRef<'static>
+pub fn priority(priority: Priority) -> ValueRef<'static>
     ensures { bound_value (owned result) ≡ id_value priority }
 {
     small(u32::from(priority.number()))
 }
 
-pub(crate) fn integer_or_null(value: Option<u64>) -> ValueRef<'static>
+pub fn agent_state(state: AgentState) -> ValueRef<'static>
+    ensures { bound_value (owned result) ≡ id_value (agent_code state) }
+{
+    small(agent_code(state))
+}
+
+pub fn connection_state(state: ConnectionState) -> ValueRef<'static>
+    ensures { bound_value (owned result) ≡ id_value (connection_code state) }
+{
+    small(connection_code(state))
+}
+
+pub fn kind(kind: EventKind) -> ValueRef<'static>
+    ensures { bound_value (owned result) ≡ id_value (kind_code kind) }
+{
+    small(kind_code(kind))
+}
+
+pub fn integer_or_null(value: Option<u64>) -> ValueRef<'static>
     requires { IfSome value Fits }
     ensures { bound_value (owned result) ≡ or_null id_value value }
 {
@@ -71,7 +92,7 @@ pub(crate) fn integer_or_null(value: Option<u64>) -> ValueRef<'static>
     }
 }
 
-pub(crate) fn small_or_null(value: Option<u32>) -> ValueRef<'static>
+pub fn small_or_null(value: Option<u32>) -> ValueRef<'static>
     ensures { bound_value (owned result) ≡ or_null id_value value }
 {
     match value {
@@ -80,7 +101,7 @@ pub(crate) fn small_or_null(value: Option<u32>) -> ValueRef<'static>
     }
 }
 
-pub(crate) fn device_or_null(value: Option<DeviceId>) -> ValueRef<'static>
+pub fn device_or_null(value: Option<DeviceId>) -> ValueRef<'static>
     ensures { bound_value (owned result) ≡ or_null id_value value }
 {
     match value {
@@ -89,7 +110,7 @@ pub(crate) fn device_or_null(value: Option<DeviceId>) -> ValueRef<'static>
     }
 }
 
-pub(crate) fn agent_or_null(value: Option<AgentId>) -> ValueRef<'static>
+pub fn agent_or_null(value: Option<AgentId>) -> ValueRef<'static>
     ensures { bound_value (owned result) ≡ or_null id_value value }
 {
     match value {
@@ -98,7 +119,7 @@ pub(crate) fn agent_or_null(value: Option<AgentId>) -> ValueRef<'static>
     }
 }
 
-pub(crate) fn pending_or_null(value: Option<Pending>) -> ValueRef<'static>
+pub fn pending_or_null(value: Option<Pending>) -> ValueRef<'static>
     ensures { bound_value (owned result) ≡ or_null (λ p. id_value (pending_code p)) value }
 {
     match value {
@@ -107,7 +128,7 @@ pub(crate) fn pending_or_null(value: Option<Pending>) -> ValueRef<'static>
     }
 }
 
-pub(crate) fn cause_or_null(value: Option<Cause>) -> ValueRef<'static>
+pub fn cause_or_null(value: Option<Cause>) -> ValueRef<'static>
     ensures { bound_value (owned result) ≡ or_null (λ w. id_value (cause_code w)) value }
 {
     match value {
