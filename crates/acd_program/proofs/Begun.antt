@@ -11,7 +11,6 @@ use Rattle.sqlite_store.specs.declared.error.OpenError.TheVariants.{Refused}
 use Rattle.sqlite_store.specs.Opening.{FailsToOpen}
 use Rattle.sqlite_store.specs.FileStore as store
 use Rattle.sqlite_store.specs.Unopened.{state_of, files_of}
-use Rattle.sqlite.proofs.FileLemmas.{reads_then}
 use Rattle.sqlite.proofs.OpenLemmas.{pool_files}
 use Rattle.acd_program.specs.Files.{new_page, AreReadOnly, IsCreated, IsBegun}
 

@@ -1,5 +1,5 @@
 -- Lines over a book, step by step: what a desk answered, what was told of that, and that requests alone are a session.
-use Rattle.std.proofs.Common.{◌≡◌, ◌⊎◌, inl, inr, ℕ, Bool, true, false, ◌&&◌, List, Option, Some, Result, Ok, Err, IsErrAnd, OnOk, IsTrue, refl, sym, ap, subst, ◌∙◌, true≢false}
+use Rattle.std.proofs.Common.{◌≡◌, inl, inr, ℕ, Bool, true, false, ◌&&◌, List, Option, Result, Ok, Err, IsErrAnd, OnOk, IsTrue, refl, sym, ap, subst, ◌∙◌, true≢false}
 use Rattle.std.proofs.lemmas.Result.{err_from_is_err_and}
 use Rattle.std.specs.Io.KnownBytes.{Appends}
 use Rattle.sqlite.specs.State.{State}
@@ -17,7 +17,7 @@ use Rattle.acd_terms.proofs.Results.{ok_err, same_error}
 use Rattle.acd_lines.specs.Answers.{Answers}
 use Rattle.acd_lines.specs.Input.{line_of}
 use Rattle.acd_lines.specs.Laws.{RequestsRun}
-use Rattle.acd_lines.specs.Lines.{LinesAnswered, AllLines, FirstLines, ArrivalsAnswered, RunInTurn, Streams, streams, LinesDone}
+use Rattle.acd_lines.specs.Lines.{LinesAnswered, AllLines, FirstLines, RunInTurn, Streams, streams, LinesDone}
 use Rattle.acd_lines.specs.Parts.{InTurn}
 use Rattle.acd_lines.specs.declared.fault.LinesFault.{LinesFault}
 use Rattle.acd_lines.proofs.Weaker.{answered_so}

@@ -1,5 +1,5 @@
 -- That a task was done, by the work over a connection to files.
-use Rattle.std.proofs.Common.{◌≡◌, ◌⊎◌, inl, inr, arith, ℕ, Bool, true, false, Some, List, [], Option, Result, Ok, Err, IfOk, OnOk, sym, ap, subst, ◌∙◌, refl}
+use Rattle.std.proofs.Common.{◌≡◌, ℕ, Bool, true, false, List, [], Option, Result, Ok, Err, IfOk, OnOk, sym, ap, subst, ◌∙◌, refl}
 use Rattle.std.specs.Io.KnownBytes.{Appends}
 use Rattle.sqlite_disk.specs.declared.Disk.{Ghosts}
 use Rattle.sqlite_store.specs.declared.store.FileStore.{FileStore}
@@ -15,7 +15,7 @@ use Rattle.acd_program.specs.declared.desk.Work.TheVariants as book
 use Rattle.acd_program.specs.declared.desk.Done.{Done}
 use Rattle.acd_program.specs.declared.desk.Done.TheVariants.{Nothing, Told, Audited}
 use Rattle.acd_program.specs.Found.{IsFindingOf, HasCount, finding_line}
-use Rattle.acd_program.specs.Statuses.{IsDone, finding_status}
+use Rattle.acd_program.specs.Statuses.{finding_status}
 use Rattle.acd_lines.specs.Lines.{AllRequests, RequestsAnswered, Streams}
 use Rattle.acd_lines.proofs.Weaker.{out_so}
 use Rattle.acd_program.specs.Over.{IsSession, OverConnection}

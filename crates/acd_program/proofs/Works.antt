@@ -1,7 +1,6 @@
 -- What work over a book leaves, by what its desk left; and over a connection, by what its book left.
-use Rattle.std.proofs.Common.{◌≡◌, ℕ, Bool, List, [], Option, Some, Result, Ok, Err, OnOk, IfOk, ap, ◌∙◌, inl, inr}
-use Rattle.std.specs.Prelude.{unwrap_or, String}
-use Rattle.std.proofs.Math.Nat.{zero-max}
+use Rattle.std.proofs.Common.{◌≡◌, ℕ, Bool, List, Option, Some, Result, Ok, Err, IfOk, inl, inr}
+use Rattle.std.specs.Prelude.{String}
 use Rattle.std.specs.Io.KnownBytes.{Appends}
 use Rattle.acd_terms.specs.declared.command.Request.{Request}
 use Rattle.acd_terms.specs.declared.command.Arrival.{Arrival}
@@ -12,29 +11,26 @@ use Rattle.acd_sqlbook.specs.Noting.{followed}
 use Rattle.acd_sqlbook.specs.State.{book_state}
 use Rattle.sqlite.specs.State.{State}
 use Rattle.acd_desk.specs.declared.taken.Taken.{Taken}
-use Rattle.acd_reports.specs.QueueReport.{queue_report}
 use Rattle.acd_desk.specs.Standing.{Standing}
 use Rattle.acd_desk.specs.Stands.{IsSound}
-use Rattle.acd_desk.specs.Told.{Told}
-use Rattle.acd_desk.specs.Tells.{told, report_read, export_read, Rise}
+use Rattle.acd_desk.specs.Tells.{told, export_read, Rise}
 use Rattle.acd_desk.proofs.Rising.{sound_rises}
 use Rattle.acd_desk.specs.Opening.{Opened}
 use Rattle.acd_desk.specs.Ran.{Ran, IsFault}
 use Rattle.acd_desk.proofs.Sessions.{session_ran}
 use Rattle.acd_lines.specs.Lines.{LinesAnswered, AllRequests, RequestsAnswered}
 use Rattle.acd_lines.proofs.Weaker.{requests_so}
-use Rattle.acd_program.specs.declared.desk.Telling.{Telling}
-use Rattle.acd_program.specs.declared.desk.Telling.TheVariants.{Report, Export}
+use Rattle.acd_program.specs.declared.desk.Telling.TheVariants.{Export}
 use Rattle.acd_program.specs.declared.desk.Work.{Work}
 use Rattle.acd_program.specs.declared.desk.Work.TheVariants.{Import, Tell, Audit}
 use Rattle.acd_program.specs.declared.desk.Done.{Done}
 use Rattle.acd_program.specs.declared.desk.Done.TheVariants as left
 use Rattle.acd_program.specs.Found.{IsFindingOf}
-use Rattle.acd_program.specs.Work.{ImportsOver, TellsOver, IsFindingIfOrdered, IsTextOf, AuditsOver, WorkDone, telling_text, text_left, status_left}
+use Rattle.acd_program.specs.Work.{ImportsOver, IsFindingIfOrdered, IsTextOf, AuditsOver, WorkDone, telling_text}
 use Rattle.acd_program.specs.Over.{IsSession, OverConnection, held, unmade}
 use Rattle.acd_program.specs.Taking.{IsOf, IsTaken}
 use Rattle.acd_program.proofs.Over.{session_of}
-use Rattle.acd_program.proofs.Asking.{asked_by, asked_so, asked_of, asked_in_order}
+use Rattle.acd_program.proofs.Asking.{asked_of, asked_in_order}
 
 pub imports_over : (old : BookState) (d e : Standing) (requests : List Request) (before behind : Option (List ℕ)) → Opened old d
     → LinesAnswered (AllRequests requests) (RequestsAnswered (λ (l : List Arrival) (ts : List Taken). Ran d l ts e)) (Appends before behind) → ImportsOver requests old before behind e.book

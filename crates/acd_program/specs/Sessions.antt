@@ -1,4 +1,4 @@
--- Lines that ask for services alone, as a session.
+-- Lines that ask for services alone: as a session over a database, and as what the abstract desk answers over a new desk in memory.
 use Rattle.std.specs.Prelude.{◌≡◌, ◌⊎◌, ℕ, Bool, true, List, Option, Result, Ok, Err}
 use Rattle.std.specs.Io.KnownBytes.{Appends}
 use Rattle.sqlite.specs.Held.{Held, state}
@@ -11,9 +11,10 @@ use Rattle.acd_lines.specs.Lines.{LinesAnswered, FirstLines, ArrivalsAnswered, S
 use Rattle.acd_lines.specs.Parts.{InTurn}
 use Rattle.acd_lines.specs.declared.fault.LinesFault.{LinesFault}
 use Rattle.acd_desk.specs.Standing.{standing}
+use Rattle.acd_program.specs.Answered.{in_memory, AnsweredFromNothing, AnswersAll}
 use Rattle.acd_program.specs.Faults.{lines_fault}
 use Rattle.acd_program.specs.Desks.{OverDatabase, in_database}
-use Rattle.acd_program.specs.LinesOver.{LinesTold}
+use Rattle.acd_program.specs.LinesOver.{LinesTold, LinesInMemory}
 use Rattle.acd_program.specs.Over.{IsSession, IsFailedSession, AnswersOver, OverConnection}
 use Rattle.acd_program.specs.declared.fault.Fault.{Fault}
 use Rattle.acd_program.specs.declared.fault.Fault.TheVariants.{Store}
@@ -40,3 +41,15 @@ abbrev pub LinesAreSessions : {S R W : Type 0} → Ghosts S → (R → Option (L
 LinesAreSessions {S} {R} {W} store remaining contents = (makes ends : Bool) (reader : R × R) (writer : W × W) (result : Result (Unit {0}) Fault) (old new : Held S)
     → OverDatabase store makes (LinesTold (in_database store) (InTurn line_of (Answers (standing (in_database store)))) ends (streams remaining contents reader writer) result) (state store old) new
     → OverConnection (SessionTold ends (streams remaining contents reader writer) result) makes (state store old) (state store new)
+
+-- ---- in memory
+
+-- all lines are answered so, or behind any fault a beginning of them
+abbrev pub AnswersTold : Streams → Result (Unit {0}) LinesFault → Type 0
+AnswersTold io (Ok done) = AnswersAll io.had io.before io.behind
+AnswersTold io (Err why) = LinesAnswered (FirstLines io.had) (ArrivalsAnswered AnsweredFromNothing) (Begins io.before io.behind)
+
+abbrev pub LinesAreFromNothing : {R W : Type 0} → (R → Option (List ℕ)) → (W → Option (List ℕ)) → Type 0
+LinesAreFromNothing {R} {W} remaining contents = (reader : R × R) (writer : W × W) (result : Result (Unit {0}) LinesFault)
+    → LinesInMemory (InTurn line_of (Answers (standing in_memory))) (streams remaining contents reader writer) result
+    → AnswersTold (streams remaining contents reader writer) result

@@ -1,6 +1,5 @@
 use Rattle.std.proofs.Common.{true}
 use Rattle.sqlite.specs.Files.{over_files, file_state}
-use Rattle.sqlite_std_file.specs.File.{IsFresh}
 use Rattle.acd_program.proofs.Inputs.{both_so}
 use Rattle.acd_program.proofs.LinesOver.{over_made}
 use Rattle.acd_program.proofs.running.serve_file.Goals as goal
