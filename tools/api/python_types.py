@@ -1,10 +1,13 @@
 #!/usr/bin/python3
-"""Types for Python out of the description: prints clients/python/acd_types.py, which tools/try-api compares."""
-import sys
-import textwrap
-from pathlib import Path
+"""Types for Python out of the description.
 
-TOP = Path(__file__).resolve().parents[2]
+usage: tools/api/python_types.py [FILE]    (clients/python/acd_types.py, which tools/try-api compares; else it prints them)
+
+Needs python3-yaml (a Debian package)."""
+import textwrap
+
+from made import put
+
 HEAD = '''"""The bodies that the desk takes and gives, as types: made of docs/openapi.yaml by tools/api/python_types.py, and not by hand."""
 from __future__ import annotations
 
@@ -53,10 +56,5 @@ def module(document):
     return HEAD + "\n" + "".join(plain) + "".join(objects) + "\n\n" + "".join(made)
 
 
-def main():
-    import yaml
-    sys.stdout.write(module(yaml.safe_load((TOP / "docs/openapi.yaml").read_text())))
-
-
 if __name__ == "__main__":
-    main()
+    put(module)

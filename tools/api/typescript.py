@@ -1,9 +1,10 @@
 #!/usr/bin/python3
-"""Types for TypeScript, and for JavaScript that tsc checks, out of the description: prints them."""
-import sys
-from pathlib import Path
+"""Types for TypeScript, and for JavaScript that tsc checks, out of the description.
 
-TOP = Path(__file__).resolve().parents[2]
+usage: tools/api/typescript.py [FILE]    (else it prints them)
+
+Needs python3-yaml (a Debian package)."""
+from made import put
 
 
 def literal(value):
@@ -36,10 +37,5 @@ def declarations(document):
     return "".join(f"export type {name} = {type_of(schema)};\n" for name, schema in document["components"]["schemas"].items())
 
 
-def main():
-    import yaml
-    sys.stdout.write(declarations(yaml.safe_load((TOP / "docs/openapi.yaml").read_text())))
-
-
 if __name__ == "__main__":
-    main()
+    put(declarations)

@@ -1,5 +1,5 @@
 // A desk over a file in a folder, fed by lines and served; with a gate and nginx before it where a browser is to see it.
-import {execFileSync, spawn} from 'node:child_process';
+import {execFileSync, spawn, spawnSync} from 'node:child_process';
 import {existsSync} from 'node:fs';
 import {mkdir, readFile, rm, symlink, writeFile} from 'node:fs/promises';
 import {join} from 'node:path';
@@ -7,6 +7,8 @@ import {freePort, sleep, until} from './browser.mjs';
 
 const HERE = new URL('.', import.meta.url).pathname;
 export const TOP = join(HERE, '../..');
+// where Debian has nginx, and no ordinary user looks
+process.env.PATH += ':/usr/sbin';
 
 /** What a program prints, given its input. */
 export function run(program, words, input = '') {
@@ -20,10 +22,12 @@ export function run(program, words, input = '') {
   });
 }
 
-/** Which of these programs aren't there, in a line, or nothing. */
-export function missing(needed) {
-  const without = Object.entries(needed).filter(([name]) => !process.env.PATH.split(':').some(folder => existsSync(join(folder, name))));
-  return without.length ? `not found: ${without.map(([name, from]) => `${name} (Debian package ${from})`).join(', ')}` : '';
+/** Which of these programs and modules of Debian's Python aren't there, in a line with the command that gets them, or nothing. */
+export function missing(programs, modules = {}) {
+  const isThere = name => process.env.PATH.split(':').some(folder => existsSync(join(folder, name)));
+  const imports = name => spawnSync('/usr/bin/python3', ['-c', `import ${name}`]).status === 0;
+  const without = [...Object.entries(programs).filter(([name]) => !isThere(name)), ...Object.entries(modules).filter(([name]) => !imports(name))];
+  return without.length ? `not found: ${without.map(([name]) => name).join(', ')}. As root: apt-get install ${[...new Set(without.map(([, from]) => from))].join(' ')}` : '';
 }
 
 /** The lines of a made-up day of some hours that ends now. */
@@ -92,12 +96,18 @@ export class Front {
     const conf = (await readFile(join(TOP, 'tools/operating/nginx.conf'), 'utf8')).replace(new RegExp(Object.keys(places).join('|'), 'g'), named => places[named]);
     await writeFile(`${file}/nginx.conf`, `daemon off; user root; pid ${file}/pid; error_log ${file}/errors; worker_processes 1; events {}
 http { include /etc/nginx/mime.types; access_log off; ${['client_body', 'proxy', 'fastcgi', 'uwsgi', 'scgi'].map(kind => `${kind}_temp_path ${file};`).join(' ')} ${conf} }\n`);
+    const told = [];
     Object.assign(front, {file, address: `https://127.0.0.1:${site}`, children: [
       spawn('/usr/bin/python3', ['-B', join(TOP, 'board/gate/acd-gate'), '--port', gate, '--desk', desk.port, '--roles', `${file}/roles`, '--users', `${file}/users`].map(String), {stdio: ['ignore', 'ignore', 'inherit']}),
-      spawn('nginx', ['-c', `${file}/nginx.conf`], {stdio: 'ignore'}),
+      spawn('nginx', ['-c', `${file}/nginx.conf`], {stdio: ['ignore', 'ignore', 'pipe']}),
     ]});
-    if (!await until(async () => (await front.ask(roles[0][0], '/who')).status === 200, 60)) throw new Error('the gate or nginx does not start');
-    return front;
+    front.children[1].stderr.on('data', part => told.push(part));
+    const ended = Promise.race(front.children.map(child => new Promise(done => child.on('exit', () => done('ended')))));
+    if (await Promise.race([ended, until(async () => (await front.ask(roles[0][0], '/who')).status === 200, 60)]) === true) return front;
+    await front.stop();
+    // all that nginx said where it says of nothing that it ended it
+    const said = Buffer.concat(told).toString().trim().split('\n');
+    throw new Error(`the gate or nginx doesn't start: ${(said.find(line => line.includes('[emerg]')) ?? said.join(' ')) || 'nginx said nothing'}`);
   }
 
   /** The address of a page, with a login in it. */

@@ -2,15 +2,34 @@
 import {existsSync} from 'node:fs';
 import {mkdtemp, rm} from 'node:fs/promises';
 import {join, resolve} from 'node:path';
+import {parseArgs} from 'node:util';
+import {portFault} from './browser.mjs';
 import {aDay, Desk, Front, missing, TOP} from './desk.mjs';
 import {people} from './page.mjs';
 
-const NEEDED = {nginx: 'nginx-light', openssl: 'openssl', curl: 'curl', python3: 'python3'};
+const NEEDED = {nginx: 'nginx-light', openssl: 'openssl', curl: 'curl', python3: 'python3'}, MODULES = {passlib: 'python3-passlib'};
+
+function read(words) {
+  try {
+    const {values, positionals} = parseArgs({args: words, options: {port: {type: 'string', default: '8443'}}, allowPositionals: true});
+    if (/^[1-9][0-9]{0,4}$/.test(values.port) && Number(values.port) <= 65535 && positionals.length < 2) return [resolve(positionals[0] ?? join(TOP, 'release/acd')), Number(values.port)];
+  } catch {}
+  throw new Error('usage: tools/show-board [PROGRAM] [--port P]');
+}
+
+/** The program and the port, once all is there that they take: a day takes a minute to make. */
+async function given(words) {
+  const [program, port] = read(words);
+  const without = missing(NEEDED, MODULES);
+  if (without) throw new Error(without);
+  if (!existsSync(program)) throw new Error(`there is no program ${program}`);
+  const fault = await portFault(port);
+  if (fault) throw new Error(`port ${port} ${fault}: take another one by --port P`);
+  return {program, port};
+}
 
 export async function main(words) {
-  const place = words.indexOf('--port'), port = place < 0 ? 8443 : Number(words.splice(place, 2)[1]), program = resolve(words[0] ?? join(TOP, 'release/acd'));
-  const without = missing(NEEDED);
-  if (without) throw new Error(without);
+  const {program, port} = await given(words);
   const folder = await mkdtemp(join(existsSync('/dev/shm') ? '/dev/shm' : '/tmp', 'show-board-')), desk = await Desk.make(program, join(folder, 'day.db')), ends = [];
   const end = async status => {
     for (const one of ends.reverse()) await one();

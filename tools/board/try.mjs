@@ -1,8 +1,9 @@
 // What tools/try-board does, in its order.
-import {execFileSync} from 'node:child_process';
+import {execFileSync, spawnSync} from 'node:child_process';
 import {readdirSync, statSync} from 'node:fs';
 import {cp, mkdir, mkdtemp, rm, writeFile} from 'node:fs/promises';
 import {existsSync} from 'node:fs';
+import {createServer} from 'node:net';
 import {join, resolve} from 'node:path';
 import {pathToFileURL} from 'node:url';
 import {Browser, sleep} from './browser.mjs';
@@ -14,7 +15,7 @@ import {alarm, looks, losses, numbers, people, settings, still} from './page.mjs
 import {lostReply, olderPage, owners, PLAN, refused, shift} from './shift.mjs';
 
 const NEEDED = {chromedriver: 'chromium-driver', chromium: 'chromium', nginx: 'nginx-light', tsc: 'node-typescript', openssl: 'openssl', curl: 'curl', python3: 'python3'};
-const PARTS = ['files', 'gate', 'state', 'load', 'buttons', 'board', 'agent', 'full'], MOST_BYTES = 105000, MOST_CALLS = 2000, ROUNDS = 50;
+const PARTS = ['files', 'gate', 'show', 'state', 'load', 'buttons', 'board', 'agent', 'full'], MOST_BYTES = 105000, MOST_CALLS = 2000, ROUNDS = 50;
 const ROLES = [['pbx', 'exchange'], ['planner', 'office'], ['sup', 'supervisor'], ['ana', 'agent', '7']];
 
 class Trial {
@@ -65,6 +66,17 @@ class Trial {
   async gate() {
     try { execFileSync(join(TOP, 'board/gate/test_gate.py'), {stdio: 'pipe'}); } catch (error) { this.see("the gate's own tests", false, String(error.stderr).slice(-600)); }
     this.tried++;
+  }
+
+  /** What is told of a port that is taken: before anything is made, and in nginx's own words where it was taken since. */
+  async show() {
+    const other = this.keep(createServer(), server => server.close()), port = await new Promise(done => other.listen(0, '127.0.0.1', () => done(other.address().port)));
+    const asked = words => spawnSync(join(TOP, 'tools/show-board'), [this.program, ...words], {encoding: 'utf8', timeout: 10000});
+    const taken = asked(['--port', port]), named = asked(['--port', 'x']);
+    this.see('show-board looks at its port first', taken.status === 1 && taken.stdout === '' && taken.stderr === `tools/show-board: port ${port} is taken: take another one by --port P\n`, JSON.stringify(taken));
+    this.see('and at its words', named.status === 1 && named.stderr === 'tools/show-board: usage: tools/show-board [PROGRAM] [--port P]\n', JSON.stringify(named));
+    const begin = Date.now(), said = await Front.start(this.folder, await this.desk('show.db', PLAN), ROLES, port).then(() => 'it starts', error => error.message);
+    this.see("nginx's own line", said.startsWith("the gate or nginx doesn't start: nginx: [emerg] bind() to ") && said.includes(`:${port} failed`) && Date.now() - begin < 20000, said);
   }
 
   /** state.js and day.js run by node, from a copy whose folder says that they are modules. */
