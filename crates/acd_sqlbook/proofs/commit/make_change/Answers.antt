@@ -87,7 +87,7 @@ returns-in-PutConnection-clause-failed g c =
 
 pub returns-in-PutConnection-2-clause-failed : goal.returns-in-PutConnection-2-clause-failed
 returns-in-PutConnection-2-clause-failed g c =
-    by_change (state g.S.Store c.args.tx.now.conn.now) (state g.S.Store c.put_connection.new.tx.conn.now) c.put_connection.result (IsTrue c.args.is_new) c.args.change.now (PutConnection c.in-PutConnection-2.connection) c.in-PutConnection-2.is (RefusesPutConnection c.in-PutConnection-2.connection) (λ r h. h) c.put_connection.ensures.failed
+    by_change (state g.S.Store c.args.tx.now.conn.now) (state g.S.Store c.put_connection.new.tx.conn.now) c.put_connection.result (IsTrue c.args.is_new) c.args.change.now (PutConnection c.in-PutConnection-2.connection) c.in-PutConnection-2.is (RefusesPutConnection c.in-PutConnection-2.connection) (λ r h. inl h) c.put_connection.ensures.failed
 
 pub returns-in-PutMonitor-clause-failed : goal.returns-in-PutMonitor-clause-failed
 returns-in-PutMonitor-clause-failed g c =
