@@ -24,7 +24,7 @@ OF_ROOT = {"read the roles", "read the users", "read the accounts", "see another
 # what a program that took over the unit could do, as the unit's own user and, were it root there, as root
 MAY = {
     "acd.service": (LOOPBACK | DESK, LOOPBACK | OF_ROOT),
-    "acd-tick.service": (LOOPBACK | {"signal the desk"}, LOOPBACK | OF_ROOT),
+    "acd-tick.service": (LOOPBACK | {"signal the desk", "see what the desk has open"}, LOOPBACK | OF_ROOT),
     "acd-gate.service": (LOOPBACK | {"read the roles", "read the users"}, LOOPBACK | OF_ROOT),
     "acd-copy.service": (DESK | {"priority"}, OF_ROOT | {"priority"}),
     "acd-local.service": ({"AF_UNIX", "AF_NETLINK", "load a table"}, OF_ROOT | {"AF_UNIX", "AF_NETLINK", "load a table"}),
