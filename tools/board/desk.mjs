@@ -101,7 +101,7 @@ http { include /etc/nginx/mime.types; access_log off; ${['client_body', 'proxy',
   }
 
   /** The address of a page, with a login in it. */
-  page(login, path) { return `${this.address.replace('//', `//${login}:secret@`)}${path}`; }
+  page(login, path) { return `${this.address.replace('//', `//${login}:secret@`)}/basic?${path}`; }
 
   /** By curl, since the certificate is nobody's. */
   async ask(login, path, body, ...more) {
