@@ -6,6 +6,7 @@ ghost use Rattle.sqlite.specs.Held.{state};
 ghost use Rattle.acd_sql_columns.specs.Schema.{no_schema};
 ghost use Rattle.acd_sql_columns.specs.Draft.{LimitsFit};
 ghost use Rattle.acd_sqlbook.specs.State.{book_state, IsNewBook, fault_of, answered, failures_after};
+ghost use Rattle.acd_sqlbook.specs.Counters.{AreHeld};
 ghost use Rattle.acd_sqlbook.specs.Noting.{IsBlank};
 ghost use Rattle.acd_sqlbook.specs.View.{book_of};
 ghost use Rattle.acd_sql_schema.specs.SettingUp.{MayMake};
@@ -269,11 +270,15 @@ impl<S: Alter> Book for SqlBook<S> {
         ensures commits { Commits (book_of S.Store self.old) (book_of S.Store self.new) result
             (FollowsBy changes.now events.now kept.now)
             (committed_by changes.now events.now kept.now) }
-        ensures caused { IsCaused (changing changes.now events.now kept.now)
+        ensures caused { AreHeld self.old.noted.counters (state S.Store self.old.conn)
+            → IsCaused (changing changes.now events.now kept.now)
             (state S.Store self.old.conn) (state S.Store self.new.conn)
             self.old.failures self.new.failures result }
     {
-        let done = self.ready.commit_changes(self.alloc, changes, events, kept);
+        let counters = &mut self.notes.counters;
+        let done = self
+            .ready
+            .commit_changes(self.alloc, counters, changes, events, kept);
         let before = mem::take(&mut self.notes.index);
         self.notes.index = noted_behind(before, &done, changes, events);
         self.notes.ahead.forget();
