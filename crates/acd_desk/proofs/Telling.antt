@@ -1,6 +1,9 @@
 -- What a read of a desk leaves, by what its parts left.
 use Rattle.std.proofs.Common.{◌≡◌, ℕ, Bool, true, false, List, Option, Some, None, Result, String, Ok, Err, IfOk, OnOk, IsErrOf, refl, sym, ap, subst, ◌∙◌, inl, inr, ◌⊎◌, true≢false}
 use Rattle.std.proofs.lemmas.Result.{IfOk-weaker, on_ok_weaker}
+use Rattle.std.specs.Borrow.{Bor}
+use Rattle.std.specs.Fn.{Once, FnOnceReturns, FnOnceReturnsAt}
+use Rattle.std.specs.declared.alloc.AllocError.{AllocError}
 use Rattle.acd_terms.specs.declared.rows.Rows.{Rows}
 use Rattle.acd_terms.specs.declared.command.Arrival.{Arrival}
 use Rattle.acd_model.specs.Rules.First.{BreaksNoRule}
@@ -78,6 +81,18 @@ told_seen {Z} old new (Err why) P h = told_nothing old new why (λ (c : Content)
 pub told_follows : {A : Type 0} (old new : Standing) (r : Result A DeskFault) (P Q : Content → A → Type 0) → ((c : Content) (x : A) → P c x → Q c x) → Told old new r P → Told old new r Q
 told_follows old new (Ok x) P Q follows told = told_so old new x x P Q (λ c. follows c x) told
 told_follows old new (Err f) P Q follows told = told_nothing old new f P Q told
+
+-- what a call reads of the tables is told of the content that they are of
+pub told_looked : {F A : Type 0} (old new : Standing) (g : Once F (Bor Rows × Unit {0}) A) (f : F) (r : Result A DeskFault) (Q : Content → A → Type 0)
+    → ((c : Content) (tables : Bor Rows) (x : A) → FnOnceReturns g f (tables, tt) x → tables.now ≡ c.rows → Q c x)
+    → Told old new r (λ c x. FnOnceReturnsAt g f c.rows x) → Told old new r Q
+told_looked old new g f r Q so looked = told_follows old new r (λ c x. FnOnceReturnsAt g f c.rows x) Q (λ c x by. so c by.0 x by.1 by.2) looked
+
+-- and so is a text that it makes of them
+pub told_made : {F Z : Type 0} (old new : Standing) (g : Once F (Bor Rows × Unit {0}) (Result (Option (String Z)) AllocError)) (f : F) (r : Result (Option (String Z)) DeskFault) (read : Content → Option (List ℕ))
+    → ((c : Content) (tables : Bor Rows) (text : Option (String Z)) → FnOnceReturns g f (tables, tt) (Ok text) → tables.now ≡ c.rows → told text ≡ read c)
+    → Told old new r (λ c text. FnOnceReturnsAt g f c.rows (Ok text)) → Told old new r (λ c text. told text ≡ read c)
+told_made old new g f r read so made = told_follows old new r (λ c text. FnOnceReturnsAt g f c.rows (Ok text)) (λ c text. told text ≡ read c) (λ c text by. so c by.0 text by.1 by.2) made
 
 -- one read behind another that gave an answer
 pub told_then : {A B : Type 0} (old mid new : Standing) (x : A) (r : Result B DeskFault) (P : Content → A → Type 0) (Q R : Content → B → Type 0)

@@ -101,18 +101,6 @@ snapshot_of s = record {
 abbrev pub snapshot_read : Rows → Option (List ℕ)
 snapshot_read s = Some (snapshot_text (snapshot_of s))
 
--- what the tables tell to a question; they hold no events
-abbrev pub table_read : Rows → ℕ → Question → Option (List ℕ)
-table_read s moment (ask.Agent agent) = agent_read s agent
-table_read s moment (ask.Call call) = call_read s call
-table_read s moment (ask.Device device) = device_read s device
-table_read s moment (ask.Queue group) = queue_read s group
-table_read s moment (ask.Events after) = None
-table_read s moment (ask.History after) = None
-table_read s moment (ask.MonitorEvents monitor after) = None
-table_read s moment ask.Report = report_read s moment
-table_read s moment ask.Snapshot = snapshot_read s
-
 -- a page of events has at most so many
 abbrev pub page_size : ℕ
 page_size = 100

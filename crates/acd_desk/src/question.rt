@@ -33,16 +33,6 @@ impl Question {
     pub fn is_plain(&self) -> bool
         ensures { result ≡ is_plain self.now }
     {
-        match self {
-            Question::Agent(_)
-            | Question::Call(_)
-            | Question::Device(_)
-            | Question::Queue(_)
-            | Question::Events(_)
-            | Question::History(_)
-            | Question::MonitorEvents(_, _)
-            | Question::Snapshot => false,
-            Question::Report => true,
-        }
+        matches!(self, Question::Report)
     }
 }

@@ -1,21 +1,28 @@
 //! What a desk tells: its reads.
 
-ghost use Rattle.std.specs.Prelude.{◌≡◌, length, Some, None, is_some, if◌then◌else◌};
+ghost use Rattle.std.specs.Prelude.{◌≡◌, Ok, length, Some, None, is_some, if◌then◌else◌};
+ghost use Rattle.std.specs.Fn.{FnOnceTakesAt, FnOnceReturnsAt};
+ghost use Rattle.acd_terms.specs.declared.rows.Rows.{Rows};
+ghost use Rattle.acd_model.specs.Rules.First.{BreaksNoRule};
 ghost use Rattle.acd_model.specs.Scans.{monitor_of};
 ghost use Rattle.acd_book.specs.Content.{events_behind, events_of_monitor};
 ghost use Rattle.acd_desk.specs.Stands.{IsSound};
 ghost use Rattle.acd_desk.specs.Standing.{standing};
 ghost use Rattle.acd_desk.specs.Told.{DeskTold, DeskTells};
-ghost use Rattle.acd_desk.specs.Tells.{told, agent_read, call_read, device_read, queue_read, report_read, snapshot_read, table_read, page_read, events_read, history_read, monitor_read, page_size, told_of};
+ghost use Rattle.acd_desk.specs.Tells.{told, agent_read, call_read, device_read, queue_read, report_read, snapshot_read, page_read, events_read, history_read, monitor_read, page_size, told_of};
 
 use crate::desk::Desk;
 use crate::fault::DeskFault;
 use crate::question::Question;
-use crate::table_reads::table_read;
-use crate::working::{LoadedSwitch, Working};
+use crate::table_reads::{
+    agent_read, call_read, device_read, queue_read, report_read, snapshot_read,
+};
+use crate::working::Working;
 use acd_book::Book;
 use acd_codec::page_text;
+use acd_tables::Tables;
 use acd_terms::{AgentId, DeviceId, Event};
+use std::alloc::AllocError;
 
 // Events in a page.
 const PAGE: usize = 100;
@@ -23,16 +30,30 @@ const PAGE: usize = 100;
 // Events in a page of history.
 const HISTORY_PAGE: usize = 1000;
 
+#[tactic(auto, using(crate::proofs::Telling::told_made))]
 impl<B: Book> Desk<B> {
-    // What the tables tell. The moment counts for a report alone.
-    fn tell(&mut self, moment: u32, question: Question) -> Result<Option<String>, DeskFault>
-        ensures { DeskTells B.Book self.old self.new result
-            (λ c. table_read c.rows moment question) }
+    // What is read of the tables.
+    fn look<T, F: FnOnce(&Tables) -> T>(&mut self, reading: F) -> Result<T, DeskFault>
+        requires { (rows : Rows) → BreaksNoRule rows → FnOnceTakesAt F.FnOnce reading rows }
+        ensures { DeskTold B.Book self.old self.new result
+            (λ c found. FnOnceReturnsAt F.FnOnce reading c.rows found) }
     {
         let loaded = self.switch_out()?;
-        let text = table_read(self.alloc, loaded.switch.tables(), moment, question);
+        let found = reading(loaded.switch.tables());
         self.working = Working::Loaded(loaded);
-        match text {
+        Ok(found)
+    }
+
+    // A text that is made of the tables.
+    fn tell<F: FnOnce(&Tables) -> Result<Option<String>, AllocError>>(
+        &mut self,
+        reading: F,
+    ) -> Result<Option<String>, DeskFault>
+        requires { (rows : Rows) → BreaksNoRule rows → FnOnceTakesAt F.FnOnce reading rows }
+        ensures { DeskTold B.Book self.old self.new result
+            (λ c text. FnOnceReturnsAt F.FnOnce reading c.rows (Ok text)) }
+    {
+        match self.look(reading)? {
             Ok(text) => Ok(text),
             Err(_) => Err(DeskFault::NoMemory),
         }
@@ -42,21 +63,24 @@ impl<B: Book> Desk<B> {
     pub fn agent(&mut self, agent: AgentId) -> Result<Option<String>, DeskFault>
         ensures { DeskTells B.Book self.old self.new result (λ c. agent_read c.rows agent) }
     {
-        self.tell(0, Question::Agent(agent))
+        let alloc = self.alloc;
+        self.tell(|tables| agent_read(alloc, tables, agent))
     }
 
     /// A live call in JSON, with its connections. None where no live call has the number.
     pub fn call(&mut self, call: u64) -> Result<Option<String>, DeskFault>
         ensures { DeskTells B.Book self.old self.new result (λ c. call_read c.rows call) }
     {
-        self.tell(0, Question::Call(call))
+        let alloc = self.alloc;
+        self.tell(|tables| call_read(alloc, tables, call))
     }
 
     /// A planned device in JSON: a group, or a station with its agent and connections. None where it isn't planned.
     pub fn device(&mut self, device: DeviceId) -> Result<Option<String>, DeskFault>
         ensures { DeskTells B.Book self.old self.new result (λ c. device_read c.rows device) }
     {
-        self.tell(0, Question::Device(device))
+        let alloc = self.alloc;
+        self.tell(|tables| device_read(alloc, tables, device))
     }
 
     /// The queue of a group in JSON: the calls that wait by their places, and the eligible agents, longest ready
@@ -64,7 +88,8 @@ impl<B: Book> Desk<B> {
     pub fn queue(&mut self, group: DeviceId) -> Result<Option<String>, DeskFault>
         ensures { DeskTells B.Book self.old self.new result (λ c. queue_read c.rows group) }
     {
-        self.tell(0, Question::Queue(group))
+        let alloc = self.alloc;
+        self.tell(|tables| queue_read(alloc, tables, group))
     }
 
     /// The queue report at a moment (in seconds), or at the last executed one where that is later. It moves no
@@ -72,7 +97,8 @@ impl<B: Book> Desk<B> {
     pub fn report(&mut self, moment: u32) -> Result<Option<String>, DeskFault>
         ensures { DeskTells B.Book self.old self.new result (λ c. report_read c.rows moment) }
     {
-        self.tell(moment, Question::Report)
+        let alloc = self.alloc;
+        self.tell(|tables| report_read(alloc, tables, moment))
     }
 
     /// All agents, live calls, groups, monitors and stations in JSON, each list in ascending number, with the number of
@@ -80,27 +106,25 @@ impl<B: Book> Desk<B> {
     pub fn snapshot(&mut self) -> Result<Option<String>, DeskFault>
         ensures { DeskTells B.Book self.old self.new result (λ c. snapshot_read c.rows) }
     {
-        self.tell(0, Question::Snapshot)
+        let alloc = self.alloc;
+        self.tell(|tables| snapshot_read(alloc, tables))
     }
+}
 
+#[tactic(auto, using(crate::proofs::Telling::told_looked))]
+impl<B: Book> Desk<B> {
     // The number of the last event.
     fn last_event(&mut self) -> Result<u64, DeskFault>
         ensures { DeskTold B.Book self.old self.new result (λ c last. last ≡ c.rows.last_event) }
     {
-        let loaded = self.switch_out()?;
-        let last = loaded.switch.tables().last_event();
-        self.working = Working::Loaded(loaded);
-        Ok(last)
+        self.look(|tables| tables.last_event())
     }
 
     // The stamp of the last executed request.
     fn last_stamp(&mut self) -> Result<u64, DeskFault>
         ensures { DeskTold B.Book self.old self.new result (λ c last. last ≡ c.rows.last_stamp) }
     {
-        let loaded = self.switch_out()?;
-        let last = loaded.switch.last_stamp();
-        self.working = Working::Loaded(loaded);
-        Ok(last)
+        self.look(|tables| tables.last_stamp())
     }
 
     /// How many requests were executed. A sound book keeps as many records.
@@ -116,15 +140,11 @@ impl<B: Book> Desk<B> {
         ensures { DeskTold B.Book self.old self.new result (λ c last.
             last ≡ (if is_some (monitor_of c.rows monitor) then Some c.rows.last_event else None)) }
     {
-        let loaded = self.switch_out()?;
-        let tables = loaded.switch.tables();
-        let last = if tables.monitor(monitor).is_some() {
+        self.look(|tables| if tables.monitor(monitor).is_some() {
             Some(tables.last_event())
         } else {
             None
-        };
-        self.working = Working::Loaded(loaded);
-        Ok(last)
+        })
     }
 
     // The first events above a number.

@@ -6,10 +6,9 @@ ghost use Rattle.std.specs.List.Sorted.{IsStrictlySortedBy};
 ghost use Rattle.acd_model.specs.Scans.{connection_of, connections_of};
 ghost use Rattle.acd_model.specs.Rules.First.{BreaksNoRule};
 ghost use Rattle.acd_tables.specs.Indexed.{pair_cmp};
-ghost use Rattle.acd_desk.specs.Tells.{told, agent_read, call_read, station_in, device_in, device_read, queue_read, report_read, live_call, snapshot_of, snapshot_read, table_read};
+ghost use Rattle.acd_desk.specs.Tells.{told, agent_read, call_read, station_in, device_in, device_read, queue_read, report_read, live_call, snapshot_of, snapshot_read};
 
 use crate::group_states::group_states;
-use crate::question::Question;
 use acd_codec::{
     LiveCall, PlannedDevice, PlannedStation, Snapshot, agent_text, call_text, device_text,
     queue_text, snapshot_text,
@@ -20,28 +19,12 @@ use acd_terms::{AgentId, CallRecord, ConnectionRecord, DeviceId, Listed, Station
 use std::alloc::{AllocError, Global};
 use std::collections::BTreeSet;
 
-/// The text of what is asked at a moment, or none where the tables hold no such thing.
-pub(crate) fn table_read(
+/// An agent, or none where the tables hold no such thing; so of the others.
+pub(crate) fn agent_read(
     alloc: Global,
     tables: &Tables,
-    moment: u32,
-    question: Question,
+    agent: AgentId,
 ) -> Result<Option<String>, AllocError>
-    requires { BreaksNoRule tables.now }
-    ensures { IfOk result (λ text. told text ≡ table_read tables.now moment question) }
-{
-    match question {
-        Question::Agent(agent) => agent_read(alloc, tables, agent),
-        Question::Call(call) => call_read(alloc, tables, call),
-        Question::Device(device) => device_read(alloc, tables, device),
-        Question::Queue(group) => queue_read(alloc, tables, group),
-        Question::Events(_) | Question::History(_) | Question::MonitorEvents(_, _) => Ok(None),
-        Question::Report => report_read(alloc, tables, moment),
-        Question::Snapshot => snapshot_read(alloc, tables),
-    }
-}
-
-fn agent_read(alloc: Global, tables: &Tables, agent: AgentId) -> Result<Option<String>, AllocError>
     ensures { IfOk result (λ text. told text ≡ agent_read tables.now agent) }
 {
     match tables.agent(agent) {
@@ -80,7 +63,11 @@ fn parties(alloc: Global, tables: &Tables, call: u64) -> Result<Vec<ConnectionRe
     Ok(parties)
 }
 
-fn call_read(alloc: Global, tables: &Tables, call: u64) -> Result<Option<String>, AllocError>
+pub(crate) fn call_read(
+    alloc: Global,
+    tables: &Tables,
+    call: u64,
+) -> Result<Option<String>, AllocError>
     requires { BreaksNoRule tables.now }
     ensures { IfOk result (λ text. told text ≡ call_read tables.now call) }
 {
@@ -119,7 +106,7 @@ fn device_in(tables: &Tables, device: DeviceId) -> Result<Option<PlannedDevice>,
     Ok(Some(PlannedDevice::Station(station)))
 }
 
-fn device_read(
+pub(crate) fn device_read(
     alloc: Global,
     tables: &Tables,
     device: DeviceId,
@@ -164,7 +151,11 @@ fn agents_in(alloc: Global, ready: &BTreeSet<(u64, AgentId)>) -> Result<Vec<Agen
     Ok(agents)
 }
 
-fn queue_read(alloc: Global, tables: &Tables, group: DeviceId) -> Result<Option<String>, AllocError>
+pub(crate) fn queue_read(
+    alloc: Global,
+    tables: &Tables,
+    group: DeviceId,
+) -> Result<Option<String>, AllocError>
     requires { BreaksNoRule tables.now }
     ensures { IfOk result (λ text. told text ≡ queue_read tables.now group) }
 {
@@ -180,7 +171,11 @@ fn queue_read(alloc: Global, tables: &Tables, group: DeviceId) -> Result<Option<
 }
 
 #[tactic(auto, unfolding(acd_reports::specs::QueueReport::queue_report))]
-fn report_read(alloc: Global, tables: &Tables, moment: u32) -> Result<Option<String>, AllocError>
+pub(crate) fn report_read(
+    alloc: Global,
+    tables: &Tables,
+    moment: u32,
+) -> Result<Option<String>, AllocError>
     requires { BreaksNoRule tables.now }
     ensures { IfOk result (λ text. told text ≡ report_read tables.now moment) }
 {
@@ -243,7 +238,7 @@ fn snapshot_of(alloc: Global, tables: &Tables) -> Result<Snapshot, AllocError>
     })
 }
 
-fn snapshot_read(alloc: Global, tables: &Tables) -> Result<Option<String>, AllocError>
+pub(crate) fn snapshot_read(alloc: Global, tables: &Tables) -> Result<Option<String>, AllocError>
     requires { BreaksNoRule tables.now }
     ensures { IfOk result (λ text. told text ≡ snapshot_read tables.now) }
 {

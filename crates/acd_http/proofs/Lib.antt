@@ -9,3 +9,4 @@ pub mod AskLaws
 pub mod Exchanges
 pub mod Visits
 pub mod Attending
+pub mod ReadingLines

@@ -13,3 +13,4 @@ pub mod Exchanging
 pub mod Laws
 pub mod Listening
 pub mod Attending
+pub mod ReadingLines

@@ -5,14 +5,14 @@ ghost use Rattle.std.specs.Io.KnownBytes.{Consumes};
 ghost use Rattle.acd_http.specs.Asking.{IsHeadOf, IsAsked, IsUnasked, IsUnknown, body_asks, headless};
 ghost use Rattle.acd_codec.specs.Reading.{reads_as};
 
-use crate::input::{Input, ReadStopped};
+use crate::input::Input;
 use crate::receive::{LONGEST_HEAD, read_head, read_up_to};
 use crate::refused::Refused;
 use crate::routes::Routes;
 use crate::wanted::{Wanted, head_asked};
 use acd_codec::{ReadFault, read_request};
 use acd_desk::Question;
-use acd_io::most_calls;
+use acd_io::{Stopped, most_calls};
 use acd_terms::Request;
 use std::alloc::{AllocError, Global};
 use std::io::Read;
@@ -102,7 +102,7 @@ fn asked_behind<R: Read>(
         Ok(Wanted::Body(more)) => match read_up_to(reader, calls, input, len + more) {
             Ok(true) => body_asked(alloc, &input.as_slice()[len..len + more]),
             Ok(false) => Ok(Asked::Truncated),
-            Err(ReadStopped) => Err(Unknown::Stopped),
+            Err(Stopped) => Err(Unknown::Stopped),
         },
         Err(AllocError) => Err(Unknown::NoMemory(bodiless)),
     }
@@ -125,6 +125,6 @@ pub(crate) fn asked_by<R: Read>(
     match read_head(reader, &mut calls, input) {
         Ok(Some(len)) => asked_behind(alloc, routes, reader, &mut calls, input, len),
         Ok(None) => Ok(headless(input.as_slice().len())),
-        Err(ReadStopped) => Err(Unknown::Stopped),
+        Err(Stopped) => Err(Unknown::Stopped),
     }
 }

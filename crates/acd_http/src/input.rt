@@ -3,7 +3,7 @@
 ghost use Rattle.std.specs.Prelude.{◌≡◌, ℕ, ◌<◌, ◌≤◌, ◌+◌, ◌++◌, [], List, length, IfOk, OnOk, OnErr, false};
 ghost use Rattle.std.specs.Io.KnownBytes.{Consumes, IsAtEnd, Keeps};
 
-use acd_io::retried;
+use acd_io::{Stopped, retried};
 use std::alloc::{AllocError, Global};
 use std::io::Read;
 use std::marker::Model;
@@ -29,10 +29,6 @@ impl Model for Input {
 
     ghost invariant = { λ i. (vec_len i.bytes ≤ 16384) × (16384 ≤ vec_capacity i.bytes) };
 }
-
-/// The reader failed, or was called as often as it may be.
-#[derive(Clone, Copy, Debug)]
-pub(crate) struct ReadStopped;
 
 impl Input {
     pub(crate) fn new(alloc: Global) -> Result<Input, AllocError>
@@ -64,7 +60,7 @@ pub(crate) fn fill<R: Read>(
     reader: &mut R,
     calls: &mut u64,
     input: &mut Input,
-) -> Result<bool, ReadStopped>
+) -> Result<bool, Stopped>
     requires { length input.old ≤ 12288 }
     ensures filled { IfOk result
         (λ more. (bytes : List ℕ) × Consumes (R.remaining reader.old) (R.remaining reader.new) bytes
@@ -83,8 +79,8 @@ pub(crate) fn fill<R: Read>(
                 input.extend(&chunk[..n]);
                 return Ok(true);
             }
-            Err(e) => retried(e, ReadStopped)?,
+            Err(e) => retried(e, Stopped)?,
         }
     }
-    Err(ReadStopped)
+    Err(Stopped)
 }

@@ -3,6 +3,7 @@
 ghost use Rattle.acd_desk.specs.Standing.{standing};
 ghost use Rattle.acd_http.specs.Laws.{AsksOneThing, AsksByABeginning, PhrasesAreCanonical};
 ghost use Rattle.acd_http.specs.Attending.{LeadsToTheRun};
+ghost use Rattle.acd_http.specs.ReadingLines.{LinesLeadToTheRun, ReadsTellOfTheRun};
 
 use acd_book::Book;
 
@@ -25,4 +26,11 @@ pub fn phrases_are_canonical()
 /// read between them: each reply is the abstract desk's at its place, and so is what the book holds, and what a stop leaves of it.
 pub fn connections_lead_to_the_run<B: Book>()
     ensures { LeadsToTheRun (standing B.Book) }
+{}
+
+/// Lines leave the desk as a run of the requests among them leaves it, whatever was read between these; and a read tells of the run
+/// of the requests before it, by the definitions that a GET of its target is answered by.
+pub fn reads_tell_of_the_run<B: Book>()
+    ensures run { LinesLeadToTheRun (standing B.Book) }
+    ensures told { ReadsTellOfTheRun (standing B.Book) }
 {}

@@ -6,7 +6,8 @@ ghost use Rattle.acd_http.specs.Received.{BodyFound, Found, StopsInBody, StopsIn
 ghost use Rattle.std.specs.Io.KnownBytes.{Consumes};
 
 use crate::head::head_len;
-use crate::input::{Input, ReadStopped, fill};
+use crate::input::{Input, fill};
+use acd_io::Stopped;
 use std::io::Read;
 
 /// How many bytes a head has at most.
@@ -28,7 +29,7 @@ pub(crate) fn read_head<R: Read>(
     reader: &mut R,
     calls: &mut u64,
     input: &mut Input,
-) -> Result<Option<usize>, ReadStopped>
+) -> Result<Option<usize>, Stopped>
     requires { input.old ≡ [] }
     ensures found { IfOk result
         (λ found. Found found input.new (R.remaining reader.old) (R.remaining reader.new)) }
@@ -53,7 +54,7 @@ pub(crate) fn read_up_to<R: Read>(
     calls: &mut u64,
     input: &mut Input,
     len: usize,
-) -> Result<bool, ReadStopped>
+) -> Result<bool, Stopped>
     requires { len ≤ 12288 }
     ensures found { IfOk result
         (λ whole. BodyFound whole len input.old input.new (R.remaining reader.old)

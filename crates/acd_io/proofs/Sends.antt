@@ -1,5 +1,5 @@
 -- A write of a part of the bytes that are left.
-use Rattle.std.proofs.Common.{◌≡◌, ℕ, ◌+◌, ◌-◌, ◌<◌, ◌≤◌, List, ◌++◌, length, take, drop, Option, sym, ap, ◌∙◌, arith, subst, length-drop, length-append, append_assoc, append-nil, [], Result, Ok, Err, OnOk, OnErr, IfErr}
+use Rattle.std.proofs.Common.{◌≡◌, ℕ, ◌+◌, ◌-◌, ◌<◌, ◌≤◌, List, ◌++◌, length, take, drop, Option, sym, ap, ◌∙◌, arith, subst, length-drop, length-append, append_assoc, append-nil, [], Result, Ok, Err, OnOk, OnErr}
 use Rattle.std.proofs.lemmas.List.{take_all, take-append-drop}
 use Rattle.std.proofs.Math.Seq.{take-add}
 use Rattle.std.specs.Io.KnownBytes.{Appends}
@@ -111,19 +111,6 @@ passes_whole a c text h = subst (Appends a c) (sym (h.whole ∙ append-nil h.sen
 pub on_err : {T E : Type 0} (r : Result T E) (P : Type 0) → P → OnErr r P
 on_err (Ok x) P p = tt
 on_err (Err e) P p = p
-
-pub if_fault : {T E : Type 0} (r : Result T E) (fault : E) (P : Type 0) → P → IfErr r (λ (e : E). e ≡ fault → P)
-if_fault (Ok x) fault P p = tt
-if_fault (Err e) fault P p = λ is. p
-
--- it is this fault, and not the other
-pub other_fault : {T E : Type 0} (r : Result T E) (x given fault : E) (P : Type 0) → IsErrAnd r (λ e. e ≡ x) → x ≡ given → (given ≡ fault → P) → IfErr r (λ (e : E). e ≡ fault → P)
-other_fault (Ok y) x given fault P h told other = tt
-other_fault (Err e) x given fault P h told other = λ is. other (sym told ∙ sym h ∙ is)
-
-pub IfErr-when : {T E : Type 0} (r : Result T E) (fault : E) (P Q : Type 0) → (P → Q) → IfErr r (λ (e : E). e ≡ fault → P) → IfErr r (λ (e : E). e ≡ fault → Q)
-IfErr-when (Ok x) fault P Q f h = tt
-IfErr-when (Err e) fault P Q f h = λ is. f (h is)
 
 pub OnErr-weaker : {T E : Type 0} (r : Result T E) (P Q : Type 0) → (P → Q) → OnErr r P → OnErr r Q
 OnErr-weaker (Ok x) P Q f h = tt

@@ -8,9 +8,9 @@ use crate::retry::retried;
 use std::io::Write;
 use thiserror::Error;
 
-/// The writer failed, or was called as often as it may be.
+/// A reader or a writer failed, or was called as often as it may be.
 #[derive(Clone, Copy, Debug, PartialEq, Eq, Error)]
-#[error("cannot write")]
+#[error("the stream has stopped")]
 pub struct Stopped;
 
 /// Writes all of the bytes. Each call of the writer takes one off `calls`; a call that is interrupted is made

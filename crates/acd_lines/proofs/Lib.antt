@@ -6,4 +6,5 @@ pub mod Reaching
 pub mod Weaker
 pub mod Turns
 pub mod Telling
+pub mod Endings
 pub mod Plans

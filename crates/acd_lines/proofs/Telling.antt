@@ -8,9 +8,7 @@ use Rattle.acd_desk.proofs.Many.{Settles, ran_nothing, ran_more}
 use Rattle.acd_lines.specs.Input.{Line, no_moment, too_long, faulty, arrival, line_of, text_of, lines_of, arrivals_in}
 use Rattle.acd_lines.specs.Answers.{Answers}
 use Rattle.acd_lines.specs.Output.{AnswerLines}
-use Rattle.acd_lines.specs.Parts.{Serves, InTurn}
-use Rattle.acd_lines.specs.Lines.{LinesAnswered, ArrivalsAnswered}
-use Rattle.acd_lines.proofs.Weaker.{answered_so}
+use Rattle.acd_lines.specs.Parts.{Serves}
 
 -- the arrivals of a line, and those of the lines behind it
 arrivals_behind : (line : Line) (lines : List Line) → arrivals_in (line ∷ lines) ≡ arrivals_in (line ∷ []) ++ arrivals_in lines
@@ -56,9 +54,3 @@ module _ {D : Type 0} (stands : D → Standing) where
   pub told : ((d : D) → Settles (stands d)) → (s e : D) (pieces outs : List (List ℕ)) → Serves line_of (Answers stands) s pieces outs e
       → (answers : List Taken) × AnswerLines (lines_of pieces) answers outs × Ran (stands s) (arrivals_in (lines_of pieces)) answers (stands e)
   told settles s e pieces outs h = serves_on settles s s e [] [] pieces outs (ran_nothing (stands s) (settles s)) h
-
-  -- lines that were answered in turn
-  pub lines_told : ((d : D) → Settles (stands d)) → (s t : D) (P : List (List ℕ) → Type 0) (W : List ℕ → Type 0) → LinesAnswered P (InTurn line_of (Answers stands) s t) W
-      → LinesAnswered P (ArrivalsAnswered (λ (arrivals : List Arrival) (answers : List Taken). Ran (stands s) arrivals answers (stands t))) W
-  lines_told settles s t P W h =
-      answered_so P (InTurn line_of (Answers stands) s t) (ArrivalsAnswered (λ (arrivals : List Arrival) (answers : List Taken). Ran (stands s) arrivals answers (stands t))) W (λ pieces outs served. told settles s t pieces outs served) h

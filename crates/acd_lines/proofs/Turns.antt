@@ -1,9 +1,9 @@
 -- One line of the input, and one read, over plain values.
-use Rattle.std.proofs.Common.{◌≡◌, ℕ, zero, suc, ◌+◌, ◌<◌, true, List, [], ◌∷◌, ◌++◌, length, take, drop, Option, Some, None, refl, sym, ap, ◌∙◌, subst, arith, lit<, append_assoc, append-nil}
+use Rattle.std.proofs.Common.{◌≡◌, ℕ, zero, suc, ◌+◌, ◌<◌, true, List, [], ◌∷◌, ◌++◌, length, take, drop, Option, refl, sym, ap, ◌∙◌, subst, arith, lit<, append_assoc, append-nil}
 use Rattle.std.proofs.lemmas.List.{length-take, take_at}
 use Rattle.std.specs.Io.BufRead.{strip_last}
-use Rattle.std.specs.Io.KnownBytes.{Appends, Consumes, IsAtEnd}
-use Rattle.std.proofs.KnownBytes.{Consumes-nil, Consumes-trans, Consumes-whole}
+use Rattle.std.specs.Io.KnownBytes.{Appends, Consumes}
+use Rattle.std.proofs.KnownBytes.{Consumes-nil}
 use Rattle.acd_lines.specs.Input.{has_none, text_of, cut}
 use Rattle.acd_io.specs.Read.{IsInput}
 use Rattle.acd_io.proofs.Inputs.{input_begun}
@@ -15,7 +15,7 @@ use Rattle.acd_lines.specs.Lines.{LinesAnswered, AllLines, FirstLines, EndedLine
 use Rattle.acd_lines.proofs.Kept.{ByFront, kept_more, kept_line, kept_strip}
 use Rattle.acd_lines.proofs.Cuts.{text_line, text_open}
 use Rattle.acd_lines.proofs.Reaching.{reached_bytes, reached_line, read_reached, some_reached, all_ended, all_open}
-use Rattle.acd_lines.proofs.Weaker.{picked_so, out_so, all_are_first}
+use Rattle.acd_lines.proofs.Weaker.{out_so, all_are_first}
 
 -- the text of a line, of which a beginning was kept
 line_text_of : {L : Type 0} (asks : List ℕ → L) → ByFront asks → (m : ℕ) (part kept end : List ℕ) → 4107 < m → kept ≡ take (m + 1) part → asks (strip_last 13 (take (m + 1) (kept ++ end))) ≡ asks (text_of ((part ++ end) ++ 10 ∷ []))
@@ -253,9 +253,6 @@ module _ {S L : Type 0} (asks : List ℕ → L) (by_front : ByFront asks) (A : S
       → LinesAnswered (AllLines known) (InTurn asks A s t) (Appends a c)
   all_done n s seen kept waiting mid t a b c known h input done =
       answered_by (AllLines known) (Appends a c) s t (cut seen) (h.answers ++ done.0) (seen, input, refl) done.1 (passes_whole a c (h.answers ++ done.0) (passes_then a b c [] waiting [] h.answers done.0 h.passes done.2))
-
-  pub all_first : (known : Option (List ℕ)) (s t : S) (a c : Option (List ℕ)) → LinesAnswered (AllLines known) (InTurn asks A s t) (Appends a c) → LinesAnswered (FirstLines known) (InTurn asks A s t) (Appends a c)
-  all_first known s t a c h = picked_so (AllLines known) (FirstLines known) (InTurn asks A s t) (Appends a c) (all_are_first known) h
 
   -- no more was read
   pub first_done : (n : ℕ) (s : S) (seen kept waiting : List ℕ) (t : S) (a b p q : Option (List ℕ)) → AnsweredSoFar asks A n s seen kept [] [] waiting t a b → waiting ≡ [] → Consumes p q seen → LinesAnswered (FirstLines p) (InTurn asks A s t) (Appends a b)

@@ -3,3 +3,4 @@ pub mod Answers
 pub mod Output
 pub mod Lines
 pub mod Parts
+pub mod Laws

@@ -7,7 +7,6 @@ use Rattle.acd_terms.specs.declared.command.Arrival.{Arrival}
 use Rattle.acd_desk.specs.declared.taken.Taken.{Taken}
 use Rattle.acd_desk.specs.declared.answer_text.AnswerText.{AnswerText}
 use Rattle.acd_desk.specs.AnswerTexts.{said}
-use Rattle.acd_desk.specs.Arrived.{at}
 use Rattle.acd_desk.specs.Ran.{Standing, Ran}
 use Rattle.acd_lines.specs.Input.{has_none, text_of, cut}
 use Rattle.acd_lines.specs.Answers.{line_text}

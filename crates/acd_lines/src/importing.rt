@@ -10,9 +10,9 @@ ghost use Rattle.acd_lines.specs.Parts.{LineDone, LineStops, Imports, ImportStop
 ghost use Rattle.acd_io.specs.Sent.{Begins, Breaks};
 
 use crate::answer::execute;
+use crate::fault::LinesFault;
 use crate::outbox::Outbox;
 use crate::serve::push_answer;
-use crate::session::LinesFault;
 use acd_book::Book;
 use acd_desk::Desk;
 use acd_io::Stopped;

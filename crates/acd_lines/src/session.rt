@@ -1,59 +1,21 @@
 //! Lines in, answer lines out.
 
-ghost use Rattle.std.specs.Prelude.{◌≡◌, true, false, OnOk, OnErr, IfErr};
-ghost use Rattle.std.specs.Io.KnownBytes.{Appends};
+ghost use Rattle.std.specs.Prelude.{true, false};
 ghost use Rattle.acd_desk.specs.Ran.{standing};
 ghost use Rattle.acd_lines.specs.Input.{asked};
-ghost use Rattle.acd_lines.specs.Lines.{LinesAnswered, AllLines, FirstLines, EndedLines, ArrivalsAnswered, HasRun};
+ghost use Rattle.acd_lines.specs.Lines.{LinesDone, RunInTurn, streams};
 ghost use Rattle.acd_lines.specs.Parts.{InTurn};
-ghost use Rattle.acd_io.specs.Sent.{Begins, Breaks};
 
 use crate::answering::{Answering, Requests};
+use crate::fault::LinesFault;
 use crate::outbox::Outbox;
 use crate::partial::Partial;
 use crate::serve::{feed, finish};
 use acd_book::Book;
 use acd_desk::Desk;
-use acd_io::{Stopped, most_calls, retried};
-use std::alloc::{AllocError, Global};
+use acd_io::{most_calls, retried};
+use std::alloc::Global;
 use std::io::{Read, Write};
-use thiserror::Error;
-
-/// Why not all lines were answered.
-#[derive(Clone, Copy, Debug, PartialEq, Eq, Error)]
-pub enum LinesFault {
-    /// The reader failed, or was called as often as it may be.
-    #[error("cannot read")]
-    Read,
-    /// The writer failed, or was called as often as it may be.
-    #[error("cannot write")]
-    Write,
-    /// There was no memory for the buffers. Nothing was read.
-    #[error("no memory")]
-    NoMemory,
-}
-
-impl From<AllocError> for LinesFault {
-    ghost use Rattle.acd_lines.specs.declared.session.LinesFault.{LinesFault};
-    ghost use Rattle.acd_lines.specs.declared.session.LinesFault.TheVariants as faults;
-
-    ghost from_gives = { λ x y. y ≡ faults.NoMemory };
-
-    fn from(_: AllocError) -> LinesFault {
-        LinesFault::NoMemory
-    }
-}
-
-impl From<Stopped> for LinesFault {
-    ghost use Rattle.acd_lines.specs.declared.session.LinesFault.{LinesFault};
-    ghost use Rattle.acd_lines.specs.declared.session.LinesFault.TheVariants as faults;
-
-    ghost from_gives = { λ x y. y ≡ faults.Write };
-
-    fn from(_: Stopped) -> LinesFault {
-        LinesFault::Write
-    }
-}
 
 /// How many bytes are read at once.
 const CHUNK: usize = 65_536;
@@ -68,26 +30,10 @@ pub fn answer_lines<B: Book, A: Answering<B>, R: Read, W: Write>(
     reader: &mut R,
     writer: &mut W,
 ) -> Result<(), LinesFault>
-    ensures ok { OnOk result ((ends ≡ true → (standing B.Book desk.new).failed ≡ false)
-        → LinesAnswered (AllLines (R.remaining reader.old))
-        (InTurn (asked A.unmarked A.long A.read) A.answers desk.old desk.new)
-        (Appends (W.contents writer.old) (W.contents writer.new))) }
-    ensures first { OnOk result (LinesAnswered (FirstLines (R.remaining reader.old))
-        (InTurn (asked A.unmarked A.long A.read) A.answers desk.old desk.new)
-        (Appends (W.contents writer.old) (W.contents writer.new))) }
-    ensures read { IfErr result (λ fault. fault ≡ LinesFault.Read → LinesAnswered
-        (EndedLines (R.remaining reader.old) (R.remaining reader.new))
-        (InTurn (asked A.unmarked A.long A.read) A.answers desk.old desk.new)
-        (Appends (W.contents writer.old) (W.contents writer.new))) }
-    ensures write { IfErr result (λ fault. fault ≡ LinesFault.Write → LinesAnswered
-        (FirstLines (R.remaining reader.old))
-        (InTurn (asked A.unmarked A.long A.read) A.answers desk.old desk.new)
-        (Breaks (W.contents writer.old) (W.contents writer.new))) }
-    ensures stopped { OnErr result (LinesAnswered (FirstLines (R.remaining reader.old))
-        (InTurn (asked A.unmarked A.long A.read) A.answers desk.old desk.new)
-        (Begins (W.contents writer.old) (W.contents writer.new))) }
-    ensures memory { IfErr result (λ fault. fault ≡ LinesFault.NoMemory
-        → (reader.new ≡ reader.old) × (writer.new ≡ writer.old) × (desk.new ≡ desk.old)) }
+    ensures { LinesDone (standing B.Book)
+        (InTurn (asked A.unmarked A.long A.read) A.answers) ends
+        (streams R.remaining W.contents (reader.old, reader.new) (writer.old, writer.new))
+        desk.old desk.new result }
 {
     let mut chunk = vec![in alloc; 0u8; CHUNK]?;
     let mut partial = Partial::new(alloc)?;
@@ -126,27 +72,9 @@ pub fn lines<B: Book, R: Read, W: Write>(
     reader: &mut R,
     writer: &mut W,
 ) -> Result<(), LinesFault>
-    // one answer line for each line, and the desk has run over the arrivals among them
-    ensures ok { OnOk result (LinesAnswered (AllLines (R.remaining reader.old))
-        (ArrivalsAnswered (HasRun B.Book desk.old desk.new))
-        (Appends (W.contents writer.old) (W.contents writer.new))) }
-    // where reading failed, for the lines that had ended in what was read
-    ensures read { IfErr result (λ fault. fault ≡ LinesFault.Read → LinesAnswered
-        (EndedLines (R.remaining reader.old) (R.remaining reader.new))
-        (ArrivalsAnswered (HasRun B.Book desk.old desk.new))
-        (Appends (W.contents writer.old) (W.contents writer.new))) }
-    // where writing failed, not all that was answered was written
-    ensures write { IfErr result (λ fault. fault ≡ LinesFault.Write → LinesAnswered
-        (FirstLines (R.remaining reader.old))
-        (ArrivalsAnswered (HasRun B.Book desk.old desk.new))
-        (Breaks (W.contents writer.old) (W.contents writer.new))) }
-    // after any fault, for a beginning of the input
-    ensures stopped { OnErr result (LinesAnswered (FirstLines (R.remaining reader.old))
-        (ArrivalsAnswered (HasRun B.Book desk.old desk.new))
-        (Begins (W.contents writer.old) (W.contents writer.new))) }
-    // without memory nothing was read
-    ensures memory { IfErr result (λ fault. fault ≡ LinesFault.NoMemory
-        → (reader.new ≡ reader.old) × (writer.new ≡ writer.old) × (desk.new ≡ desk.old)) }
+    ensures { LinesDone (standing B.Book) (RunInTurn B.Book) false
+        (streams R.remaining W.contents (reader.old, reader.new) (writer.old, writer.new))
+        desk.old desk.new result }
 {
     answer_lines(
         alloc,
@@ -166,32 +94,9 @@ pub fn lines_until_failed<B: Book, R: Read, W: Write>(
     reader: &mut R,
     writer: &mut W,
 ) -> Result<(), LinesFault>
-    // all lines were answered, by a desk that hasn't failed
-    ensures ok { OnOk result ((standing B.Book desk.new).failed ≡ false → LinesAnswered
-        (AllLines (R.remaining reader.old))
-        (ArrivalsAnswered (HasRun B.Book desk.old desk.new))
-        (Appends (W.contents writer.old) (W.contents writer.new))) }
-    // those that were answered are the first, and all of their answers were written
-    ensures first { OnOk result (LinesAnswered (FirstLines (R.remaining reader.old))
-        (ArrivalsAnswered (HasRun B.Book desk.old desk.new))
-        (Appends (W.contents writer.old) (W.contents writer.new))) }
-    // where reading failed, for the lines that had ended in what was read
-    ensures read { IfErr result (λ fault. fault ≡ LinesFault.Read → LinesAnswered
-        (EndedLines (R.remaining reader.old) (R.remaining reader.new))
-        (ArrivalsAnswered (HasRun B.Book desk.old desk.new))
-        (Appends (W.contents writer.old) (W.contents writer.new))) }
-    // where writing failed, not all that was answered was written
-    ensures write { IfErr result (λ fault. fault ≡ LinesFault.Write → LinesAnswered
-        (FirstLines (R.remaining reader.old))
-        (ArrivalsAnswered (HasRun B.Book desk.old desk.new))
-        (Breaks (W.contents writer.old) (W.contents writer.new))) }
-    // after any fault, for a beginning of the input
-    ensures stopped { OnErr result (LinesAnswered (FirstLines (R.remaining reader.old))
-        (ArrivalsAnswered (HasRun B.Book desk.old desk.new))
-        (Begins (W.contents writer.old) (W.contents writer.new))) }
-    // without memory nothing was read
-    ensures memory { IfErr result (λ fault. fault ≡ LinesFault.NoMemory
-        → (reader.new ≡ reader.old) × (writer.new ≡ writer.old) × (desk.new ≡ desk.old)) }
+    ensures { LinesDone (standing B.Book) (RunInTurn B.Book) true
+        (streams R.remaining W.contents (reader.old, reader.new) (writer.old, writer.new))
+        desk.old desk.new result }
 {
     answer_lines(alloc, &mut Requests::new(alloc), desk, true, reader, writer)
 }

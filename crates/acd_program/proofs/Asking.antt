@@ -1,10 +1,9 @@
 -- What is told of a book, by what its desk told; and over a connection, by what its book told.
-use Rattle.std.proofs.Common.{◌≡◌, ℕ, Result, Ok, Err, subst, ◌∙◌}
+use Rattle.std.proofs.Common.{◌≡◌, ℕ, Ok, subst, ◌∙◌}
 use Rattle.acd_book.specs.Content.{Content}
 use Rattle.acd_book.specs.Order.{IsOrdered}
 use Rattle.acd_book.specs.State.{BookState}
 use Rattle.acd_book.proofs.BookSteps.{step_then}
-use Rattle.acd_desk.specs.declared.fault.DeskFault.{DeskFault}
 use Rattle.acd_desk.specs.declared.audit.Audit.{Audit}
 use Rattle.acd_desk.specs.declared.audit.Audit.TheVariants as audit
 use Rattle.acd_desk.specs.Audit.{IsFirstDifference}
@@ -13,7 +12,6 @@ use Rattle.acd_desk.specs.Stands.{IsSound}
 use Rattle.acd_desk.specs.Opening.{Opened}
 use Rattle.acd_desk.specs.Told.{Told}
 use Rattle.acd_desk.proofs.AuditLaws.{one_audit}
-use Rattle.acd_desk.proofs.Telling.{told_so, told_nothing, told_then}
 use Rattle.acd_program.specs.declared.auditing.Finding.{Finding}
 use Rattle.acd_program.specs.declared.auditing.Finding.TheVariants.{Sound, Counted, Differs}
 use Rattle.acd_program.specs.Found.{IsFinding, IsFindingOf}

@@ -6,7 +6,9 @@ pub mod Works
 pub mod InFiles
 pub mod Tasks
 pub mod Begun
+pub mod Lone
 pub mod Sending
 pub mod Served
-pub mod ReadsAnswered
+pub mod LinesOver
+pub mod Inputs
 pub mod Plans

@@ -1,5 +1,5 @@
 -- What lines over a book leave, by what opening a desk and its run left; and over a connection, by what its book left.
-use Rattle.std.proofs.Common.{Option, ◌≡◌, ℕ, ◌≤◌, Bool, true, false, List, sym, subst, ◌∙◌, inl, inr, true≢false}
+use Rattle.std.proofs.Common.{◌≡◌, ℕ, Bool, true, false, List, sym, subst, ◌∙◌, inl, inr, true≢false}
 use Rattle.std.specs.List.{Contains}
 use Rattle.sqlite.specs.State.{State}
 use Rattle.acd_terms.specs.declared.command.Arrival.{Arrival}

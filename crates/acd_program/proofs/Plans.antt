@@ -1,8 +1,7 @@
 -- The requests of a whole plan, of which a byte more was read than one may have.
-use Rattle.std.proofs.Common.{◌≡◌, ℕ, ◌<◌, Bool, true, false, cond, nat_lt, List, [], ◌++◌, length, take, Option, Some, None, option_map, Result, Ok, Err, IfSome, refl, sym, ap, subst, ◌∙◌, arith, lt-ltb, ltb-true, ltb-false, take_all, length-take-le}
+use Rattle.std.proofs.Common.{◌≡◌, ℕ, ◌<◌, Bool, true, false, cond, nat_lt, List, [], ◌++◌, length, take, Option, Some, None, option_map, Ok, Err, IfSome, refl, sym, ap, subst, ◌∙◌, arith, lt-ltb, ltb-true, ltb-false, take_all, length-take-le}
 use Rattle.acd_terms.specs.declared.command.Request.{Request}
 use Rattle.acd_reports.specs.Plan.{plan_requests, requests_of, records_of, without_mark}
-use Rattle.acd_reports.specs.declared.fault.PlanFault.{PlanFault}
 use Rattle.acd_reports.specs.declared.fault.PlanFault.TheVariants.{TooLong}
 use Rattle.acd_io.specs.Read.{IsInput}
 

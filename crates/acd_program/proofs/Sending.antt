@@ -1,9 +1,9 @@
 -- Texts that are written one behind the other.
-use Rattle.std.proofs.Common.{ℕ, List, ◌++◌, Option, Result, Ok, Err, OnOk, OnErr, sym, ap, ◌∙◌, append_assoc}
+use Rattle.std.proofs.Common.{ℕ, List, ◌++◌, Option, Result, OnErr, sym, ap, ◌∙◌, append_assoc}
 use Rattle.std.specs.Io.KnownBytes.{Appends}
 use Rattle.std.proofs.KnownBytes.{Appends-trans}
 use Rattle.acd_io.specs.Sent.{Begins}
-use Rattle.acd_io.proofs.Sends.{OnOk-weaker, OnErr-weaker, begins_front}
+use Rattle.acd_io.proofs.Sends.{OnErr-weaker, begins_front}
 
 begins_behind : (a b c : Option (List ℕ)) (x y : List ℕ) → Appends a b x → Begins b c y → Begins a c (x ++ y)
 begins_behind a b c x y first h = record {

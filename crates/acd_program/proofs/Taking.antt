@@ -1,5 +1,5 @@
 -- The book over a connection, by what making it or taking it left.
-use Rattle.std.proofs.Common.{◌≡◌, ℕ, Bool, true, Option, None, Result, Ok, Err, IfOk, IfErr, IsTrue, inl, inr, refl, sym, ap, subst, ◌∙◌, arith}
+use Rattle.std.proofs.Common.{◌≡◌, ℕ, Bool, true, Result, Ok, Err, IfOk, IfErr, IsTrue, inl, inr, refl, sym, ap, subst, ◌∙◌, arith}
 use Rattle.sqlite.specs.State.{State, HasCleanDisk}
 use Rattle.acd_terms.specs.Limits.{greatest_limits}
 use Rattle.acd_book.specs.State.{BookState}
@@ -18,6 +18,9 @@ use Rattle.acd_sql_columns.specs.Schema.{no_schema}
 use Rattle.acd_sqlbook.specs.declared.notes.Notes.{Notes}
 use Rattle.acd_sqlbook.specs.Noting.{IsBlank, SoundWith, followed}
 use Rattle.acd_sqlbook.specs.State.{book_state, IsNewBook}
+use Rattle.acd_sqlbook.specs.View.{BookView, book_of}
+use Rattle.sqlite.specs.Held.{state}
+use Rattle.sqlite_trees.specs.declared.store.Store.{Ghosts}
 use Rattle.acd_sqlbook.proofs.Followed.{blank_of}
 use Rattle.acd_program.specs.Over.{held, unmade, Unserved}
 use Rattle.acd_program.specs.Taking.{IsOf, IsTaken}
@@ -42,6 +45,11 @@ of_unmade s t noted failures made none counted clean = record {
   ordered = λ here _. subst IsOrdered (sym (made here).content) (record { kept = tt; events = tt });
 }
 
+pub adopted_taken : {S E : Type 0} (store : Ghosts S) (makes : Bool) (s : State) (r : Result (BookView S) E) → IfOk r (λ (b : BookView S). HasCleanDisk (state store b.conn) → IsAdopted s.now (book_state s 0) (book_state (state store b.conn) b.failures))
+    → IfOk r (λ (b : BookView S). IsBlank b.noted) → IfOk r (λ (b : BookView S). b.failures ≡ 0) → IfOk r (λ (b : BookView S). HasCleanDisk (state store b.conn) → HasCleanDisk s) → IfOk r (λ (b : BookView S). IsTaken makes s (book_of store b))
+adopted_taken store makes s (Ok b) adopted none counted clean = inl (of_held s (state store b.conn) b.noted b.failures adopted none counted clean)
+adopted_taken store makes s (Err e) adopted none counted clean = tt
+
 pub made_taken : {A E : Type 0} (r : Result A E) (stand : A → BookState) (makes : Bool) (s : State) → makes ≡ true → s.now.schema ≡ no_schema → IfOk r (λ (b : A). IsOf (unmade s) (stand b))
     → IfOk r (λ (b : A). IsTaken makes s (stand b))
 made_taken (Ok b) stand makes s asked empty h = inr (asked, empty, h)
@@ -52,6 +60,10 @@ made_taken (Err e) stand makes s asked empty h = tt
 -- what a database that was not taken may leave
 pub unserved_held : (makes : Bool) (s t : State) → (HasCleanDisk t → MayMigrate s t) → Unserved makes s t
 unserved_held makes s t may = λ clean filed db left. elim (may clean db left) [ inl was ↦ inl was | inr second ↦ inr (inl (second.content filed)) ]
+
+pub none_adopted : {A E : Type 0} (r : Result A E) (behind : E → State) (makes : Bool) (s : State) → IfErr r (λ (e : E). HasCleanDisk (behind e) → MayMigrate s (behind e)) → IfErr r (λ (e : E). Unserved makes s (behind e))
+none_adopted (Ok b) behind makes s h = tt
+none_adopted (Err e) behind makes s h = unserved_held makes s (behind e) h
 
 -- what tables that were not made to their end may leave
 pub unserved_unmade : (makes : Bool) (s t : State) → makes ≡ true → s.now.schema ≡ no_schema → (HasCleanDisk t → MayMake s t greatest_limits) → Unserved makes s t

@@ -1,5 +1,5 @@
 -- That a task was done, by the work over a connection to files.
-use Rattle.std.proofs.Common.{◌≡◌, ◌⊎◌, inl, inr, arith, ℕ, Bool, true, false, Some, List, [], Option, Result, Ok, Err, IfOk, OnOk, sym, ap, subst, ◌∙◌, refl}
+use Rattle.std.proofs.Common.{◌≡◌, ℕ, Bool, true, false, List, [], Option, Result, Ok, Err, IfOk, OnOk, sym, ap, subst, ◌∙◌, refl}
 use Rattle.std.specs.Io.KnownBytes.{Appends}
 use Rattle.sqlite_disk.specs.declared.Disk.{Ghosts}
 use Rattle.sqlite_store.specs.declared.store.FileStore.{FileStore}
@@ -10,29 +10,23 @@ use Rattle.acd_terms.specs.declared.command.Request.{Request}
 use Rattle.acd_book.specs.State.{BookState}
 use Rattle.acd_program.specs.declared.auditing.Finding.{Finding}
 use Rattle.acd_program.specs.declared.desk.Telling.{Telling}
-use Rattle.acd_program.specs.declared.desk.BookWork.TheVariants as book
 use Rattle.acd_program.specs.declared.desk.Work.{Work}
-use Rattle.acd_program.specs.declared.desk.Work.TheVariants.{Lines, Book}
+use Rattle.acd_program.specs.declared.desk.Work.TheVariants as book
 use Rattle.acd_program.specs.declared.desk.Done.{Done}
 use Rattle.acd_program.specs.declared.desk.Done.TheVariants.{Nothing, Told, Audited}
 use Rattle.acd_program.specs.Found.{IsFindingOf, HasCount, finding_line}
-use Rattle.acd_program.specs.Statuses.{IsDone, finding_status}
-use Rattle.acd_lines.specs.Lines.{AllLines, AllRequests, ArrivalsAnswered, RequestsAnswered}
+use Rattle.acd_program.specs.Statuses.{finding_status}
+use Rattle.acd_lines.specs.Lines.{AllRequests, RequestsAnswered, Streams}
 use Rattle.acd_lines.proofs.Weaker.{out_so}
-use Rattle.acd_program.specs.Over.{IsSession, IsSessionTo, AnswersOver, OverConnection}
+use Rattle.acd_program.specs.Over.{IsSession, OverConnection}
 use Rattle.acd_program.specs.Work.{WasAsked, IsTextOf, ImportsOver, AuditsOver, WorkDone, IsPrinted, text_left, status_left}
 use Rattle.acd_program.specs.InFiles.{IsLaidIn, WorkedOver}
 use Rattle.acd_program.specs.Files.{IsOpenedIn}
-use Rattle.acd_program.specs.Tasks.{WorkedIn, InFile, IsOpenedFrom, LinesDone, TaskDone}
+use Rattle.acd_program.specs.Tasks.{WorkedIn, InFile, IsOpenedFrom, InputAnswered, TaskDone}
 use Rattle.acd_program.specs.declared.task.Task.{Task}
 use Rattle.acd_program.specs.declared.task.Task.TheVariants as task
-use Rattle.acd_program.specs.declared.desk.BookWork.{BookWork}
 use Rattle.sqlite_disk.specs.declared.Files.{Files}
 use Rattle.acd_program.proofs.InFiles.{over_so, over_fact, over_makes, appends_nothing}
-
-answers_printed : (ends : Bool) (old new : BookState) (had before between behind : Option (List ℕ)) → Appends between behind [] → AnswersOver ends old had before between new → AnswersOver ends old had before behind new
-answers_printed ends old new had before between behind none h =
-    out_so (AllLines had) (ArrivalsAnswered (IsSessionTo ends old new)) (Appends before between) (Appends before behind) (λ text written. appends_nothing before between behind text written none) h
 
 imports_printed : (requests : List Request) (old new : BookState) (before between behind : Option (List ℕ)) → Appends between behind [] → ImportsOver requests old before between new → ImportsOver requests old before behind new
 imports_printed requests old new before between behind none h =
@@ -57,33 +51,14 @@ found_left counts before between makes s t (Audited found) h =
       over_so P (λ old new. WasAsked old IsFindingOf found new) makes s t (λ old new p. p.0.1) h,
     )
 
-module _ {D : Type 0} (disk : Ghosts D) (IsFresh : Bool → D → Type 0) (had before behind : Option (List ℕ)) (status : ℕ) where
-  pub lines_done : (ends makes : Bool) → WorkedIn disk IsFresh makes (Lines ends) had before behind status
-      → InFile disk IsFresh (λ (old new : BookState). AnswersOver ends old had before behind new) makes × (status ≡ 0)
-  lines_done ends makes h =
-      let w = h.2 in
-      let s = file_state h.0 in
-      let t = file_state w.last in
-      let P : BookState → BookState → Type 0 = λ old new. WorkDone (Lines ends) old had before w.between w.left new in
-      let left = over_fact P (w.left ≡ Nothing) makes s t (λ old new p. p.1) w.done in (
-        record {
-          conn = h.0;
-          last = w.last;
-          opened = h.1;
-          done = over_so P (λ old new. AnswersOver ends old had before behind new) makes s t
-              (λ old new p. answers_printed ends old new had before w.between behind (nothing_left w.left w.between behind left w.printed) p.0) w.done;
-          closed = w.closed;
-        },
-        w.told ∙ ap status_left left,
-      )
-
-  pub import_done : (makes : Bool) (requests : _) → WorkedIn disk IsFresh makes (Book (book.Import requests)) had before behind status
+module _ {D : Type 0} (disk : Ghosts D) (IsFresh : Bool → D → Type 0) (before behind : Option (List ℕ)) (status : ℕ) where
+  pub import_done : (makes : Bool) (requests : _) → WorkedIn disk IsFresh makes (book.Import requests) before behind status
       → InFile disk IsFresh (λ (old new : BookState). ImportsOver requests.now old before behind new) makes × (status ≡ 0)
   import_done makes requests h =
       let w = h.2 in
       let s = file_state h.0 in
       let t = file_state w.last in
-      let P : BookState → BookState → Type 0 = λ old new. WorkDone (Book (book.Import requests)) old had before w.between w.left new in
+      let P : BookState → BookState → Type 0 = λ old new. WorkDone IsFindingOf (book.Import requests) old before w.between w.left new in
       let left = over_fact P (w.left ≡ Nothing) makes s t (λ old new p. p.1) w.done in (
         record {
           conn = h.0;
@@ -96,13 +71,13 @@ module _ {D : Type 0} (disk : Ghosts D) (IsFresh : Bool → D → Type 0) (had b
         w.told ∙ ap status_left left,
       )
 
-  pub tell_done : (makes : Bool) (telling : Telling) → WorkedIn disk IsFresh makes (Book (book.Tell telling)) had before behind status
+  pub tell_done : (makes : Bool) (telling : Telling) → WorkedIn disk IsFresh makes (book.Tell telling) before behind status
       → (text : List ℕ) × InFile disk IsFresh (λ (old new : BookState). WasAsked old (IsTextOf telling) text new) makes × Appends before behind text × (status ≡ 0)
   tell_done makes telling h =
       let w = h.2 in
       let s = file_state h.0 in
       let t = file_state w.last in
-      let P : BookState → BookState → Type 0 = λ old new. WorkDone (Book (book.Tell telling)) old had before w.between w.left new in
+      let P : BookState → BookState → Type 0 = λ old new. WorkDone IsFindingOf (book.Tell telling) old before w.between w.left new in
       let same = over_fact P (w.between ≡ before) makes s t (λ old new p. p.1) w.done in (
         text_left w.left,
         record {
@@ -116,13 +91,13 @@ module _ {D : Type 0} (disk : Ghosts D) (IsFresh : Bool → D → Type 0) (had b
         w.told ∙ over_fact P (status_left w.left ≡ 0) makes s t (λ old new p. p.0.status) w.done,
       )
 
-  pub audit_done : (makes counts : Bool) → WorkedIn disk IsFresh makes (Book (book.Audit counts)) had before behind status
+  pub audit_done : (makes counts : Bool) → WorkedIn disk IsFresh makes (book.Audit counts) before behind status
       → (found : Finding) × HasCount counts found × InFile disk IsFresh (λ (old new : BookState). WasAsked old IsFindingOf found new) makes × Appends before behind (finding_line found) × (status ≡ finding_status found)
   audit_done makes counts h =
       let w = h.2 in
       let s = file_state h.0 in
       let t = file_state w.last in
-      let P : BookState → BookState → Type 0 = λ old new. WorkDone (Book (book.Audit counts)) old had before w.between w.left new in
+      let P : BookState → BookState → Type 0 = λ old new. WorkDone IsFindingOf (book.Audit counts) old before w.between w.left new in
       let same = over_fact P (w.between ≡ before) makes s t (λ old new p. p.1) w.done in
       let found = found_left counts before w.between makes s t w.left w.done in (
         found.0,
@@ -133,28 +108,28 @@ module _ {D : Type 0} (disk : Ghosts D) (IsFresh : Bool → D → Type 0) (had b
       )
 
 -- where it was known whether the file was new
-pub worked_in : {D : Type 0} {g : Ghosts D} (is_new makes : Bool) (work : Work) (conn : Held (FileStore D g)) (had before behind : Option (List ℕ)) (status : ℕ) → (is_new ≡ true → makes ≡ true)
-    → WorkedOver is_new work conn had before behind status → WorkedOver makes work conn had before behind status
-worked_in is_new makes work conn had before behind status may w = record {
+pub worked_in : {D : Type 0} {g : Ghosts D} (is_new makes : Bool) (work : Work) (conn : Held (FileStore D g)) (before behind : Option (List ℕ)) (status : ℕ) → (is_new ≡ true → makes ≡ true)
+    → WorkedOver is_new work conn before behind status → WorkedOver makes work conn before behind status
+worked_in is_new makes work conn before behind status may w = record {
   last = w.last;
   left = w.left;
   between = w.between;
-  done = over_makes (λ (old new : BookState). WorkDone work old had before w.between w.left new) is_new makes (file_state conn) (file_state w.last) may w.done;
+  done = over_makes (λ (old new : BookState). WorkDone IsFindingOf work old before w.between w.left new) is_new makes (file_state conn) (file_state w.last) may w.done;
   closed = w.closed;
   printed = w.printed;
   told = w.told;
 }
 
 -- the work was done, its file closed, and what was left printed
-pub worked_over : {D : Type 0} {g : Ghosts D} {F : Type 0} (r : Result ℕ F) (work : Work) (makes : Bool) (conn last : Held (FileStore D g)) (done : Result Done F) (closed : Result (Unit {0}) F) (had before between behind : Option (List ℕ))
-    → IfOk done (λ (l : Done). OverConnection (λ (old new : BookState). WorkDone work old had before between l new) makes (file_state conn) (file_state last)) → OnOk closed (IsLaidIn last)
-    → IfOk r (λ (status : ℕ). IsPrinted done closed between behind status) → IfOk r (λ (status : ℕ). WorkedOver makes work conn had before behind status)
-worked_over (Err e) work makes conn last done closed had before between behind d k p = tt
-worked_over {F = F} (Ok status) work makes conn last done closed had before between behind d k p = record {
+pub worked_over : {D : Type 0} {g : Ghosts D} {F : Type 0} (r : Result ℕ F) (work : Work) (makes : Bool) (conn last : Held (FileStore D g)) (done : Result Done F) (closed : Result (Unit {0}) F) (before between behind : Option (List ℕ))
+    → IfOk done (λ (l : Done). OverConnection (λ (old new : BookState). WorkDone IsFindingOf work old before between l new) makes (file_state conn) (file_state last)) → OnOk closed (IsLaidIn last)
+    → IfOk r (λ (status : ℕ). IsPrinted done closed between behind status) → IfOk r (λ (status : ℕ). WorkedOver makes work conn before behind status)
+worked_over (Err e) work makes conn last done closed before between behind d k p = tt
+worked_over {F = F} (Ok status) work makes conn last done closed before between behind d k p = record {
   last = last;
   left = p.left;
   between = between;
-  done = subst (λ (x : Result Done F). IfOk x (λ (l : Done). OverConnection (λ (old new : BookState). WorkDone work old had before between l new) makes (file_state conn) (file_state last))) p.ended d;
+  done = subst (λ (x : Result Done F). IfOk x (λ (l : Done). OverConnection (λ (old new : BookState). WorkDone IsFindingOf work old before between l new) makes (file_state conn) (file_state last))) p.ended d;
   closed = subst (λ (x : Result (Unit {0}) F). OnOk x (IsLaidIn last)) p.shut k;
   printed = p.printed;
   told = p.told;
@@ -167,10 +142,10 @@ opened_from IsFresh (Ok conn) pair fresh h = record { pair = pair; fresh = fresh
 opened_from IsFresh (Err e) pair fresh h = tt
 
 -- the work was done over the connection that was opened
-pub worked_from : {D F : Type 0} {g : Ghosts D} (IsFresh : Bool → D → Type 0) (r : Result ℕ F) (is_new makes : Bool) (work : Work) (conn : Held (FileStore D g)) (had before behind : Option (List ℕ)) → IsOpenedFrom g IsFresh conn → (is_new ≡ true → makes ≡ true)
-    → IfOk r (λ (status : ℕ). WorkedOver is_new work conn had before behind status) → IfOk r (λ (status : ℕ). WorkedIn g IsFresh makes work had before behind status)
-worked_from IsFresh (Ok status) is_new makes work conn had before behind opened may h = (conn, opened, worked_in is_new makes work conn had before behind status may h)
-worked_from IsFresh (Err e) is_new makes work conn had before behind opened may h = tt
+pub worked_from : {D F : Type 0} {g : Ghosts D} (IsFresh : Bool → D → Type 0) (r : Result ℕ F) (is_new makes : Bool) (work : Work) (conn : Held (FileStore D g)) (before behind : Option (List ℕ)) → IsOpenedFrom g IsFresh conn → (is_new ≡ true → makes ≡ true)
+    → IfOk r (λ (status : ℕ). WorkedOver is_new work conn before behind status) → IfOk r (λ (status : ℕ). WorkedIn g IsFresh makes work before behind status)
+worked_from IsFresh (Ok status) is_new makes work conn before behind opened may h = (conn, opened, worked_in is_new makes work conn before behind status may h)
+worked_from IsFresh (Err e) is_new makes work conn before behind opened may h = tt
 
 pub ok_so : {A F : Type 0} (r : Result A F) (P Q : A → Type 0) → ((x : A) → P x → Q x) → IfOk r P → IfOk r Q
 ok_so (Ok x) P Q follows h = follows x h
@@ -178,21 +153,16 @@ ok_so (Err e) P Q follows h = tt
 
 -- ---- by what the command line asks for
 
-pub lines_in_file : {Name D F : Type 0} (g : Ghosts D) (IsFresh : Bool → D → Type 0) (r : Result ℕ F) (named : Option Name) (file : Name) (ends : Bool) (had before behind : Option (List ℕ)) → named ≡ Some file
-    → IfOk r (λ (status : ℕ). WorkedIn g IsFresh true (Lines ends) had before behind status) → IfOk r (λ (status : ℕ). LinesDone g IsFresh named ends had before behind status)
-lines_in_file {Name} g IsFresh r named file ends had before behind is = ok_so r _ _
-    (λ status h. subst (λ (n : Option Name). LinesDone g IsFresh n ends had before behind status) (sym is) (lines_done g IsFresh had before behind status ends true h))
+module _ {D F : Type 0} (disk : Ghosts D) (IsFresh : Bool → D → Type 0) (r : Result ℕ F) (asked : Task) (io : Streams) (mute told : Option (List ℕ)) where
+  pub lines_task : (file : _) (reads ends : Bool) → asked ≡ task.Lines file reads ends → IfOk r (λ (status : ℕ). InputAnswered disk IsFresh file reads ends io status)
+      → IfOk r (λ (status : ℕ). TaskDone disk IsFresh asked io mute told status)
+  lines_task file reads ends is = ok_so r _ _ (λ status h. subst (λ (t : Task). TaskDone disk IsFresh t io mute told status) (sym is) h)
 
-module _ {D F : Type 0} (disk : Ghosts D) (IsFresh : Bool → D → Type 0) (r : Result ℕ F) (asked : Task) (had before behind mute told : Option (List ℕ)) where
-  pub lines_task : (file : _) (ends : Bool) → asked ≡ task.Lines file ends → IfOk r (λ (status : ℕ). LinesDone disk IsFresh file ends had before behind status)
-      → IfOk r (λ (status : ℕ). TaskDone disk IsFresh asked had before behind mute told status)
-  lines_task file ends is = ok_so r _ _ (λ status h. subst (λ (t : Task). TaskDone disk IsFresh t had before behind mute told status) (sym is) h)
+  read_done : (file : _) (work : Work) (status : ℕ) → WorkedIn disk IsFresh false work io.before io.behind status → TaskDone disk IsFresh (task.Read file work) io mute told status
+  read_done file (book.Import requests) status h = import_done disk IsFresh io.before io.behind status false requests h
+  read_done file (book.Tell telling) status h = tell_done disk IsFresh io.before io.behind status false telling h
+  read_done file (book.Audit counts) status h = audit_done disk IsFresh io.before io.behind status false counts h
 
-  read_done : (file : _) (work : BookWork) (status : ℕ) → WorkedIn disk IsFresh false (Book work) had before behind status → TaskDone disk IsFresh (task.Read file work) had before behind mute told status
-  read_done file (book.Import requests) status h = import_done disk IsFresh had before behind status false requests h
-  read_done file (book.Tell telling) status h = tell_done disk IsFresh had before behind status false telling h
-  read_done file (book.Audit counts) status h = audit_done disk IsFresh had before behind status false counts h
-
-  pub read_task : (file : _) (work : BookWork) → asked ≡ task.Read file work → IfOk r (λ (status : ℕ). WorkedIn disk IsFresh false (Book work) had before behind status)
-      → IfOk r (λ (status : ℕ). TaskDone disk IsFresh asked had before behind mute told status)
-  read_task file work is = ok_so r _ _ (λ status h. subst (λ (t : Task). TaskDone disk IsFresh t had before behind mute told status) (sym is) (read_done file work status h))
+  pub read_task : (file : _) (work : Work) → asked ≡ task.Read file work → IfOk r (λ (status : ℕ). WorkedIn disk IsFresh false work io.before io.behind status)
+      → IfOk r (λ (status : ℕ). TaskDone disk IsFresh asked io mute told status)
+  read_task file work is = ok_so r _ _ (λ status h. subst (λ (t : Task). TaskDone disk IsFresh t io mute told status) (sym is) (read_done file work status h))

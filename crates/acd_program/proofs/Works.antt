@@ -1,7 +1,6 @@
 -- What work over a book leaves, by what its desk left; and over a connection, by what its book left.
-use Rattle.std.proofs.Common.{◌≡◌, ℕ, Bool, List, [], Option, Some, Result, Ok, Err, OnOk, IfOk, ap, ◌∙◌, inl, inr}
-use Rattle.std.specs.Prelude.{unwrap_or, String}
-use Rattle.std.proofs.Math.Nat.{zero-max}
+use Rattle.std.proofs.Common.{◌≡◌, ℕ, Bool, List, Option, Some, Result, Ok, Err, IfOk, inl, inr}
+use Rattle.std.specs.Prelude.{String}
 use Rattle.std.specs.Io.KnownBytes.{Appends}
 use Rattle.acd_terms.specs.declared.command.Request.{Request}
 use Rattle.acd_terms.specs.declared.command.Arrival.{Arrival}
@@ -12,30 +11,26 @@ use Rattle.acd_sqlbook.specs.Noting.{followed}
 use Rattle.acd_sqlbook.specs.State.{book_state}
 use Rattle.sqlite.specs.State.{State}
 use Rattle.acd_desk.specs.declared.taken.Taken.{Taken}
-use Rattle.acd_reports.specs.QueueReport.{queue_report}
 use Rattle.acd_desk.specs.Standing.{Standing}
 use Rattle.acd_desk.specs.Stands.{IsSound}
-use Rattle.acd_desk.specs.Told.{Told}
-use Rattle.acd_desk.specs.Tells.{told, report_read, export_read, Rise}
+use Rattle.acd_desk.specs.Tells.{told, export_read, Rise}
 use Rattle.acd_desk.proofs.Rising.{sound_rises}
 use Rattle.acd_desk.specs.Opening.{Opened}
 use Rattle.acd_desk.specs.Ran.{Ran, IsFault}
 use Rattle.acd_desk.proofs.Sessions.{session_ran}
 use Rattle.acd_lines.specs.Lines.{LinesAnswered, AllRequests, RequestsAnswered}
 use Rattle.acd_lines.proofs.Weaker.{requests_so}
-use Rattle.acd_program.specs.declared.desk.Telling.{Telling}
-use Rattle.acd_program.specs.declared.desk.Telling.TheVariants.{Report, Export}
-use Rattle.acd_program.specs.declared.desk.BookWork.{BookWork}
-use Rattle.acd_program.specs.declared.desk.BookWork.TheVariants.{Import, Tell, Audit}
+use Rattle.acd_program.specs.declared.desk.Telling.TheVariants.{Export}
+use Rattle.acd_program.specs.declared.desk.Work.{Work}
+use Rattle.acd_program.specs.declared.desk.Work.TheVariants.{Import, Tell, Audit}
 use Rattle.acd_program.specs.declared.desk.Done.{Done}
 use Rattle.acd_program.specs.declared.desk.Done.TheVariants as left
 use Rattle.acd_program.specs.Found.{IsFindingOf}
-use Rattle.acd_program.specs.Work.{ImportsOver, TellsOver, IsFindingIfOrdered, IsTextOf, AuditsOver, BookDone, telling_text, text_left, status_left}
+use Rattle.acd_program.specs.Work.{ImportsOver, IsFindingIfOrdered, IsTextOf, AuditsOver, WorkDone, telling_text}
 use Rattle.acd_program.specs.Over.{IsSession, OverConnection, held, unmade}
 use Rattle.acd_program.specs.Taking.{IsOf, IsTaken}
-use Rattle.acd_program.proofs.InFiles.{over_so}
 use Rattle.acd_program.proofs.Over.{session_of}
-use Rattle.acd_program.proofs.Asking.{asked_by, asked_so, asked_of, asked_in_order}
+use Rattle.acd_program.proofs.Asking.{asked_of, asked_in_order}
 
 pub imports_over : (old : BookState) (d e : Standing) (requests : List Request) (before behind : Option (List ℕ)) → Opened old d
     → LinesAnswered (AllRequests requests) (RequestsAnswered (λ (l : List Arrival) (ts : List Taken). Ran d l ts e)) (Appends before behind) → ImportsOver requests old before behind e.book
@@ -52,7 +47,7 @@ audits_of counts old mid new (left.Told text) of h = h
 audits_of counts old mid new (left.Audited found) of h = (h.0, asked_in_order old mid new found of h.1)
 
 -- the work over a book that came of another
-pub work_of : (work : BookWork) (old mid new : BookState) (before behind : Option (List ℕ)) (done : Done) → IsOf old mid → BookDone IsFindingIfOrdered work mid before behind done new → BookDone IsFindingOf work old before behind done new
+pub work_of : (work : Work) (old mid new : BookState) (before behind : Option (List ℕ)) (done : Done) → IsOf old mid → WorkDone IsFindingIfOrdered work mid before behind done new → WorkDone IsFindingOf work old before behind done new
 work_of (Import requests) old mid new before behind done of h = (imports_of old mid new requests.now before behind of h.0, h.1)
 work_of (Tell telling) old mid new before behind done of h = (record { asked = asked_of old mid new _ (IsTextOf telling) of h.0.asked; status = h.0.status }, h.1)
 work_of (Audit counts) old mid new before behind done of h = (audits_of counts old mid new done of h.0, h.1)
@@ -66,9 +61,9 @@ export_text c text h whole = h (sound_rises c whole)
 -- ---- over a connection
 
 -- the work over the book that the database held, or over a new one
-pub database_done : {E : Type 0} (r : Result Done E) (work : BookWork) (makes : Bool) (s t : State) (mid : BookState) (noted : Notes) (failures : ℕ) (before behind : Option (List ℕ)) → IsTaken makes s mid
-    → IfOk r (λ (d : Done). BookDone IsFindingIfOrdered work mid before behind d (followed noted (book_state t failures)))
-    → IfOk r (λ (d : Done). OverConnection (λ (old new : BookState). BookDone IsFindingOf work old before behind d new) makes s t)
+pub database_done : {E : Type 0} (r : Result Done E) (work : Work) (makes : Bool) (s t : State) (mid : BookState) (noted : Notes) (failures : ℕ) (before behind : Option (List ℕ)) → IsTaken makes s mid
+    → IfOk r (λ (d : Done). WorkDone IsFindingIfOrdered work mid before behind d (followed noted (book_state t failures)))
+    → IfOk r (λ (d : Done). OverConnection (λ (old new : BookState). WorkDone IsFindingOf work old before behind d new) makes s t)
 database_done (Err e) work makes s t mid noted failures before behind taken h = tt
 database_done (Ok d) work makes s t mid noted failures before behind taken h = (
   failures,
@@ -78,9 +73,3 @@ database_done (Ok d) work makes s t mid noted failures before behind taken h = (
     | inr made ↦ inr (made.0, made.1, work_of work (unmade s) mid (followed noted (book_state t failures)) before behind d made.2 h)
   ],
 )
-
--- lines leave nothing to print
-pub lines_left : {E : Type 0} (r : Result Done E) (P : BookState → BookState → Type 0) (makes : Bool) (s t : State) → OnOk r (OverConnection P makes s t) → IfOk r (λ (d : Done). d ≡ left.Nothing)
-    → IfOk r (λ (d : Done). OverConnection (λ (old new : BookState). P old new × (d ≡ left.Nothing)) makes s t)
-lines_left (Err e) P makes s t h none = tt
-lines_left (Ok d) P makes s t h none = over_so P (λ old new. P old new × (d ≡ left.Nothing)) makes s t (λ old new p. (p, none)) h

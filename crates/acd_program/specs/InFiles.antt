@@ -10,6 +10,7 @@ use Rattle.sqlite.specs.Held.{Held}
 use Rattle.sqlite.specs.Files.{file_state, IsClosed}
 use Rattle.sqlite.specs.Closing.{IsCopied}
 use Rattle.acd_book.specs.State.{BookState}
+use Rattle.acd_program.specs.Found.{IsFindingOf}
 use Rattle.acd_program.specs.Over.{OverConnection}
 use Rattle.acd_program.specs.Work.{WorkDone, text_left, status_left}
 use Rattle.acd_program.specs.declared.desk.Work.{Work}
@@ -25,11 +26,11 @@ module _ {D : Type 0} {g : Ghosts D} where
     pub copied : AreClean g pair.log pair.db → IsCopied conn pair
 
   -- The work was done over the book of the database, which was then laid into its file. What was left of the work was printed behind that.
-  pub record WorkedOver (makes : Bool) (work : Work) (conn : Held (FileStore D g)) (had before behind : Option (List ℕ)) (status : ℕ) : Type 0 where
+  pub record WorkedOver (makes : Bool) (work : Work) (conn : Held (FileStore D g)) (before behind : Option (List ℕ)) (status : ℕ) : Type 0 where
     pub last : Held (FileStore D g)
     pub left : Done
     pub between : Option (List ℕ)
-    pub done : OverConnection (λ (old new : BookState). WorkDone work old had before between left new) makes (file_state conn) (file_state last)
+    pub done : OverConnection (λ (old new : BookState). WorkDone IsFindingOf work old before between left new) makes (file_state conn) (file_state last)
     pub closed : IsLaidIn last
     pub printed : Appends between behind (text_left left)
     pub told : status ≡ status_left left

@@ -1,13 +1,15 @@
+pub mod Faults
 pub mod Answered
 pub mod Statuses
 pub mod Over
 pub mod Taking
-pub mod Endings
 pub mod Found
 pub mod Work
 pub mod InFiles
 pub mod Files
+pub mod Desks
 pub mod Serving
-pub mod ReadsAnswered
+pub mod LinesOver
+pub mod Sessions
 pub mod Tasks
 pub mod Names

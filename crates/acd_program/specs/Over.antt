@@ -13,26 +13,12 @@ use Rattle.acd_sql_columns.specs.Schema.{no_schema}
 use Rattle.acd_sqlbook.specs.declared.notes.Notes.{Notes}
 use Rattle.acd_sqlbook.specs.Noting.{followed}
 use Rattle.acd_sqlbook.specs.State.{book_state}
-use Rattle.acd_desk.specs.declared.open_fault.OpenFault.{OpenFault}
 use Rattle.acd_desk.specs.declared.taken.Taken.{Taken}
 use Rattle.acd_desk.specs.declared.taken.Taken.TheVariants.{StoreFault}
 use Rattle.acd_desk.specs.Ran.{IsFault}
 use Rattle.acd_desk.specs.Session.{Session}
 use Rattle.acd_lines.specs.Lines.{LinesAnswered, AllLines, ArrivalsAnswered}
 use Rattle.acd_program.specs.Answered.{nothing}
-use Rattle.acd_program.specs.declared.session.BookLinesFault.{BookLinesFault}
-use Rattle.acd_program.specs.declared.session.BookLinesFault.TheVariants.{Open, Lines, Store}
-
-abbrev pub IsOpenFault : OpenFault → BookLinesFault → Type 0
-IsOpenFault why fault = fault ≡ Open why
-
-abbrev pub IsLinesFault : BookLinesFault → Type 0
-IsLinesFault (Open why) = ⊥
-IsLinesFault (Lines why) = ⊤
-IsLinesFault Store = ⊥
-
-abbrev pub IsStoreFailed : BookLinesFault → Type 0
-IsStoreFailed fault = fault ≡ Store
 
 -- the answers to arrivals that are a session, from a book to what it is then
 abbrev pub IsSession : BookState → BookState → List Arrival → List Taken → Type 0

@@ -11,14 +11,12 @@ use Rattle.acd_desk.specs.Stands.{IsSound}
 use Rattle.acd_lines.specs.Lines.{LinesAnswered, AllRequests, RequestsAnswered}
 use Rattle.acd_program.specs.Found.{IsFindingOf, HasCount, finding_line}
 use Rattle.acd_program.specs.Statuses.{finding_status}
-use Rattle.acd_program.specs.Over.{AnswersOver, IsSession}
+use Rattle.acd_program.specs.Over.{IsSession}
 use Rattle.acd_program.specs.declared.auditing.Finding.{Finding}
 use Rattle.acd_program.specs.declared.desk.Telling.{Telling}
 use Rattle.acd_program.specs.declared.desk.Telling.TheVariants.{Report, Export}
-use Rattle.acd_program.specs.declared.desk.BookWork.{BookWork}
-use Rattle.acd_program.specs.declared.desk.BookWork.TheVariants.{Import, Tell, Audit}
 use Rattle.acd_program.specs.declared.desk.Work.{Work}
-use Rattle.acd_program.specs.declared.desk.Work.TheVariants.{Lines, Book}
+use Rattle.acd_program.specs.declared.desk.Work.TheVariants.{Import, Tell, Audit}
 use Rattle.acd_program.specs.declared.desk.Done.{Done}
 use Rattle.acd_program.specs.declared.desk.Done.TheVariants.{Nothing, Told, Audited}
 
@@ -75,15 +73,10 @@ abbrev pub ImportsOver : List Request → BookState → Option (List ℕ) → Op
 ImportsOver requests old before behind new = LinesAnswered (AllRequests requests) (RequestsAnswered (IsSession old new)) (Appends before behind)
 
 -- the work was done; only what isn't printed behind it is written
-abbrev pub BookDone : (Content → Finding → Type 0) → BookWork → BookState → Option (List ℕ) → Option (List ℕ) → Done → BookState → Type 0
-BookDone IsAnswer (Import requests) old before behind done new = ImportsOver requests.now old before behind new × (done ≡ Nothing)
-BookDone IsAnswer (Tell telling) old before behind done new = TellsOver telling old done new × (behind ≡ before)
-BookDone IsAnswer (Audit counts) old before behind done new = AuditsOver IsAnswer counts old done new × (behind ≡ before)
-
--- the same over the book of a database, whose records stand in order
-abbrev pub WorkDone : Work → BookState → Option (List ℕ) → Option (List ℕ) → Option (List ℕ) → Done → BookState → Type 0
-WorkDone (Lines ends_on_store_fault) old had before behind done new = AnswersOver ends_on_store_fault old had before behind new × (done ≡ Nothing)
-WorkDone (Book work) old had before behind done new = BookDone IsFindingOf work old before behind done new
+abbrev pub WorkDone : (Content → Finding → Type 0) → Work → BookState → Option (List ℕ) → Option (List ℕ) → Done → BookState → Type 0
+WorkDone IsAnswer (Import requests) old before behind done new = ImportsOver requests.now old before behind new × (done ≡ Nothing)
+WorkDone IsAnswer (Tell telling) old before behind done new = TellsOver telling old done new × (behind ≡ before)
+WorkDone IsAnswer (Audit counts) old before behind done new = AuditsOver IsAnswer counts old done new × (behind ≡ before)
 
 -- the work ended, so did the closing of its file, and what was left of it is printed
 pub record IsPrinted {F : Type 0} (done : Result Done F) (closed : Result (Unit {0}) F) (before behind : Option (List ℕ)) (status : ℕ) : Type 0 where

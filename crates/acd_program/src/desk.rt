@@ -5,11 +5,12 @@ ghost use Rattle.sqlite.specs.Held.{state};
 ghost use Rattle.acd_desk.specs.Stands.{IsSound};
 ghost use Rattle.acd_desk.specs.Told.{DeskTold};
 ghost use Rattle.acd_desk.specs.Tells.{told};
-ghost use Rattle.acd_program.specs.Over.{AnswersOver, OverConnection};
-ghost use Rattle.acd_program.specs.Work.{telling_text, text_left, status_left, ImportsOver, TellsOver, AuditsOver, IsFindingIfOrdered, BookDone, WorkDone};
+ghost use Rattle.acd_program.specs.Found.{IsFindingOf};
+ghost use Rattle.acd_program.specs.Over.{OverConnection};
+ghost use Rattle.acd_program.specs.Work.{telling_text, text_left, status_left, ImportsOver, TellsOver, AuditsOver, IsFindingIfOrdered, WorkDone};
 
 use crate::auditing::{Finding, audited};
-use crate::connection::{book_over, lines_over_connection};
+use crate::connection::book_over;
 use crate::fault::Fault;
 use crate::progress::{Progress, Watched};
 use acd_book::Book;
@@ -18,20 +19,11 @@ use acd_lines::import;
 use acd_terms::Request;
 use sqlite::{Alter, Connection};
 use std::alloc::Global;
-use std::io::{Read, Write};
-
-/// What is done over a database.
-#[derive(Clone, Copy)]
-pub(crate) enum Work<'w> {
-    /// Answer the lines of an input.
-    Lines { ends_on_store_fault: bool },
-    /// What is done over its book.
-    Book(BookWork<'w>),
-}
+use std::io::Write;
 
 /// What is done over a book.
 #[derive(Clone, Copy)]
-pub(crate) enum BookWork<'w> {
+pub(crate) enum Work<'w> {
     /// Take the requests of a plan.
     Import(&'w [Request]),
     /// Tell of its desk.
@@ -135,72 +127,36 @@ fn audit<'a, B: Book>(
 fn over_book<'a, B: Book, W: Write>(
     rt: &HostRuntime,
     book: B,
-    work: BookWork<'_>,
+    work: Work<'_>,
     writer: &mut W,
 ) -> (Result<Done, Fault<'a>>, B)
     ensures { IfOk result.0
-        (λ done. BookDone IsFindingIfOrdered work.entry (B.state book) (W.contents writer.old)
+        (λ done. WorkDone IsFindingIfOrdered work.entry (B.state book) (W.contents writer.old)
         (W.contents writer.new) done (B.state result.1)) }
 {
     match work {
-        BookWork::Import(requests) => imported(rt.alloc(), book, requests, writer),
-        BookWork::Tell(telling) => told(rt.alloc(), book, telling),
-        BookWork::Audit { counts } => {
+        Work::Import(requests) => imported(rt.alloc(), book, requests, writer),
+        Work::Tell(telling) => told(rt.alloc(), book, telling),
+        Work::Audit { counts } => {
             audit(rt.alloc(), Watched::new(book, Progress::new(rt)), counts)
         }
     }
 }
 
-fn lines_over<'a, S: Alter, R: Read, W: Write>(
-    alloc: Global,
-    conn: Connection<S>,
-    makes: bool,
-    ends_on_store_fault: bool,
-    reader: &mut R,
-    writer: &mut W,
-) -> (Result<Done, Fault<'a>>, Connection<S>)
-    requires { conn.in_transaction ≡ false }
-    ensures over { OnOk result.0
-        (OverConnection (λ old new. AnswersOver ends_on_store_fault old (R.remaining reader.old)
-        (W.contents writer.old) (W.contents writer.new) new) makes (state S.Store conn)
-        (state S.Store result.1)) }
-    ensures nothing { IfOk result.0 (λ done. done ≡ Done.Nothing) }
-{
-    let (done, conn) = lines_over_connection(
-        alloc,
-        conn,
-        makes,
-        ends_on_store_fault,
-        reader,
-        writer,
-    );
-    match done {
-        Ok(()) => (Ok(Done::Nothing), conn),
-        Err(fault) => (Err(Fault::from(fault)), conn),
-    }
-}
-
 /// Does it over the database, with a new book where it has no tables and one is to be made.
-pub(crate) fn over_database<'a, S: Alter, R: Read, W: Write>(
+pub(crate) fn over_database<'a, S: Alter, W: Write>(
     rt: &HostRuntime,
     conn: Connection<S>,
     makes: bool,
     work: Work<'_>,
-    reader: &mut R,
     writer: &mut W,
 ) -> (Result<Done, Fault<'a>>, Connection<S>)
     requires { conn.in_transaction ≡ false }
     ensures { IfOk result.0
         (λ done. OverConnection
-        (λ old new. WorkDone work.entry old (R.remaining reader.old) (W.contents writer.old)
+        (λ old new. WorkDone IsFindingOf work.entry old (W.contents writer.old)
         (W.contents writer.new) done new) makes (state S.Store conn) (state S.Store result.1)) }
 {
-    let work = match work {
-        Work::Lines {
-            ends_on_store_fault,
-        } => return lines_over(rt.alloc(), conn, makes, ends_on_store_fault, reader, writer),
-        Work::Book(work) => work,
-    };
     let book = match book_over(rt.alloc(), conn, makes) {
         Ok(book) => book,
         Err((fault, conn)) => return (Err(Fault::from(fault)), conn),

@@ -3,8 +3,6 @@
 ghost use Rattle.std.specs.Prelude.{◌≡◌};
 ghost use Rattle.acd_program.specs.Names.{table_name, rule_name};
 
-use crate::connection::ConnectionFault;
-use crate::session::BookLinesFault;
 use acd_book::BookFault;
 use acd_desk::{DeskFault, OpenFault};
 use acd_io::Stopped;
@@ -17,7 +15,7 @@ use thiserror::Error;
 
 /// Why a command did not do what it was asked, as it is printed.
 #[derive(Clone, Copy, Debug, Error)]
-pub(crate) enum Fault<'a> {
+pub enum Fault<'a> {
     /// The file or the plan at this path is not there, can't be read, or is no database.
     #[error("cannot open {0}")]
     CannotOpen(&'a str),
@@ -27,12 +25,12 @@ pub(crate) enum Fault<'a> {
     /// The version of the file's tables, or 0 where it has none.
     #[error("wrong version {0}")]
     WrongVersion(u64),
-    /// The name of a table of the file with a value that is out of its range.
-    #[error("bad row in {0}")]
-    BadRow(&'static str),
-    /// The name of the first rule that the rows of the file break.
-    #[error("bad rows: {0}")]
-    BadRows(&'static str),
+    /// A table of the file with a value that is out of its range.
+    #[error("bad row in {name}", name = table_name(*.0))]
+    BadRow(Table),
+    /// The first rule that the rows of the file break.
+    #[error("bad rows: {name}", name = rule_name(*.0))]
+    BadRows(Rule),
     #[error("no memory")]
     NoMemory,
     #[error("store fault")]
@@ -89,18 +87,33 @@ fn rule_name(rule: Rule) -> &'static str
 }
 
 impl<'a> From<AllocError> for Fault<'a> {
+    ghost use Rattle.std.specs.Prelude.{◌≡◌};
+    ghost use Rattle.acd_program.specs.declared.fault.Fault.TheVariants.{NoMemory};
+
+    ghost from_gives = { λ _ fault. fault ≡ NoMemory };
+
     fn from(_: AllocError) -> Fault<'a> {
         Fault::NoMemory
     }
 }
 
 impl<'a> From<Stopped> for Fault<'a> {
+    ghost use Rattle.std.specs.Prelude.{◌≡◌};
+    ghost use Rattle.acd_program.specs.declared.fault.Fault.TheVariants.{Write};
+
+    ghost from_gives = { λ _ fault. fault ≡ Write };
+
     fn from(_: Stopped) -> Fault<'a> {
         Fault::Write
     }
 }
 
 impl<'a> From<BookFault> for Fault<'a> {
+    ghost use Rattle.std.specs.Prelude.{◌≡◌};
+    ghost use Rattle.acd_program.specs.Faults.{book_fault};
+
+    ghost from_gives = { λ why fault. fault ≡ book_fault why };
+
     fn from(fault: BookFault) -> Fault<'a> {
         match fault {
             BookFault::NoMemory => Fault::NoMemory,
@@ -110,10 +123,15 @@ impl<'a> From<BookFault> for Fault<'a> {
 }
 
 impl<'a> From<AdoptFault> for Fault<'a> {
+    ghost use Rattle.std.specs.Prelude.{◌≡◌};
+    ghost use Rattle.acd_program.specs.Faults.{adopt_fault};
+
+    ghost from_gives = { λ why fault. fault ≡ adopt_fault why };
+
     fn from(fault: AdoptFault) -> Fault<'a> {
         match fault {
             AdoptFault::WrongVersion(version) => Fault::WrongVersion(version),
-            AdoptFault::BadRow(table) => Fault::BadRow(table_name(table)),
+            AdoptFault::BadRow(table) => Fault::BadRow(table),
             AdoptFault::NoMemory => Fault::NoMemory,
             AdoptFault::Store => Fault::Store,
         }
@@ -121,9 +139,14 @@ impl<'a> From<AdoptFault> for Fault<'a> {
 }
 
 impl<'a> From<OpenFault> for Fault<'a> {
+    ghost use Rattle.std.specs.Prelude.{◌≡◌};
+    ghost use Rattle.acd_program.specs.Faults.{open_fault};
+
+    ghost from_gives = { λ why fault. fault ≡ open_fault why };
+
     fn from(fault: OpenFault) -> Fault<'a> {
         match fault {
-            OpenFault::Rows(rule) => Fault::BadRows(rule_name(rule)),
+            OpenFault::Rows(rule) => Fault::BadRows(rule),
             OpenFault::NoMemory => Fault::NoMemory,
             OpenFault::Store => Fault::Store,
         }
@@ -131,6 +154,11 @@ impl<'a> From<OpenFault> for Fault<'a> {
 }
 
 impl<'a> From<DeskFault> for Fault<'a> {
+    ghost use Rattle.std.specs.Prelude.{◌≡◌};
+    ghost use Rattle.acd_program.specs.Faults.{desk_fault};
+
+    ghost from_gives = { λ why fault. fault ≡ desk_fault why };
+
     fn from(fault: DeskFault) -> Fault<'a> {
         match fault {
             DeskFault::NoMemory => Fault::NoMemory,
@@ -140,6 +168,11 @@ impl<'a> From<DeskFault> for Fault<'a> {
 }
 
 impl<'a> From<LinesFault> for Fault<'a> {
+    ghost use Rattle.std.specs.Prelude.{◌≡◌};
+    ghost use Rattle.acd_program.specs.Faults.{lines_fault};
+
+    ghost from_gives = { λ why fault. fault ≡ lines_fault why };
+
     fn from(fault: LinesFault) -> Fault<'a> {
         match fault {
             LinesFault::Read => Fault::Read,
@@ -149,26 +182,12 @@ impl<'a> From<LinesFault> for Fault<'a> {
     }
 }
 
-impl<'a> From<BookLinesFault> for Fault<'a> {
-    fn from(fault: BookLinesFault) -> Fault<'a> {
-        match fault {
-            BookLinesFault::Open(fault) => Fault::from(fault),
-            BookLinesFault::Lines(fault) => Fault::from(fault),
-            BookLinesFault::Store => Fault::Store,
-        }
-    }
-}
-
-impl<'a> From<ConnectionFault> for Fault<'a> {
-    fn from(fault: ConnectionFault) -> Fault<'a> {
-        match fault {
-            ConnectionFault::Book(fault) => Fault::from(fault),
-            ConnectionFault::Session(fault) => Fault::from(fault),
-        }
-    }
-}
-
 impl<'a> From<PlanFault> for Fault<'a> {
+    ghost use Rattle.std.specs.Prelude.{◌≡◌};
+    ghost use Rattle.acd_program.specs.declared.fault.Fault.TheVariants.{Plan};
+
+    ghost from_gives = { λ why fault. fault ≡ Plan why };
+
     fn from(fault: PlanFault) -> Fault<'a> {
         Fault::Plan(fault)
     }

@@ -1,15 +1,16 @@
 //! A desk in memory, whose replies last as long as the program runs.
 
-ghost use Rattle.std.specs.Prelude.{IfOk, OnOk, OnErr};
-ghost use Rattle.std.specs.Io.KnownBytes.{Appends};
+ghost use Rattle.std.specs.Prelude.{IfOk};
 ghost use Rattle.acd_desk.specs.Ran.{standing};
-ghost use Rattle.acd_lines.specs.Lines.{LinesAnswered, AllLines, FirstLines, ArrivalsAnswered};
-ghost use Rattle.acd_io.specs.Sent.{Begins};
-ghost use Rattle.acd_program.specs.Answered.{in_memory, IsNewDesk, AnsweredFromNothing};
+ghost use Rattle.acd_lines.specs.Input.{asked};
+ghost use Rattle.acd_lines.specs.Lines.{streams};
+ghost use Rattle.acd_lines.specs.Parts.{InTurn};
+ghost use Rattle.acd_program.specs.Answered.{in_memory, IsNewDesk};
+ghost use Rattle.acd_program.specs.LinesOver.{LinesInMemory};
 
 use acd_book::MemoryBook;
 use acd_desk::{Desk, OpenFault};
-use acd_lines::{LinesFault, lines};
+use acd_lines::{Answering, LinesFault, answer_lines};
 use acd_terms::Limits;
 use std::alloc::{AllocError, Global};
 use std::io::{Read, Write};
@@ -30,22 +31,16 @@ pub fn new_desk(alloc: Global) -> Result<Desk<MemoryBook>, AllocError>
 }
 
 /// Answers lines over such a desk.
-pub fn lines_over_memory<R: Read, W: Write>(
+pub fn lines_over_memory<A: Answering<MemoryBook>, R: Read, W: Write>(
     alloc: Global,
+    lines: &mut A,
     reader: &mut R,
     writer: &mut W,
 ) -> Result<(), LinesFault>
-    // one answer line for each line, and the arrivals among them are answered as the abstract desk answers them
-    ensures ok { OnOk result (LinesAnswered (AllLines (R.remaining reader.old))
-        (ArrivalsAnswered AnsweredFromNothing)
-        (Appends (W.contents writer.old) (W.contents writer.new))) }
-    // after any fault, for a beginning of the input
-    ensures stopped { OnErr result (LinesAnswered (FirstLines (R.remaining reader.old))
-        (ArrivalsAnswered AnsweredFromNothing)
-        (Begins (W.contents writer.old) (W.contents writer.new))) }
+    ensures { LinesInMemory (InTurn (asked A.unmarked A.long A.read) A.answers)
+        (streams R.remaining W.contents (reader.old, reader.new) (writer.old, writer.new))
+        result }
 {
-    match new_desk(alloc) {
-        Ok(mut desk) => lines(alloc, &mut desk, reader, writer),
-        Err(AllocError) => Err(LinesFault::NoMemory),
-    }
+    let mut desk = new_desk(alloc)?;
+    answer_lines(alloc, lines, &mut desk, false, reader, writer)
 }

@@ -1,21 +1,29 @@
 //! The program over three streams.
 
-ghost use Rattle.std.specs.Prelude.{◌≡◌, ◌≢◌, ◌≤◌, ◌⊎◌, false, IfOk, OnOk};
+ghost use Rattle.std.specs.Prelude.{◌≡◌, ◌≢◌, ◌≤◌, ◌⊎◌, false, Ok, IfOk, OnOk};
 ghost use Rattle.sqlite_std_file.specs.File.{IsFresh};
+ghost use Rattle.acd_lines.specs.Lines.{streams};
+ghost use Rattle.acd_program.specs.Answered.{in_memory};
+ghost use Rattle.acd_program.specs.Desks.{OverNewDesk};
+ghost use Rattle.acd_program.specs.LinesOver.{in_turn, Whole};
 ghost use Rattle.acd_program.specs.Statuses.{IsDone, fault_status, TellsConnections};
 ghost use Rattle.acd_program.specs.Work.{IsPrinted};
 ghost use Rattle.acd_program.specs.InFiles.{WorkedOver};
-ghost use Rattle.acd_program.specs.Tasks.{WorkedIn, LinesDone, ReadIn, ReadingLinesDone, ImportedIn, ServedIn, TaskDone, SomeTaskDone};
+ghost use Rattle.acd_program.specs.Tasks.{WorkedIn, FileAnswered, InputAnswered, ImportedIn, ServedIn, TaskDone, SomeTaskDone};
 
-use crate::desk::{BookWork, Done, Work, over_database};
+use crate::connection::database_lines;
+use crate::desk::{Done, Work, over_database};
 use crate::fault::Fault;
 use crate::file::{close_connection, connect};
 use crate::memory::lines_over_memory;
 use crate::plan::read_plan;
 use crate::printing::print;
-use crate::reading_lines::{reading_lines_over_connection, reading_lines_over_memory};
 use crate::serving::serve;
 use crate::task::{Task, parse};
+use acd_book::MemoryBook;
+use acd_http::RequestsAndReads;
+use acd_lines::laws::requests_run;
+use acd_lines::{LinesFault, Requests};
 use clap::Error;
 use clap::error::ErrorKind;
 use sqlite::{Connection, FileFrom, FileStore};
@@ -33,42 +41,87 @@ const REFUSED: u8 = 2;
 
 const OPEN_ELSEWHERE: u8 = 4;
 
+// What ended the work goes before what closing its file met.
+fn done_and_closed<'a>(
+    done: Result<(), Fault<'a>>,
+    closed: Result<(), Fault<'a>>,
+) -> Result<(), Fault<'a>>
+    ensures { OnOk result ((done.entry ≡ Ok tt) × (closed.entry ≡ Ok tt)) }
+{
+    done?;
+    closed?;
+    Ok(())
+}
+
 // Does it over the database, closes it into its file, and prints what is left.
-fn work_over<'a, D: Disk + Drop, R: Read, W: Write>(
+fn work_over<'a, D: Disk + Drop, W: Write>(
     rt: &HostRuntime,
     conn: Connection<FileStore<D>>,
     makes: bool,
     work: Work<'_>,
-    reader: &mut R,
     writer: &mut W,
 ) -> Result<u8, Fault<'a>>
     requires { conn.in_transaction ≡ false }
     ensures known { IfOk result IsDone }
     ensures worked { IfOk result
-        (λ status. WorkedOver makes work.entry conn (R.remaining reader.old) (W.contents writer.old)
+        (λ status. WorkedOver makes work.entry conn (W.contents writer.old)
         (W.contents writer.new) status) }
 {
-    let (done, conn) = over_database(rt, conn, makes, work, reader, writer);
+    let (done, conn) = over_database(rt, conn, makes, work, writer);
     print_done(done, close_connection(conn), writer)
 }
 
 // Does it over the file.
-fn work_in<'a, S: Start, R: Read, W: Write>(
+fn work_in<'a, S: Start, W: Write>(
     rt: &HostRuntime,
     start: S,
     file: &'a str,
     makes: bool,
     work: Work<'_>,
-    reader: &mut R,
     writer: &mut W,
 ) -> Result<u8, Fault<'a>>
     ensures known { IfOk result IsDone }
     ensures worked { IfOk result
         (λ status. WorkedIn ⟦<FileFrom<S> as Disk>⟧ IsFresh makes work.entry
-        (R.remaining reader.old) (W.contents writer.old) (W.contents writer.new) status) }
+        (W.contents writer.old) (W.contents writer.new) status) }
 {
     let (conn, is_new) = connect(rt, file, makes, start)?;
-    work_over(rt, conn, is_new, work, reader, writer)
+    work_over(rt, conn, is_new, work, writer)
+}
+
+// Answers the lines of the input over the file.
+fn lines_in<'a, S: Start, R: Read, W: Write>(
+    rt: &HostRuntime,
+    start: S,
+    file: &'a str,
+    reads: bool,
+    ends: bool,
+    reader: &mut R,
+    writer: &mut W,
+) -> Result<(), Fault<'a>>
+    ensures { OnOk result (FileAnswered ⟦<FileFrom<S> as Disk>⟧ IsFresh reads ends
+        (streams R.remaining W.contents (reader.old, reader.new) (writer.old, writer.new))) }
+{
+    let (conn, is_new) = connect(rt, file, true, start)?;
+    let (done, conn) = database_lines(rt.alloc(), conn, is_new, reads, ends, reader, writer);
+    done_and_closed(done, close_connection(conn))
+}
+
+// The same over a desk in memory.
+fn lines_in_memory<R: Read, W: Write>(
+    alloc: Global,
+    reads: bool,
+    reader: &mut R,
+    writer: &mut W,
+) -> Result<(), LinesFault>
+    ensures { OnOk result (OverNewDesk (Whole in_memory (in_turn reads in_memory) false
+        (streams R.remaining W.contents (reader.old, reader.new) (writer.old, writer.new)))) }
+{
+    if reads {
+        let mut lines = RequestsAndReads::new(alloc)?;
+        return lines_over_memory(alloc, &mut lines, reader, writer);
+    }
+    lines_over_memory(alloc, &mut Requests::new(alloc), reader, writer)
 }
 
 // Answers the lines of the input, over a desk in memory or in a file.
@@ -76,90 +129,35 @@ fn answer_lines<'a, S: Start, R: Read, W: Write>(
     rt: &HostRuntime,
     start: S,
     file: Option<&'a str>,
-    ends_on_store_fault: bool,
+    reads: bool,
+    ends: bool,
     reader: &mut R,
     writer: &mut W,
 ) -> Result<u8, Fault<'a>>
     ensures known { IfOk result IsDone }
     ensures done { IfOk result
-        (λ status. LinesDone ⟦<FileFrom<S> as Disk>⟧ IsFresh file.entry ends_on_store_fault
-        (R.remaining reader.old) (W.contents writer.old) (W.contents writer.new) status) }
+        (λ status. InputAnswered ⟦<FileFrom<S> as Disk>⟧ IsFresh file.entry reads ends
+        (streams R.remaining W.contents (reader.old, reader.new) (writer.old, writer.new))
+        status) }
 {
     match file {
         None => {
-            lines_over_memory(rt.alloc(), reader, writer)?;
+            requests_run::<MemoryBook>();
+            lines_in_memory(rt.alloc(), reads, reader, writer)?;
             Ok(SUCCESS)
         }
         Some(file) => {
-            let work = Work::Lines {
-                ends_on_store_fault,
-            };
-            work_in(rt, start, file, true, work, reader, writer)
-        }
-    }
-}
-
-// Answers the lines of the input, and the reads among them, over the file.
-fn read_lines_in<'a, S: Start, R: Read, W: Write>(
-    rt: &HostRuntime,
-    start: S,
-    file: &'a str,
-    ends_on_store_fault: bool,
-    reader: &mut R,
-    writer: &mut W,
-) -> Result<(), Fault<'a>>
-    ensures { OnOk result
-        (ReadIn ⟦<FileFrom<S> as Disk>⟧ IsFresh ends_on_store_fault (R.remaining reader.old)
-        (W.contents writer.old) (W.contents writer.new)) }
-{
-    let (conn, is_new) = connect(rt, file, true, start)?;
-    let (done, conn) = reading_lines_over_connection(
-        rt.alloc(),
-        conn,
-        is_new,
-        ends_on_store_fault,
-        reader,
-        writer,
-    );
-    let closed = close_connection(conn);
-    match done {
-        Ok(()) => closed,
-        Err(fault) => Err(fault),
-    }
-}
-
-// The same, over a desk in memory or in a file.
-fn answer_reading_lines<'a, S: Start, R: Read, W: Write>(
-    rt: &HostRuntime,
-    start: S,
-    file: Option<&'a str>,
-    ends_on_store_fault: bool,
-    reader: &mut R,
-    writer: &mut W,
-) -> Result<u8, Fault<'a>>
-    ensures known { IfOk result IsDone }
-    ensures done { IfOk result
-        (λ status. ReadingLinesDone ⟦<FileFrom<S> as Disk>⟧ IsFresh file.entry ends_on_store_fault
-        (R.remaining reader.old) (W.contents writer.old) (W.contents writer.new) status) }
-{
-    match file {
-        None => {
-            reading_lines_over_memory(rt.alloc(), reader, writer)?;
-            Ok(SUCCESS)
-        }
-        Some(file) => {
-            read_lines_in(rt, start, file, ends_on_store_fault, reader, writer)?;
+            lines_in(rt, start, file, reads, ends, reader, writer)?;
             Ok(SUCCESS)
         }
     }
 }
 
-fn import_plan<'a, S: Start, R: Read, W: Write>(
+fn import_plan<'a, S: Start, W: Write>(
     rt: &HostRuntime,
     start: S,
     file: &'a str,
     plan: &'a str,
-    reader: &mut R,
     writer: &mut W,
 ) -> Result<u8, Fault<'a>>
     ensures known { IfOk result IsDone }
@@ -168,8 +166,7 @@ fn import_plan<'a, S: Start, R: Read, W: Write>(
         (W.contents writer.new) status) }
 {
     let requests = read_plan(rt, plan)?;
-    let work = Work::Book(BookWork::Import(&requests));
-    work_in(rt, start, file, true, work, reader, writer)
+    work_in(rt, start, file, true, Work::Import(&requests), writer)
 }
 
 fn serve_file<'a, S: Start, W: Write, E: Write>(
@@ -187,11 +184,7 @@ fn serve_file<'a, S: Start, W: Write, E: Write>(
 {
     let (conn, is_new) = connect(rt, file, true, start)?;
     let (done, conn) = serve(rt, conn, is_new, port, connections, writer, errors);
-    let closed = close_connection(conn);
-    match done {
-        Ok(()) => closed,
-        Err(fault) => Err(fault),
-    }
+    done_and_closed(done, close_connection(conn))
 }
 
 // What ended the work goes before what printing met, and that before what closing the file found.
@@ -205,14 +198,10 @@ fn print_done<'a, W: Write>(
         (λ status. IsPrinted done.entry closed.entry (W.contents writer.old) (W.contents writer.new)
         status) }
 {
-    match done {
-        Ok(left) => {
-            let status = print(&left, writer)?;
-            closed?;
-            Ok(status)
-        }
-        Err(fault) => Err(fault),
-    }
+    let left = done?;
+    let status = print(&left, writer)?;
+    closed?;
+    Ok(status)
 }
 
 // Does it, and gives the exit status where no fault ended it.
@@ -227,22 +216,17 @@ fn execute<'a, S: Start, R: Read, W: Write, E: Write>(
     ensures known { IfOk result IsDone }
     // what the words asked for was done
     ensures done { IfOk result
-        (λ status. TaskDone ⟦<FileFrom<S> as Disk>⟧ IsFresh task.entry (R.remaining reader.old)
-        (W.contents writer.old) (W.contents writer.new) (E.contents errors.old)
-        (E.contents errors.new) status) }
+        (λ status. TaskDone ⟦<FileFrom<S> as Disk>⟧ IsFresh task.entry
+        (streams R.remaining W.contents (reader.old, reader.new) (writer.old, writer.new))
+        (E.contents errors.old) (E.contents errors.new) status) }
     ensures told { IfOk result
         (λ status. (errors.new ≡ errors.old)
         ⊎ ((status ≡ 0) × TellsConnections (E.contents errors.old) (E.contents errors.new))) }
 {
     match task {
-        Task::Lines {
-            file,
-            ends_on_store_fault,
-        } => answer_lines(rt, start, file, ends_on_store_fault, reader, writer),
-        Task::ReadingLines {
-            file,
-            ends_on_store_fault,
-        } => answer_reading_lines(rt, start, file, ends_on_store_fault, reader, writer),
+        Task::Lines { file, reads, ends } => {
+            answer_lines(rt, start, file, reads, ends, reader, writer)
+        }
         Task::Serve {
             file,
             port,
@@ -251,10 +235,8 @@ fn execute<'a, S: Start, R: Read, W: Write, E: Write>(
             serve_file(rt, start, file, port, connections, writer, errors)?;
             Ok(SUCCESS)
         }
-        Task::Import { file, plan } => import_plan(rt, start, file, plan, reader, writer),
-        Task::Read { file, work } => {
-            work_in(rt, start, file, false, Work::Book(work), reader, writer)
-        }
+        Task::Import { file, plan } => import_plan(rt, start, file, plan, writer),
+        Task::Read { file, work } => work_in(rt, start, file, false, work, writer),
     }
 }
 
@@ -314,8 +296,8 @@ pub fn program<S: AsStr, R: Read, W: Write, E: Write>(
     // such a status is that of a task which was done so, or help was asked for, and nothing was read
     ensures done { IsDone result
         → ((result ≡ 0) × (reader.new ≡ reader.old) × (errors.new ≡ errors.old))
-        ⊎ SomeTaskDone ⟦<FileFrom<Unknown> as Disk>⟧ IsFresh (R.remaining reader.old)
-        (W.contents writer.old) (W.contents writer.new)
+        ⊎ SomeTaskDone ⟦<FileFrom<Unknown> as Disk>⟧ IsFresh
+        (streams R.remaining W.contents (reader.old, reader.new) (writer.old, writer.new))
         (E.contents errors.old) (E.contents errors.new) result }
 {
     let task = match parse(rt.alloc(), words) {

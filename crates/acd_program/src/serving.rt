@@ -5,10 +5,12 @@ ghost use Rattle.sqlite.specs.Held.{state};
 ghost use Rattle.acd_desk.specs.Standing.{standing};
 ghost use Rattle.acd_io.specs.Sent.{Begins};
 ghost use Rattle.acd_http.specs.Listening.{ServedAll, ServedUntilFailed, ServedFor};
-ghost use Rattle.acd_program.specs.Serving.{ServesOver, ServesDatabase};
+ghost use Rattle.acd_program.specs.Desks.{OverDesk, OverDatabase, in_database};
+ghost use Rattle.acd_program.specs.Serving.{Served};
 
 use crate::connection::book_over;
 use crate::fault::Fault;
+use crate::session::unless_failed;
 use acd_book::Book;
 use acd_desk::Desk;
 use acd_http::{ServeFault, serve_on, serve_until_failed};
@@ -56,16 +58,6 @@ fn answer_some<'a, B: Book, E: Write>(
         Err(ServeFault::Write) => Ok(()),
         Err(ServeFault::NoMemory) => Err(Fault::NoMemory),
     }
-}
-
-/// That the store has failed is a fault of the command.
-pub(crate) fn unless_failed<'a, B: Book>(desk: &Desk<B>) -> Result<(), Fault<'a>>
-    ensures { OnOk result ((standing B.Book desk.now).failed ≡ false) }
-{
-    if desk.has_failed() {
-        return Err(Fault::Store);
-    }
-    Ok(())
 }
 
 // Answers connections until the store has failed, so that whoever started the command may start it again.
@@ -132,8 +124,8 @@ fn serve_book<'a, B: Book, W: Write, E: Write>(
     errors: &mut E,
 ) -> (Result<(), Fault<'a>>, B)
     ensures { OnOk result.0
-        (ServesOver B.Book (B.state book) connections (E.contents errors.old)
-        (E.contents errors.new) result.1) }
+        (OverDesk B.Book (Served B.Book connections (E.contents errors.old)
+        (E.contents errors.new)) (B.state book) result.1) }
 {
     let mut desk = match Desk::open(rt.alloc(), book) {
         Ok(desk) => desk,
@@ -157,8 +149,8 @@ pub(crate) fn serve<'a, S: Alter, W: Write, E: Write>(
     requires { conn.in_transaction ≡ false }
     ensures idle { result.1.in_transaction ≡ false }
     ensures served { OnOk result.0
-        (ServesDatabase S.Store makes connections (state S.Store conn) (E.contents errors.old)
-        (E.contents errors.new) result.1) }
+        (OverDatabase S.Store makes (Served (in_database S.Store) connections
+        (E.contents errors.old) (E.contents errors.new)) (state S.Store conn) result.1) }
 {
     let book = match book_over(rt.alloc(), conn, makes) {
         Ok(book) => book,

@@ -1,6 +1,6 @@
 //! What a command line asks for.
 
-use crate::desk::{BookWork, Telling};
+use crate::desk::{Telling, Work};
 use clap::builder::ValueParser;
 use clap::error::ErrorKind;
 use clap::{Arg, ArgAction, ArgGroup, ArgMatches, Command, Error};
@@ -10,15 +10,12 @@ use std::convert::AsStr;
 /// What a command line asks for, with the paths that it names.
 #[derive(Clone, Copy)]
 pub(crate) enum Task<'a> {
-    /// Answer the lines of standard input, over a desk in memory or in a file.
+    /// Answer the lines of standard input, requests alone or reads too, over a desk in memory or in a file; a storeFault
+    /// may be what ends them.
     Lines {
         file: Option<&'a str>,
-        ends_on_store_fault: bool,
-    },
-    /// The same, where lines may be reads.
-    ReadingLines {
-        file: Option<&'a str>,
-        ends_on_store_fault: bool,
+        reads: bool,
+        ends: bool,
     },
     /// Answer connections over HTTP: so many, or until the store has failed.
     Serve {
@@ -34,12 +31,12 @@ pub(crate) enum Task<'a> {
     /// Print what is told of the desk in a file: the queue report, all event reports, or what an audit finds.
     Read {
         file: &'a str,
-        work: BookWork<'a>,
+        work: Work<'a>,
     },
 }
 
 /// What `acd --version` tells behind the program's name: the version, and the toolchain that proved it.
-const VERSION: &str = "1.8 (rattle-kit-13f)";
+const VERSION: &str = "1.9 (rattle-kit-13f)";
 
 const FILE: &str = "file";
 
@@ -216,17 +213,10 @@ fn all_commands<'a>(alloc: Global) -> Result<Command<'a>, AllocError> {
 }
 
 fn lines_of<'a>(options: &ArgMatches<'a>) -> Task<'a> {
-    let file = options.get_str(FILE);
-    let ends_on_store_fault = options.get_flag(END_ON_STORE_FAULT);
-    if options.get_flag(READS) {
-        return Task::ReadingLines {
-            file,
-            ends_on_store_fault,
-        };
-    }
     Task::Lines {
-        file,
-        ends_on_store_fault,
+        file: options.get_str(FILE),
+        reads: options.get_flag(READS),
+        ends: options.get_flag(END_ON_STORE_FAULT),
     }
 }
 
@@ -246,11 +236,11 @@ fn import_of<'a>(options: &ArgMatches<'a>) -> Option<Task<'a>> {
 }
 
 // What is read of the desk in a file.
-fn reading_of<'a>(command: &str, counts: bool) -> Option<BookWork<'a>> {
+fn reading_of<'a>(command: &str, counts: bool) -> Option<Work<'a>> {
     match command {
-        "report" => Some(BookWork::Tell(Telling::Report)),
-        "export" => Some(BookWork::Tell(Telling::Export)),
-        "audit" => Some(BookWork::Audit { counts }),
+        "report" => Some(Work::Tell(Telling::Report)),
+        "export" => Some(Work::Tell(Telling::Export)),
+        "audit" => Some(Work::Audit { counts }),
         _ => None,
     }
 }
@@ -281,9 +271,8 @@ fn chosen<'a, S: AsStr>(
 /// the help that was asked for.
 pub(crate) fn parse<'a, S: AsStr>(alloc: Global, words: &'a [S]) -> Result<Task<'a>, Error> {
     let mut commands = all_commands(alloc)?;
-    match chosen(&mut commands, words) {
-        Ok(Some(task)) => Ok(task),
-        Ok(None) => Err(commands.error(ErrorKind::MissingSubcommand, "no command")?),
-        Err(error) => Err(error),
+    match chosen(&mut commands, words)? {
+        Some(task) => Ok(task),
+        None => Err(commands.error(ErrorKind::MissingSubcommand, "no command")?),
     }
 }

@@ -1,5 +1,8 @@
 -- Records by a number of theirs.
 use Rattle.std.specs.Prelude.{◌≡◌, ℕ, ◌==◌, List, Option, Some, None, filter}
+use Rattle.std.specs.Borrow.{Bor}
+use Rattle.std.specs.Fn.{Mut, ComputesKey}
+use Rattle.std.specs.List.Sorted.{IsNonDecreasingBy}
 use Rattle.acd_terms.specs.declared.record.GroupRecord.{GroupRecord}
 use Rattle.acd_terms.specs.declared.record.StationRecord.{StationRecord}
 use Rattle.acd_terms.specs.declared.record.CallRecord.{CallRecord}
@@ -17,6 +20,14 @@ HasAllWith number n some all = those_with number n some ≡ those_with number n 
 -- at each number the two lists have the same records, in the same order
 abbrev pub AreGrouped : {T : Type 0} → (T → ℕ) → List T → List T → Type 0
 AreGrouped number sorted xs = (n : ℕ) → HasAllWith number n sorted xs
+
+-- the list in the order of the number that calls of f give; those of one number stay in their order
+abbrev pub IsByNumber : {T F : Type 0} → Mut F (Bor T × Unit {0}) ℕ → F → List T → List T → Type 0
+IsByNumber {T} g f xs sorted = (number : T → ℕ) → ComputesKey g number f → IsNonDecreasingBy number sorted × AreGrouped number sorted xs
+
+-- of a list in that order, those whose number it is
+abbrev pub FindsAll : {T F : Type 0} → Mut F (Bor T × Unit {0}) ℕ → F → ℕ → List T → List T → Type 0
+FindsAll {T} g f wanted sorted found = (number : T → ℕ) → ComputesKey g number f → IsNonDecreasingBy number sorted → found ≡ those_with number wanted sorted
 
 -- the number that may be there, else 0
 abbrev pub number_or_none : Option ℕ → ℕ

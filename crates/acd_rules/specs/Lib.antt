@@ -1,1 +1,2 @@
+pub mod Grouping
 pub mod Groups

@@ -1,70 +1,76 @@
 //! Records that lie together by a number of theirs.
 
-ghost use Rattle.std.specs.Prelude.{◌≡◌, ℕ, List, Some, IfOk};
-ghost use Rattle.std.specs.Option.{option_map};
-ghost use Rattle.std.specs.List.Sorted.{IsNonDecreasingBy};
-ghost use Rattle.acd_rules.specs.Groups.{those_with, HasAllWith, AreGrouped};
+ghost use Rattle.std.specs.Prelude.{◌≡◌, ℕ, IfOk, ltb, leb};
+ghost use Rattle.std.specs.Fn.{ComputesKey};
+ghost use Rattle.acd_rules.specs.Groups.{IsByNumber, FindsAll};
 
 use std::alloc::{AllocError, Global};
 
-/// A number of records by which they are looked up.
-pub trait Column {
-    type Record: Copy;
-
-    ghost number_of: { Self.Record → ℕ };
-
-    fn number(item: &Self::Record) -> u64
-        ensures { result ≡ number_of item.now };
-}
-
 /// A list of records, sorted by a number of theirs where there was memory for that.
 #[derive(Drop)]
-pub struct Grouped<'a, C: Column> {
-    pub whole: &'a [C::Record],
-    sorted: Option<Vec<C::Record>>,
-    ghost in_order: { (xs : List C.Record) → option_map (λ v. v.items) sorted ≡ Some xs
-        → IsNonDecreasingBy C.number_of xs },
-    ghost same: { (xs : List C.Record) → option_map (λ v. v.items) sorted ≡ Some xs
-        → AreGrouped C.number_of xs whole.now },
+pub struct Grouped<'a, T: Copy> {
+    whole: &'a [T],
+    sorted: Option<Vec<T>>,
 }
 
-impl<'a, C: Column> Grouped<'a, C> {
-    /// These records, which may stand in any order.
-    pub fn of(alloc: Global, whole: &'a [C::Record]) -> Self
-        ensures { result.whole.now ≡ whole.now }
+impl<'a, T: Copy> Grouped<'a, T> {
+    ghost use Rattle.acd_rules.specs.Grouping.{IsGrouped, LooksUp};
+
+    /// These records, which may stand in any order, by a number of theirs.
+    pub fn by<F: Fn(&T) -> u64>(alloc: Global, whole: &'a [T], number: F) -> Self
+        requires { F.IsAlwaysCallable number }
+        ensures { (key : T → ℕ) → ComputesKey F.FnMut key number
+            → IsGrouped key whole.now result }
     {
-        let sorted = sorted::<C>(alloc, whole).ok();
+        let sorted = sorted(alloc, whole, number).ok();
         Grouped { whole, sorted }
     }
 
-    /// Those whose number it is, in their order, or all.
-    pub fn with(&self, number: u64) -> &[C::Record]
-        ensures { HasAllWith C.number_of number result.now self.now.whole.now }
+    /// Those whose number it is, in their order, or all. They are asked for by the number that they lie by.
+    pub fn with<F: Fn(&T) -> u64>(&self, wanted: u64, number: F) -> &[T]
+        requires { F.IsAlwaysCallable number }
+        ensures { LooksUp F.FnMut number wanted self.now result.now }
     {
         match &self.sorted {
             None => self.whole,
-            Some(sorted) => alike::<C>(sorted, number),
+            Some(sorted) => alike(sorted, wanted, number),
         }
     }
 }
 
 // The records in the order of their numbers. Those of one number stay in the order of the list.
-fn sorted<C: Column>(alloc: Global, records: &[C::Record]) -> Result<Vec<C::Record>, AllocError>
-    ensures in_order { IfOk result (λ v. IsNonDecreasingBy C.number_of v.items) }
-    ensures same { IfOk result (λ v. AreGrouped C.number_of v.items records.now) }
+fn sorted<T: Copy, F: Fn(&T) -> u64>(
+    alloc: Global,
+    records: &[T],
+    number: F,
+) -> Result<Vec<T>, AllocError>
+    requires { F.IsAlwaysCallable number }
+    ensures { IfOk result (λ v. IsByNumber F.FnMut number records.now v.items) }
 {
     let mut sorted = Vec::from_slice(alloc, records)?;
-    sorted.sort_by_key(|item| C::number(item))?;
+    sorted.sort_by_key(number)?;
     Ok(sorted)
 }
 
 // Those whose number it is.
-fn alike<C: Column>(sorted: &[C::Record], number: u64) -> &[C::Record]
-    requires { IsNonDecreasingBy C.number_of sorted.now }
-    ensures { result.now ≡ those_with C.number_of number sorted.now }
+fn alike<T: Copy, F: Fn(&T) -> u64>(sorted: &[T], wanted: u64, number: F) -> &[T]
+    requires { F.IsAlwaysCallable number }
+    ensures { FindsAll F.FnMut number wanted sorted.now result.now }
 {
-    let from = sorted.partition_point(|item| C::number(item) < number);
+    let from = sorted.partition_point(
+        |item: &T| -> bool
+            requires { F.IsAlwaysCallable number }
+            ensures { (key : T → ℕ) → ComputesKey F.FnMut key number
+                → result ≡ ltb (key item.now) wanted }
+        { number(item) < wanted },
+    );
     let rest = &sorted[from..];
-    let len = rest.partition_point(|item| C::number(item) <= number);
+    let len = rest.partition_point(
+        |item: &T| -> bool
+            requires { F.IsAlwaysCallable number }
+            ensures { (key : T → ℕ) → ComputesKey F.FnMut key number
+                → result ≡ leb (key item.now) wanted }
+        { number(item) <= wanted },
+    );
     &rest[..len]
 }

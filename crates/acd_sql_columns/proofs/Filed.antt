@@ -1,5 +1,5 @@
 -- A table that is as it is described: what its statements and its query do, for any table.
-use Rattle.std.proofs.Common.{◌≡◌, ◌≢◌, ℕ, ◌+◌, ◌/◌, List, [], ◌∷◌, ◌==◌, ◌&&◌, length, map, filter, take, nat_lt, zero, suc, drop, slice_get, Bool, true, false, Option, Some, Ok, refl, sym, ap, subst, subst₂, ◌∙◌}
+use Rattle.std.proofs.Common.{◌≡◌, ◌≢◌, ℕ, ◌+◌, ◌/◌, List, [], ◌∷◌, ◌==◌, ◌&&◌, length, map, filter, take, nat_lt, zero, suc, drop, slice_get, Bool, true, false, Option, Some, Ok, IfSome, refl, sym, ap, subst, subst₂, ◌∙◌}
 use Rattle.std.specs.List.{AllByRecursion, list_all}
 use Rattle.std.proofs.lemmas.List.{take-map}
 use Rattle.std.specs.Option.{is_some}
@@ -65,9 +65,28 @@ columns_given more = col 1 0 ∷ col 1 0 ∷ lit Null ∷ run 1 more
 abbrev pub shown_columns : ℕ → List Term
 shown_columns more = col 1 0 ∷ columns 2 more
 
--- ---- what is owed of a table: each but `casts`, `stored`, `exact`, `held` and `framed` by `refl`
+-- ---- what is owed of a table
 
 module _ {R : Type 0} (d : Description R) where
+  -- a text that shows all rows, in the order of their keys, whatever lies behind these tables, with which the book's begin
+  pub record Selects (base : List MadeTable) (text : List ℕ) : Type 0 where
+    pub begins : BeginsSchema base book_schema
+    pub selects : (rest : List MadeTable) (s : Schema) → command_of (understood (with_behind base rest s) text) ≡ Select (record { lets = []; body = asking d.layout.tree [] (shown_columns (behind d)) by_number no_limit }) (names_of d.layout)
+    pub plain : (rest : List MadeTable) (s : Schema) → IsPlain (understood (with_behind base rest s) text)
+    pub unlisted : (rest : List MadeTable) (s : Schema) → reads_listing (with_behind base rest s) text ≡ false
+
+  -- a text that changes the columns of the row that has a record's key
+  pub record Updates (text : List ℕ) : Type 0 where
+    pub updates : command_of (understood book_schema text) ≡ Update d.place (record { lets = []; body = scan d.layout.tree by_first (columns_given (behind d)) [] })
+    pub plain : IsPlain (understood book_schema text)
+    pub changes : (new r : R) → showing (d.values new) (columns_given (behind d)) (row_of d r) ≡ id_value (d.key r) ∷ id_value (d.key r) ∷ drop 1 (row_of d new)
+
+  -- a text that takes out the row that has a key
+  pub record Deletes (text : List ℕ) : Type 0 where
+    pub deletes : command_of (understood book_schema text) ≡ Delete d.place (record { lets = []; body = scan d.layout.tree by_first (col 1 0 ∷ []) [] })
+    pub plain : IsPlain (understood book_schema text)
+
+  -- the table, each but `casts`, `stored`, `exact`, `held` and `framed` by `refl`
   pub record Filed : Type 0 where
     -- the table, and the text that puts a record
     pub computes : ◌≡◌ {A = Option MadeTable × ℕ × Command} (slice_get book_schema.tables d.place, d.layout.tree, command_of (understood book_schema d.insert))
@@ -90,24 +109,10 @@ module _ {R : Type 0} (d : Description R) where
     pub framed : (rs : List R) (rows : List Row) (old new : Trees) (c : Relations) → AreRows d.key (row_of d) rows rs → Every d.IsRead rs → new d.layout.tree ≡ rows
         → AllByRecursion (λ (u : MadeTable). u.tree ≢ d.layout.tree → new u.tree ≡ old u.tree) book_schema.tables → AreTables old c → AreTables new (d.with_records rs c)
     pub unchanged : (c : Relations) → d.with_records (d.records c) c ≡ c
-
-  -- a text that shows all rows, in the order of their keys, whatever lies behind these tables, with which the book's begin
-  pub record Selects (base : List MadeTable) (text : List ℕ) : Type 0 where
-    pub begins : BeginsSchema base book_schema
-    pub selects : (rest : List MadeTable) (s : Schema) → command_of (understood (with_behind base rest s) text) ≡ Select (record { lets = []; body = asking d.layout.tree [] (shown_columns (behind d)) by_number no_limit }) (names_of d.layout)
-    pub plain : (rest : List MadeTable) (s : Schema) → IsPlain (understood (with_behind base rest s) text)
-    pub unlisted : (rest : List MadeTable) (s : Schema) → reads_listing (with_behind base rest s) text ≡ false
-
-  -- a text that changes the columns of the row that has a record's key
-  pub record Updates (text : List ℕ) : Type 0 where
-    pub updates : command_of (understood book_schema text) ≡ Update d.place (record { lets = []; body = scan d.layout.tree by_first (columns_given (behind d)) [] })
-    pub plain : IsPlain (understood book_schema text)
-    pub changes : (new r : R) → showing (d.values new) (columns_given (behind d)) (row_of d r) ≡ id_value (d.key r) ∷ id_value (d.key r) ∷ drop 1 (row_of d new)
-
-  -- a text that takes out the row that has a key
-  pub record Deletes (text : List ℕ) : Type 0 where
-    pub deletes : command_of (understood book_schema text) ≡ Delete d.place (record { lets = []; body = scan d.layout.tree by_first (col 1 0 ∷ []) [] })
-    pub plain : IsPlain (understood book_schema text)
+    -- the other texts
+    pub updates : IfSome d.update Updates
+    pub deletes : IfSome d.delete Deletes
+    pub selects : IfSome d.select (Selects d.base)
 
   -- a text that shows the first rows above a number, whatever lies behind the nine tables
   pub record Pages (text : List ℕ) : Type 0 where

@@ -36,3 +36,4 @@ pub mod Counters
 pub mod Selected
 pub mod Recorded
 pub mod Further
+pub mod Bounds

@@ -1,5 +1,5 @@
 -- The rows of each kind of record, and the records that are shown of them.
-use Rattle.std.proofs.Common.{◌≡◌, ℕ, Some, refl}
+use Rattle.std.proofs.Common.{◌≡◌, ℕ, Some, refl, rules}
 use Rattle.std.specs.Prelude.{⊤}
 use Rattle.sqlite_value.specs.Order.{Row}
 use Rattle.acd_terms.specs.declared.record.StationRecord.{StationRecord}
@@ -14,35 +14,23 @@ use Rattle.acd_sql_columns.specs.declared.decode.EventValues.{EventValues}
 use Rattle.acd_sql_columns.specs.declared.meta.Meta.{Meta}
 use Rattle.acd_sql_columns.specs.Decoding.{as_priority, as_further, as_group, as_station, as_agent, as_call, as_connection, as_monitor, as_meta}
 use Rattle.acd_sql_columns.specs.Fields.{read_whole, shown_whole, written, Agree}
-use Rattle.acd_sql_columns.specs.Ranges.{priority_in, further_in, group_in, station_in, agent_in, call_in, connection_in, monitor_in, counters_in}
+use Rattle.acd_sql_columns.specs.Ranges.{further_in, connection_in, monitor_in, counters_in}
 use Rattle.acd_sql_columns.specs.Rows.{priority_fields, priority_made, priority_values, further_fields, further_made, further_values, group_fields, group_made, group_values, station_fields, station_made, station_values, agent_fields, agent_made, agent_values, call_fields, call_made, call_values, connection_fields, connection_made, connection_values, monitor_fields, monitor_made, monitor_values, meta_fields, meta_made, meta_shown, event_fields, event_made}
 
-group_agrees : Agree group_fields group_made (λ r. ⊤)
-group_agrees = λ device name ring wrap entered answered abandoned moved waited. (((((((((tt, refl), refl), refl), refl), refl), refl), refl), refl), refl)
-
-pub group_stored : (r : Row) (g : GroupRow) → group_in r ≡ Some g → r ≡ group_values g
-group_stored = row_is_written group_fields group_made group_agrees
-
-pub group_exact : (r : Row) (x y : GroupRow) → group_in r ≡ Some x → r ≡ group_values y → x ≡ y
-group_exact = fields_exact group_fields group_made group_agrees (λ g. refl)
+pub group_agrees : Agree group_fields group_made (λ r. ⊤)
+group_agrees = search rules
 
 pub group_back : (g : GroupRow) → as_group (group_values g) ≡ g
 group_back g = shown_back group_fields group_made g refl
 
-priority_agrees : Agree priority_fields priority_made (λ r. ⊤)
-priority_agrees = λ device priority. ((tt, refl), refl)
-
-pub priority_stored : (r : Row) (p : GroupPriority) → priority_in r ≡ Some p → r ≡ priority_values p
-priority_stored = row_is_written priority_fields priority_made priority_agrees
-
-pub priority_exact : (r : Row) (x y : GroupPriority) → priority_in r ≡ Some x → r ≡ priority_values y → x ≡ y
-priority_exact = fields_exact priority_fields priority_made priority_agrees (λ p. refl)
+pub priority_agrees : Agree priority_fields priority_made (λ r. ⊤)
+priority_agrees = search rules
 
 pub priority_back : (p : GroupPriority) → as_priority (priority_values p) ≡ p
 priority_back p = shown_back priority_fields priority_made p refl
 
 further_agrees : Agree further_fields further_made (λ r. ⊤)
-further_agrees = λ agent group. ((tt, refl), refl)
+further_agrees = search rules
 
 pub further_stored : (r : Row) (p : ℕ × ℕ) → further_in r ≡ Some p → r ≡ further_values p
 further_stored = row_is_written further_fields further_made further_agrees
@@ -53,44 +41,26 @@ further_exact = fields_exact further_fields further_made further_agrees (λ p. r
 pub further_back : (p : ℕ × ℕ) → as_further (further_values p) ≡ p
 further_back p = shown_back further_fields further_made p refl
 
-station_agrees : Agree station_fields station_made (λ r. ⊤)
-station_agrees = λ device. (tt, refl)
-
-pub station_stored : (r : Row) (s : StationRecord) → station_in r ≡ Some s → r ≡ station_values s
-station_stored = row_is_written station_fields station_made station_agrees
-
-pub station_exact : (r : Row) (x y : StationRecord) → station_in r ≡ Some x → r ≡ station_values y → x ≡ y
-station_exact = fields_exact station_fields station_made station_agrees (λ s. refl)
+pub station_agrees : Agree station_fields station_made (λ r. ⊤)
+station_agrees = search rules
 
 pub station_back : (s : StationRecord) → as_station (station_values s) ≡ s
 station_back s = shown_back station_fields station_made s refl
 
-agent_agrees : Agree agent_fields agent_made (λ r. ⊤)
-agent_agrees = λ agent name state pending station group stamp since. ((((((((tt, refl), refl), refl), refl), refl), refl), refl), refl)
-
-pub agent_stored : (r : Row) (a : AgentRow) → agent_in r ≡ Some a → r ≡ agent_values a
-agent_stored = row_is_written agent_fields agent_made agent_agrees
-
-pub agent_exact : (r : Row) (x y : AgentRow) → agent_in r ≡ Some x → r ≡ agent_values y → x ≡ y
-agent_exact = fields_exact agent_fields agent_made agent_agrees (λ a. refl)
+pub agent_agrees : Agree agent_fields agent_made (λ r. ⊤)
+agent_agrees = search rules
 
 pub agent_back : (a : AgentRow) → as_agent (agent_values a) ≡ a
 agent_back a = shown_back agent_fields agent_made a refl
 
-call_agrees : Agree call_fields call_made (λ r. ⊤)
-call_agrees = λ call caller called since. ((((tt, refl), refl), refl), refl)
-
-pub call_stored : (r : Row) (k : CallRecord) → call_in r ≡ Some k → r ≡ call_values k
-call_stored = row_is_written call_fields call_made call_agrees
-
-pub call_exact : (r : Row) (x y : CallRecord) → call_in r ≡ Some x → r ≡ call_values y → x ≡ y
-call_exact = fields_exact call_fields call_made call_agrees (λ k. refl)
+pub call_agrees : Agree call_fields call_made (λ r. ⊤)
+call_agrees = search rules
 
 pub call_back : (k : CallRecord) → as_call (call_values k) ≡ k
 call_back k = shown_back call_fields call_made k refl
 
 connection_agrees : Agree connection_fields connection_made (λ r. ⊤)
-connection_agrees = λ call device state group place queued offered. (((((((tt, refl), refl), refl), refl), refl), refl), refl)
+connection_agrees = search rules
 
 pub connection_stored : (r : Row) (x : ConnectionRecord) → connection_in r ≡ Some x → r ≡ connection_values x
 connection_stored = row_is_written connection_fields connection_made connection_agrees
@@ -102,7 +72,7 @@ pub connection_back : (x : ConnectionRecord) → as_connection (connection_value
 connection_back x = shown_back connection_fields connection_made x refl
 
 monitor_agrees : Agree monitor_fields monitor_made (λ r. ⊤)
-monitor_agrees = λ monitor device after_event. (((tt, refl), refl), refl)
+monitor_agrees = search rules
 
 pub monitor_stored : (r : Row) (w : MonitorRecord) → monitor_in r ≡ Some w → r ≡ monitor_values w
 monitor_stored = row_is_written monitor_fields monitor_made monitor_agrees
@@ -114,7 +84,7 @@ pub monitor_back : (w : MonitorRecord) → as_monitor (monitor_values w) ≡ w
 monitor_back w = shown_back monitor_fields monitor_made w refl
 
 meta_agrees : Agree meta_fields meta_made (λ r. ⊤)
-meta_agrees = λ requests calls groups stations agents monitors stamp moment call monitor event. (((((((((((tt, refl), refl), refl), refl), refl), refl), refl), refl), refl), refl), refl)
+meta_agrees = search rules
 
 pub counters_stored : (r : Row) (m : Meta) → counters_in r ≡ Some m → r ≡ meta_shown m
 counters_stored = row_is_written meta_fields meta_made meta_agrees
@@ -125,10 +95,12 @@ meta_exact = fields_exact meta_fields meta_made meta_agrees (λ m. refl)
 pub meta_back : (m : Meta) → as_meta (meta_shown m) ≡ m
 meta_back m = shown_back meta_fields meta_made m refl
 
+event_agrees : Agree event_fields event_made (λ r. ⊤)
+event_agrees = search rules
+
 -- of an event, before it is asked what its columns say together
 pub values_stored : (r : Row) (v : EventValues) → read_whole event_fields event_made r ≡ Some v → r ≡ written event_fields v
-values_stored =
-    row_is_written event_fields event_made (λ number moment kind device call agent group to cause waited. ((((((((((tt, refl), refl), refl), refl), refl), refl), refl), refl), refl), refl))
+values_stored = row_is_written event_fields event_made event_agrees
 
 pub values_back : (v : EventValues) → shown_whole event_fields event_made (written event_fields v) ≡ v
 values_back v = shown_back event_fields event_made v refl

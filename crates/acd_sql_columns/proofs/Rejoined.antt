@@ -11,7 +11,7 @@ use Rattle.acd_terms.specs.Groups.{are_groups, further_groups, least_group}
 use Rattle.acd_terms.specs.Lists.{Among, AllAfter, IsAscending, Every, is_less, ascends}
 use Rattle.acd_terms.specs.declared.record.AgentRecord.{AgentRecord}
 use Rattle.acd_lemmas.proofs.Keyed.{cmp_equal, cmp_self}
-use Rattle.acd_lemmas.proofs.Lists.{after_among, filter_among, all_true, ascending-filter, filter_all}
+use Rattle.acd_lemmas.proofs.Lists.{after_among, filter_among, all_true, ascending-filter, filter_all, filter_none}
 use Rattle.acd_sql_columns.specs.declared.relations.GroupRow.{GroupRow}
 use Rattle.acd_sql_columns.specs.declared.relations.AgentRow.{AgentRow}
 use Rattle.acd_sql_columns.specs.declared.relations.GroupPriority.{GroupPriority}
@@ -33,10 +33,6 @@ any_among p (x ∷ xs) h =
 none_there : {X : Type 0} (xs : List X) → ((x : X) → Among x xs → ⊥) → xs ≡ []
 none_there [] h = refl
 none_there (x ∷ xs) h = absurd (h x (inl refl))
-
-none_pass : {X : Type 0} (p : X → Bool) (xs : List X) → ((x : X) → Among x xs → p x ≡ false) → filter p xs ≡ []
-none_pass p [] h = refl
-none_pass p (x ∷ xs) h = ap (λ b. cond b (x ∷ filter p xs) (filter p xs)) (h x (inl refl)) ∙ none_pass p xs (λ y k. h y (inr k))
 
 -- ---- numbers
 
@@ -87,7 +83,7 @@ module _ {P A : Type 0} (key : P → ℕ) (order : P → P → Ordering) (le : (
       by : (b : Bool) → (key p == n) ≡ b → filter (of_key n) ps ++ filter (not_key n) ps ≡ ps
           → cond b (p ∷ filter (of_key n) ps) (filter (of_key n) ps) ++ cond (not b) (p ∷ filter (not_key n) ps) (filter (not_key n) ps) ≡ p ∷ ps
       by true e more = ap (λ l. p ∷ l) more
-      by false e more = ap₂ (λ xs ys. xs ++ p ∷ ys) (none_pass (of_key n) ps (behind e)) (filter_all (not_key n) ps (λ q h. ap not (behind e q h)))
+      by false e more = ap₂ (λ xs ys. xs ++ p ∷ ys) (filter_none (of_key n) ps (behind e)) (filter_all (not_key n) ps (λ q h. ap not (behind e q h)))
 
   -- the ps of each of these items, one agent after the other
   abbrev in_turn : List A → List P → List P
@@ -245,7 +241,7 @@ module _ (agents : List AgentRow) (pairs : List (ℕ × ℕ)) (up : IsAscending 
 abbrev by_device : GroupRow → GroupRow → Ordering
 by_device g h = nat_cmp g.device h.device
 
-abbrev by_rank : GroupPriority → GroupPriority → Ordering
+abbrev pub by_rank : GroupPriority → GroupPriority → Ordering
 by_rank p q = nat_cmp p.device q.device
 
 pub group_parts_rejoined : (ps : List GroupPriority) (groups : List GroupRow) → map group_part (map (joined_group ps) groups) ≡ groups
@@ -271,7 +267,7 @@ one_rank n (p ∷ ps) up some = by (p.device == n) refl (one_rank n ps up.1 (λ 
     by true e more =
         ap (λ c. cond c [] (record { device = n; priority = p.priority } ∷ [])) (some p (inl refl))
         ∙ ap₂ (λ d l. (record { device = d; priority = p.priority }) ∷ l) (sym (eqb-true p.device n e))
-        (sym (none_pass (of_device n) ps (λ q h. sym (ap (λ k. q.device == k) (eqb-true p.device n e)) ∙ apart p.device q.device (after_among by_rank p ps q up.0 h))))
+        (sym (filter_none (of_device n) ps (λ q h. sym (ap (λ k. q.device == k) (eqb-true p.device n e)) ∙ apart p.device q.device (after_among by_rank p ps q up.0 h))))
     by false e more = more
 
 module _ (groups : List GroupRow) (ps : List GroupPriority) (up : IsAscending by_device groups) (rise : IsAscending by_rank ps) (some : (p : GroupPriority) → Among p ps → (p.priority == 0) ≡ false) (known : are_of_groups groups ps ≡ true) where

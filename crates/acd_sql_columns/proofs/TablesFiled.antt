@@ -1,20 +1,20 @@
 -- The tables are as they are described.
-use Rattle.std.proofs.Common.{List, [], ◌∷◌, ◌++◌, refl}
+use Rattle.std.proofs.Common.{List, [], ◌∷◌, refl}
 use Rattle.std.specs.Prelude.{⊤}
 use Rattle.sqlite.specs.Listing.{understood}
 use Rattle.sqlite_tied.specs.Compute.{everything}
 use Rattle.acd_terms.specs.Lists.{Every}
 use Rattle.acd_sql_columns.specs.declared.tables.Table.TheVariants as table
-use Rattle.acd_sql_columns.specs.declared.texts.TheConstants.{UPDATE_GROUP, SELECT_GROUPS, SELECT_STATIONS, UPDATE_AGENT, SELECT_AGENTS, UPDATE_CALL, DELETE_CALL, SELECT_CALLS, UPDATE_MONITOR, DELETE_MONITOR, SELECT_MONITORS, SELECT_EVENTS_AFTER, SELECT_KEPT_AFTER, UPDATE_GROUP_PRIORITY, DELETE_GROUP_PRIORITY, SELECT_GROUP_PRIORITY}
-use Rattle.acd_sql_columns.specs.Rows.{priority_fields, group_fields, station_fields, agent_fields, call_fields, monitor_fields, event_fields, values_of_event}
-use Rattle.acd_sql_columns.specs.Schema.{nine, two}
+use Rattle.acd_sql_columns.specs.declared.texts.TheConstants.{SELECT_EVENTS_AFTER, SELECT_KEPT_AFTER}
+use Rattle.acd_sql_columns.specs.Rows.{priority_fields, priority_made, group_fields, group_made, station_fields, station_made, agent_fields, agent_made, call_fields, call_made, monitor_fields, event_fields, values_of_event}
+use Rattle.acd_sql_columns.specs.Schema.{two}
 use Rattle.acd_sql_columns.specs.Schema as schema
 use Rattle.acd_sql_columns.specs.Tables.{groups, group_priority, stations, agents, calls, monitors, events, kept}
 use Rattle.acd_sql_columns.proofs.Common.{cast_id, cast_null}
-use Rattle.acd_sql_columns.proofs.FieldLaws.{fields_cast}
-use Rattle.acd_sql_columns.proofs.Filed.{Filed, Selects, Updates, Deletes, Pages}
+use Rattle.acd_sql_columns.proofs.FieldLaws.{row_is_written, fields_exact, fields_cast}
+use Rattle.acd_sql_columns.proofs.Filed.{Filed, Pages}
 use Rattle.acd_sql_columns.proofs.Frames.{framed}
-use Rattle.acd_sql_columns.proofs.Records.{priority_stored, priority_exact, group_stored, group_exact, station_stored, station_exact, agent_stored, agent_exact, call_stored, call_exact, monitor_stored, monitor_exact}
+use Rattle.acd_sql_columns.proofs.Records.{priority_agrees, group_agrees, station_agrees, agent_agrees, call_agrees, monitor_stored, monitor_exact}
 use Rattle.acd_sql_columns.proofs.Reported.{event_stored, event_exact, kept_stored, kept_exact}
 
 all_read : {R : Type 0} (rs : List R) → Every (λ _. ⊤) rs
@@ -30,20 +30,15 @@ groups_filed = record {
   of_record = λ g. refl;
   of_row = λ row. refl;
   casts = λ g. fields_cast schema.groups group_fields g.device g refl refl;
-  stored = λ row x h. (group_stored row x h, tt);
-  exact = λ row x y reads h e. group_exact row x y h e;
+  stored = λ row x h. (row_is_written group_fields group_made group_agrees row x h, tt);
+  exact = λ row x y reads h e. fields_exact group_fields group_made group_agrees (λ g. refl) row x y h e;
   held = λ c db encodes. (encodes table.Groups, all_read _);
   framed = λ rs rows old new c are reads. framed table.Groups rs rows old new c are;
   unchanged = λ c. refl;
+  updates = record { updates = refl; plain = (refl, refl); changes = λ new r. refl };
+  deletes = tt;
+  selects = record { begins = (two, refl); selects = λ rest s. refl; plain = λ rest s. (refl, refl); unlisted = λ rest s. refl };
 }
-
-pub groups_updates : Updates groups UPDATE_GROUP.now
-unfolding understood everything
-groups_updates = record { updates = refl; plain = (refl, refl); changes = λ new r. refl }
-
-pub groups_selects : Selects groups nine SELECT_GROUPS.now
-unfolding understood everything
-groups_selects = record { begins = (two, refl); selects = λ rest s. refl; plain = λ rest s. (refl, refl); unlisted = λ rest s. refl }
 
 pub priorities_filed : Filed group_priority
 unfolding understood everything
@@ -54,25 +49,15 @@ priorities_filed = record {
   of_record = λ p. refl;
   of_row = λ row. refl;
   casts = λ p. fields_cast schema.group_priority priority_fields p.device p refl refl;
-  stored = λ row x h. (priority_stored row x h, tt);
-  exact = λ row x y reads h e. priority_exact row x y h e;
+  stored = λ row x h. (row_is_written priority_fields priority_made priority_agrees row x h, tt);
+  exact = λ row x y reads h e. fields_exact priority_fields priority_made priority_agrees (λ p. refl) row x y h e;
   held = λ c db encodes. (encodes table.GroupPriority, all_read _);
   framed = λ rs rows old new c are reads. framed table.GroupPriority rs rows old new c are;
   unchanged = λ c. refl;
+  updates = record { updates = refl; plain = (refl, refl); changes = λ new r. refl };
+  deletes = record { deletes = refl; plain = (refl, refl) };
+  selects = record { begins = ([], refl); selects = λ rest s. refl; plain = λ rest s. (refl, refl); unlisted = λ rest s. refl };
 }
-
-pub priorities_updates : Updates group_priority UPDATE_GROUP_PRIORITY.now
-unfolding understood everything
-priorities_updates = record { updates = refl; plain = (refl, refl); changes = λ new r. refl }
-
-pub priorities_deletes : Deletes group_priority DELETE_GROUP_PRIORITY.now
-unfolding understood everything
-priorities_deletes = record { deletes = refl; plain = (refl, refl) }
-
--- of version 2 alone
-pub priorities_selects : Selects group_priority (nine ++ two) SELECT_GROUP_PRIORITY.now
-unfolding understood everything
-priorities_selects = record { begins = ([], refl); selects = λ rest s. refl; plain = λ rest s. (refl, refl); unlisted = λ rest s. refl }
 
 pub stations_filed : Filed stations
 unfolding understood everything
@@ -83,16 +68,15 @@ stations_filed = record {
   of_record = λ s. refl;
   of_row = λ row. refl;
   casts = λ s. fields_cast schema.stations station_fields s.device s refl refl;
-  stored = λ row x h. (station_stored row x h, tt);
-  exact = λ row x y reads h e. station_exact row x y h e;
+  stored = λ row x h. (row_is_written station_fields station_made station_agrees row x h, tt);
+  exact = λ row x y reads h e. fields_exact station_fields station_made station_agrees (λ s. refl) row x y h e;
   held = λ c db encodes. (encodes table.Stations, all_read _);
   framed = λ rs rows old new c are reads. framed table.Stations rs rows old new c are;
   unchanged = λ c. refl;
+  updates = tt;
+  deletes = tt;
+  selects = record { begins = (two, refl); selects = λ rest s. refl; plain = λ rest s. (refl, refl); unlisted = λ rest s. refl };
 }
-
-pub stations_selects : Selects stations nine SELECT_STATIONS.now
-unfolding understood everything
-stations_selects = record { begins = (two, refl); selects = λ rest s. refl; plain = λ rest s. (refl, refl); unlisted = λ rest s. refl }
 
 pub agents_filed : Filed agents
 unfolding understood everything
@@ -103,20 +87,15 @@ agents_filed = record {
   of_record = λ a. refl;
   of_row = λ row. refl;
   casts = λ a. fields_cast schema.agents agent_fields a.agent a refl refl;
-  stored = λ row x h. (agent_stored row x h, tt);
-  exact = λ row x y reads h e. agent_exact row x y h e;
+  stored = λ row x h. (row_is_written agent_fields agent_made agent_agrees row x h, tt);
+  exact = λ row x y reads h e. fields_exact agent_fields agent_made agent_agrees (λ a. refl) row x y h e;
   held = λ c db encodes. (encodes table.Agents, all_read _);
   framed = λ rs rows old new c are reads. framed table.Agents rs rows old new c are;
   unchanged = λ c. refl;
+  updates = record { updates = refl; plain = (refl, refl); changes = λ new r. refl };
+  deletes = tt;
+  selects = record { begins = (two, refl); selects = λ rest s. refl; plain = λ rest s. (refl, refl); unlisted = λ rest s. refl };
 }
-
-pub agents_updates : Updates agents UPDATE_AGENT.now
-unfolding understood everything
-agents_updates = record { updates = refl; plain = (refl, refl); changes = λ new r. refl }
-
-pub agents_selects : Selects agents nine SELECT_AGENTS.now
-unfolding understood everything
-agents_selects = record { begins = (two, refl); selects = λ rest s. refl; plain = λ rest s. (refl, refl); unlisted = λ rest s. refl }
 
 pub calls_filed : Filed calls
 unfolding understood everything
@@ -127,24 +106,15 @@ calls_filed = record {
   of_record = λ k. refl;
   of_row = λ row. refl;
   casts = λ k. fields_cast schema.calls call_fields k.call k refl refl;
-  stored = λ row x h. (call_stored row x h, tt);
-  exact = λ row x y reads h e. call_exact row x y h e;
+  stored = λ row x h. (row_is_written call_fields call_made call_agrees row x h, tt);
+  exact = λ row x y reads h e. fields_exact call_fields call_made call_agrees (λ k. refl) row x y h e;
   held = λ c db encodes. (encodes table.Calls, all_read _);
   framed = λ rs rows old new c are reads. framed table.Calls rs rows old new c are;
   unchanged = λ c. refl;
+  updates = record { updates = refl; plain = (refl, refl); changes = λ new r. refl };
+  deletes = record { deletes = refl; plain = (refl, refl) };
+  selects = record { begins = (two, refl); selects = λ rest s. refl; plain = λ rest s. (refl, refl); unlisted = λ rest s. refl };
 }
-
-pub calls_updates : Updates calls UPDATE_CALL.now
-unfolding understood everything
-calls_updates = record { updates = refl; plain = (refl, refl); changes = λ new r. refl }
-
-pub calls_deletes : Deletes calls DELETE_CALL.now
-unfolding understood everything
-calls_deletes = record { deletes = refl; plain = (refl, refl) }
-
-pub calls_selects : Selects calls nine SELECT_CALLS.now
-unfolding understood everything
-calls_selects = record { begins = (two, refl); selects = λ rest s. refl; plain = λ rest s. (refl, refl); unlisted = λ rest s. refl }
 
 pub monitors_filed : Filed monitors
 unfolding understood everything
@@ -160,19 +130,10 @@ monitors_filed = record {
   held = λ c db encodes. (encodes table.Monitors, all_read _);
   framed = λ rs rows old new c are reads. framed table.Monitors rs rows old new c are;
   unchanged = λ c. refl;
+  updates = record { updates = refl; plain = (refl, refl); changes = λ new r. refl };
+  deletes = record { deletes = refl; plain = (refl, refl) };
+  selects = record { begins = (two, refl); selects = λ rest s. refl; plain = λ rest s. (refl, refl); unlisted = λ rest s. refl };
 }
-
-pub monitors_updates : Updates monitors UPDATE_MONITOR.now
-unfolding understood everything
-monitors_updates = record { updates = refl; plain = (refl, refl); changes = λ new r. refl }
-
-pub monitors_deletes : Deletes monitors DELETE_MONITOR.now
-unfolding understood everything
-monitors_deletes = record { deletes = refl; plain = (refl, refl) }
-
-pub monitors_selects : Selects monitors nine SELECT_MONITORS.now
-unfolding understood everything
-monitors_selects = record { begins = (two, refl); selects = λ rest s. refl; plain = λ rest s. (refl, refl); unlisted = λ rest s. refl }
 
 pub events_filed : Filed events
 unfolding understood everything
@@ -188,6 +149,9 @@ events_filed = record {
   held = λ c db encodes. (encodes table.Events, all_read _);
   framed = λ rs rows old new c are reads. framed table.Events rs rows old new c are;
   unchanged = λ c. refl;
+  updates = tt;
+  deletes = tt;
+  selects = tt;
 }
 
 pub events_pages : Pages events SELECT_EVENTS_AFTER.now
@@ -209,6 +173,9 @@ kept_filed = record {
   held = λ c db encodes. encodes table.Kept;
   framed = λ rs rows old new c are reads. framed table.Kept rs rows old new c (are, reads);
   unchanged = λ c. refl;
+  updates = tt;
+  deletes = tt;
+  selects = tt;
 }
 
 pub kept_pages : Pages kept SELECT_KEPT_AFTER.now

@@ -1,13 +1,15 @@
 -- What a table of records is.
-use Rattle.std.specs.Prelude.{ℕ, ℤ, ◌∷◌, List, Option, Bool, length, drop}
+use Rattle.std.specs.Prelude.{◌≡◌, ℕ, ℤ, [], ◌∷◌, List, Option, None, Some, option_map, Bool, length, drop}
 use Rattle.std.specs.List.{list_all}
 use Rattle.std.specs.Option.{is_some}
 use Rattle.std.specs.Ordering.{nat_cmp, ordering_then}
 use Rattle.std.specs.declared.cmp.Ordering.{Ordering}
 use Rattle.sqlite_value.specs.declared.value.Value.TheVariants.{Int}
 use Rattle.sqlite_value.specs.Order.{Row}
+use Rattle.sqlite_schema.specs.declared.schema.Table.{Table as Made}
 use Rattle.acd_sql_columns.specs.Rows.{keyed_row}
 use Rattle.acd_sql_columns.specs.declared.tables.Table.{Table}
+use Rattle.acd_sql_columns.specs.declared.texts.Texts.{Texts}
 use Rattle.acd_sql_columns.specs.Relations.{Relations}
 use Rattle.acd_sql_columns.specs.Schema.{Layout, behind_first}
 
@@ -31,6 +33,24 @@ pub record Description (R : Type 0) : Type 1 where
   pub IsRead : R → Type 0
   -- the text of the statement that puts a record which has no row
   pub insert : List ℕ
+  -- those of the statements that change a row and take one out, and of the query of all rows, where there is one
+  pub update : Option (List ℕ)
+  pub delete : Option (List ℕ)
+  pub select : Option (List ℕ)
+  -- the tables that each version has which has this one
+  pub base : List Made
+
+-- these are its texts
+pub record AreTexts {R : Type 0} (d : Description R) (t : Texts) : Type 0 where
+  pub insert : t.insert.now ≡ d.insert
+  pub update : option_map (λ x. x.now) t.update ≡ d.update
+  pub delete : option_map (λ x. x.now) t.delete ≡ d.delete
+  pub select : option_map (λ x. x.now) t.select ≡ d.select
+
+-- the text that is there
+abbrev pub the_text : Option (List ℕ) → List ℕ
+the_text None = []
+the_text (Some text) = text
 
 -- how many columns stand behind the key
 abbrev pub behind : {R : Type 0} → Description R → ℕ

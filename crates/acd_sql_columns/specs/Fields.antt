@@ -7,16 +7,18 @@ use Rattle.acd_sql_columns.specs.Sorts.{Sort, Column, sure, maybe, Of, Means, va
 use Rattle.acd_sql_columns.specs.Values.{◌>>=◌}
 
 pub record Field (R : Type 0) : Type 0 where
+  -- the name of its column
+  pub name : List ℕ
   pub column : Column
   pub get : R → Means column
 
 -- a field that each record has
-abbrev pub has : {R : Type 0} → (s : Sort) → (R → Of s) → Field R
-has s get = record { column = sure s; get = get }
+abbrev pub has : {R : Type 0} → List ℕ → (s : Sort) → (R → Of s) → Field R
+has name s get = record { name = name; column = sure s; get = get }
 
 -- a field that a record may lack
-abbrev pub may_have : {R : Type 0} → (s : Sort) → (R → Option (Of s)) → Field R
-may_have s get = record { column = maybe s; get = get }
+abbrev pub may_have : {R : Type 0} → List ℕ → (s : Sort) → (R → Option (Of s)) → Field R
+may_have name s get = record { name = name; column = maybe s; get = get }
 
 -- what makes a record of the values of its fields
 abbrev pub Makes : (R : Type 0) → List (Field R) → Type 0

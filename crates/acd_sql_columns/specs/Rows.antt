@@ -1,5 +1,5 @@
 -- The fields of the records, and the rows that stand for them. A row has its number first, and then its columns; the column that is the number is NULL there.
-use Rattle.std.specs.Prelude.{◌≡◌, ℕ, ℤ, List, [], ◌∷◌, Ok}
+use Rattle.std.specs.Prelude.{◌≡◌, ℕ, ℤ, List, [], ◌∷◌, Ok, codes}
 use Rattle.sqlite_value.specs.declared.value.Value.TheVariants.{Null, Int, Text}
 use Rattle.sqlite_value.specs.Order.{Row}
 use Rattle.acd_terms.specs.Columns.{columns_of}
@@ -20,13 +20,14 @@ use Rattle.acd_sql_columns.specs.Fields.{Field, Makes, has, may_have, written}
 use Rattle.acd_sql_columns.specs.Sorts.{whole, serial, stamp, moment, seconds, priority, device, agent, name, agent_state, pending, kind, cause, connection_state}
 use Rattle.acd_sql_columns.specs.Values.{id_value}
 
--- ---- the fields of each record, in the order of their columns, and what makes it of them
+-- ---- the fields of each record, in the order of their columns with the names of these, and what makes it of them
 
 abbrev pub group_fields : List (Field GroupRow)
 group_fields =
-    has device (λ g. g.device) ∷ has name (λ g. g.name) ∷ has seconds (λ g. g.ring) ∷ has seconds (λ g. g.wrap)
-    ∷ has whole (λ g. g.figures.entered) ∷ has whole (λ g. g.figures.answered) ∷ has whole (λ g. g.figures.abandoned) ∷ has whole (λ g. g.figures.moved)
-    ∷ has whole (λ g. g.figures.waited) ∷ []
+    has (codes "device") device (λ g. g.device) ∷ has (codes "name") name (λ g. g.name) ∷ has (codes "ring") seconds (λ g. g.ring)
+    ∷ has (codes "wrap") seconds (λ g. g.wrap) ∷ has (codes "entered") whole (λ g. g.figures.entered) ∷ has (codes "answered") whole (λ g. g.figures.answered)
+    ∷ has (codes "abandoned") whole (λ g. g.figures.abandoned) ∷ has (codes "moved") whole (λ g. g.figures.moved)
+    ∷ has (codes "waited") whole (λ g. g.figures.waited) ∷ []
 
 abbrev pub group_made : Makes GroupRow group_fields
 group_made = λ device name ring wrap entered answered abandoned moved waited. record {
@@ -38,28 +39,31 @@ group_made = λ device name ring wrap entered answered abandoned moved waited. r
 }
 
 abbrev pub priority_fields : List (Field GroupPriority)
-priority_fields = has device (λ p. p.device) ∷ has priority (λ p. p.priority) ∷ []
+priority_fields =
+    has (codes "device") device (λ p. p.device) ∷ has (codes "priority") priority (λ p. p.priority) ∷ []
 
 abbrev pub priority_made : Makes GroupPriority priority_fields
 priority_made = λ device priority. record { device = device; priority = priority }
 
 -- an agent and a group that it has behind its first
 abbrev pub further_fields : List (Field (ℕ × ℕ))
-further_fields = has agent (λ p. p.0) ∷ has device (λ p. p.1) ∷ []
+further_fields =
+    has (codes "agent") agent (λ p. p.0) ∷ has (codes "grp") device (λ p. p.1) ∷ []
 
 abbrev pub further_made : Makes (ℕ × ℕ) further_fields
 further_made = λ agent group. (agent, group)
 
 abbrev pub station_fields : List (Field StationRecord)
-station_fields = has device (λ s. s.device) ∷ []
+station_fields = has (codes "device") device (λ s. s.device) ∷ []
 
 abbrev pub station_made : Makes StationRecord station_fields
 station_made = λ device. record { device = device }
 
 abbrev pub agent_fields : List (Field AgentRow)
 agent_fields =
-    has agent (λ a. a.agent) ∷ has name (λ a. a.name) ∷ has agent_state (λ a. a.state) ∷ may_have pending (λ a. a.pending) ∷ may_have device (λ a. a.station)
-    ∷ may_have device (λ a. a.group) ∷ has stamp (λ a. a.stamp) ∷ has moment (λ a. a.since) ∷ []
+    has (codes "agent") agent (λ a. a.agent) ∷ has (codes "name") name (λ a. a.name) ∷ has (codes "state") agent_state (λ a. a.state)
+    ∷ may_have (codes "pending") pending (λ a. a.pending) ∷ may_have (codes "station") device (λ a. a.station) ∷ may_have (codes "grp") device (λ a. a.group)
+    ∷ has (codes "stamp") stamp (λ a. a.stamp) ∷ has (codes "since") moment (λ a. a.since) ∷ []
 
 abbrev pub agent_made : Makes AgentRow agent_fields
 agent_made = λ agent name state pending station group stamp since. record {
@@ -74,15 +78,18 @@ agent_made = λ agent name state pending station group stamp since. record {
 }
 
 abbrev pub call_fields : List (Field CallRecord)
-call_fields = has serial (λ k. k.call) ∷ has device (λ k. k.caller) ∷ has device (λ k. k.called) ∷ has moment (λ k. k.since) ∷ []
+call_fields =
+    has (codes "call") serial (λ k. k.call) ∷ has (codes "caller") device (λ k. k.caller) ∷ has (codes "called") device (λ k. k.called)
+    ∷ has (codes "since") moment (λ k. k.since) ∷ []
 
 abbrev pub call_made : Makes CallRecord call_fields
 call_made = λ call caller called since. record { call = call; caller = caller; called = called; since = since }
 
 abbrev pub connection_fields : List (Field ConnectionRecord)
 connection_fields =
-    has serial (λ x. x.call) ∷ has device (λ x. x.device) ∷ has connection_state (λ x. x.state) ∷ may_have device (λ x. x.group) ∷ may_have stamp (λ x. x.place)
-    ∷ may_have moment (λ x. x.queued) ∷ may_have moment (λ x. x.offered) ∷ []
+    has (codes "call") serial (λ x. x.call) ∷ has (codes "device") device (λ x. x.device) ∷ has (codes "state") connection_state (λ x. x.state)
+    ∷ may_have (codes "grp") device (λ x. x.group) ∷ may_have (codes "place") stamp (λ x. x.place) ∷ may_have (codes "queued") moment (λ x. x.queued)
+    ∷ may_have (codes "offered") moment (λ x. x.offered) ∷ []
 
 abbrev pub connection_made : Makes ConnectionRecord connection_fields
 connection_made = λ call device state group place queued offered. record {
@@ -96,7 +103,8 @@ connection_made = λ call device state group place queued offered. record {
 }
 
 abbrev pub monitor_fields : List (Field MonitorRecord)
-monitor_fields = has serial (λ w. w.monitor) ∷ has device (λ w. w.device) ∷ has whole (λ w. w.after_event) ∷ []
+monitor_fields =
+    has (codes "monitor") serial (λ w. w.monitor) ∷ has (codes "device") device (λ w. w.device) ∷ has (codes "after_event") whole (λ w. w.after_event) ∷ []
 
 abbrev pub monitor_made : Makes MonitorRecord monitor_fields
 monitor_made = λ monitor device after_event. record { monitor = monitor; device = device; after_event = after_event }
@@ -104,9 +112,11 @@ monitor_made = λ monitor device after_event. record { monitor = monitor; device
 -- the limits and the counters, which stand behind the key and the version
 abbrev pub meta_fields : List (Field Meta)
 meta_fields =
-    has whole (λ m. m.limits.requests) ∷ has whole (λ m. m.limits.calls) ∷ has whole (λ m. m.limits.groups) ∷ has whole (λ m. m.limits.stations)
-    ∷ has whole (λ m. m.limits.agents) ∷ has whole (λ m. m.limits.monitors)
-    ∷ has whole (λ m. m.last_stamp) ∷ has moment (λ m. m.last_moment) ∷ has whole (λ m. m.last_call) ∷ has whole (λ m. m.last_monitor) ∷ has whole (λ m. m.last_event) ∷ []
+    has (codes "max_requests") whole (λ m. m.limits.requests) ∷ has (codes "max_calls") whole (λ m. m.limits.calls)
+    ∷ has (codes "max_groups") whole (λ m. m.limits.groups) ∷ has (codes "max_stations") whole (λ m. m.limits.stations)
+    ∷ has (codes "max_agents") whole (λ m. m.limits.agents) ∷ has (codes "max_monitors") whole (λ m. m.limits.monitors)
+    ∷ has (codes "last_stamp") whole (λ m. m.last_stamp) ∷ has (codes "last_moment") moment (λ m. m.last_moment) ∷ has (codes "last_call") whole (λ m. m.last_call)
+    ∷ has (codes "last_monitor") whole (λ m. m.last_monitor) ∷ has (codes "last_event") whole (λ m. m.last_event) ∷ []
 
 abbrev pub meta_made : Makes Meta meta_fields
 meta_made = λ requests calls groups stations agents monitors last_stamp last_moment last_call last_monitor last_event. record {
@@ -121,9 +131,11 @@ meta_made = λ requests calls groups stations agents monitors last_stamp last_mo
 -- of an event its number, its moment and the columns of its report
 abbrev pub event_fields : List (Field EventValues)
 event_fields =
-    has stamp (λ v. v.number) ∷ has moment (λ v. v.moment) ∷ has kind (λ v. v.columns.kind) ∷ may_have device (λ v. v.columns.device)
-    ∷ may_have serial (λ v. v.columns.call) ∷ may_have agent (λ v. v.columns.agent) ∷ may_have device (λ v. v.columns.group) ∷ may_have device (λ v. v.columns.to)
-    ∷ may_have cause (λ v. v.columns.cause) ∷ may_have moment (λ v. v.columns.waited) ∷ []
+    has (codes "number") stamp (λ v. v.number) ∷ has (codes "moment") moment (λ v. v.moment) ∷ has (codes "kind") kind (λ v. v.columns.kind)
+    ∷ may_have (codes "device") device (λ v. v.columns.device) ∷ may_have (codes "call") serial (λ v. v.columns.call)
+    ∷ may_have (codes "agent") agent (λ v. v.columns.agent) ∷ may_have (codes "grp") device (λ v. v.columns.group)
+    ∷ may_have (codes "target") device (λ v. v.columns.to) ∷ may_have (codes "cause") cause (λ v. v.columns.cause)
+    ∷ may_have (codes "waited") moment (λ v. v.columns.waited) ∷ []
 
 abbrev pub event_made : Makes EventValues event_fields
 event_made = λ number moment kind device call agent group to cause waited. record {

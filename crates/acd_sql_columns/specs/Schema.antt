@@ -15,6 +15,9 @@ use Rattle.sqlite_schema.specs.declared.schema.Reference.{Reference}
 use Rattle.sqlite_schema.specs.declared.schema.Action.TheVariants.{NoAction}
 use Rattle.sqlite_schema.specs.declared.schema.Kind.{Kind}
 use Rattle.sqlite_schema.specs.declared.schema.Kind.TheVariants.{Integer, Text}
+use Rattle.acd_sql_columns.specs.Fields.{Field}
+use Rattle.acd_sql_columns.specs.Rows.{meta_fields, group_fields, station_fields, agent_fields, call_fields, connection_fields, monitor_fields, event_fields, further_fields, priority_fields}
+use Rattle.acd_sql_columns.specs.Sorts.{type_in, is_sure}
 
 -- ---- columns
 
@@ -24,11 +27,13 @@ column_of name kind not_null = record { name = name; kind = kind; is_strict = tr
 abbrev pub number : List ℕ → Column
 number name = column_of name Integer true
 
-abbrev pub number_or_null : List ℕ → Column
-number_or_null name = column_of name Integer false
-
 abbrev pub text : List ℕ → Column
 text name = column_of name Text true
+
+-- the columns that hold the fields of a record
+abbrev pub field_columns : {R : Type 0} → List (Field R) → List Column
+field_columns [] = []
+field_columns (f ∷ fs) = column_of f.name (type_in f.column) (is_sure f.column) ∷ field_columns fs
 
 -- ---- tables
 
@@ -99,44 +104,35 @@ unique name tree table columns = record { name = name; tree = tree; table = tabl
 
 abbrev pub meta : Layout
 meta = record (keyed (codes "meta") 0 (
-    number (codes "id") ∷ number (codes "version")
-    ∷ number (codes "max_requests") ∷ number (codes "max_calls") ∷ number (codes "max_groups") ∷ number (codes "max_stations") ∷ number (codes "max_agents") ∷ number (codes "max_monitors")
-    ∷ number (codes "last_stamp") ∷ number (codes "last_moment") ∷ number (codes "last_call") ∷ number (codes "last_monitor") ∷ number (codes "last_event") ∷ []
+    number (codes "id") ∷ number (codes "version") ∷ field_columns meta_fields
     )) { checks = op2 (Compare Eq Binary) (col 1 0) (lit (Int (pos 1))) ∷ [] }
 
 abbrev pub groups : Layout
-groups = keyed (codes "acd_groups") 1 (
-    number (codes "device") ∷ text (codes "name") ∷ number (codes "ring") ∷ number (codes "wrap")
-    ∷ number (codes "entered") ∷ number (codes "answered") ∷ number (codes "abandoned") ∷ number (codes "moved") ∷ number (codes "waited") ∷ []
-    )
+groups = keyed (codes "acd_groups") 1 (field_columns group_fields)
 
 abbrev pub stations : Layout
-stations = keyed (codes "stations") 2 (number (codes "device") ∷ [])
+stations = keyed (codes "stations") 2 (field_columns station_fields)
 
 abbrev pub agents : Layout
-agents = record (keyed (codes "agents") 3 (
-    number (codes "agent") ∷ text (codes "name") ∷ number (codes "state") ∷ number_or_null (codes "pending") ∷ number_or_null (codes "station")
-    ∷ number_or_null (codes "grp") ∷ number (codes "stamp") ∷ number (codes "since") ∷ []
-    )) {
-      uniques = (5 ∷ []) ∷ [];
-      orders = plain ∷ [];
-      checks = is_between 3 0 4 ∷ [];
-      references = refers 5 (codes "stations") ∷ refers 6 (codes "acd_groups") ∷ [];
-    }
+agents = record (keyed (codes "agents") 3 (field_columns agent_fields)) {
+  uniques = (5 ∷ []) ∷ [];
+  orders = plain ∷ [];
+  checks = is_between 3 0 4 ∷ [];
+  references = refers 5 (codes "stations") ∷ refers 6 (codes "acd_groups") ∷ [];
+}
 
 abbrev pub agents_station : Index
 agents_station = unique (codes "sqlite_autoindex_agents_1") 4 3 (5 ∷ [])
 
 abbrev pub calls : Layout
-calls = keyed (codes "calls") 5 (number (codes "call") ∷ number (codes "caller") ∷ number (codes "called") ∷ number (codes "since") ∷ [])
+calls = keyed (codes "calls") 5 (field_columns call_fields)
 
 -- its key is of two columns, so its rows have numbers of their own
 abbrev pub connections : Layout
 connections = record {
   name = codes "connections";
   tree = 6;
-  columns = number (codes "call") ∷ number (codes "device") ∷ number (codes "state") ∷ number_or_null (codes "grp") ∷ number_or_null (codes "place")
-      ∷ number_or_null (codes "queued") ∷ number_or_null (codes "offered") ∷ [];
+  columns = field_columns connection_fields;
   key = None;
   primary = 1 ∷ 2 ∷ [];
   uniques = (1 ∷ 2 ∷ []) ∷ [];
@@ -149,13 +145,10 @@ abbrev pub connections_key : Index
 connections_key = unique (codes "sqlite_autoindex_connections_1") 7 6 (1 ∷ 2 ∷ [])
 
 abbrev pub monitors : Layout
-monitors = keyed (codes "monitors") 8 (number (codes "monitor") ∷ number (codes "device") ∷ number (codes "after_event") ∷ [])
+monitors = keyed (codes "monitors") 8 (field_columns monitor_fields)
 
 abbrev pub events : Layout
-events = record (keyed (codes "events") 9 (
-    number (codes "number") ∷ number (codes "moment") ∷ number (codes "kind") ∷ number_or_null (codes "device") ∷ number_or_null (codes "call")
-    ∷ number_or_null (codes "agent") ∷ number_or_null (codes "grp") ∷ number_or_null (codes "target") ∷ number_or_null (codes "cause") ∷ number_or_null (codes "waited") ∷ []
-    )) { checks = is_between 3 1 18 ∷ [] }
+events = record (keyed (codes "events") 9 (field_columns event_fields)) { checks = is_between 3 1 18 ∷ [] }
 
 abbrev pub kept : Layout
 kept = record (keyed (codes "kept") 10 (
@@ -180,7 +173,7 @@ abbrev pub agent_groups : Layout
 agent_groups = record {
   name = codes "agent_groups";
   tree = 12;
-  columns = number (codes "agent") ∷ number (codes "grp") ∷ [];
+  columns = field_columns further_fields;
   key = None;
   primary = 1 ∷ 2 ∷ [];
   uniques = (1 ∷ 2 ∷ []) ∷ [];
@@ -194,7 +187,7 @@ agent_groups_key = unique (codes "sqlite_autoindex_agent_groups_1") 13 12 (1 ∷
 
 -- the groups whose priority isn't 0
 abbrev pub group_priority : Layout
-group_priority = record (keyed (codes "group_priority") 14 (number (codes "device") ∷ number (codes "priority") ∷ [])) {
+group_priority = record (keyed (codes "group_priority") 14 (field_columns priority_fields)) {
   checks = is_between 2 1 9 ∷ [];
   references = refers 0 (codes "acd_groups") ∷ [];
 }

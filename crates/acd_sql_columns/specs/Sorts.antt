@@ -1,5 +1,5 @@
 -- What columns stand for: of each sort the value that is kept, and how it is read.
-use Rattle.std.specs.Prelude.{ℕ, List, Option, None, Some}
+use Rattle.std.specs.Prelude.{ℕ, List, Bool, true, false, Option, None, Some}
 use Rattle.std.specs.Option.{unwrap_or}
 use Rattle.sqlite_value.specs.declared.value.Value.{Value}
 use Rattle.sqlite_value.specs.declared.value.Value.TheVariants.{Null, Text}
@@ -134,3 +134,8 @@ type_of _ = type.Integer
 abbrev pub type_in : Column → Kind
 type_in (sure s) = type_of s
 type_in (maybe s) = type_of s
+
+-- each row has a value in it
+abbrev pub is_sure : Column → Bool
+is_sure (sure s) = true
+is_sure (maybe s) = false

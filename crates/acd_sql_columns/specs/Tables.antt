@@ -1,5 +1,5 @@
 -- The tables, as they are described.
-use Rattle.std.specs.Prelude.{⊤, ℕ, IfSome}
+use Rattle.std.specs.Prelude.{⊤, ◌++◌, ℕ, None, Some, IfSome}
 use Rattle.acd_terms.specs.declared.record.StationRecord.{StationRecord}
 use Rattle.acd_terms.specs.declared.record.CallRecord.{CallRecord}
 use Rattle.acd_terms.specs.declared.record.ConnectionRecord.{ConnectionRecord}
@@ -12,11 +12,12 @@ use Rattle.acd_sql_columns.specs.declared.relations.AgentRow.{AgentRow}
 use Rattle.acd_sql_columns.specs.declared.relations.GroupPriority.{GroupPriority}
 use Rattle.acd_sql_columns.specs.Content.{with_part}
 use Rattle.acd_sql_columns.specs.declared.tables.Table.TheVariants as table
-use Rattle.acd_sql_columns.specs.declared.texts.TheConstants.{INSERT_GROUP, INSERT_STATION, INSERT_AGENT, INSERT_CALL, INSERT_CONNECTION, INSERT_MONITOR, INSERT_EVENT, INSERT_KEPT, INSERT_AGENT_GROUP, INSERT_GROUP_PRIORITY}
+use Rattle.acd_sql_columns.specs.declared.texts.TheConstants.{UPDATE_GROUP, SELECT_GROUPS, SELECT_STATIONS, UPDATE_AGENT, SELECT_AGENTS, UPDATE_CALL, DELETE_CALL, SELECT_CALLS, UPDATE_MONITOR, DELETE_MONITOR, SELECT_MONITORS, UPDATE_GROUP_PRIORITY, DELETE_GROUP_PRIORITY, SELECT_GROUP_PRIORITY, INSERT_GROUP, INSERT_STATION, INSERT_AGENT, INSERT_CALL, INSERT_CONNECTION, INSERT_MONITOR, INSERT_EVENT, INSERT_KEPT, INSERT_AGENT_GROUP, INSERT_GROUP_PRIORITY}
 use Rattle.acd_sql_columns.specs.Descriptions.{Description, Heap}
 use Rattle.acd_sql_columns.specs.Draft.{Fits, FiguresFitColumns}
 use Rattle.acd_sql_columns.specs.Ranges.{priority_in, further_in, group_in, station_in, agent_in, call_in, connection_in, monitor_in, event_in, kept_in}
 use Rattle.acd_sql_columns.specs.Rows.{group_values, priority_values, station_values, agent_values, call_values, connection_values, monitor_values, event_values, kept_values, further_values, IsReadable}
+use Rattle.acd_sql_columns.specs.Schema.{nine, two}
 use Rattle.acd_sql_columns.specs.Schema as schema
 
 abbrev pub groups : Description GroupRow
@@ -32,6 +33,10 @@ groups = record {
   Fits = λ g. FiguresFitColumns g.figures;
   IsRead = λ _. ⊤;
   insert = INSERT_GROUP.now;
+  update = Some UPDATE_GROUP.now;
+  delete = None;
+  select = Some SELECT_GROUPS.now;
+  base = nine;
 }
 
 abbrev pub stations : Description StationRecord
@@ -47,6 +52,10 @@ stations = record {
   Fits = λ _. ⊤;
   IsRead = λ _. ⊤;
   insert = INSERT_STATION.now;
+  update = None;
+  delete = None;
+  select = Some SELECT_STATIONS.now;
+  base = nine;
 }
 
 abbrev pub agents : Description AgentRow
@@ -62,6 +71,10 @@ agents = record {
   Fits = λ a. Fits a.stamp;
   IsRead = λ _. ⊤;
   insert = INSERT_AGENT.now;
+  update = Some UPDATE_AGENT.now;
+  delete = None;
+  select = Some SELECT_AGENTS.now;
+  base = nine;
 }
 
 abbrev pub calls : Description CallRecord
@@ -77,6 +90,10 @@ calls = record {
   Fits = λ k. Fits k.call;
   IsRead = λ _. ⊤;
   insert = INSERT_CALL.now;
+  update = Some UPDATE_CALL.now;
+  delete = Some DELETE_CALL.now;
+  select = Some SELECT_CALLS.now;
+  base = nine;
 }
 
 abbrev pub monitors : Description MonitorRecord
@@ -92,6 +109,10 @@ monitors = record {
   Fits = λ w. Fits w.monitor × Fits w.after_event;
   IsRead = λ _. ⊤;
   insert = INSERT_MONITOR.now;
+  update = Some UPDATE_MONITOR.now;
+  delete = Some DELETE_MONITOR.now;
+  select = Some SELECT_MONITORS.now;
+  base = nine;
 }
 
 abbrev pub events : Description Event
@@ -107,6 +128,10 @@ events = record {
   Fits = λ e. Fits e.number × IfSome (columns_of e.report).call Fits;
   IsRead = λ _. ⊤;
   insert = INSERT_EVENT.now;
+  update = None;
+  delete = None;
+  select = None;
+  base = nine;
 }
 
 -- the request is read of its text
@@ -123,6 +148,10 @@ kept = record {
   Fits = λ k. Fits k.stamp;
   IsRead = IsReadable;
   insert = INSERT_KEPT.now;
+  update = None;
+  delete = None;
+  select = None;
+  base = nine;
 }
 
 abbrev pub group_priority : Description GroupPriority
@@ -138,6 +167,10 @@ group_priority = record {
   Fits = λ _. ⊤;
   IsRead = λ _. ⊤;
   insert = INSERT_GROUP_PRIORITY.now;
+  update = Some UPDATE_GROUP_PRIORITY.now;
+  delete = Some DELETE_GROUP_PRIORITY.now;
+  select = Some SELECT_GROUP_PRIORITY.now;
+  base = nine ++ two;
 }
 
 abbrev pub connections : Heap ConnectionRecord

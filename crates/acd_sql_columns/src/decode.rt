@@ -11,6 +11,10 @@ ghost use Rattle.acd_codec.specs.RequestTexts.{request_text};
 ghost use Rattle.acd_sql_columns.specs.Ranges.{further_in, priority_in, group_in, station_in, agent_in, call_in, connection_in, monitor_in, counters_in, event_from, event_in, event_number, request_at, kept_from, kept_in, kept_stamp};
 ghost use Rattle.acd_sql_columns.specs.Values.{body_at};
 
+use crate::columns::{
+    agent_groups, agents, calls, connections, events, group_priority, groups, meta, monitors, one,
+    stations,
+};
 use crate::meta::Meta;
 use crate::relations::{AgentRow, GroupPriority, GroupRow};
 use crate::shape::{is_formed, report_in};
@@ -24,188 +28,89 @@ use acd_terms::{
 use sqlite::Row;
 use std::alloc::{AllocError, Global};
 
+macro_rules! made {
+    (($record:ident) $($field:ident)*) => { $record { $($field),* } };
+    (($made:expr) $($field:ident)*) => { $made };
+}
+
+// The record of a row with these columns alone, whose first has this place.
+macro_rules! record {
+    ($row:ident $made:tt $first:literal, $($place:literal ($field:ident $(of $part:ident)?: $sort:ident)),*) => {{
+        if $row.column_count() != 0 $(+ one!($field))* {
+            return None;
+        }
+        $(let $field = values::$sort($row, $place - $first)?;)*
+        Some(made!($made $($field)*))
+    }};
+}
+
+macro_rules! whole {
+    ($row:ident, $table:literal $made:tt, $($place:literal $field:tt $column:literal $type:literal),*) => {
+        record!($row $made 1, $($place $field),*)
+    };
+}
+
+// Behind the key and the version.
+macro_rules! counters {
+    ($row:ident, $table:literal $made:tt, $first:literal $of:tt $key:literal $kind:literal, $other:literal $by:tt $second:literal $sort:literal, $($place:literal $field:tt $column:literal $type:literal),*) => {
+        record!($row $made 3, $($place $field),*)
+    };
+}
+
 pub fn group_in(row: &Row) -> Option<GroupRow>
     ensures { result ≡ group_in row.now }
 {
-    if row.column_count() != 9 {
-        return None;
-    }
-    let device = values::device(row, 0)?;
-    let name = values::name(row, 1)?;
-    let ring = values::seconds(row, 2)?;
-    let wrap = values::seconds(row, 3)?;
-    let entered = values::whole(row, 4)?;
-    let answered = values::whole(row, 5)?;
-    let abandoned = values::whole(row, 6)?;
-    let moved = values::whole(row, 7)?;
-    let waited = values::whole(row, 8)?;
-    let figures = Figures {
-        entered,
-        answered,
-        abandoned,
-        moved,
-        waited,
-    };
-    Some(GroupRow {
-        device,
-        name,
-        ring,
-        wrap,
-        figures,
-    })
+    groups!(whole, row)
 }
 
 pub fn station_in(row: &Row) -> Option<StationRecord>
     ensures { result ≡ station_in row.now }
 {
-    if row.column_count() != 1 {
-        return None;
-    }
-    let device = values::device(row, 0)?;
-    Some(StationRecord { device })
+    stations!(whole, row)
 }
 
 pub fn agent_in(row: &Row) -> Option<AgentRow>
     ensures { result ≡ agent_in row.now }
 {
-    if row.column_count() != 8 {
-        return None;
-    }
-    let agent = values::agent(row, 0)?;
-    let name = values::name(row, 1)?;
-    let state = values::agent_state(row, 2)?;
-    let pending = values::pending_or_none(row, 3)?;
-    let station = values::device_or_none(row, 4)?;
-    let group = values::device_or_none(row, 5)?;
-    let stamp = values::stamp(row, 6)?;
-    let since = values::moment(row, 7)?;
-    Some(AgentRow {
-        agent,
-        name,
-        state,
-        pending,
-        station,
-        group,
-        stamp,
-        since,
-    })
+    agents!(whole, row)
 }
 
 pub fn call_in(row: &Row) -> Option<CallRecord>
     ensures { result ≡ call_in row.now }
 {
-    if row.column_count() != 4 {
-        return None;
-    }
-    let call = values::serial(row, 0)?;
-    let caller = values::device(row, 1)?;
-    let called = values::device(row, 2)?;
-    let since = values::moment(row, 3)?;
-    Some(CallRecord {
-        call,
-        caller,
-        called,
-        since,
-    })
+    calls!(whole, row)
 }
 
 pub fn connection_in(row: &Row) -> Option<ConnectionRecord>
     ensures { result ≡ connection_in row.now }
 {
-    if row.column_count() != 7 {
-        return None;
-    }
-    let call = values::serial(row, 0)?;
-    let device = values::device(row, 1)?;
-    let state = values::connection_state(row, 2)?;
-    let group = values::device_or_none(row, 3)?;
-    let place = values::stamp_or_none(row, 4)?;
-    let queued = values::moment_or_none(row, 5)?;
-    let offered = values::moment_or_none(row, 6)?;
-    Some(ConnectionRecord {
-        call,
-        device,
-        state,
-        group,
-        place,
-        queued,
-        offered,
-    })
+    connections!(whole, row)
 }
 
 /// An agent and a group that it has behind its first.
 pub fn further_in(row: &Row) -> Option<(AgentId, DeviceId)>
     ensures { result ≡ further_in row.now }
 {
-    if row.column_count() != 2 {
-        return None;
-    }
-    let agent = values::agent(row, 0)?;
-    let group = values::device(row, 1)?;
-    Some((agent, group))
+    agent_groups!(whole, row)
 }
 
 pub fn priority_in(row: &Row) -> Option<GroupPriority>
     ensures { result ≡ priority_in row.now }
 {
-    if row.column_count() != 2 {
-        return None;
-    }
-    let device = values::device(row, 0)?;
-    let priority = values::priority(row, 1)?;
-    Some(GroupPriority { device, priority })
+    group_priority!(whole, row)
 }
 
 pub fn monitor_in(row: &Row) -> Option<MonitorRecord>
     ensures { result ≡ monitor_in row.now }
 {
-    if row.column_count() != 3 {
-        return None;
-    }
-    let monitor = values::serial(row, 0)?;
-    let device = values::device(row, 1)?;
-    let after_event = values::whole(row, 2)?;
-    Some(MonitorRecord {
-        monitor,
-        device,
-        after_event,
-    })
+    monitors!(whole, row)
 }
 
 /// The limits and the counters, as they are read.
 pub fn counters_in(row: &Row) -> Option<Meta>
     ensures { result ≡ counters_in row.now }
 {
-    if row.column_count() != 11 {
-        return None;
-    }
-    let requests = values::whole(row, 0)?;
-    let calls = values::whole(row, 1)?;
-    let groups = values::whole(row, 2)?;
-    let stations = values::whole(row, 3)?;
-    let agents = values::whole(row, 4)?;
-    let monitors = values::whole(row, 5)?;
-    let limits = Limits {
-        requests,
-        calls,
-        groups,
-        stations,
-        agents,
-        monitors,
-    };
-    let last_stamp = values::whole(row, 6)?;
-    let last_moment = values::moment(row, 7)?;
-    let last_call = values::whole(row, 8)?;
-    let last_monitor = values::whole(row, 9)?;
-    let last_event = values::whole(row, 10)?;
-    Some(Meta {
-        limits,
-        last_stamp,
-        last_moment,
-        last_call,
-        last_monitor,
-        last_event,
-    })
+    meta!(counters, row)
 }
 
 /// The values of the row of an event, before it is asked what its columns say together.
@@ -221,34 +126,7 @@ pub struct EventValues {
 fn event_values(row: &Row) -> Option<EventValues>
     ensures { option_and_then event_from result ≡ event_in row.now }
 {
-    if row.column_count() != 10 {
-        return None;
-    }
-    let number = values::stamp(row, 0)?;
-    let moment = values::moment(row, 1)?;
-    let kind = values::kind(row, 2)?;
-    let device = values::device_or_none(row, 3)?;
-    let call = values::serial_or_none(row, 4)?;
-    let agent = values::agent_or_none(row, 5)?;
-    let group = values::device_or_none(row, 6)?;
-    let to = values::device_or_none(row, 7)?;
-    let cause = values::cause_or_none(row, 8)?;
-    let waited = values::moment_or_none(row, 9)?;
-    let columns = Columns {
-        kind,
-        device,
-        call,
-        agent,
-        group,
-        to,
-        cause,
-        waited,
-    };
-    Some(EventValues {
-        number,
-        moment,
-        columns,
-    })
+    events!(whole, row)
 }
 
 pub fn event_in(row: &Row) -> Option<Event>

@@ -6,8 +6,11 @@
 //! ```
 #![tactic(auto)]
 
+pub mod bind;
 pub mod codes;
+mod columns;
 pub mod decode;
+pub mod encode;
 mod meta;
 mod relations;
 mod shape;

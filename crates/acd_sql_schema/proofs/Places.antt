@@ -2,7 +2,7 @@
 use Rattle.std.proofs.Common.{◌≡◌, ◌==◌, ◌&&◌, ◌≤◌, ℕ, ℤ, suc, Bool, true, false, cond, List, [], ◌∷◌, length, map, filter, drop, nat_le, inl, inr, Option, Some, None, refl, sym, ap, ap₂, subst, ◌∙◌, arith}
 use Rattle.std.specs.List.{AllByRecursion, list_all, list_any}
 use Rattle.std.specs.Option.{is_some}
-use Rattle.std.specs.Ordering.{nat_cmp, match_ordering}
+use Rattle.std.specs.Ordering.{match_ordering}
 use Rattle.std.specs.declared.cmp.Ordering.{Ordering}
 use Rattle.std.specs.declared.cmp.Ordering.TheVariants.{Less, Equal, Greater}
 use Rattle.std.proofs.lemmas.Bool.{eqb-true, and_parts, and_from}
@@ -30,6 +30,7 @@ use Rattle.acd_sql_columns.specs.Tables.{agent_groups}
 use Rattle.acd_sql_columns.specs.Values.{◌>>=◌, id_value, device_at, priority_at}
 use Rattle.acd_sql_columns.proofs.Decoded.{from_order, heap_back}
 use Rattle.acd_sql_columns.proofs.Heaps.{by_both_total}
+use Rattle.acd_sql_columns.proofs.Rejoined.{by_rank}
 use Rattle.acd_sql_columns.proofs.Records.{group_back, priority_back, agent_back, further_back}
 use Rattle.acd_sql_schema.specs.Inspecting.{ArePlaced}
 
@@ -147,9 +148,6 @@ all_ranked ps h p k = one_ranked p (go ps h k)
 abbrev pub NoneBefore : Version → List (ℕ × ℕ) → List GroupPriority → Type 0
 NoneBefore version.First further priorities = (further ≡ []) × (priorities ≡ [])
 NoneBefore version.Second further priorities = Unit {0}
-
-abbrev pub by_rank : GroupPriority → GroupPriority → Ordering
-by_rank p q = nat_cmp p.device q.device
 
 -- further groups behind the first ones of these agents, and priorities of these groups
 pub record Beside (v : Version) (db : Trees) (agents : List AgentRow) (groups : List GroupRow) : Type 0 where

@@ -36,6 +36,7 @@ use Rattle.sqlite.specs.Listing.{understood}
 use Rattle.sqlite.specs.State.{shows_rows, text_of}
 use Rattle.acd_sql_columns.specs.Making.{MakesTable, command_of, statement_of}
 use Rattle.acd_sql_statements.specs.Failing.{IsUnreadText, IsEnding, Refuses, at_once}
+use Rattle.acd_sql_statements.proofs.Answered.{within}
 use Rattle.acd_sql_columns.proofs.Asked.{text_tied}
 use Rattle.acd_terms.proofs.Texts.{utf8_ascii}
 
@@ -61,9 +62,6 @@ pub record IsTaken (s : Schema) (text : List ℕ) (t : Table) : Type 0 where
 
 no_more : (n m : ℕ) → nat_lt n m ≡ true → m ≤ n → ⊥
 no_more n m low high = grind (arith, nat_tests)
-
-within : (n m : ℕ) → nat_le n m ≡ true → n ≤ m
-within n m h = grind (arith, nat_tests)
 
 fit_for : (name text : List ℕ) → bytes_eq name name ≡ true → is_free_name name ≡ true → begins (codes "create") (Text text) ≡ true → begins (codes "create virtual") (Text text) ≡ false
     → is_fit (Text (codes "table")) (Text name) (Text name) (Text text) ≡ true

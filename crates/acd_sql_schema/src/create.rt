@@ -144,6 +144,7 @@ pub fn set_up<S: Alter>(conn: &mut Connection<S>, limits: Limits) -> Result<(), 
     ensures up { IsUp (state S.Store conn.new) result }
     ensures stops { HasCleanDisk (state S.Store conn.new)
         → MayMake (state S.Store conn.old) (state S.Store conn.new) limits }
+    ensures limit { (state S.Store conn.new).step_limit ≡ (state S.Store conn.old).step_limit }
     ensures failed { HasCleanDisk (state S.Store conn.new) → IfErr result (FailsToSetUp
         (state S.Store conn.old) (state S.Store conn.new) limits) }
 {

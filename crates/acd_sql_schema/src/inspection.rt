@@ -48,30 +48,22 @@ fn are_connections(rows: &[Row]) -> bool
 
 // Whether the limits and the counters are in their ranges.
 fn is_good_meta<S: Alter>(conn: &mut Connection<S>) -> Result<bool, Error>
-    requires { conn.old.in_transaction ≡ false }
-    ensures idle { conn.new.in_transaction ≡ false }
     ensures seen { SeesOver (BeginsSchema nine) S.Store conn.old conn.new result
         (λ d good. TellsGood table.Meta d.trees good) }
     ensures looked { BlamesOver (BeginsSchema nine) [] S.Store conn.old conn.new result }
 {
-    match meta_rows(conn) {
-        Ok(rows) => Ok(are_counters(&rows)),
-        Err(error) => Err(error),
-    }
+    let rows = meta_rows(conn)?;
+    Ok(are_counters(&rows))
 }
 
 // Whether each value of the connections is in its range.
 fn are_good_connections<S: Alter>(conn: &mut Connection<S>) -> Result<bool, Error>
-    requires { conn.old.in_transaction ≡ false }
-    ensures idle { conn.new.in_transaction ≡ false }
     ensures seen { SeesOver (BeginsSchema nine) S.Store conn.old conn.new result
         (λ d good. TellsGood table.Connections d.trees good) }
     ensures looked { BlamesOver (BeginsSchema nine) [] S.Store conn.old conn.new result }
 {
-    match unordered_connection_rows(conn) {
-        Ok(rows) => Ok(are_connections(&rows)),
-        Err(error) => Err(error),
-    }
+    let rows = unordered_connection_rows(conn)?;
+    Ok(are_connections(&rows))
 }
 
 #[tactic(auto, unfolding(acd_sql_columns::specs::AnyRows::are_good))]
@@ -83,16 +75,12 @@ fn are_further(rows: &[Row]) -> bool
 
 // Whether each value of the further groups is in its range.
 fn are_good_further<S: Alter>(conn: &mut Connection<S>) -> Result<bool, Error>
-    requires { conn.old.in_transaction ≡ false }
-    ensures idle { conn.new.in_transaction ≡ false }
     ensures seen { SeesOver (λ s. s ≡ book_schema) S.Store conn.old conn.new result
         (λ d good. TellsGood table.AgentGroups d.trees good) }
     ensures looked { BlamesOver IsBookSchema [] S.Store conn.old conn.new result }
 {
-    match further_rows(conn) {
-        Ok(rows) => Ok(are_further(&rows)),
-        Err(error) => Err(error),
-    }
+    let rows = further_rows(conn)?;
+    Ok(are_further(&rows))
 }
 
 // The number of a row where each of its values is in its range.
@@ -160,19 +148,15 @@ fn page_behind<S: Alter>(
     log: Log,
     number: u64,
 ) -> Result<Page, Error>
-    requires idle { conn.old.in_transaction ≡ false }
     requires number { Fits number }
-    ensures idle { conn.new.in_transaction ≡ false }
     ensures seen { SeesOver (BeginsSchema nine) S.Store conn.old conn.new result
         (λ d page. IsPageOfLog log number d.trees page) }
     ensures fits { IfOk result (λ page. PageFits page) }
     ensures rises { IfOk result (λ page. IsPageAbove number page) }
     ensures looked { BlamesIn (IsPaged log) S.Store conn.old conn.new result }
 {
-    match rows_above(log, conn, number) {
-        Ok(rows) => page_of(kept, log, number, &rows),
-        Err(error) => Err(error),
-    }
+    let rows = rows_above(log, conn, number)?;
+    page_of(kept, log, number, &rows)
 }
 
 // Whether each value of a row from 1 on is in its range.
@@ -181,8 +165,6 @@ fn are_pages_good<S: Alter>(
     conn: &mut Connection<S>,
     log: Log,
 ) -> Result<bool, Error>
-    requires idle { conn.old.in_transaction ≡ false }
-    ensures idle { conn.new.in_transaction ≡ false }
     ensures seen { SeesOver (BeginsSchema nine) S.Store conn.old conn.new result
         (λ d good. TellsBehind log d.trees good) }
     ensures looked { BlamesIn (IsPaged log) S.Store conn.old conn.new result }
@@ -204,8 +186,6 @@ fn is_good_log<S: Alter>(
     conn: &mut Connection<S>,
     log: Log,
 ) -> Result<bool, Error>
-    requires { conn.old.in_transaction ≡ false }
-    ensures idle { conn.new.in_transaction ≡ false }
     ensures seen { SeesOver (BeginsSchema nine) S.Store conn.old conn.new result
         (λ d good. TellsGood (table_of_log log) d.trees good) }
     ensures looked { BlamesIn (HasFiled (BeginsSchema nine)) S.Store conn.old conn.new result }
@@ -224,8 +204,6 @@ fn is_good_table<S: Alter>(
     conn: &mut Connection<S>,
     table: Table,
 ) -> Result<bool, Error>
-    requires { conn.old.in_transaction ≡ false }
-    ensures idle { conn.new.in_transaction ≡ false }
     ensures seen { SeesOver (λ s. Covers s table) S.Store conn.old conn.new result
         (λ d good. TellsGood table d.trees good) }
     ensures looked { BlamesIn (HasFiled (λ s. Covers s table)) S.Store conn.old conn.new result }
@@ -251,8 +229,6 @@ fn bad_table<S: Alter>(
     conn: &mut Connection<S>,
     tables: &[Table],
 ) -> Result<Option<Table>, Error>
-    requires idle { conn.old.in_transaction ≡ false }
-    ensures idle { conn.new.in_transaction ≡ false }
     ensures seen { SeesOver
         (λ s. Every (Covers s) tables.now) S.Store conn.old conn.new result (IsBadOf tables.now) }
     ensures looked { BlamesIn (HasFiled (λ s. Every (Covers s) tables.now))
@@ -298,8 +274,6 @@ fn misplaced<S: Alter>(
     conn: &mut Connection<S>,
     version: Version,
 ) -> Result<Option<AdoptFault>, Error>
-    requires { conn.old.in_transaction ≡ false }
-    ensures idle { conn.new.in_transaction ≡ false }
     ensures seen { SeesOver
         (λ s. s ≡ schema_of version) S.Store conn.old conn.new result (IsPlaceFound version) }
     ensures looked { BlamesIn (HasGoodTables version) S.Store conn.old conn.new result }
@@ -314,17 +288,15 @@ fn found_misplaced<S: Alter>(
     alloc: Global,
     conn: &mut Connection<S>,
 ) -> Result<Option<AdoptFault>, Error>
-    requires { conn.old.in_transaction ≡ false }
-    ensures idle { conn.new.in_transaction ≡ false }
     ensures seen { SeesOver
         (λ s. s ≡ book_schema) S.Store conn.old conn.new result (IsPlaceFound Version.Second) }
     ensures looked { BlamesIn (HasGoodTables Version.Second) S.Store conn.old conn.new result }
 {
-    match are_further_placed(alloc, conn) {
-        Ok(true) => ranks_misplaced(alloc, conn),
-        Ok(false) => Ok(Some(AdoptFault::BadRow(Table::AgentGroups))),
-        Err(error) => Err(error),
+    let placed = are_further_placed(alloc, conn)?;
+    if placed {
+        return ranks_misplaced(alloc, conn);
     }
+    Ok(Some(AdoptFault::BadRow(Table::AgentGroups)))
 }
 
 // The same of priorities alone.
@@ -332,17 +304,15 @@ fn ranks_misplaced<S: Alter>(
     alloc: Global,
     conn: &mut Connection<S>,
 ) -> Result<Option<AdoptFault>, Error>
-    requires { conn.old.in_transaction ≡ false }
-    ensures idle { conn.new.in_transaction ≡ false }
     ensures seen { SeesOver (λ s. s ≡ book_schema) S.Store conn.old conn.new result
         (λ d fault. is_beside d.trees ≡ true → IsPlaceFound Version.Second d fault) }
     ensures looked { BlamesIn (HasGoodTables Version.Second) S.Store conn.old conn.new result }
 {
-    match are_priorities_placed(alloc, conn) {
-        Ok(true) => Ok(None),
-        Ok(false) => Ok(Some(AdoptFault::BadRow(Table::GroupPriority))),
-        Err(error) => Err(error),
+    let placed = are_priorities_placed(alloc, conn)?;
+    if placed {
+        return Ok(None);
     }
+    Ok(Some(AdoptFault::BadRow(Table::GroupPriority)))
 }
 
 // What the tables tell against a book of the version.
@@ -351,8 +321,6 @@ fn bad_row<S: Alter>(
     conn: &mut Connection<S>,
     version: Version,
 ) -> Result<Option<AdoptFault>, Error>
-    requires idle { conn.old.in_transaction ≡ false }
-    ensures idle { conn.new.in_transaction ≡ false }
     ensures seen { SeesOver
         (λ s. s ≡ schema_of version) S.Store conn.old conn.new result (IsRowFound version) }
     ensures looked { BlamesIn (HasFiled (λ s. s ≡ schema_of version)) S.Store conn.old conn.new
@@ -382,15 +350,11 @@ fn told_by(rows: &[Row]) -> Told
 }
 
 fn version_told<S: Alter>(conn: &mut Connection<S>) -> Result<Told, Error>
-    requires { conn.old.in_transaction ≡ false }
-    ensures idle { conn.new.in_transaction ≡ false }
     ensures seen { SeesOver BeginsAsBook S.Store conn.old conn.new result IsVersionTold }
     ensures looked { BlamesOver BeginsAsBook [] S.Store conn.old conn.new result }
 {
-    match version_rows(conn) {
-        Ok(rows) => Ok(told_by(&rows)),
-        Err(error) => Err(error),
-    }
+    let rows = version_rows(conn)?;
+    Ok(told_by(&rows))
 }
 
 // The tables of a new book of the version, in memory.
@@ -438,17 +402,14 @@ fn compared(alloc: Global, schema: &Schema) -> Result<Likeness, Error>
 
 // Why a database whose first table alone is that of a book isn't taken.
 fn found_in_first<S: Alter>(conn: &mut Connection<S>) -> Result<Found, Error>
-    requires { conn.old.in_transaction ≡ false }
-    ensures idle { conn.new.in_transaction ≡ false }
     ensures seen { (d : Database) → BeginsAsBook d.schema → IsNoBook d.schema
         → Sees d (state S.Store conn.old) (state S.Store conn.new) result
         (λ found. IsFound d found) }
     ensures looked { BlamesOver BeginsAsBook [] S.Store conn.old conn.new result }
 {
-    match version_told(conn) {
-        Ok(Told::Faulty(fault)) => Ok(Found::Fault(fault)),
-        Ok(Told::Of(_)) => Ok(Found::Fault(AdoptFault::Store)),
-        Err(error) => Err(error),
+    match version_told(conn)? {
+        Told::Faulty(fault) => Ok(Found::Fault(fault)),
+        Told::Of(_) => Ok(Found::Fault(AdoptFault::Store)),
     }
 }
 
@@ -458,17 +419,14 @@ fn found_in_rows<S: Alter>(
     conn: &mut Connection<S>,
     version: Version,
 ) -> Result<Found, Error>
-    requires { conn.old.in_transaction ≡ false }
-    ensures idle { conn.new.in_transaction ≡ false }
     ensures seen { SeesOver (λ s. s ≡ schema_of version) S.Store conn.old conn.new result
         (λ d found. IsToldIn d.trees (Some (number_of version)) → IsFound d found) }
     ensures looked { BlamesIn (HasFiled (λ s. s ≡ schema_of version)) S.Store conn.old conn.new
         result }
 {
-    match bad_row(alloc, conn, version) {
-        Ok(Some(fault)) => Ok(Found::Fault(fault)),
-        Ok(None) => Ok(Found::Book(version)),
-        Err(error) => Err(error),
+    match bad_row(alloc, conn, version)? {
+        Some(fault) => Ok(Found::Fault(fault)),
+        None => Ok(Found::Book(version)),
     }
 }
 
@@ -478,8 +436,6 @@ fn found_in_whole<S: Alter>(
     conn: &mut Connection<S>,
     version: Version,
 ) -> Result<Found, Error>
-    requires { conn.old.in_transaction ≡ false }
-    ensures idle { conn.new.in_transaction ≡ false }
     ensures seen { SeesOver (λ s. s ≡ schema_of version) S.Store conn.old conn.new result IsFound }
     ensures looked { BlamesIn (HasFiled (λ s. s ≡ schema_of version)) S.Store conn.old conn.new
         result }
@@ -494,8 +450,6 @@ fn found_in_whole<S: Alter>(
 
 // What is found where the store serves.
 fn found_in<S: Alter>(alloc: Global, conn: &mut Connection<S>) -> Result<Found, Error>
-    requires { conn.old.in_transaction ≡ false }
-    ensures idle { conn.new.in_transaction ≡ false }
     ensures seen { Sees (state S.Store conn.old).now (state S.Store conn.old)
         (state S.Store conn.new) result (λ found. IsFound (state S.Store conn.old).now found) }
     ensures looked { BlamesIn IsFiled S.Store conn.old conn.new result }
@@ -514,7 +468,6 @@ fn found_in<S: Alter>(alloc: Global, conn: &mut Connection<S>) -> Result<Found, 
 /// Whether a connection holds a book, and of which version, or else why it isn't taken for one. Nothing is changed.
 pub fn look_over<S: Alter>(alloc: Global, conn: &mut Connection<S>) -> Result<Found, Error>
     requires { conn.old.in_transaction ≡ false }
-    ensures idle { conn.new.in_transaction ≡ false }
     ensures looked { HasLooked (state S.Store conn.old) (state S.Store conn.new) result
         IsFound }
     ensures blamed { BlamesIn IsFiled S.Store conn.old conn.new result }

@@ -46,6 +46,7 @@ pub fn migrate<S: Alter>(conn: &mut Connection<S>) -> Result<(), Error>
     ensures stops { IfFirst (state S.Store conn.old) (state S.Store conn.new)
         (MayAlter (state S.Store conn.old) (state S.Store conn.new)) }
     ensures counts { (state S.Store conn.old).faults ≤ (state S.Store conn.new).faults }
+    ensures limit { (state S.Store conn.new).step_limit ≡ (state S.Store conn.old).step_limit }
     ensures failed { IfFirst (state S.Store conn.old) (state S.Store conn.new)
         (IfErr result (FailsToMigrate (state S.Store conn.old) (state S.Store conn.new))) }
 {

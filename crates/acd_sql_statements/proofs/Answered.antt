@@ -33,6 +33,9 @@ no_sum : (g : Option Grouping) (all : List Env) → g ≡ None → Overflows g a
 no_sum None all e h = h
 no_sum (Some by) all e h = absurd (cc e)
 
+pub within : (n m : ℕ) → nat_le n m ≡ true → n ≤ m
+within n m h = grind (arith, nat_tests)
+
 module _ (s : Schema) (text : List ℕ) (params : Row) where
   -- a query that takes these values, with no sum in it
   abbrev pub IsSimple : Command → Type 0
@@ -43,9 +46,6 @@ module _ (s : Schema) (text : List ℕ) (params : Row) where
   abbrev pub IsWhole : Result Compiled CompileError → Type 0
   IsWhole (Ok c) = (nat_le (length text) c.tail ≡ true) × (length params ≡ length c.names) × (c.formats ≡ []) × (c.returning ≡ None) × IsSimple c.command
   IsWhole (Err e) = ⊥
-
-  long : (n m : ℕ) → nat_le n m ≡ true → n ≤ m
-  long n m h = grind (arith, nat_tests)
 
   none_over : (db : Trees) (lets : List Let) (q : Query) → lets ≡ [] → q.group ≡ None → has_no_fold q.from ≡ true → ProgramOverflows db params [] lets q → ⊥
   none_over db lets q none ungrouped plain over =
@@ -66,7 +66,7 @@ module _ (s : Schema) (text : List ℕ) (params : Row) where
     readable (inr h) =
         let own = subst IsWhole h.1 whole in
         elim h.2 [
-          | inl short ↦ short (long (length text) h.0.tail own.0)
+          | inl short ↦ short (within (length text) h.0.tail own.0)
           | inr other ↦ elim other [ inl given ↦ given own.1 | inr dated ↦ dated own.2 ]
         ]
 

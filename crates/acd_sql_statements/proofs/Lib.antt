@@ -1,4 +1,3 @@
-mod Bounds
 pub mod Named
 pub mod Chained
 mod Planned
@@ -15,3 +14,5 @@ mod BlamedPlan
 mod Grouped
 mod Picked
 mod Compared
+mod Unconnected
+mod TheTexts

@@ -1,5 +1,5 @@
 -- Why a part of a commit isn't written, inside a transaction that saw the relations of a book.
-use Rattle.std.specs.Prelude.{◌≡◌, ◌⊎◌, ℕ, ◌<◌, ◌==◌, ◌∷◌, [], List, filter, get_or, length, map, not, take, Option, Result, IfErr}
+use Rattle.std.specs.Prelude.{◌≡◌, ◌⊎◌, ℕ, ◌<◌, ◌==◌, ◌&&◌, ◌∷◌, [], List, filter, get_or, length, map, not, take, Option, Result, IfErr}
 use Rattle.sqlite_value.specs.Order.{Row}
 use Rattle.sqlite.specs.declared.error.Error.{Error}
 use Rattle.sqlite.specs.Effect.{Database}
@@ -40,9 +40,14 @@ HasNone d x r = filter (λ y. d.key y == d.key x) (d.records r) ≡ []
 abbrev pub RefusesPut : {R : Type 0} → Description R → List ℕ → R → Option ℕ → Relations → Type 0
 RefusesPut d update x limit r = RefusesOn update (d.values x) limit r ⊎ (HasNone d x r × RefusesOn d.insert (d.values x) limit r)
 
+-- no connection is of its call at its device
+abbrev pub HasNoConnection : ConnectionRecord → Relations → Type 0
+HasNoConnection x r = filter (λ (y : ConnectionRecord). (y.call == x.call) && (y.device == x.device)) r.connections ≡ []
+
 abbrev pub RefusesPutConnection : ConnectionRecord → Option ℕ → Relations → Type 0
 RefusesPutConnection x limit r =
-    RefusesOn UPDATE_CONNECTION.now (connection_values x) limit r ⊎ RefusesOn INSERT_CONNECTION.now (connection_values x) limit r
+    RefusesOn UPDATE_CONNECTION.now (connection_values x) limit r
+    ⊎ (HasNoConnection x r × RefusesOn INSERT_CONNECTION.now (connection_values x) limit r)
 
 -- it refuses the priority of a group: to take its row out, or to put one
 abbrev pub RefusesPriority : GroupRecord → Option ℕ → Relations → Type 0

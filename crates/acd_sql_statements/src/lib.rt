@@ -11,7 +11,6 @@
 //! ```
 #![tactic(auto)]
 
-mod bind;
 pub mod fitting;
 pub mod look;
 mod lookups;

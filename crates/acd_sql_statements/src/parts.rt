@@ -11,11 +11,10 @@ ghost use Rattle.acd_sql_columns.specs.Values.{id_value};
 ghost use Rattle.acd_sql_statements.specs.Refusing.{RefusesOn, RefusesPriority, RefusesGroup, RefusesFurther, RefusesAgent, without_further};
 ghost use Rattle.acd_sql_statements.specs.Inside.{WritesRow};
 
-use crate::bind;
 use crate::put::{put, remove};
 use crate::write::write;
 use acd_sql_columns::texts::{DELETE_AGENT_GROUPS, INSERT_AGENT_GROUP};
-use acd_sql_columns::{AgentRow, GroupPriority, GroupRow, Table};
+use acd_sql_columns::{AgentRow, GroupPriority, GroupRow, Table, bind};
 use acd_terms::{AgentId, AgentRecord, DeviceId, GroupRecord, Priority};
 use sqlite::{Alter, Error, Transaction};
 

@@ -82,16 +82,13 @@ fn are_behind_agents<S: Alter>(
     conn: &mut Connection<S>,
     pairs: &[(AgentId, DeviceId)],
 ) -> Result<bool, Error>
-    requires { conn.old.in_transaction ≡ false }
     ensures looks { LooksAt (BeginsSchema nine) S.Store conn.old conn.new result
         (λ d placed. placed ≡ are_behind (map as_agent (rows_in table.Agents d.trees)) pairs.now) }
     ensures looked { BlamesOver (BeginsSchema nine) (table.Agents ∷ [])
         S.Store conn.old conn.new result }
 {
-    match select::records::<AgentRow, S>(alloc, conn) {
-        Ok(agents) => Ok(are_behind(&agents, pairs)),
-        Err(error) => Err(error),
-    }
+    let agents = select::records::<AgentRow, S>(alloc, conn)?;
+    Ok(are_behind(&agents, pairs))
 }
 
 // The pairs, in the order in which they stand.
@@ -99,32 +96,26 @@ fn further_pairs<S: Alter>(
     alloc: Global,
     conn: &mut Connection<S>,
 ) -> Result<Vec<(AgentId, DeviceId)>, Error>
-    requires { conn.old.in_transaction ≡ false }
     ensures looks { LooksAt IsBookSchema S.Store conn.old conn.new result
         (λ d pairs. IsPermutation
         (map as_further (rows_in table.AgentGroups d.trees)) pairs.items) }
     ensures looked { BlamesOver IsBookSchema (table.AgentGroups ∷ [])
         S.Store conn.old conn.new result }
 {
-    match further_rows(conn) {
-        Ok(rows) => records(alloc, &rows),
-        Err(error) => Err(error),
-    }
+    let rows = further_rows(conn)?;
+    records(alloc, &rows)
 }
 
 /// Whether each further group is behind the first one of its agent, who has seven at most. A value that is out of its range is a
 /// failure of the store.
 pub fn are_further_placed<S: Alter>(alloc: Global, conn: &mut Connection<S>) -> Result<bool, Error>
-    requires { conn.old.in_transaction ≡ false }
     ensures looks { LooksAt IsBookSchema S.Store conn.old conn.new result
         (λ d placed. placed ≡ is_beside d.trees) }
     ensures looked { BlamesOver IsBookSchema (table.AgentGroups ∷ table.Agents ∷ [])
         S.Store conn.old conn.new result }
 {
-    match further_pairs(alloc, conn) {
-        Ok(pairs) => are_behind_agents(alloc, conn, &pairs),
-        Err(error) => Err(error),
-    }
+    let pairs = further_pairs(alloc, conn)?;
+    are_behind_agents(alloc, conn, &pairs)
 }
 
 fn has_group(groups: &[GroupRow], priority: &GroupPriority) -> bool
@@ -147,17 +138,14 @@ fn are_of_groups_there<S: Alter>(
     conn: &mut Connection<S>,
     priorities: &[GroupPriority],
 ) -> Result<bool, Error>
-    requires { conn.old.in_transaction ≡ false }
     ensures looks { LooksAt (BeginsSchema nine) S.Store conn.old conn.new result
         (λ d placed. placed
         ≡ are_of_groups (map as_group (rows_in table.Groups d.trees)) priorities.now) }
     ensures looked { BlamesOver (BeginsSchema nine) (table.Groups ∷ [])
         S.Store conn.old conn.new result }
 {
-    match select::records::<GroupRow, S>(alloc, conn) {
-        Ok(groups) => Ok(are_of_groups(&groups, priorities)),
-        Err(error) => Err(error),
-    }
+    let groups = select::records::<GroupRow, S>(alloc, conn)?;
+    Ok(are_of_groups(&groups, priorities))
 }
 
 /// Whether each priority is of a group. A value that is out of its range is a failure of the store.
@@ -165,14 +153,11 @@ pub fn are_priorities_placed<S: Alter>(
     alloc: Global,
     conn: &mut Connection<S>,
 ) -> Result<bool, Error>
-    requires { conn.old.in_transaction ≡ false }
     ensures looks { LooksAt IsBookSchema S.Store conn.old conn.new result
         (λ d placed. placed ≡ is_ranked d.trees) }
     ensures looked { BlamesOver IsBookSchema (table.GroupPriority ∷ table.Groups ∷ [])
         S.Store conn.old conn.new result }
 {
-    match select::records::<GroupPriority, S>(alloc, conn) {
-        Ok(priorities) => are_of_groups_there(alloc, conn, &priorities),
-        Err(error) => Err(error),
-    }
+    let priorities = select::records::<GroupPriority, S>(alloc, conn)?;
+    are_of_groups_there(alloc, conn, &priorities)
 }

@@ -1,6 +1,6 @@
 //! The groups and the agents, joined of what their tables hold.
 
-ghost use Rattle.std.specs.Prelude.{◌≡◌, ◌⊎◌, ◌<◌, ◌++◌, ◌∷◌, [], false, length, map, option_to_list, None, IfErr, IfOk, IfSome, OnOk};
+ghost use Rattle.std.specs.Prelude.{◌≡◌, ◌⊎◌, ◌<◌, false, length, map, option_to_list, None, IfErr, IfOk, IfSome};
 ghost use Rattle.sqlite.specs.Held.{state};
 ghost use Rattle.acd_terms.specs.Groups.{are_groups};
 ghost use Rattle.acd_sql_columns.specs.Finding.{Finds};
@@ -10,22 +10,12 @@ ghost use Rattle.acd_sql_columns.specs.Relations.{group_part, agent_part, priori
 ghost use Rattle.acd_sql_statements.specs.Between.{LooksUp};
 
 use crate::query::further_rows;
-use crate::reads::records;
+use crate::reads::{add, records};
 use crate::select;
 use acd_sql_columns::{AgentRow, GroupPriority, GroupRow};
 use acd_terms::{AgentId, AgentRecord, DeviceId, Few, GroupRecord, Groups, Priority};
 use sqlite::{Alter, Connection, Error, ErrorCode};
 use std::alloc::Global;
-
-fn push<R: Drop>(records: &mut Vec<R>, one: R) -> Result<(), Error>
-    ensures added { OnOk result (records.new.items ≡ records.old.items ++ one ∷ []) }
-    ensures full { IfErr result IsMemory }
-{
-    match records.push(one) {
-        Ok(()) => Ok(()),
-        Err(_) => Err(Error::SqliteFailure(ErrorCode::OutOfMemory)),
-    }
-}
 
 // The priority that stands for a group, and 0 where none does.
 fn priority_of(priorities: &[GroupPriority], device: DeviceId) -> Priority
@@ -56,7 +46,7 @@ fn joined_groups(
 {
     let mut groups = Vec::new(alloc);
     for part in parts {
-        push(&mut groups, joined_group(part, priorities))?;
+        add(&mut groups, joined_group(part, priorities))?;
     }
     Ok(groups)
 }
@@ -67,14 +57,11 @@ fn ranked<S: Alter>(
     conn: &mut Connection<S>,
     parts: &[GroupRow],
 ) -> Result<Vec<GroupRecord>, Error>
-    requires { conn.old.in_transaction ≡ false }
     ensures { LooksUp S.Store conn.old conn.new result
         (λ c groups. parts.now ≡ map group_part c.rows.groups → groups.items ≡ c.rows.groups) }
 {
-    match select::records::<GroupPriority, S>(alloc, conn) {
-        Ok(priorities) => joined_groups(alloc, parts, &priorities),
-        Err(error) => Err(error),
-    }
+    let priorities = select::records::<GroupPriority, S>(alloc, conn)?;
+    joined_groups(alloc, parts, &priorities)
 }
 
 /// The groups.
@@ -82,13 +69,10 @@ pub(crate) fn groups<S: Alter>(
     alloc: Global,
     conn: &mut Connection<S>,
 ) -> Result<Vec<GroupRecord>, Error>
-    requires { conn.old.in_transaction ≡ false }
     ensures { LooksUp S.Store conn.old conn.new result (λ c groups. groups.items ≡ c.rows.groups) }
 {
-    match select::records::<GroupRow, S>(alloc, conn) {
-        Ok(parts) => ranked(alloc, conn, &parts),
-        Err(error) => Err(error),
-    }
+    let parts = select::records::<GroupRow, S>(alloc, conn)?;
+    ranked(alloc, conn, &parts)
 }
 
 // ---- agents
@@ -155,7 +139,7 @@ fn joined_agents(
     let mut agents = Vec::new(alloc);
     for part in parts {
         match joined_agent(part, further) {
-            Some(agent) => push(&mut agents, agent)?,
+            Some(agent) => add(&mut agents, agent)?,
             None => return Err(Error::SqliteFailure(ErrorCode::DatabaseCorrupt)),
         }
     }
@@ -167,14 +151,11 @@ fn further<S: Alter>(
     alloc: Global,
     conn: &mut Connection<S>,
 ) -> Result<Vec<(AgentId, DeviceId)>, Error>
-    requires { conn.old.in_transaction ≡ false }
     ensures { LooksUp S.Store conn.old conn.new result
         (λ c pairs. pairs.items ≡ further_in c.rows.agents) }
 {
-    match further_rows(conn) {
-        Ok(rows) => records(alloc, &rows),
-        Err(error) => Err(error),
-    }
+    let rows = further_rows(conn)?;
+    records(alloc, &rows)
 }
 
 // The agents of these parts.
@@ -183,17 +164,13 @@ fn grouped<S: Alter>(
     conn: &mut Connection<S>,
     parts: &[AgentRow],
 ) -> Result<Vec<AgentRecord>, Error>
-    requires { conn.old.in_transaction ≡ false }
-    ensures idle { conn.new.in_transaction ≡ false }
     ensures found { Finds (state S.Store conn.old) (state S.Store conn.new) result
         (λ c agents. parts.now ≡ map agent_part c.rows.agents → agents.items ≡ c.rows.agents) }
     ensures blamed { BlamesIf (λ c. parts.now ≡ map agent_part c.rows.agents)
         (state S.Store conn.old) (state S.Store conn.new) result }
 {
-    match further(alloc, conn) {
-        Ok(further) => joined_agents(alloc, parts, &further),
-        Err(error) => Err(error),
-    }
+    let further = further(alloc, conn)?;
+    joined_agents(alloc, parts, &further)
 }
 
 /// The agents. One whose groups are more than eight, or don't ascend, is a failure of the store.
@@ -201,11 +178,8 @@ pub(crate) fn agents<S: Alter>(
     alloc: Global,
     conn: &mut Connection<S>,
 ) -> Result<Vec<AgentRecord>, Error>
-    requires { conn.old.in_transaction ≡ false }
     ensures { LooksUp S.Store conn.old conn.new result (λ c agents. agents.items ≡ c.rows.agents) }
 {
-    match select::records::<AgentRow, S>(alloc, conn) {
-        Ok(parts) => grouped(alloc, conn, &parts),
-        Err(error) => Err(error),
-    }
+    let parts = select::records::<AgentRow, S>(alloc, conn)?;
+    grouped(alloc, conn, &parts)
 }

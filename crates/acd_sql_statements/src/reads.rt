@@ -89,7 +89,8 @@ fn read_one<R: Decoded>(alloc: Global, row: &Row) -> Result<R, Error>
     }
 }
 
-fn add<R: Drop>(records: &mut Vec<R>, one: R) -> Result<(), Error>
+/// Adds a record behind others.
+pub(crate) fn add<R: Drop>(records: &mut Vec<R>, one: R) -> Result<(), Error>
     ensures added { OnOk result (records.new.items ≡ records.old.items ++ one ∷ []) }
     ensures full { IfErr result IsMemory }
 {
@@ -141,20 +142,16 @@ fn only_meta(rows: &[Row]) -> Result<Meta, Error>
 
 /// The limits and the counters.
 pub fn read_meta<S: Alter>(conn: &mut Connection<S>) -> Result<Meta, Error>
-    requires { conn.old.in_transaction ≡ false }
     ensures { LooksUp S.Store conn.old conn.new result (λ c meta. meta ≡ meta_of c.rows) }
 {
-    match meta_rows(conn) {
-        Ok(rows) => only_meta(&rows),
-        Err(error) => Err(error),
-    }
+    let rows = meta_rows(conn)?;
+    only_meta(&rows)
 }
 
 fn connections<S: Alter>(
     alloc: Global,
     conn: &mut Connection<S>,
 ) -> Result<Vec<ConnectionRecord>, Error>
-    requires { conn.old.in_transaction ≡ false }
     ensures { LooksUp S.Store conn.old conn.new result
         (λ c connections. connections.items ≡ c.rows.connections) }
 {
@@ -164,7 +161,6 @@ fn connections<S: Alter>(
 
 // The groups, the stations and the agents.
 fn planned<S: Alter>(alloc: Global, conn: &mut Connection<S>) -> Result<Plan, Error>
-    requires { conn.old.in_transaction ≡ false }
     ensures { LooksUp S.Store conn.old conn.new result
         (λ c t. (t.0.items ≡ c.rows.groups)
         × (t.1.items ≡ c.rows.stations) × (t.2.items ≡ c.rows.agents)) }
@@ -177,7 +173,6 @@ fn planned<S: Alter>(alloc: Global, conn: &mut Connection<S>) -> Result<Plan, Er
 
 // The calls, the connections and the monitors.
 fn traffic<S: Alter>(alloc: Global, conn: &mut Connection<S>) -> Result<Traffic, Error>
-    requires { conn.old.in_transaction ≡ false }
     ensures { LooksUp S.Store conn.old conn.new result
         (λ c t. (t.0.items ≡ c.rows.calls)
         × (t.1.items ≡ c.rows.connections) × (t.2.items ≡ c.rows.monitors)) }
@@ -212,7 +207,6 @@ fn joined(meta: Meta, plan: Plan, traffic: Traffic) -> Rows
 
 /// The limits, the tables and the counters.
 pub fn rows<S: Alter>(alloc: Global, conn: &mut Connection<S>) -> Result<Rows, Error>
-    requires { conn.old.in_transaction ≡ false }
     ensures { LooksUp S.Store conn.old conn.new result (λ c rows. rows ≡ c.rows) }
 {
     let meta = read_meta(conn)?;

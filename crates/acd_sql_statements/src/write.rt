@@ -20,15 +20,13 @@ ghost use Rattle.acd_sql_statements.specs.Refusing.{RefusesOn, RefusesPutConnect
 ghost use Rattle.acd_sql_statements.specs.Inside.{RunsText, CountsRows, WritesRow};
 ghost use Rattle.acd_sql_statements.specs.Writing.{with_kept_row, with_connection_row, without_connection_row};
 
-use crate::bind;
 use acd_book::Kept;
 use acd_codec::reads_back;
-use acd_sql_columns::codes::connection_code;
 use acd_sql_columns::texts::{
     DELETE_CONNECTION, INSERT_CONNECTION, INSERT_KEPT, INSERT_META, UPDATE_CONNECTION, UPDATE_META,
     UPDATE_VERSION,
 };
-use acd_sql_columns::{Meta, Table};
+use acd_sql_columns::{Meta, Table, bind, encode};
 use acd_terms::{ConnectionRecord, DeviceId};
 use sqlite::types::ValueRef;
 use sqlite::{Alter, Error, Transaction};
@@ -96,25 +94,7 @@ pub fn insert_meta<S: Alter>(tx: &mut Transaction<'_, S>, meta: &Meta) -> Result
         → IsTrue (state S.Store tx.old.conn.now).in_transaction → IfErr result (FailsToStart
         (state S.Store tx.old.conn.now) (state S.Store tx.new.conn.now) meta.now) }
 {
-    write(
-        tx,
-        INSERT_META,
-        &[
-            bind::integer(1),
-            bind::integer(2),
-            bind::integer(meta.limits.requests),
-            bind::integer(meta.limits.calls),
-            bind::integer(meta.limits.groups),
-            bind::integer(meta.limits.stations),
-            bind::integer(meta.limits.agents),
-            bind::integer(meta.limits.monitors),
-            bind::integer(meta.last_stamp),
-            bind::small(meta.last_moment),
-            bind::integer(meta.last_call),
-            bind::integer(meta.last_monitor),
-            bind::integer(meta.last_event),
-        ],
-    )
+    write(tx, INSERT_META, &encode::meta_values(meta))
 }
 
 /// Writes the limits and the counters over those that are there.
@@ -123,23 +103,7 @@ pub fn set_meta<S: Alter>(tx: &mut Transaction<'_, S>, meta: &Meta) -> Result<()
     ensures { WritesRow S.Store tx.old.conn tx.new.conn result
         (with_part Table.Meta meta.now) (RefusesOn UPDATE_META.now (meta_shown meta.now)) }
 {
-    write(
-        tx,
-        UPDATE_META,
-        &[
-            bind::integer(meta.limits.requests),
-            bind::integer(meta.limits.calls),
-            bind::integer(meta.limits.groups),
-            bind::integer(meta.limits.stations),
-            bind::integer(meta.limits.agents),
-            bind::integer(meta.limits.monitors),
-            bind::integer(meta.last_stamp),
-            bind::small(meta.last_moment),
-            bind::integer(meta.last_call),
-            bind::integer(meta.last_monitor),
-            bind::integer(meta.last_event),
-        ],
-    )
+    write(tx, UPDATE_META, &encode::counters_values(meta))
 }
 
 /// Tells version 2 in tables of version 1, which the new ones lie behind.
@@ -170,15 +134,7 @@ pub fn put_connection<S: Alter>(
     let changed = changed_rows(
         tx,
         UPDATE_CONNECTION,
-        &[
-            bind::integer(connection.call),
-            bind::device(connection.device),
-            bind::small(connection_code(connection.state)),
-            bind::device_or_null(connection.group),
-            bind::integer_or_null(connection.place),
-            bind::small_or_null(connection.queued),
-            bind::small_or_null(connection.offered),
-        ],
+        &encode::connection_values(connection),
     )?;
     if changed > 0 {
         return Ok(());
@@ -200,15 +156,7 @@ pub fn insert_connection<S: Alter>(
     write(
         tx,
         INSERT_CONNECTION,
-        &[
-            bind::integer(connection.call),
-            bind::device(connection.device),
-            bind::small(connection_code(connection.state)),
-            bind::device_or_null(connection.group),
-            bind::integer_or_null(connection.place),
-            bind::small_or_null(connection.queued),
-            bind::small_or_null(connection.offered),
-        ],
+        &encode::connection_values(connection),
     )
 }
 

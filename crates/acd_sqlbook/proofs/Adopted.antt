@@ -1,5 +1,5 @@
 -- A connection that was looked over, as a book.
-use Rattle.std.proofs.Common.{◌≡◌, ◌≢◌, ◌⊎◌, ◌≤◌, inl, inr, ℕ, length, Option, arith, Result, Ok, Err, IsTrue, refl, sym, ap, subst, ◌∙◌}
+use Rattle.std.proofs.Common.{◌≡◌, ◌≢◌, ◌⊎◌, ◌≤◌, inl, inr, ℕ, length, Option, None, arith, Result, Ok, Err, IsTrue, refl, sym, ap, subst, ◌∙◌}
 use Rattle.sqlite_trees.specs.Tree.{Trees}
 use Rattle.sqlite_schema.specs.declared.schema.Schema.{Schema}
 use Rattle.sqlite_trees.specs.Objects.{catalog_tree, IsListed}
@@ -23,7 +23,7 @@ use Rattle.acd_sql_statements.specs.Looking.{BlamesLook, FailsToLook}
 use Rattle.acd_sql_columns.specs.declared.tables.Table.TheVariants as table
 use Rattle.acd_sql_columns.specs.declared.tables.Version.{Version}
 use Rattle.acd_sql_columns.specs.declared.tables.Version.TheVariants as version
-use Rattle.acd_sqlbook.specs.Adopting.{AdoptCause, failed, shut, limited, unlike, refused, HasAllColumns, IsAdopted, IsHandedBack, IsUntouched, MayMigrate}
+use Rattle.acd_sqlbook.specs.Adopting.{AdoptCause, failed, shut, unlike, refused, HasAllColumns, IsAdopted, IsHandedBack, IsUntouched, MayMigrate}
 use Rattle.acd_sql_columns.specs.Relations.{pair_order, meta_of, relations_of}
 use Rattle.acd_sql_columns.specs.Content.{Encodes, EncodesAs, Stores, part, tree_of}
 use Rattle.acd_sql_columns.specs.Rows.{further_row}
@@ -31,7 +31,9 @@ use Rattle.acd_sql_columns.specs.Schema.{old_schema, book_schema}
 use Rattle.acd_sql_columns.specs.InTables.{content_of}
 use Rattle.acd_sql_columns.specs.Seeing.{HasDatabase, HasLooked}
 use Rattle.acd_sqlbook.specs.State.{IsSoundState, book_state}
+use Rattle.acd_book.specs.State.{BookState}
 use Rattle.acd_sqlbook.proofs.BookStates.{Settles, Stays}
+use Rattle.acd_sqlbook.proofs.Caused.{never_limited}
 use Rattle.acd_sql_columns.proofs.Decoded.{decoded, decoded_as}
 use Rattle.acd_sql_columns.proofs.Frames.{none_heaped}
 use Rattle.acd_sql_schema.proofs.Contents.{content_in, filed_in, filed_by_store}
@@ -155,6 +157,10 @@ module _ (old mid : State) (settles : Settles old) (k : HasCleanDisk mid) where
         ordered = λ filed. let c = made filed in subst IsInOrder (held c) (stored_ordered old.now.trees c.0 c.1 c.2);
       }
 
+  -- it is of no other version
+  pub never_first : HasLooked old mid (Ok (Book version.Second)) IsFound → old.now.schema ≡ old_schema → ⊥
+  never_first h is = apart_schemas (sym (found_in (Book version.Second) h).schema_is ∙ is)
+
 -- ---- and behind the migration
 
 module _ (old mid new : State) (settles : Settles old) (stays : Stays old) (k : HasCleanDisk mid) (h : HasLooked old mid (Ok (Book version.First)) IsFound) where
@@ -247,7 +253,7 @@ module _ (old mid new : State) (settles : Settles old) (stays : Stays old) (k : 
 no_memory : (e : Error) (f : AdoptFault) → f ≡ adopt_fault_of e → f ≡ Store → IsMemory e → ⊥
 no_memory e f is store memory = absurd (let apart = sym store ∙ is ∙ ap adopt_fault_of memory in cc)
 
-module _ (old mid : State) (settles : Settles old) (k : HasCleanDisk mid) where
+module _ (old mid : State) (free : old.step_limit ≡ None) (settles : Settles old) (k : HasCleanDisk mid) where
   -- a fault that was found, where the store hasn't failed
   pub found_cause : (f : AdoptFault) → HasLooked old mid (Ok (Fault f)) IsFound → f ≡ Store → AdoptCause old mid
   found_cause f h is = unlike (subst (IsFoundFaultOf old.now) is (found_in old mid settles k (Fault f) h))
@@ -255,7 +261,7 @@ module _ (old mid : State) (settles : Settles old) (k : HasCleanDisk mid) where
   look_cause : (e : Error) (f : AdoptFault) → f ≡ adopt_fault_of e → f ≡ Store → FailsToLook old mid e → AdoptCause old mid
   look_cause e f is store (inl memory) = absurd (no_memory e f is store memory)
   look_cause e f is store (inr (inl more)) = failed more
-  look_cause e f is store (inr (inr steps)) = limited steps
+  look_cause e f is store (inr (inr steps)) = absurd (never_limited old.step_limit free steps)
 
   -- the look failed
   pub fail_cause : (e : Error) (f : AdoptFault) → f ≡ adopt_fault_of e → f ≡ Store → HasLooked old mid (Err e) IsFound → BlamesLook {A = Found} IsFiled old mid (Err e) → IsFiled old.now → AdoptCause old mid
@@ -265,11 +271,58 @@ module _ (old mid : State) (settles : Settles old) (k : HasCleanDisk mid) where
   ]
 
 -- the migration failed behind the look
-pub unmade_cause : (old mid new : State) (settles : Settles old) (k : HasCleanDisk mid) (e : Error) (f : AdoptFault) → f ≡ adopt_fault_of e → f ≡ Store → HasLooked old mid (Ok (Book version.First)) IsFound
+pub unmade_cause : (old mid new : State) (free : old.step_limit ≡ None) (settles : Settles old) (k : HasCleanDisk mid) (e : Error) (f : AdoptFault) → f ≡ adopt_fault_of e → f ≡ Store → HasLooked old mid (Ok (Book version.First)) IsFound
     → BlamesLook {A = Found} IsFiled old mid (Ok (Book version.First)) → mid.faults ≤ new.faults → FailsToMigrate mid new e → AdoptCause old new
-unmade_cause old mid new settles k e f is store h blames counts (inl memory) = absurd (no_memory e f is store memory)
-unmade_cause old mid new settles k e f is store h blames counts (inr (inl (inl more))) = failed (let first = blames.counts in omega (arith, more, first))
-unmade_cause old mid new settles k e f is store h blames counts (inr (inl (inr down))) = absurd (let up = h.up k in let apart = sym up ∙ down in cc)
-unmade_cause old mid new settles k e f is store h blames counts (inr (inr untold)) =
+unmade_cause old mid new free settles k e f is store h blames counts (inl memory) = absurd (no_memory e f is store memory)
+unmade_cause old mid new free settles k e f is store h blames counts (inr (inl (inl more))) = failed (let first = blames.spares.counts in omega (arith, more, first))
+unmade_cause old mid new free settles k e f is store h blames counts (inr (inl (inr down))) = absurd (let up = h.up k in let apart = sym up ∙ down in cc)
+unmade_cause old mid new free settles k e f is store h blames counts (inr (inr untold)) =
     let same = (after_look old mid settles k (Book version.First) h).now in
-    refused ((found_in old mid settles k (Book version.First) h).schema_is) (subst (λ (l : Option ℕ). IsUntold l old.now.trees) blames.limit (subst (λ (d : Database). IsUntold mid.step_limit d.trees) same untold))
+    refused ((found_in old mid settles k (Book version.First) h).schema_is) (subst (λ (l : Option ℕ). IsUntold l old.now.trees) (blames.spares.limit ∙ free) (subst (λ (d : Database). IsUntold mid.step_limit d.trees) same untold))
+
+-- ---- a limit of steps that was taken off before makes no difference
+
+abbrev without_limit : State → State
+without_limit s = record s { step_limit = None }
+
+module _ (s : State) where
+  sound_before : IsSoundState s → IsSoundState (without_limit s)
+  sound_before sound = record {
+    stands = λ up. let held = sound.stands up in (held.0, record { is_open = held.1.is_open; idle = held.1.idle; schema = held.1.schema; encodes = held.1.encodes });
+    left = sound.left;
+  }
+
+  pub adopted_before : (d : Database) (new : BookState) → IsAdopted d (book_state (without_limit s) 0) new → IsAdopted d (book_state s 0) new
+  adopted_before d new h = record {
+    was_open = h.was_open;
+    live = h.live;
+    of_book = h.of_book;
+    filed = λ sound. h.filed (sound_before sound);
+    content = h.content;
+    stops = h.stops;
+    keeps = h.keeps;
+    sound = h.sound;
+    in_range = h.in_range;
+    ordered = h.ordered;
+  }
+
+  pub back_before : (d : Database) (new : BookState) (f : AdoptFault) → IsHandedBack d (book_state (without_limit s) 0) new f → IsHandedBack d (book_state s 0) new f
+  back_before d new f h = record { sound = λ sound. h.sound (sound_before sound); same = h.same; stops = h.stops; cause = h.cause }
+
+  pub untouched_before : (new : State) → IsUntouched (without_limit s) new → IsUntouched s new
+  untouched_before new h = record { same = h.same; stops = h.stops }
+
+  pub made_before : (new : State) → IsMade (without_limit s) new → IsMade s new
+  made_before new h = record { is_open = h.is_open; idle = h.idle; schema_is = h.schema_is; tables = h.tables }
+
+  pub migrates_before : (new : State) → MayMigrate (without_limit s) new → MayMigrate s new
+  migrates_before new h db left = elim (h db left) [
+    | inl before ↦ inl before
+    | inr m ↦ inr (record { version = m.version; tables = m.tables; content = m.content })
+  ]
+
+  pub cause_before : (new : State) → AdoptCause (without_limit s) new → AdoptCause s new
+  cause_before new (failed more) = failed more
+  cause_before new (shut down) = shut down
+  cause_before new (unlike found) = unlike found
+  cause_before new (refused is untold) = refused is untold

@@ -14,3 +14,4 @@ mod PageFound
 mod Beginning
 pub mod Followed
 mod ReadAhead
+mod Unmet

@@ -1,5 +1,5 @@
 -- A connection that the very next change takes away needs no statement.
-use Rattle.std.proofs.Common.{◌≡◌, ℕ, not, cond, List, [], ◌∷◌, refl, sym, subst, ap, ap₂, ◌∙◌}
+use Rattle.std.proofs.Common.{◌≡◌, ℕ, not, true, false, cond, List, [], ◌∷◌, refl, sym, subst, ap, ap₂, ◌∙◌}
 use Rattle.std.specs.Prelude.{filter}
 use Rattle.std.specs.Ordering.{match_ordering}
 use Rattle.std.specs.declared.cmp.Ordering.TheVariants.{Less, Equal, Greater}
@@ -17,6 +17,7 @@ use Rattle.acd_book.specs.Content.{Content}
 use Rattle.acd_sql_columns.specs.declared.tables.Table.TheVariants as table
 use Rattle.acd_sql_columns.specs.Relations.{relations_of}
 use Rattle.acd_sql_columns.specs.Draft.{Drafts}
+use Rattle.acd_sqlbook.specs.Choosing.{is_taken_away, written, IsWrittenNext}
 use Rattle.acd_sqlbook.specs.Commit.{filed, all_filed}
 
 module _ {T K : Type 0} (r : Keyed T K) (x : T) where
@@ -54,3 +55,40 @@ next_filed old new first rest behind changes c step put held =
 
 pub none_left : (s : State) (rest changes : List Change) (c : Content) → rest ≡ [] → (x : Content) × Drafts s (relations_of x) × (all_filed x rest ≡ all_filed c changes) → Drafts s (relations_of (all_filed c changes))
 none_left s rest changes c none held = subst (λ x. Drafts s (relations_of x)) (ap (all_filed held.0) (sym none) ∙ held.2) held.1
+
+-- ---- the one that is written next
+
+-- what takes another away is written
+takes_stays : (first second : Change) (rest : List Change) → is_taken_away first second ≡ true → written (second ∷ rest) ≡ second ∷ written rest
+takes_stays (PutConnection x) (RemoveConnection call device) [] is = refl
+takes_stays (PutConnection x) (RemoveConnection call device) (next ∷ rest) is = refl
+takes_stays first second rest is = absurd (cc is)
+
+module _ (changes : List Change) (first : Change) (behind : List Change) (all : changes ≡ first ∷ behind) where
+  pub written_alone : behind ≡ [] → IsWrittenNext changes first behind
+  written_alone none = record {
+    skipped = [];
+    all = all;
+    first = subst (λ l. written changes ≡ first ∷ written l) (sym none) (ap written (all ∙ ap (λ l. first ∷ l) none));
+    filing = λ c up. ap (all_filed c) all;
+  }
+
+  module _ (second : Change) (rest : List Change) (two : behind ≡ second ∷ rest) where
+    both : changes ≡ first ∷ second ∷ rest
+    both = all ∙ ap (λ l. first ∷ l) two
+
+    pub written_first : is_taken_away first second ≡ false → IsWrittenNext changes first behind
+    written_first kept = record {
+      skipped = [];
+      all = all;
+      first = ap written both ∙ ap (λ b. cond b (written (second ∷ rest)) (first ∷ written (second ∷ rest))) kept ∙ ap (λ l. first ∷ written l) (sym two);
+      filing = λ c up. ap (all_filed c) all;
+    }
+
+    pub written_second : is_taken_away first second ≡ true → ((c : Content) → IsAscending connection_order c.rows.connections → filed (filed c first) second ≡ filed c second) → IsWrittenNext changes second rest
+    written_second taken vain = record {
+      skipped = first ∷ [];
+      all = both;
+      first = ap written both ∙ ap (λ b. cond b (written (second ∷ rest)) (first ∷ written (second ∷ rest))) taken ∙ takes_stays first second rest taken;
+      filing = λ c up. ap (all_filed c) both ∙ ap (λ x. all_filed x rest) (vain c up);
+    }

@@ -1,5 +1,5 @@
 -- What a connection is as a book, behind the look at it.
-use Rattle.std.specs.Prelude.{◌≡◌, ◌⊎◌, false, IsSome, IsTrue}
+use Rattle.std.specs.Prelude.{◌≡◌, ◌⊎◌, false, None, IsTrue}
 use Rattle.sqlite_disk.specs.Disk.{MoreFaults}
 use Rattle.sqlite_trees.specs.Tree.{Trees}
 use Rattle.sqlite.specs.Effect.{Database}
@@ -64,9 +64,7 @@ pub data AdoptCause (old new : State) : Type 0 where
   failed : MoreFaults old.faults new.faults → AdoptCause old new
   -- the connection was shut before
   shut : old.is_open ≡ false → AdoptCause old new
-  -- a query may take no more than so many steps
-  limited : IsSome old.step_limit → AdoptCause old new
   -- the tables are those of no version, or of another than they tell
   unlike : IsUnlike old.now → AdoptCause old new
   -- by what it says of tables of version 1 with two more behind them, the store refuses to tell version 2 there
-  refused : old.now.schema ≡ old_schema → IsUntold old.step_limit old.now.trees → AdoptCause old new
+  refused : old.now.schema ≡ old_schema → IsUntold None old.now.trees → AdoptCause old new

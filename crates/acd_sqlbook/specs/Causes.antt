@@ -1,11 +1,12 @@
 -- Why a book answers that its store has failed.
-use Rattle.std.specs.Prelude.{◌≡◌, ◌≢◌, ◌⊎◌, ℕ, ◌<◌, false, List, length, Result, Err, IsSome}
+use Rattle.std.specs.Prelude.{◌≡◌, ◌≢◌, ◌⊎◌, ℕ, ◌<◌, false, List, length, None, Some, Result, Err}
 use Rattle.sqlite_disk.specs.Disk.{MoreFaults}
 use Rattle.sqlite.specs.State.{State, HasCleanDisk}
 use Rattle.acd_terms.specs.declared.event.Event.{Event}
 use Rattle.acd_terms.specs.declared.rows.Limits.{Limits}
 use Rattle.acd_terms.specs.declared.rows.Rows.{Rows}
 use Rattle.acd_model.specs.declared.moves.Change.{Change}
+use Rattle.acd_book.specs.Content.{Content}
 use Rattle.acd_book.specs.declared.kept.Kept.{Kept}
 use Rattle.acd_sql_columns.specs.Relations.{meta_of}
 use Rattle.acd_book.specs.declared.fault.BookFault.{BookFault}
@@ -18,7 +19,7 @@ use Rattle.acd_sql_statements.specs.InRange.{IsInRange}
 use Rattle.acd_sql_schema.specs.SettingUp.{IsUnstarted}
 use Rattle.acd_sqlbook.specs.State.{IsSoundState}
 use Rattle.acd_sqlbook.specs.Commit.{counted}
-use Rattle.acd_sqlbook.specs.Stopping.{AllNumbersFit, AreCounted, Drops, IsUncounted, RefusesInAll}
+use Rattle.acd_sqlbook.specs.Stopping.{AllNumbersFit, AreCounted, Drops, HasAbove, IsUncounted, RefusesInAll}
 
 -- what a book is asked
 pub data BookCall : Type 0 where
@@ -27,19 +28,12 @@ pub data BookCall : Type 0 where
   change : List Change → List Event → Kept → BookCall
   replace : Rows → List Event → Kept → BookCall
 
--- its query may take no more than so many steps
-abbrev pub IsLimited : BookCall → State → Type 0
-IsLimited (create limits) s = ⊥
-IsLimited read s = IsSome s.step_limit
-IsLimited (change changes events kept) s = IsSome s.step_limit
-IsLimited (replace rows events kept) s = IsSome s.step_limit
-
 -- a number of it, of a change that it makes, or of the counters behind it, doesn't fit its column
 abbrev pub IsUnfit : BookCall → State → Type 0
 IsUnfit (create limits) s = ¬ (LimitsFit limits)
 IsUnfit read s = ⊥
 IsUnfit (change changes events kept) s =
-    IsUncounted changes (length events) kept s.step_limit (content_of s.committed.trees) ⊎ (¬ (AllNumbersFit changes events))
+    IsUncounted changes (length events) kept (content_of s.committed.trees) ⊎ (¬ (AllNumbersFit changes events))
 IsUnfit (replace rows events kept) s =
     (¬ (AreCounted rows kept)) ⊎ (¬ (AllNumbersFit (rows_differences (content_of s.committed.trees).rows rows) events))
 
@@ -62,17 +56,19 @@ abbrev pub IsDropping : BookCall → State → Type 0
 IsDropping (create limits) s = ⊥
 IsDropping read s = ⊥
 IsDropping (change changes events kept) s = ⊥
-IsDropping (replace rows events kept) s = Drops rows s.step_limit (content_of s.committed.trees)
+IsDropping (replace rows events kept) s = Drops rows (content_of s.committed.trees)
+
+-- of a commit of changes, with the counters that go on from the content's
+abbrev pub RefusesToCommit : List Change → List Event → Kept → Content → Type 0
+RefusesToCommit changes events kept c = RefusesInAll (HasAbove (Some c.rows.last_call) c) changes events kept (counted (meta_of c.rows) changes (length events) kept) c
 
 -- by what it says of such tables, the store refuses the row of the limits; it refuses no query, and no table of a book; of a commit it refuses a statement, on
 -- what those before it made
 abbrev pub IsRefusedByStore : BookCall → State → Type 0
-IsRefusedByStore (create limits) s = IsUnstarted s.step_limit limits
+IsRefusedByStore (create limits) s = IsUnstarted None limits
 IsRefusedByStore read s = ⊥
-IsRefusedByStore (change changes events kept) s =
-    RefusesInAll changes events kept (counted (meta_of (content_of s.committed.trees).rows) changes (length events) kept) s.step_limit (content_of s.committed.trees)
-IsRefusedByStore (replace rows events kept) s =
-    RefusesInAll (rows_differences (content_of s.committed.trees).rows rows) events kept (meta_of rows) s.step_limit (content_of s.committed.trees)
+IsRefusedByStore (change changes events kept) s = RefusesToCommit changes events kept (content_of s.committed.trees)
+IsRefusedByStore (replace rows events kept) s = RefusesInAll ⊥ (rows_differences (content_of s.committed.trees).rows rows) events kept (meta_of rows) (content_of s.committed.trees)
 
 -- between these two states of its connection
 pub data StoreCause (asked : BookCall) (old new : State) : Type 0 where
@@ -80,7 +76,6 @@ pub data StoreCause (asked : BookCall) (old new : State) : Type 0 where
   failed : MoreFaults old.faults new.faults → StoreCause asked old new
   -- the connection was shut before
   shut : old.is_open ≡ false → StoreCause asked old new
-  limited : IsLimited asked old → StoreCause asked old new
   unfit : IsUnfit asked old → StoreCause asked old new
   unreadable : IsUnreadable asked old → StoreCause asked old new
   occupied : IsOccupied asked old → StoreCause asked old new

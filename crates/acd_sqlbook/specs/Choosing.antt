@@ -1,8 +1,34 @@
--- Which statement writes a change of a call or a connection: an insertion where it has no row, else an upsert. No promise rests on it: after either the
--- change is made, or the store has refused.
-use Rattle.std.specs.Prelude.{ℕ, ◌==◌, ◌&&◌, List, Bool, false, length, filter, nat_lt}
+-- Which changes are written, and by which statement a call or a connection is: an insertion where it has no row, else an upsert.
+use Rattle.std.specs.Prelude.{◌≡◌, ℕ, ◌==◌, ◌&&◌, List, [], ◌∷◌, ◌++◌, Bool, false, cond, length, filter, nat_lt, Option, None, Some}
+use Rattle.acd_terms.specs.Lists.{IsAscending}
+use Rattle.acd_model.specs.Rules.Plan.{connection_order}
 use Rattle.acd_model.specs.declared.moves.Change.{Change}
-use Rattle.acd_model.specs.declared.moves.Change.TheVariants.{PutCall, PutConnection}
+use Rattle.acd_model.specs.declared.moves.Change.TheVariants.{PutCall, PutConnection, RemoveConnection}
+use Rattle.acd_book.specs.Content.{Content}
+use Rattle.acd_sqlbook.specs.Commit.{filed, all_filed}
+
+-- ---- what is written
+
+-- the second takes away the connection that the first one puts
+abbrev pub is_taken_away : Change → Change → Bool
+is_taken_away (PutConnection x) (RemoveConnection call device) = (x.call == call) && (x.device == device)
+is_taken_away _ _ = false
+
+-- those that are written: all but a connection that the very next change takes away
+abbrev pub written : List Change → List Change
+written [] = []
+written (change ∷ []) = change ∷ []
+written (change ∷ next ∷ changes) = cond (is_taken_away change next) (written (next ∷ changes)) (change ∷ written (next ∷ changes))
+
+-- this one is written next, and those are behind it
+pub record IsWrittenNext (changes : List Change) (change : Change) (behind : List Change) : Type 0 where
+  pub skipped : List Change
+  pub all : changes ≡ skipped ++ change ∷ behind
+  pub first : written changes ≡ change ∷ written behind
+  -- what is skipped makes no difference
+  pub filing : (c : Content) → IsAscending connection_order c.rows.connections → all_filed c changes ≡ all_filed (filed c change) behind
+
+-- ---- what is new
 
 -- both put one call, or one connection
 abbrev pub puts_the_same : Change → Change → Bool
@@ -14,8 +40,13 @@ puts_the_same _ _ = false
 abbrev pub is_put_once : List Change → Change → Bool
 is_put_once changes change = length (filter (puts_the_same change) changes) == 1
 
+-- above the last call's number, where that is known
+abbrev pub is_above : Option ℕ → ℕ → Bool
+is_above None call = false
+is_above (Some last) call = nat_lt last call
+
 -- a change of these puts a call above the last one, or a connection of such a call, and no other puts the same
-abbrev pub is_new : ℕ → List Change → Change → Bool
-is_new last changes (PutCall k) = nat_lt last k.call && is_put_once changes (PutCall k)
-is_new last changes (PutConnection x) = nat_lt last x.call && is_put_once changes (PutConnection x)
+abbrev pub is_new : Option ℕ → List Change → Change → Bool
+is_new last changes (PutCall k) = is_above last k.call && is_put_once changes (PutCall k)
+is_new last changes (PutConnection x) = is_above last x.call && is_put_once changes (PutConnection x)
 is_new last changes _ = false

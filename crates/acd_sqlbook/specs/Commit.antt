@@ -92,6 +92,10 @@ counted m changes events k = record {
   last_event = m.last_event + events;
 }
 
+-- the last call's number, and those counters
+abbrev pub counters_of : List Change → ℕ → Kept → Content → ℕ × Meta
+counters_of changes events kept c = (c.rows.last_call, counted (meta_of c.rows) changes events kept)
+
 -- what a commit writes, with the counters that go on from the content's
 abbrev pub written_by : List Change → List Event → Kept → Content → Content
 written_by changes events kept c = made_by changes events kept (counted (meta_of c.rows) changes (length events) kept) c

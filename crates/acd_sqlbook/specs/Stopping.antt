@@ -1,9 +1,11 @@
--- Why a part of a commit isn't written, inside a transaction that saw a content.
-use Rattle.std.specs.Prelude.{◌≡◌, ◌⊎◌, ℕ, ◌≤◌, ◌∷◌, [], List, length, Option, Result, IfErr, OnOk}
+-- Why a part of a commit isn't written, inside a transaction that saw a content, on a connection without a limit of steps.
+use Rattle.std.specs.Prelude.{◌≡◌, ◌⊎◌, ℕ, ◌≤◌, ◌∷◌, [], List, length, Option, None, Some, Result, IfErr, OnOk}
 use Rattle.sqlite.specs.declared.error.Error.{Error}
 use Rattle.sqlite.specs.State.{State, HasCleanDisk}
 use Rattle.acd_terms.specs.Lists.{Every}
 use Rattle.acd_terms.specs.declared.event.Event.{Event}
+use Rattle.acd_terms.specs.declared.record.CallRecord.{CallRecord}
+use Rattle.acd_terms.specs.declared.record.ConnectionRecord.{ConnectionRecord}
 use Rattle.acd_terms.specs.declared.rows.Rows.{Rows}
 use Rattle.acd_model.specs.declared.moves.Change.{Change}
 use Rattle.acd_model.specs.declared.moves.Change.TheVariants.{Nothing, PutGroup, PutStation, PutAgent, PutCall, PutConnection, PutMonitor, RemoveCall, RemoveConnection, RemoveMonitor}
@@ -11,107 +13,117 @@ use Rattle.acd_book.specs.Content.{Content}
 use Rattle.acd_book.specs.declared.kept.Kept.{Kept}
 use Rattle.acd_sql_columns.specs.Draft.{Drafts, Fits, HoldsContent, MetaFits}
 use Rattle.acd_sql_columns.specs.Relations.{Relations, meta_of, relations_of}
-use Rattle.acd_sql_columns.specs.Rows.{kept_values, meta_shown}
+use Rattle.acd_sql_columns.specs.Rows.{connection_values, kept_values, meta_shown}
 use Rattle.acd_sql_columns.specs.Tables.{stations, calls, monitors, events}
 use Rattle.acd_sql_columns.specs.Values.{id_value}
 use Rattle.acd_sql_columns.specs.declared.meta.Meta.{Meta}
-use Rattle.acd_sql_columns.specs.declared.texts.TheConstants.{DELETE_CALL, DELETE_CONNECTION, DELETE_MONITOR, INSERT_KEPT, UPDATE_CALL, UPDATE_META, UPDATE_MONITOR}
+use Rattle.acd_sql_columns.specs.declared.texts.TheConstants.{DELETE_CALL, DELETE_CONNECTION, DELETE_MONITOR, INSERT_CONNECTION, INSERT_KEPT, UPDATE_CALL, UPDATE_META, UPDATE_MONITOR}
 use Rattle.acd_sql_differences.specs.Leading.{rows_differences}
 use Rattle.acd_sql_differences.specs.Transition.{AreWhole}
 use Rattle.acd_sql_statements.specs.Failing.{IsMemory, StoreHasFailed}
 use Rattle.acd_sql_statements.specs.Reading.{FailsToRead}
 use Rattle.acd_sql_statements.specs.Refusing.{RefusesOn, RefusesPut, RefusesPutConnection, RefusesGroup, RefusesAgent}
+use Rattle.acd_sqlbook.specs.Choosing.{written}
 use Rattle.acd_sqlbook.specs.Commit.{ChangeFits, EventFits, counted, filed, all_filed, with_event, with_events, with_kept}
 
--- with this limit of steps and on these relations, the store refuses a statement of the change; a new call is inserted without a look
-abbrev pub RefusesChange : Change → Option ℕ → Relations → Type 0
-RefusesChange Nothing limit r = ⊥
-RefusesChange (PutGroup g) limit r = RefusesGroup g limit r
-RefusesChange (PutStation s) limit r = RefusesOn stations.insert (stations.values s) limit r
-RefusesChange (PutAgent a) limit r = RefusesAgent a limit r
-RefusesChange (PutCall k) limit r = RefusesPut calls UPDATE_CALL.now k limit r ⊎ RefusesOn calls.insert (calls.values k) limit r
-RefusesChange (PutConnection x) limit r = RefusesPutConnection x limit r
-RefusesChange (PutMonitor w) limit r = RefusesPut monitors UPDATE_MONITOR.now w limit r
-RefusesChange (RemoveCall call) limit r = RefusesOn DELETE_CALL.now (id_value call ∷ []) limit r
-RefusesChange (RemoveConnection call device) limit r = RefusesOn DELETE_CONNECTION.now (id_value call ∷ id_value device ∷ []) limit r
-RefusesChange (RemoveMonitor monitor) limit r = RefusesOn DELETE_MONITOR.now (id_value monitor ∷ []) limit r
+-- no call that it has, and no call of its connections, is above this one
+pub record AreUpTo (last : ℕ) (c : Content) : Type 0 where
+  pub calls : Every (λ (k : CallRecord). k.call ≤ last) c.rows.calls
+  pub connections : Every (λ (x : ConnectionRecord). x.call ≤ last) c.rows.connections
+
+-- it has one above the last call's number, where that is known; above its own last one no sound content has any
+abbrev pub HasAbove : Option ℕ → Content → Type 0
+HasAbove None c = ⊥
+HasAbove (Some last) c = ¬ (AreUpTo last c)
+
+-- on these relations the store refuses a statement of the change: it refuses a call or a connection to be inserted only where that has no row or, where `Meets`, may have one
+abbrev pub RefusesChange : Type 0 → Change → Relations → Type 0
+RefusesChange Meets Nothing r = ⊥
+RefusesChange Meets (PutGroup g) r = RefusesGroup g None r
+RefusesChange Meets (PutStation s) r = RefusesOn stations.insert (stations.values s) None r
+RefusesChange Meets (PutAgent a) r = RefusesAgent a None r
+RefusesChange Meets (PutCall k) r = RefusesPut calls UPDATE_CALL.now k None r ⊎ (Meets × RefusesOn calls.insert (calls.values k) None r)
+RefusesChange Meets (PutConnection x) r = RefusesPutConnection x None r ⊎ (Meets × RefusesOn INSERT_CONNECTION.now (connection_values x) None r)
+RefusesChange Meets (PutMonitor w) r = RefusesPut monitors UPDATE_MONITOR.now w None r
+RefusesChange Meets (RemoveCall call) r = RefusesOn DELETE_CALL.now (id_value call ∷ []) None r
+RefusesChange Meets (RemoveConnection call device) r = RefusesOn DELETE_CONNECTION.now (id_value call ∷ id_value device ∷ []) None r
+RefusesChange Meets (RemoveMonitor monitor) r = RefusesOn DELETE_MONITOR.now (id_value monitor ∷ []) None r
 
 -- a number of it doesn't fit its column, or the store refuses it
-abbrev pub StopsAtChange : Change → Option ℕ → Content → Type 0
-StopsAtChange change limit c = (¬ (ChangeFits change)) ⊎ RefusesChange change limit (relations_of c)
-
--- one of them, where some of those before it are made
-abbrev pub StopsInChanges : List Change → Option ℕ → Content → Type 0
-StopsInChanges [] limit c = ⊥
-StopsInChanges (change ∷ changes) limit c =
-    StopsAtChange change limit c ⊎ (StopsInChanges changes limit c ⊎ StopsInChanges changes limit (filed c change))
-
-abbrev pub StopsAtEvent : Event → Option ℕ → Content → Type 0
-StopsAtEvent e limit c = (¬ (EventFits e)) ⊎ RefusesOn events.insert (events.values e) limit (relations_of c)
+abbrev pub StopsAtChange : Type 0 → Change → Content → Type 0
+StopsAtChange Meets change c = (¬ (ChangeFits change)) ⊎ RefusesChange Meets change (relations_of c)
 
 -- one of them, behind those before it
-abbrev pub StopsInEvents : List Event → Option ℕ → Content → Type 0
-StopsInEvents [] limit c = ⊥
-StopsInEvents (e ∷ es) limit c = StopsAtEvent e limit c ⊎ StopsInEvents es limit (with_event c e)
+abbrev pub StopsInChanges : Type 0 → List Change → Content → Type 0
+StopsInChanges Meets [] c = ⊥
+StopsInChanges Meets (change ∷ changes) c = StopsAtChange Meets change c ⊎ StopsInChanges Meets changes (filed c change)
+
+abbrev pub StopsAtEvent : Event → Content → Type 0
+StopsAtEvent e c = (¬ (EventFits e)) ⊎ RefusesOn events.insert (events.values e) None (relations_of c)
+
+-- one of them, behind those before it
+abbrev pub StopsInEvents : List Event → Content → Type 0
+StopsInEvents [] c = ⊥
+StopsInEvents (e ∷ es) c = StopsAtEvent e c ⊎ StopsInEvents es (with_event c e)
 
 -- the kept record, or behind it the counters
-abbrev pub StopsAtLast : Kept → Meta → Option ℕ → Content → Type 0
-StopsAtLast kept meta limit c =
-    RefusesOn INSERT_KEPT.now (kept_values kept) limit (relations_of c) ⊎ RefusesOn UPDATE_META.now (meta_shown meta) limit (relations_of (with_kept c kept))
+abbrev pub StopsAtLast : Kept → Meta → Content → Type 0
+StopsAtLast kept meta c =
+    RefusesOn INSERT_KEPT.now (kept_values kept) None (relations_of c) ⊎ RefusesOn UPDATE_META.now (meta_shown meta) None (relations_of (with_kept c kept))
 
--- the changes, the events behind them, or what is last
-abbrev pub StopsInAll : List Change → List Event → Kept → Meta → Option ℕ → Content → Type 0
-StopsInAll changes events kept meta limit c =
-    StopsInChanges changes limit c
-    ⊎ (StopsInEvents events limit (all_filed c changes) ⊎ StopsAtLast kept meta limit (with_events (all_filed c changes) events))
+-- the changes that are written, the events behind them, or what is last
+abbrev pub StopsInAll : Type 0 → List Change → List Event → Kept → Meta → Content → Type 0
+StopsInAll Meets changes events kept meta c =
+    StopsInChanges Meets (written changes) c
+    ⊎ (StopsInEvents events (all_filed c changes) ⊎ StopsAtLast kept meta (with_events (all_filed c changes) events))
 
 -- ---- what of it doesn't fit, and what the store refuses
 
--- each number of the changes and of the events fits its column
+-- each number of the changes that are written, and of the events, fits its column
 abbrev pub AllNumbersFit : List Change → List Event → Type 0
-AllNumbersFit changes events = Every ChangeFits changes × Every EventFits events
+AllNumbersFit changes events = Every ChangeFits (written changes) × Every EventFits events
 
--- the store refuses one of them, where some of those before it are made
-abbrev pub RefusesInChanges : List Change → Option ℕ → Content → Type 0
-RefusesInChanges [] limit c = ⊥
-RefusesInChanges (change ∷ changes) limit c =
-    RefusesChange change limit (relations_of c) ⊎ (RefusesInChanges changes limit c ⊎ RefusesInChanges changes limit (filed c change))
+-- the store refuses one of them, behind those before it
+abbrev pub RefusesInChanges : Type 0 → List Change → Content → Type 0
+RefusesInChanges Meets [] c = ⊥
+RefusesInChanges Meets (change ∷ changes) c = RefusesChange Meets change (relations_of c) ⊎ RefusesInChanges Meets changes (filed c change)
 
 -- one of them, behind those before it
-abbrev pub RefusesInEvents : List Event → Option ℕ → Content → Type 0
-RefusesInEvents [] limit c = ⊥
-RefusesInEvents (e ∷ es) limit c = RefusesOn events.insert (events.values e) limit (relations_of c) ⊎ RefusesInEvents es limit (with_event c e)
+abbrev pub RefusesInEvents : List Event → Content → Type 0
+RefusesInEvents [] c = ⊥
+RefusesInEvents (e ∷ es) c = RefusesOn events.insert (events.values e) None (relations_of c) ⊎ RefusesInEvents es (with_event c e)
 
--- a statement of a change, of an event behind them, or of what is last
-abbrev pub RefusesInAll : List Change → List Event → Kept → Meta → Option ℕ → Content → Type 0
-RefusesInAll changes events kept meta limit c =
-    RefusesInChanges changes limit c
-    ⊎ (RefusesInEvents events limit (all_filed c changes) ⊎ StopsAtLast kept meta limit (with_events (all_filed c changes) events))
+-- a statement of a change that is written, of an event behind them, or of what is last
+abbrev pub RefusesInAll : Type 0 → List Change → List Event → Kept → Meta → Content → Type 0
+RefusesInAll Meets changes events kept meta c =
+    RefusesInChanges Meets (written changes) c
+    ⊎ (RefusesInEvents events (all_filed c changes) ⊎ StopsAtLast kept meta (with_events (all_filed c changes) events))
 
 -- ---- failures
 
--- why it fails, where `Stops limit c` says at what it stops
-abbrev pub FailsToFile : (Option ℕ → Content → Type 0) → Content → State → State → Error → Type 0
-FailsToFile Stops c old new e = IsMemory e ⊎ (StoreHasFailed old new ⊎ Stops old.step_limit c)
+-- why it fails, where `Stops c` says at what it stops
+abbrev pub FailsToFile : (Content → Type 0) → Content → State → State → Error → Type 0
+FailsToFile Stops c old new e = IsMemory e ⊎ (StoreHasFailed old new ⊎ Stops c)
 
 -- it fails by this alone
-abbrev pub IsStopped : {A : Type 0} → (Option ℕ → Content → Type 0) → State → State → Result A Error → Type 0
+abbrev pub IsStopped : {A : Type 0} → (Content → Type 0) → State → State → Result A Error → Type 0
 IsStopped Stops old new result = HasCleanDisk new → (c : Content) → Drafts old (relations_of c) → IfErr result (FailsToFile Stops c old new)
 
 -- of a whole commit, on a connection that holds a content
-abbrev pub IsUndone : {A : Type 0} → (Option ℕ → Content → Type 0) → State → State → Result A Error → Type 0
+abbrev pub IsUndone : {A : Type 0} → (Content → Type 0) → State → State → Result A Error → Type 0
 IsUndone Stops old new result = HasCleanDisk new → (c : Content) → HoldsContent old c → IfErr result (FailsToFile Stops c old new)
 
 -- ---- a commit of changes
 
 -- the counters behind so many events don't fit their columns
-abbrev pub IsUncounted : List Change → ℕ → Kept → Option ℕ → Content → Type 0
-IsUncounted changes events kept limit c = ¬ (MetaFits (counted (meta_of c.rows) changes events kept))
+abbrev pub IsUncounted : List Change → ℕ → Kept → Content → Type 0
+IsUncounted changes events kept c = ¬ (MetaFits (counted (meta_of c.rows) changes events kept))
 
 -- those don't fit, or it stops at something that it writes
-abbrev pub StopsCommit : List Change → List Event → Kept → Option ℕ → Content → Type 0
-StopsCommit changes events kept limit c =
-    IsUncounted changes (length events) kept limit c ⊎ StopsInAll changes events kept (counted (meta_of c.rows) changes (length events) kept) limit c
+abbrev pub StopsCommit : List Change → List Event → Kept → Content → Type 0
+StopsCommit changes events kept c =
+    IsUncounted changes (length events) kept c
+    ⊎ StopsInAll (HasAbove (Some c.rows.last_call) c) changes events kept (counted (meta_of c.rows) changes (length events) kept) c
 
 -- ---- a commit of tables
 
@@ -120,22 +132,22 @@ abbrev pub AreCounted : Rows → Kept → Type 0
 AreCounted rows kept = MetaFits (meta_of rows) × Fits kept.stamp
 
 -- a group, a station or an agent that is held isn't among the rows
-abbrev pub Drops : Rows → Option ℕ → Content → Type 0
-Drops rows limit c = ¬ (AreWhole (rows_differences c.rows rows))
+abbrev pub Drops : Rows → Content → Type 0
+Drops rows c = ¬ (AreWhole (rows_differences c.rows rows))
 
 -- those don't fit, it would drop one of these, or it stops at something that it writes
-abbrev pub StopsReplace : Rows → List Event → Kept → Option ℕ → Content → Type 0
-StopsReplace rows events kept limit c =
-    (¬ (AreCounted rows kept)) ⊎ (Drops rows limit c ⊎ StopsInAll (rows_differences c.rows rows) events kept (meta_of rows) limit c)
+abbrev pub StopsReplace : Rows → List Event → Kept → Content → Type 0
+StopsReplace rows events kept c =
+    (¬ (AreCounted rows kept)) ⊎ (Drops rows c ⊎ StopsInAll ⊥ (rows_differences c.rows rows) events kept (meta_of rows) c)
 
 -- ---- either
 
 -- why a call that reads first fails: as a read does, or at this
-abbrev pub IsBlamedOr : {A : Type 0} → (Option ℕ → Content → Type 0) → State → State → Result A Error → Type 0
-IsBlamedOr Stops old new result = HasCleanDisk new → (c : Content) → HoldsContent old c → IfErr result (λ e. FailsToRead c old new e ⊎ Stops old.step_limit c)
+abbrev pub IsBlamedOr : {A : Type 0} → (Content → Type 0) → State → State → Result A Error → Type 0
+IsBlamedOr Stops old new result = HasCleanDisk new → (c : Content) → HoldsContent old c → IfErr result (λ e. FailsToRead c old new e ⊎ Stops c)
 
 -- that, and what it leaves of the store's count and of the limit of steps
-pub record BlamesOr {A : Type 0} (Stops : Option ℕ → Content → Type 0) (old new : State) (result : Result A Error) : Type 0 where
+pub record BlamesOr {A : Type 0} (Stops : Content → Type 0) (old new : State) (result : Result A Error) : Type 0 where
   pub cause : IsBlamedOr Stops old new result
   pub counts : OnOk result (old.faults ≤ new.faults)
   pub limit : OnOk result (new.step_limit ≡ old.step_limit)

@@ -1,6 +1,6 @@
 //! Takes a connection over a book where each value is in its range, and makes version 2 of one of version 1.
 
-ghost use Rattle.std.specs.Prelude.{◌≡◌, ◌≢◌, ◌⊎◌, false, IfOk, IfErr};
+ghost use Rattle.std.specs.Prelude.{◌≡◌, ◌≢◌, ◌⊎◌, false, None, IfOk, IfErr};
 ghost use Rattle.sqlite.specs.State.{HasCleanDisk};
 ghost use Rattle.sqlite.specs.Held.{state};
 ghost use Rattle.acd_sql_columns.specs.AnyRows.{IsFiled};
@@ -23,7 +23,9 @@ impl<S: Alter> SqlBook<S> {
     /// Takes a connection over a book, whose values it looks at, all of them before anything is written.
     ///
     /// Tables of version 1 become those of version 2, in one transaction; of those of version 2 nothing is changed. The
-    /// connection is handed back beside a fault: after [`AdoptFault::WrongVersion`] and [`AdoptFault::BadRow`] it is as it was.
+    /// connection is handed back beside a fault, without a limit of steps: one that was set is taken off first, and a
+    /// connection doesn't tell which it was. What it is over is as it was after [`AdoptFault::WrongVersion`] and
+    /// [`AdoptFault::BadRow`].
     pub fn adopt(
         alloc: Global,
         mut conn: Connection<S>,
@@ -45,9 +47,11 @@ impl<S: Alter> SqlBook<S> {
             → HasAllColumns (state S.Store conn).now → IsFiled (state S.Store conn).now) }
         ensures counted { IfOk result (λ b. b.failures ≡ 0) }
         ensures unnoted { IfOk result (λ b. IsBlank b.noted) }
+        ensures unlimited { IfOk result (λ b. b.conn.step_limit ≡ None) }
         ensures clean { IfOk result
             (λ b. HasCleanDisk (state S.Store b.conn) → HasCleanDisk (state S.Store conn)) }
         ensures idle { IfErr result (λ e. e.1.in_transaction ≡ false) }
+        ensures limit { IfErr result (λ e. e.1.step_limit ≡ None) }
         ensures doubted { IfErr result
             (λ e. HasCleanDisk (state S.Store e.1) → HasCleanDisk (state S.Store conn)) }
         ensures handed_back { IfErr result (λ e. HasCleanDisk (state S.Store e.1)
@@ -62,6 +66,7 @@ impl<S: Alter> SqlBook<S> {
             → IsFiled (state S.Store conn).now → e.0 ≡ AdoptFault.Store
             → AdoptCause (state S.Store conn) (state S.Store e.1)) }
     {
+        conn.set_step_limit(None);
         match look_over(alloc, &mut conn) {
             Ok(Found::Book(Version::Second)) => Ok(SqlBook {
                 alloc,

@@ -1,6 +1,6 @@
 //! A book over a connection.
 
-ghost use Rattle.std.specs.Prelude.{◌≡◌, ◌≢◌, ◌≤◌, false, Err, is_ok, IsTrue, IfOk, IfErr};
+ghost use Rattle.std.specs.Prelude.{◌≡◌, ◌≢◌, ◌≤◌, false, None, Err, is_ok, IsTrue, IfOk, IfErr};
 ghost use Rattle.sqlite.specs.State.{HasCleanDisk};
 ghost use Rattle.sqlite.specs.Held.{state};
 ghost use Rattle.acd_sql_columns.specs.Schema.{no_schema};
@@ -88,7 +88,8 @@ impl<S: Alter> SqlBook<S> {
     /// Makes the tables of a new book, in one transaction.
     ///
     /// Limits that no INTEGER column can hold, and a database that has any table, index or view, are
-    /// [`BookFault::Store`]. The connection is handed back beside a fault.
+    /// [`BookFault::Store`]: the connection is handed back as it was. Beside any other fault it is handed back without a
+    /// limit of steps: one that was set is taken off before anything is made, and a connection doesn't tell which it was.
     pub fn create(
         alloc: Global,
         mut conn: Connection<S>,
@@ -99,12 +100,15 @@ impl<S: Alter> SqlBook<S> {
             → IsNewBook (book_state (state S.Store b.conn) b.failures) limits) }
         ensures counted { IfOk result (λ b. b.failures ≡ 0) }
         ensures unnoted { IfOk result (λ b. IsBlank b.noted) }
+        ensures unlimited { IfOk result (λ b. b.conn.step_limit ≡ None) }
         ensures clean { IfOk result
             (λ b. HasCleanDisk (state S.Store b.conn) → HasCleanDisk (state S.Store conn)) }
         ensures refused { ¬ (LimitsFit limits) → result ≡ Err (BookFault.Store, conn) }
         ensures occupied { (state S.Store conn).now.schema ≢ no_schema
             → result ≡ Err (BookFault.Store, conn) }
         ensures handed_back { IfErr result (λ e. e.1.in_transaction ≡ false) }
+        ensures limit { LimitsFit limits → (state S.Store conn).now.schema ≡ no_schema
+            → IfErr result (λ e. e.1.step_limit ≡ None) }
         ensures doubted { IfErr result
             (λ e. HasCleanDisk (state S.Store e.1) → HasCleanDisk (state S.Store conn)) }
         ensures stops { IfErr result (λ e. HasCleanDisk (state S.Store e.1)
@@ -118,6 +122,7 @@ impl<S: Alter> SqlBook<S> {
         if !has_no_tables(conn.schema()) {
             return Err((BookFault::Store, conn));
         }
+        conn.set_step_limit(None);
         match set_up(&mut conn, limits) {
             Ok(()) => Ok(SqlBook {
                 alloc,
@@ -132,6 +137,7 @@ impl<S: Alter> SqlBook<S> {
     /// Gives the connection up. It takes no memory.
     pub fn into_connection(self) -> Connection<S>
         ensures idle { result.in_transaction ≡ false }
+        ensures unlimited { result.step_limit ≡ None }
         ensures same { result ≡ self.conn }
     {
         let SqlBook {
@@ -269,11 +275,17 @@ impl<S: Alter> Book for SqlBook<S> {
         ensures commits { Commits (book_of S.Store self.old) (book_of S.Store self.new) result
             (FollowsBy changes.now events.now kept.now)
             (committed_by changes.now events.now kept.now) }
-        ensures caused { IsCaused (changing changes.now events.now kept.now)
+        // It counts from what is noted: so the book is sound with its notes, as `commits` asks too. A new or an adopted
+        // one is, and each call leaves it so.
+        ensures caused { (book_of S.Store self.old).is_sound
+            → IsCaused (changing changes.now events.now kept.now)
             (state S.Store self.old.conn) (state S.Store self.new.conn)
             self.old.failures self.new.failures result }
     {
-        let done = self.ready.commit_changes(self.alloc, changes, events, kept);
+        let counters = &mut self.notes.counters;
+        let done = self
+            .ready
+            .commit_changes(self.alloc, counters, changes, events, kept);
         let before = mem::take(&mut self.notes.index);
         self.notes.index = noted_behind(before, &done, changes, events);
         self.notes.ahead.forget();

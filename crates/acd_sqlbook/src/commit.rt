@@ -1,15 +1,15 @@
 //! All writes of a commit, in one transaction.
 
-ghost use Rattle.std.specs.Prelude.{◌≡◌, ◌↔◌, ◌<◌, ℕ, [], Option, length, filter, false, None, IfSome, OnOk, OnErr, IsTrue};
+ghost use Rattle.std.specs.Prelude.{◌≡◌, ◌↔◌, ◌<◌, [], length, filter, false, None, IfSome, OnOk, OnErr, IsTrue};
 ghost use Rattle.sqlite.specs.State.{HasCleanDisk};
 ghost use Rattle.sqlite.specs.Held.{state};
 ghost use Rattle.acd_codec.specs.RequestTexts.{request_text};
 ghost use Rattle.acd_terms.specs.Lists.{IsAscending};
 ghost use Rattle.acd_model.specs.Rules.Plan.{connection_order};
 ghost use Rattle.acd_book.specs.Content.{Content};
-ghost use Rattle.acd_sqlbook.specs.Choosing.{puts_the_same, is_put_once, is_new};
+ghost use Rattle.acd_sqlbook.specs.Choosing.{written, is_taken_away, IsWrittenNext, puts_the_same, is_put_once, is_above, is_new};
 ghost use Rattle.acd_sqlbook.specs.Commit.{ChangeFits, EventFits, filed, all_filed, with_event, with_events, made_by, top_call, top_monitor, last_call, last_monitor, counted};
-ghost use Rattle.acd_sqlbook.specs.Stopping.{RefusesChange, StopsAtChange, StopsInChanges, StopsAtEvent, StopsInEvents, StopsInAll, IsStopped, IsUndone};
+ghost use Rattle.acd_sqlbook.specs.Stopping.{HasAbove, RefusesChange, StopsAtChange, StopsInChanges, StopsAtEvent, StopsInEvents, StopsInAll, IsStopped, IsUndone};
 ghost use Rattle.acd_sql_statements.specs.Refusing.{RefusesAgent, IsBlamed};
 ghost use Rattle.acd_sql_columns.specs.Relations.{relations_of};
 ghost use Rattle.acd_sql_columns.specs.Draft.{Drafts, Works, HoldsContent, AddsStop, Fits, FiguresFitColumns, MetaFits};
@@ -90,14 +90,15 @@ fn make_change<S: Alter>(
     change: &Change,
     is_new: bool,
 ) -> Result<(), Error>
-    requires { ChangeFits change.now }
+    requires fits { ChangeFits change.now }
+    requires free { (state S.Store tx.old.conn.now).step_limit ≡ None }
     ensures same { tx.new.conn.ghost_name ≡ tx.old.conn.ghost_name }
     ensures works { Works (state S.Store tx.old.conn.now) (state S.Store tx.new.conn.now) }
     ensures put { HasCleanDisk (state S.Store tx.new.conn.now) → OnOk result ((c : Content)
         → Drafts (state S.Store tx.old.conn.now) (relations_of c)
         → Drafts (state S.Store tx.new.conn.now)
         (relations_of (filed c change.now))) }
-    ensures failed { IsBlamed (RefusesChange change.now)
+    ensures failed { IsStopped (λ c. RefusesChange (IsTrue is_new) change.now (relations_of c))
         (state S.Store tx.old.conn.now) (state S.Store tx.new.conn.now) result }
 {
     match change {
@@ -121,13 +122,14 @@ fn write_change<S: Alter>(
     change: &Change,
     is_new: bool,
 ) -> Result<(), Error>
+    requires { (state S.Store tx.old.conn.now).step_limit ≡ None }
     ensures same { tx.new.conn.ghost_name ≡ tx.old.conn.ghost_name }
     ensures works { Works (state S.Store tx.old.conn.now) (state S.Store tx.new.conn.now) }
     ensures put { HasCleanDisk (state S.Store tx.new.conn.now) → OnOk result ((c : Content)
         → Drafts (state S.Store tx.old.conn.now) (relations_of c)
         → Drafts (state S.Store tx.new.conn.now)
         (relations_of (filed c change.now))) }
-    ensures failed { IsStopped (StopsAtChange change.now)
+    ensures failed { IsStopped (StopsAtChange (IsTrue is_new) change.now)
         (state S.Store tx.old.conn.now) (state S.Store tx.new.conn.now) result }
 {
     if !change_fits(change) {
@@ -166,15 +168,25 @@ fn is_put_once(changes: &[Change], change: &Change) -> bool
     puts_of(changes, change) == 1
 }
 
+// Whether a call is above the last one, where that is known.
+fn is_above(last: Option<u64>, call: u64) -> bool
+    ensures { result ≡ is_above last call }
+{
+    match last {
+        Some(last) => call > last,
+        None => false,
+    }
+}
+
 // Whether the change puts a call above the last one, or a connection of such a call, and no other of the
 // changes puts the same: then no row has its key.
-fn is_new(last: u64, changes: &[Change], change: &Change) -> bool
+fn is_new(last: Option<u64>, changes: &[Change], change: &Change) -> bool
     ensures { result ≡ is_new last changes.now change.now }
 {
     match change {
-        Change::PutCall(call) => call.call > last && is_put_once(changes, change),
+        Change::PutCall(call) => is_above(last, call.call) && is_put_once(changes, change),
         Change::PutConnection(connection) => {
-            connection.call > last && is_put_once(changes, change)
+            is_above(last, connection.call) && is_put_once(changes, change)
         }
         Change::Nothing
         | Change::PutGroup(_)
@@ -189,7 +201,8 @@ fn is_new(last: u64, changes: &[Change], change: &Change) -> bool
 
 // Whether the second change takes away the connection that the first one puts.
 fn is_taken_away(first: &Change, second: &Change) -> bool
-    ensures { IsTrue result → (c : Content) → IsAscending connection_order c.rows.connections
+    ensures is { result ≡ is_taken_away first.now second.now }
+    ensures vain { IsTrue result → (c : Content) → IsAscending connection_order c.rows.connections
         → filed (filed c first.now) second.now ≡ filed c second.now }
 {
     match (first, second) {
@@ -202,34 +215,36 @@ fn is_taken_away(first: &Change, second: &Change) -> bool
 
 // The change that is written next, and those behind it: a connection that the very next change takes away isn't put.
 fn next_written(changes: &[Change]) -> Option<(&Change, &[Change])>
-    ensures some { IfSome result (λ p. (length p.1.now < length changes.now)
-        × ((c : Content) → IsAscending connection_order c.rows.connections
-        → all_filed c changes.now ≡ all_filed (filed c p.0.now) p.1.now)) }
+    ensures some { IfSome result (λ p. IsWrittenNext changes.now p.0.now p.1.now) }
+    ensures shorter { IfSome result (λ p. length p.1.now < length changes.now) }
     ensures none { result ≡ None → changes.now ≡ [] }
-    ensures stops { IfSome result (λ p. (limit : Option ℕ) (c : Content)
-        → (StopsAtChange p.0.now limit c → StopsInChanges changes.now limit c)
-        × (StopsInChanges p.1.now limit (filed c p.0.now) → StopsInChanges changes.now limit c)) }
 {
-    match changes {
-        [first, second, behind @ ..] if is_taken_away(first, second) => Some((second, behind)),
-        [first, behind @ ..] => Some((first, behind)),
-        [] => None,
+    let (first, behind) = changes.split_first()?;
+    match behind.split_first() {
+        Some((second, rest)) => {
+            if is_taken_away(first, second) {
+                return Some((second, rest));
+            }
+            Some((first, behind))
+        }
+        None => Some((first, behind)),
     }
 }
 
-// No call above the last one has a row when the first change is written.
+// Where the last call is known, none above it has a row when the first change is written, and what is new is inserted.
 fn write_changes<S: Alter>(
     tx: &mut Transaction<'_, S>,
-    last: u64,
+    last: Option<u64>,
     changes: &[Change],
 ) -> Result<(), Error>
+    requires { (state S.Store tx.old.conn.now).step_limit ≡ None }
     ensures same { tx.new.conn.ghost_name ≡ tx.old.conn.ghost_name }
     ensures works { Works (state S.Store tx.old.conn.now) (state S.Store tx.new.conn.now) }
     ensures put { HasCleanDisk (state S.Store tx.new.conn.now) → OnOk result ((c : Content)
         → Drafts (state S.Store tx.old.conn.now) (relations_of c)
         → Drafts (state S.Store tx.new.conn.now)
         (relations_of (all_filed c changes.now))) }
-    ensures failed { IsStopped (StopsInChanges changes.now)
+    ensures failed { IsStopped (λ c. StopsInChanges (HasAbove last c) (written changes.now) c)
         (state S.Store tx.old.conn.now) (state S.Store tx.new.conn.now) result }
 {
     let mut rest = changes;
@@ -241,6 +256,7 @@ fn write_changes<S: Alter>(
 }
 
 fn write_event<S: Alter>(tx: &mut Transaction<'_, S>, event: &Event) -> Result<(), Error>
+    requires { (state S.Store tx.old.conn.now).step_limit ≡ None }
     ensures same { tx.new.conn.ghost_name ≡ tx.old.conn.ghost_name }
     ensures works { Works (state S.Store tx.old.conn.now) (state S.Store tx.new.conn.now) }
     ensures put { HasCleanDisk (state S.Store tx.new.conn.now) → OnOk result ((c : Content)
@@ -257,6 +273,7 @@ fn write_event<S: Alter>(tx: &mut Transaction<'_, S>, event: &Event) -> Result<(
 }
 
 fn write_events<S: Alter>(tx: &mut Transaction<'_, S>, events: &[Event]) -> Result<(), Error>
+    requires { (state S.Store tx.old.conn.now).step_limit ≡ None }
     ensures same { tx.new.conn.ghost_name ≡ tx.old.conn.ghost_name }
     ensures works { Works (state S.Store tx.old.conn.now) (state S.Store tx.new.conn.now) }
     ensures put { HasCleanDisk (state S.Store tx.new.conn.now) → OnOk result ((c : Content)
@@ -331,7 +348,7 @@ pub(crate) fn counted(meta: &Meta, changes: &[Change], events: u64, kept: &Kept)
 
 fn write_all<S: Alter>(
     tx: &mut Transaction<'_, S>,
-    last: u64,
+    last: Option<u64>,
     changes: &[Change],
     events: &[Event],
     kept: &Kept,
@@ -341,13 +358,15 @@ fn write_all<S: Alter>(
     requires stamp { Fits kept.now.stamp }
     requires request { request.now ≡ request_text kept.now.request }
     requires meta { MetaFits meta.now }
+    requires free { (state S.Store tx.old.conn.now).step_limit ≡ None }
     ensures same { tx.new.conn.ghost_name ≡ tx.old.conn.ghost_name }
     ensures works { Works (state S.Store tx.old.conn.now) (state S.Store tx.new.conn.now) }
     ensures put { HasCleanDisk (state S.Store tx.new.conn.now) → OnOk result ((c : Content)
         → Drafts (state S.Store tx.old.conn.now) (relations_of c)
         → Drafts (state S.Store tx.new.conn.now)
         (relations_of (made_by changes.now events.now kept.now meta.now c))) }
-    ensures failed { IsStopped (StopsInAll changes.now events.now kept.now meta.now)
+    ensures failed { IsStopped
+        (λ c. StopsInAll (HasAbove last c) changes.now events.now kept.now meta.now c)
         (state S.Store tx.old.conn.now) (state S.Store tx.new.conn.now) result }
 {
     write_changes(tx, last, changes)?;
@@ -357,11 +376,11 @@ fn write_all<S: Alter>(
     Ok(())
 }
 
-/// Writes all of it in one transaction, whose end alone adds to the stops. No call above the last one has
-/// a row yet: where one has, the store refuses it.
+/// Writes all of it in one transaction, whose end alone adds to the stops. Where the last call is known, none above it
+/// has a row yet: one that has is refused by the store.
 pub(crate) fn commit_all<S: Alter>(
     conn: &mut Connection<S>,
-    last: u64,
+    last: Option<u64>,
     changes: &[Change],
     events: &[Event],
     kept: &Kept,
@@ -372,6 +391,7 @@ pub(crate) fn commit_all<S: Alter>(
     requires request { request.now ≡ request_text kept.now.request }
     requires meta { MetaFits meta.now }
     requires idle { conn.old.in_transaction ≡ false }
+    requires unlimited { conn.old.step_limit ≡ None }
     ensures idle { conn.new.in_transaction ≡ false }
     ensures done { HasCleanDisk (state S.Store conn.new) → OnOk result ((c : Content)
         → HoldsContent (state S.Store conn.old) c
@@ -388,7 +408,9 @@ pub(crate) fn commit_all<S: Alter>(
     ensures stops { HasCleanDisk (state S.Store conn.new)
         → AddsStop (state S.Store conn.old) (state S.Store conn.new)
         (made_by changes.now events.now kept.now meta.now) }
-    ensures failed { IsUndone (StopsInAll changes.now events.now kept.now meta.now)
+    ensures limit { (state S.Store conn.new).step_limit ≡ (state S.Store conn.old).step_limit }
+    ensures failed { IsUndone
+        (λ c. StopsInAll (HasAbove last c) changes.now events.now kept.now meta.now c)
         (state S.Store conn.old) (state S.Store conn.new) result }
 {
     let mut tx = conn.transaction();

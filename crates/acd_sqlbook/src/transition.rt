@@ -56,10 +56,8 @@ fn changes_to<S: Alter>(
     ensures blamed { BlamesOr (Drops rows.now)
         (state S.Store ready.old.conn) (state S.Store ready.new.conn) result }
 {
-    match ready.rows(alloc) {
-        Ok(held) => whole_changes(alloc, &held, rows),
-        Err(error) => Err(error),
-    }
+    let held = ready.rows(alloc)?;
+    whole_changes(alloc, &held, rows)
 }
 
 // The limits and the counters of the rows, where their columns can hold them and the stamp.
@@ -108,7 +106,7 @@ pub(crate) fn commit_rows<S: Alter>(
             ready.fresh = false;
             let conn = &mut ready.conn;
             // Calls of any number may have rows.
-            let last = u64::MAX;
+            let last = None;
             commit_all(conn, last, &changes, events, kept, request.as_str(), &meta)
         }
         Err(error) => Err(error),

@@ -1,5 +1,6 @@
 //! Runs of the program, with all that it reads and writes.
 
+use super::logs::log_without_its_file;
 use super::scripts::unmet;
 use std::process::Abort;
 
@@ -123,10 +124,10 @@ fn help() -> &'static str {
 < once its store has failed. A file that isn't there, or has no bytes, is made.
 
 0 acd --version
-< acd 1.8 (rattle-kit-13f)
+< acd 1.9 (rattle-kit-13f)
 
 0 acd -V
-< acd 1.8 (rattle-kit-13f)
+< acd 1.9 (rattle-kit-13f)
 
 2 acd report
 ! error: the following required arguments were not provided:
@@ -652,6 +653,7 @@ fn runs_of_the_program(rt: HostRuntime) {
         streams_that_fail(),
         altered_file(),
         copied_while_it_is_open(),
+        log_without_its_file(),
         desk_over_http(),
     ];
     for script in scripts {

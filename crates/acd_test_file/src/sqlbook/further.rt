@@ -4,6 +4,7 @@
 use super::adopted::old_tables;
 use super::migrated::{expect_sound, left};
 use super::{book_in, changed, empty, expect_numbers};
+use acd_lines::Requests;
 use acd_program::lines_over_connection;
 use sqlite::{Alter, Connection};
 use std::alloc::Global;
@@ -23,7 +24,16 @@ pub fn served<S: Alter + Drop>(
     }
     let mut reader = lines.as_bytes();
     let mut written = Vec::new(alloc);
-    let (done, conn) = lines_over_connection(alloc, conn, true, false, &mut reader, &mut written);
+    let mut requests = Requests::new(alloc);
+    let (done, conn) = lines_over_connection(
+        alloc,
+        &mut requests,
+        conn,
+        true,
+        false,
+        &mut reader,
+        &mut written,
+    );
     assert!(rt; done.is_ok(), "{lines}");
     assert!(rt; written.as_slice() == answers.as_bytes(), "{lines}");
     let mut conn = conn;

@@ -1,12 +1,15 @@
-use Rattle.std.proofs.Common.{◌<◌, ◌++◌, [], length, take, drop, sym, ap, ◌∙◌, subst, arith}
+use Rattle.std.proofs.Common.{◌<◌, ◌++◌, [], length, take, drop, Err, refl, sym, ap, ◌∙◌, subst, arith}
 use Rattle.std.specs.Io.KnownBytes.{Consumes}
 use Rattle.std.proofs.KnownBytes.{Consumes-nil, Consumes-kept, Consumes-trans}
+use Rattle.acd_desk.specs.Ran.{standing}
 use Rattle.acd_io.proofs.Inputs.{input_ended}
 use Rattle.acd_lines.specs.Input.{asked}
+use Rattle.acd_lines.specs.Lines.{streams}
+use Rattle.acd_lines.specs.Parts.{InTurn}
 use Rattle.acd_lines.proofs.Kept.{by_front}
-use Rattle.acd_io.proofs.Sends.{on_err, if_fault, other_fault}
-use Rattle.acd_lines.proofs.Turns.{chunk_read, starts, stands_same, fed, all_done, all_first, first_done, end_stopped, feed_stopped, read_done, read_stopped, nothing_read, some_short}
-use Rattle.acd_lines.specs.declared.session.LinesFault.{LinesFault}
+use Rattle.acd_lines.proofs.Endings.{done_whole, done_failed, done_by}
+use Rattle.acd_lines.proofs.Turns.{chunk_read, starts, stands_same, fed, all_done, first_done, end_stopped, feed_stopped, read_done, read_stopped, nothing_read, some_short}
+use Rattle.acd_lines.specs.declared.fault.LinesFault.TheVariants.{Read, Write, NoMemory}
 use Rattle.acd_lines.proofs.session.answer_lines.Goals as goal
 use Rattle.acd_lines.proofs.session.answer_lines.Goals.{in-Ok+in_ok-feed-in-Ok, in-Err+in_ok-retried-in-Err}
 
@@ -52,22 +55,32 @@ loop-preserved g c =
       )
     ]
 
-pub returns-in_err-chunk-clause-stopped : goal.returns-in_err-chunk-clause-stopped
-returns-in_err-chunk-clause-stopped g c = on_err _ _ (nothing_read (asked g.A.Answering.unmarked g.A.Answering.long g.A.Answering.read) (by_front g.A.Answering.unmarked g.A.Answering.long g.A.Answering.read) g.A.Answering.answers c.args.desk.now (g.R.Read.remaining c.args.reader.now) (g.W.Write.contents c.args.writer.now))
+pub returns-in_err-chunk : goal.returns-in_err-chunk
+returns-in_err-chunk g c =
+    done_by (standing g.B.Book) (InTurn (asked g.A.Answering.unmarked g.A.Answering.long g.A.Answering.read) g.A.Answering.answers) c.args.ends (streams g.R.Read.remaining g.W.Write.contents (c.args.reader.now, c.args.reader.now) (c.args.writer.now, c.args.writer.now)) c.args.desk.now c.args.desk.now
+    c.from_residual.result NoMemory NoMemory c.from_residual.ensures.1 refl
+    (nothing_read (asked g.A.Answering.unmarked g.A.Answering.long g.A.Answering.read) (by_front g.A.Answering.unmarked g.A.Answering.long g.A.Answering.read) g.A.Answering.answers c.args.desk.now (g.R.Read.remaining c.args.reader.now) (g.W.Write.contents c.args.writer.now)) ((refl, refl), refl)
 
-pub returns-in_err-partial-clause-stopped : goal.returns-in_err-partial-clause-stopped
-returns-in_err-partial-clause-stopped g c = on_err _ _ (nothing_read (asked g.A.Answering.unmarked g.A.Answering.long g.A.Answering.read) (by_front g.A.Answering.unmarked g.A.Answering.long g.A.Answering.read) g.A.Answering.answers c.args.desk.now (g.R.Read.remaining c.args.reader.now) (g.W.Write.contents c.args.writer.now))
+pub returns-in_err-partial : goal.returns-in_err-partial
+returns-in_err-partial g c =
+    done_by (standing g.B.Book) (InTurn (asked g.A.Answering.unmarked g.A.Answering.long g.A.Answering.read) g.A.Answering.answers) c.args.ends (streams g.R.Read.remaining g.W.Write.contents (c.args.reader.now, c.args.reader.now) (c.args.writer.now, c.args.writer.now)) c.args.desk.now c.args.desk.now
+    c.from_residual-in_err-partial.result NoMemory NoMemory c.from_residual-in_err-partial.ensures.1 refl
+    (nothing_read (asked g.A.Answering.unmarked g.A.Answering.long g.A.Answering.read) (by_front g.A.Answering.unmarked g.A.Answering.long g.A.Answering.read) g.A.Answering.answers c.args.desk.now (g.R.Read.remaining c.args.reader.now) (g.W.Write.contents c.args.writer.now)) ((refl, refl), refl)
 
-pub returns-in_err-outbox-clause-stopped : goal.returns-in_err-outbox-clause-stopped
-returns-in_err-outbox-clause-stopped g c = on_err _ _ (nothing_read (asked g.A.Answering.unmarked g.A.Answering.long g.A.Answering.read) (by_front g.A.Answering.unmarked g.A.Answering.long g.A.Answering.read) g.A.Answering.answers c.args.desk.now (g.R.Read.remaining c.args.reader.now) (g.W.Write.contents c.args.writer.now))
+pub returns-in_err-outbox : goal.returns-in_err-outbox
+returns-in_err-outbox g c =
+    done_by (standing g.B.Book) (InTurn (asked g.A.Answering.unmarked g.A.Answering.long g.A.Answering.read) g.A.Answering.answers) c.args.ends (streams g.R.Read.remaining g.W.Write.contents (c.args.reader.now, c.args.reader.now) (c.args.writer.now, c.args.writer.now)) c.args.desk.now c.args.desk.now
+    c.from_residual-in_err-outbox.result NoMemory NoMemory c.from_residual-in_err-outbox.ensures.1 refl
+    (nothing_read (asked g.A.Answering.unmarked g.A.Answering.long g.A.Answering.read) (by_front g.A.Answering.unmarked g.A.Answering.long g.A.Answering.read) g.A.Answering.answers c.args.desk.now (g.R.Read.remaining c.args.reader.now) (g.W.Write.contents c.args.writer.now)) ((refl, refl), refl)
 
-pub returns-then-has_failed-clause-first : goal.returns-then-has_failed-clause-first
-returns-then-has_failed-clause-first g c =
+pub returns-then-has_failed : goal.returns-then-has_failed
+returns-then-has_failed g c =
     let loop = c.loop.invariant in
+    done_failed (standing g.B.Book) (InTurn (asked g.A.Answering.unmarked g.A.Answering.long g.A.Answering.read) g.A.Answering.answers) c.args.ends (streams g.R.Read.remaining g.W.Write.contents (c.args.reader.now, c.loop.reader) (c.args.writer.now, c.loop.writer)) c.args.desk.now c.loop.desk c.if-ends.true (sym c.has_failed.ensures ∙ c.if-has_failed.true)
     (first_done (asked g.A.Answering.unmarked g.A.Answering.long g.A.Answering.read) (by_front g.A.Answering.unmarked g.A.Answering.long g.A.Answering.read) g.A.Answering.answers 4109 c.args.desk.now loop.1 c.loop.partial c.loop.outbox.waiting.items c.loop.desk (g.W.Write.contents c.args.writer.now) (g.W.Write.contents c.loop.writer) (g.R.Read.remaining c.args.reader.now) (g.R.Read.remaining c.loop.reader) loop.4 loop.3 loop.2)
 
-pub returns-in-Ok-eq0-clause-ok : goal.returns-in-Ok-eq0-clause-ok
-returns-in-Ok-eq0-clause-ok g c = λ _.
+pub returns-in-Ok-eq0 : goal.returns-in-Ok-eq0
+returns-in-Ok-eq0 g c =
     let loop = c.loop.invariant in
     let seen = loop.1 in
     let stands = loop.4 in
@@ -75,22 +88,11 @@ returns-in-Ok-eq0-clause-ok g c = λ _.
     let size = c.read.auto.buf ∙ ap length c.as_mut_slice.ensures.value in
     let input = input_ended (g.R.Read.remaining c.args.reader.now) (g.R.Read.remaining c.loop.reader) (g.R.Read.remaining c.read.new.self) seen c.read.new.buf c.in-Ok-eq0.field-0 loop.2 bytes.0 c.in-Ok-eq0.field-0-test (bytes.1 c.in-Ok-eq0.field-0-test (omega (arith, size, loop.0))) in
     let done = c.in_ok-finish-in-Ok-eq0.ensures.ok c.args.desk.now seen stands.part stands.answers stands.keeps stands.reached in
+    done_whole (standing g.B.Book) (InTurn (asked g.A.Answering.unmarked g.A.Answering.long g.A.Answering.read) g.A.Answering.answers) c.args.ends (streams g.R.Read.remaining g.W.Write.contents (c.args.reader.now, c.read.new.self) (c.args.writer.now, c.finish.new.writer)) c.args.desk.now c.finish.new.desk
     (all_done (asked g.A.Answering.unmarked g.A.Answering.long g.A.Answering.read) (by_front g.A.Answering.unmarked g.A.Answering.long g.A.Answering.read) g.A.Answering.answers 4109 c.args.desk.now seen c.loop.partial c.loop.outbox.waiting.items c.loop.desk c.finish.new.desk (g.W.Write.contents c.args.writer.now) (g.W.Write.contents c.loop.writer) (g.W.Write.contents c.finish.new.writer) (g.R.Read.remaining c.args.reader.now) stands input done)
 
-pub returns-in-Ok-eq0-clause-first : goal.returns-in-Ok-eq0-clause-first
-returns-in-Ok-eq0-clause-first g c =
-    let loop = c.loop.invariant in
-    let seen = loop.1 in
-    let stands = loop.4 in
-    let bytes = c.in-Ok-eq0.ensures.bytes in
-    let size = c.read.auto.buf ∙ ap length c.as_mut_slice.ensures.value in
-    let input = input_ended (g.R.Read.remaining c.args.reader.now) (g.R.Read.remaining c.loop.reader) (g.R.Read.remaining c.read.new.self) seen c.read.new.buf c.in-Ok-eq0.field-0 loop.2 bytes.0 c.in-Ok-eq0.field-0-test (bytes.1 c.in-Ok-eq0.field-0-test (omega (arith, size, loop.0))) in
-    let done = c.in_ok-finish-in-Ok-eq0.ensures.ok c.args.desk.now seen stands.part stands.answers stands.keeps stands.reached in
-    (all_first (asked g.A.Answering.unmarked g.A.Answering.long g.A.Answering.read) (by_front g.A.Answering.unmarked g.A.Answering.long g.A.Answering.read) g.A.Answering.answers (g.R.Read.remaining c.args.reader.now) c.args.desk.now c.finish.new.desk (g.W.Write.contents c.args.writer.now) (g.W.Write.contents c.finish.new.writer)
-    (all_done (asked g.A.Answering.unmarked g.A.Answering.long g.A.Answering.read) (by_front g.A.Answering.unmarked g.A.Answering.long g.A.Answering.read) g.A.Answering.answers 4109 c.args.desk.now seen c.loop.partial c.loop.outbox.waiting.items c.loop.desk c.finish.new.desk (g.W.Write.contents c.args.writer.now) (g.W.Write.contents c.loop.writer) (g.W.Write.contents c.finish.new.writer) (g.R.Read.remaining c.args.reader.now) stands input done))
-
-pub returns-in_err-finish-in-Ok-eq0-clause-stopped : goal.returns-in_err-finish-in-Ok-eq0-clause-stopped
-returns-in_err-finish-in-Ok-eq0-clause-stopped g c =
+pub returns-in_err-finish-in-Ok-eq0 : goal.returns-in_err-finish-in-Ok-eq0
+returns-in_err-finish-in-Ok-eq0 g c =
     let loop = c.loop.invariant in
     let seen = loop.1 in
     let stands = loop.4 in
@@ -98,22 +100,13 @@ returns-in_err-finish-in-Ok-eq0-clause-stopped g c =
     let size = c.read.auto.buf ∙ ap length c.as_mut_slice.ensures.value in
     let input = input_ended (g.R.Read.remaining c.args.reader.now) (g.R.Read.remaining c.loop.reader) (g.R.Read.remaining c.read.new.self) seen c.read.new.buf c.in-Ok-eq0.field-0 loop.2 bytes.0 c.in-Ok-eq0.field-0-test (bytes.1 c.in-Ok-eq0.field-0-test (omega (arith, size, loop.0))) in
     let done = c.in_err-finish-in-Ok-eq0.ensures.err c.args.desk.now seen stands.part stands.answers stands.keeps stands.reached in
-    on_err _ _ (some_short (asked g.A.Answering.unmarked g.A.Answering.long g.A.Answering.read) (by_front g.A.Answering.unmarked g.A.Answering.long g.A.Answering.read) g.A.Answering.answers (g.R.Read.remaining c.args.reader.now) c.args.desk.now c.finish.new.desk (g.W.Write.contents c.args.writer.now) (g.W.Write.contents c.finish.new.writer)
-    (end_stopped (asked g.A.Answering.unmarked g.A.Answering.long g.A.Answering.read) (by_front g.A.Answering.unmarked g.A.Answering.long g.A.Answering.read) g.A.Answering.answers 4109 c.args.desk.now seen c.loop.partial c.loop.outbox.waiting.items c.loop.desk c.finish.new.desk (g.W.Write.contents c.args.writer.now) (g.W.Write.contents c.loop.writer) (g.W.Write.contents c.finish.new.writer) (g.R.Read.remaining c.args.reader.now) stands input done))
+    let short = end_stopped (asked g.A.Answering.unmarked g.A.Answering.long g.A.Answering.read) (by_front g.A.Answering.unmarked g.A.Answering.long g.A.Answering.read) g.A.Answering.answers 4109 c.args.desk.now seen c.loop.partial c.loop.outbox.waiting.items c.loop.desk c.finish.new.desk (g.W.Write.contents c.args.writer.now) (g.W.Write.contents c.loop.writer) (g.W.Write.contents c.finish.new.writer) (g.R.Read.remaining c.args.reader.now) stands input done in
+    done_by (standing g.B.Book) (InTurn (asked g.A.Answering.unmarked g.A.Answering.long g.A.Answering.read) g.A.Answering.answers) c.args.ends (streams g.R.Read.remaining g.W.Write.contents (c.args.reader.now, c.read.new.self) (c.args.writer.now, c.finish.new.writer)) c.args.desk.now c.finish.new.desk
+    c.from_residual-in_err-finish-in-Ok-eq0.result Write Write c.from_residual-in_err-finish-in-Ok-eq0.ensures.1 refl
+    (some_short (asked g.A.Answering.unmarked g.A.Answering.long g.A.Answering.read) (by_front g.A.Answering.unmarked g.A.Answering.long g.A.Answering.read) g.A.Answering.answers (g.R.Read.remaining c.args.reader.now) c.args.desk.now c.finish.new.desk (g.W.Write.contents c.args.writer.now) (g.W.Write.contents c.finish.new.writer) short) short
 
-pub returns-in_err-finish-in-Ok-eq0-clause-write : goal.returns-in_err-finish-in-Ok-eq0-clause-write
-returns-in_err-finish-in-Ok-eq0-clause-write g c =
-    let loop = c.loop.invariant in
-    let seen = loop.1 in
-    let stands = loop.4 in
-    let bytes = c.in-Ok-eq0.ensures.bytes in
-    let size = c.read.auto.buf ∙ ap length c.as_mut_slice.ensures.value in
-    let input = input_ended (g.R.Read.remaining c.args.reader.now) (g.R.Read.remaining c.loop.reader) (g.R.Read.remaining c.read.new.self) seen c.read.new.buf c.in-Ok-eq0.field-0 loop.2 bytes.0 c.in-Ok-eq0.field-0-test (bytes.1 c.in-Ok-eq0.field-0-test (omega (arith, size, loop.0))) in
-    let done = c.in_err-finish-in-Ok-eq0.ensures.err c.args.desk.now seen stands.part stands.answers stands.keeps stands.reached in
-    if_fault _ _ _ (end_stopped (asked g.A.Answering.unmarked g.A.Answering.long g.A.Answering.read) (by_front g.A.Answering.unmarked g.A.Answering.long g.A.Answering.read) g.A.Answering.answers 4109 c.args.desk.now seen c.loop.partial c.loop.outbox.waiting.items c.loop.desk c.finish.new.desk (g.W.Write.contents c.args.writer.now) (g.W.Write.contents c.loop.writer) (g.W.Write.contents c.finish.new.writer) (g.R.Read.remaining c.args.reader.now) stands input done)
-
-pub returns-in_err-feed-in-Ok-clause-stopped : goal.returns-in_err-feed-in-Ok-clause-stopped
-returns-in_err-feed-in-Ok-clause-stopped g c =
+pub returns-in_err-feed-in-Ok : goal.returns-in_err-feed-in-Ok
+returns-in_err-feed-in-Ok g c =
     let loop = c.loop.invariant in
     let seen = loop.1 in
     let stands = loop.4 in
@@ -122,47 +115,23 @@ returns-in_err-feed-in-Ok-clause-stopped g c =
     let value = ap (take n) (c.deref.ensures.value ∙ chunk_read c.loop.chunk.items c.read.new.buf c.loop.chunk.len size c.loop.chunk.ok.0) in
     let taken = subst (λ l. Consumes (g.R.Read.remaining c.args.reader.now) (g.R.Read.remaining c.read.new.self) (seen ++ l)) (sym value) (Consumes-trans _ _ _ seen (take n c.read.new.buf) loop.2 c.in-Ok.ensures.bytes.0) in
     let stopped = c.in_err-feed-in-Ok.ensures.err c.args.desk.now seen stands.part stands.answers stands.keeps stands.reached in
-    on_err _ _ (some_short (asked g.A.Answering.unmarked g.A.Answering.long g.A.Answering.read) (by_front g.A.Answering.unmarked g.A.Answering.long g.A.Answering.read) g.A.Answering.answers (g.R.Read.remaining c.args.reader.now) c.args.desk.now c.feed.new.desk (g.W.Write.contents c.args.writer.now) (g.W.Write.contents c.feed.new.writer)
-    (feed_stopped (asked g.A.Answering.unmarked g.A.Answering.long g.A.Answering.read) (by_front g.A.Answering.unmarked g.A.Answering.long g.A.Answering.read) g.A.Answering.answers 4109 c.args.desk.now seen (take n c.deref.result.now) c.loop.partial c.loop.outbox.waiting.items c.loop.desk c.feed.new.desk (g.W.Write.contents c.args.writer.now) (g.W.Write.contents c.loop.writer) (g.W.Write.contents c.feed.new.writer) (g.R.Read.remaining c.args.reader.now) (g.R.Read.remaining c.read.new.self) stands taken stopped))
+    let short = feed_stopped (asked g.A.Answering.unmarked g.A.Answering.long g.A.Answering.read) (by_front g.A.Answering.unmarked g.A.Answering.long g.A.Answering.read) g.A.Answering.answers 4109 c.args.desk.now seen (take n c.deref.result.now) c.loop.partial c.loop.outbox.waiting.items c.loop.desk c.feed.new.desk (g.W.Write.contents c.args.writer.now) (g.W.Write.contents c.loop.writer) (g.W.Write.contents c.feed.new.writer) (g.R.Read.remaining c.args.reader.now) (g.R.Read.remaining c.read.new.self) stands taken stopped in
+    done_by (standing g.B.Book) (InTurn (asked g.A.Answering.unmarked g.A.Answering.long g.A.Answering.read) g.A.Answering.answers) c.args.ends (streams g.R.Read.remaining g.W.Write.contents (c.args.reader.now, c.read.new.self) (c.args.writer.now, c.feed.new.writer)) c.args.desk.now c.feed.new.desk
+    c.from_residual-in_err-feed-in-Ok.result Write Write c.from_residual-in_err-feed-in-Ok.ensures.1 refl
+    (some_short (asked g.A.Answering.unmarked g.A.Answering.long g.A.Answering.read) (by_front g.A.Answering.unmarked g.A.Answering.long g.A.Answering.read) g.A.Answering.answers (g.R.Read.remaining c.args.reader.now) c.args.desk.now c.feed.new.desk (g.W.Write.contents c.args.writer.now) (g.W.Write.contents c.feed.new.writer) short) short
 
-pub returns-in_err-feed-in-Ok-clause-write : goal.returns-in_err-feed-in-Ok-clause-write
-returns-in_err-feed-in-Ok-clause-write g c =
+pub returns-in_err-retried-in-Err : goal.returns-in_err-retried-in-Err
+returns-in_err-retried-in-Err g c =
     let loop = c.loop.invariant in
-    let seen = loop.1 in
-    let stands = loop.4 in
-    let n = c.in-Ok.n in
-    let size = c.read.auto.buf ∙ ap length c.as_mut_slice.ensures.value in
-    let value = ap (take n) (c.deref.ensures.value ∙ chunk_read c.loop.chunk.items c.read.new.buf c.loop.chunk.len size c.loop.chunk.ok.0) in
-    let taken = subst (λ l. Consumes (g.R.Read.remaining c.args.reader.now) (g.R.Read.remaining c.read.new.self) (seen ++ l)) (sym value) (Consumes-trans _ _ _ seen (take n c.read.new.buf) loop.2 c.in-Ok.ensures.bytes.0) in
-    let stopped = c.in_err-feed-in-Ok.ensures.err c.args.desk.now seen stands.part stands.answers stands.keeps stands.reached in
-    if_fault _ _ _ (feed_stopped (asked g.A.Answering.unmarked g.A.Answering.long g.A.Answering.read) (by_front g.A.Answering.unmarked g.A.Answering.long g.A.Answering.read) g.A.Answering.answers 4109 c.args.desk.now seen (take n c.deref.result.now) c.loop.partial c.loop.outbox.waiting.items c.loop.desk c.feed.new.desk (g.W.Write.contents c.args.writer.now) (g.W.Write.contents c.loop.writer) (g.W.Write.contents c.feed.new.writer) (g.R.Read.remaining c.args.reader.now) (g.R.Read.remaining c.read.new.self) stands taken stopped)
-
-pub returns-in_err-retried-in-Err-clause-stopped : goal.returns-in_err-retried-in-Err-clause-stopped
-returns-in_err-retried-in-Err-clause-stopped g c =
-    let loop = c.loop.invariant in
-    on_err _ _ (read_stopped (asked g.A.Answering.unmarked g.A.Answering.long g.A.Answering.read) (by_front g.A.Answering.unmarked g.A.Answering.long g.A.Answering.read) g.A.Answering.answers 4109 c.args.desk.now loop.1 c.loop.partial c.loop.outbox.waiting.items c.loop.desk (g.W.Write.contents c.args.writer.now) (g.W.Write.contents c.loop.writer) (g.R.Read.remaining c.args.reader.now) (g.R.Read.remaining c.loop.reader) loop.4 loop.2)
-
-pub returns-clause-stopped : goal.returns-clause-stopped
-returns-clause-stopped g c =
-    let loop = c.loop.invariant in
+    let failed = c.in_err-retried-in-Err in
+    done_by (standing g.B.Book) (InTurn (asked g.A.Answering.unmarked g.A.Answering.long g.A.Answering.read) g.A.Answering.answers) c.args.ends (streams g.R.Read.remaining g.W.Write.contents (c.args.reader.now, c.read.new.self) (c.args.writer.now, c.loop.writer)) c.args.desk.now c.loop.desk
+    c.from_residual-in_err-retried-in-Err.result failed.field-0.0 Read c.from_residual-in_err-retried-in-Err.ensures.1 failed.ensures.told
     (read_stopped (asked g.A.Answering.unmarked g.A.Answering.long g.A.Answering.read) (by_front g.A.Answering.unmarked g.A.Answering.long g.A.Answering.read) g.A.Answering.answers 4109 c.args.desk.now loop.1 c.loop.partial c.loop.outbox.waiting.items c.loop.desk (g.W.Write.contents c.args.writer.now) (g.W.Write.contents c.loop.writer) (g.R.Read.remaining c.args.reader.now) (g.R.Read.remaining c.loop.reader) loop.4 loop.2)
+    (read_done (asked g.A.Answering.unmarked g.A.Answering.long g.A.Answering.read) (by_front g.A.Answering.unmarked g.A.Answering.long g.A.Answering.read) g.A.Answering.answers 4109 c.args.desk.now loop.1 c.loop.partial c.loop.outbox.waiting.items c.loop.desk (g.W.Write.contents c.args.writer.now) (g.W.Write.contents c.loop.writer) (g.R.Read.remaining c.args.reader.now) (g.R.Read.remaining c.read.new.self) loop.4 loop.3 (Consumes-kept _ _ _ loop.1 loop.2 c.in-Err.ensures.bytes))
 
-pub returns-in_err-retried-in-Err-clause-read : goal.returns-in_err-retried-in-Err-clause-read
-returns-in_err-retried-in-Err-clause-read g c =
+pub returns : goal.returns
+returns g c =
     let loop = c.loop.invariant in
-    if_fault _ _ _ (read_done (asked g.A.Answering.unmarked g.A.Answering.long g.A.Answering.read) (by_front g.A.Answering.unmarked g.A.Answering.long g.A.Answering.read) g.A.Answering.answers 4109 c.args.desk.now loop.1 c.loop.partial c.loop.outbox.waiting.items c.loop.desk (g.W.Write.contents c.args.writer.now) (g.W.Write.contents c.loop.writer) (g.R.Read.remaining c.args.reader.now) (g.R.Read.remaining c.read.new.self) loop.4 loop.3 (Consumes-kept _ _ _ loop.1 loop.2 c.in-Err.ensures.bytes))
-
-pub returns-clause-read : goal.returns-clause-read
-returns-clause-read g c = λ _.
-    let loop = c.loop.invariant in
+    done_by (standing g.B.Book) (InTurn (asked g.A.Answering.unmarked g.A.Answering.long g.A.Answering.read) g.A.Answering.answers) c.args.ends (streams g.R.Read.remaining g.W.Write.contents (c.args.reader.now, c.loop.reader) (c.args.writer.now, c.loop.writer)) c.args.desk.now c.loop.desk (Err Read) Read Read refl refl
+    (read_stopped (asked g.A.Answering.unmarked g.A.Answering.long g.A.Answering.read) (by_front g.A.Answering.unmarked g.A.Answering.long g.A.Answering.read) g.A.Answering.answers 4109 c.args.desk.now loop.1 c.loop.partial c.loop.outbox.waiting.items c.loop.desk (g.W.Write.contents c.args.writer.now) (g.W.Write.contents c.loop.writer) (g.R.Read.remaining c.args.reader.now) (g.R.Read.remaining c.loop.reader) loop.4 loop.2)
     (read_done (asked g.A.Answering.unmarked g.A.Answering.long g.A.Answering.read) (by_front g.A.Answering.unmarked g.A.Answering.long g.A.Answering.read) g.A.Answering.answers 4109 c.args.desk.now loop.1 c.loop.partial c.loop.outbox.waiting.items c.loop.desk (g.W.Write.contents c.args.writer.now) (g.W.Write.contents c.loop.writer) (g.R.Read.remaining c.args.reader.now) (g.R.Read.remaining c.loop.reader) loop.4 loop.3 loop.2)
-
-pub returns-in_err-retried-in-Err-clause-write : goal.returns-in_err-retried-in-Err-clause-write
-returns-in_err-retried-in-Err-clause-write g c =
-    let failed = c.in_err-retried-in-Err in
-    other_fault c.from_residual-in_err-retried-in-Err.result failed.field-0.0 LinesFault.Read LinesFault.Write _ c.from_residual-in_err-retried-in-Err.ensures.1 failed.ensures.told (λ same. absurd (cc (same)))
-
-pub returns-in_err-retried-in-Err-clause-memory : goal.returns-in_err-retried-in-Err-clause-memory
-returns-in_err-retried-in-Err-clause-memory g c =
-    let failed = c.in_err-retried-in-Err in
-    other_fault c.from_residual-in_err-retried-in-Err.result failed.field-0.0 LinesFault.Read LinesFault.NoMemory _ c.from_residual-in_err-retried-in-Err.ensures.1 failed.ensures.told (λ same. absurd (cc (same)))

@@ -1,17 +1,15 @@
-use Rattle.std.proofs.Common.{sym, true≢false}
+use Rattle.std.proofs.Common.{false}
 use Rattle.acd_desk.specs.Ran.{standing}
-use Rattle.acd_io.proofs.Sends.{OnOk-weaker, OnErr-weaker, IfErr-when}
-use Rattle.acd_lines.proofs.Telling.{lines_told}
+use Rattle.acd_lines.specs.Answers.{Answers}
+use Rattle.acd_lines.specs.Input.{line_of}
+use Rattle.acd_lines.specs.Lines.{RunInTurn, streams}
+use Rattle.acd_lines.specs.Parts.{InTurn}
+use Rattle.acd_lines.proofs.Endings.{done_so}
+use Rattle.acd_lines.proofs.Telling.{told}
 use Rattle.acd_lines.proofs.session.lines.Goals as goal
 
-pub returns-clause-ok : goal.returns-clause-ok
-returns-clause-ok g c = OnOk-weaker c.answer_lines.result _ _ (λ all. lines_told (standing g.B.Book) (λ d x clean sound opened stop. g.met.B.Book.settled d.book x clean sound opened stop) c.args.desk.now c.answer_lines.new.desk _ _ (all (λ asked. absurd (true≢false (sym asked))))) c.answer_lines.ensures.ok
-
-pub returns-clause-read : goal.returns-clause-read
-returns-clause-read g c = IfErr-when c.answer_lines.result _ _ _ (λ done. lines_told (standing g.B.Book) (λ d x clean sound opened stop. g.met.B.Book.settled d.book x clean sound opened stop) c.args.desk.now c.answer_lines.new.desk _ _ done) c.answer_lines.ensures.read
-
-pub returns-clause-stopped : goal.returns-clause-stopped
-returns-clause-stopped g c = OnErr-weaker c.answer_lines.result _ _ (λ done. lines_told (standing g.B.Book) (λ d x clean sound opened stop. g.met.B.Book.settled d.book x clean sound opened stop) c.args.desk.now c.answer_lines.new.desk _ _ done) c.answer_lines.ensures.stopped
-
-pub returns-clause-write : goal.returns-clause-write
-returns-clause-write g c = IfErr-when c.answer_lines.result _ _ _ (λ done. lines_told (standing g.B.Book) (λ d x clean sound opened stop. g.met.B.Book.settled d.book x clean sound opened stop) c.args.desk.now c.answer_lines.new.desk _ _ done) c.answer_lines.ensures.write
+pub returns : goal.returns
+returns g c =
+    done_so (standing g.B.Book) (InTurn line_of (Answers (standing g.B.Book))) false (streams g.R.Read.remaining g.W.Write.contents (c.args.reader.now, c.answer_lines.new.reader) (c.args.writer.now, c.answer_lines.new.writer))
+    c.args.desk.now c.answer_lines.new.desk (RunInTurn g.B.Book)
+    (told (standing g.B.Book) (λ d x clean sound opened stop. g.met.B.Book.settled d.book x clean sound opened stop) c.args.desk.now c.answer_lines.new.desk) c.answer_lines.result c.answer_lines.ensures

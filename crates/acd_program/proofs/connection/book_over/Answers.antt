@@ -1,15 +1,16 @@
-use Rattle.std.proofs.Common.{inl, refl, sym, ◌∙◌}
+use Rattle.std.proofs.Common.{refl, sym, ◌∙◌}
 use Rattle.sqlite.specs.Held.{state}
 use Rattle.acd_sqlbook.specs.Noting.{followed}
 use Rattle.acd_sqlbook.specs.State.{book_state}
-use Rattle.acd_program.proofs.Taking.{of_held, made_taken, none_made, unserved_held}
+use Rattle.acd_program.proofs.Taking.{adopted_taken, made_taken, none_made, none_adopted}
 use Rattle.acd_program.proofs.connection.book_over.Goals as goal
 
-pub returns-in-Ok-clause-taken : goal.returns-in-Ok-clause-taken
-returns-in-Ok-clause-taken g c = inl (of_held (state g.S.Store c.args.conn) (state g.S.Store c.in-Ok.book.conn) c.in-Ok.book.noted c.in-Ok.book.failures c.in-Ok.ensures.adopted c.in-Ok.ensures.unnoted c.in-Ok.ensures.counted c.in-Ok.ensures.clean)
+pub returns-clause-taken : goal.returns-clause-taken
+returns-clause-taken g c =
+    adopted_taken g.S.Store c.args.makes (state g.S.Store c.args.conn) c.adopt.result c.adopt.ensures.adopted c.adopt.ensures.unnoted c.adopt.ensures.counted c.adopt.ensures.clean
 
-pub returns-in-Err-clause-unserved : goal.returns-in-Err-clause-unserved
-returns-in-Err-clause-unserved g c = unserved_held c.args.makes (state g.S.Store c.args.conn) (state g.S.Store c.in-Err.conn) c.in-Err.ensures.leaves_refused
+pub returns-clause-unserved : goal.returns-clause-unserved
+returns-clause-unserved g c = none_adopted c.adopt.result (λ e. state g.S.Store e.1) c.args.makes (state g.S.Store c.args.conn) c.adopt.ensures.leaves_refused
 
 pub returns-then-has_no_tables-clause-taken : goal.returns-then-has_no_tables-clause-taken
 returns-then-has_no_tables-clause-taken g c =

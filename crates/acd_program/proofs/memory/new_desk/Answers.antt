@@ -1,10 +1,10 @@
 -- A desk over a new book in memory is new, and its rows break no rule.
-use Rattle.std.proofs.Common.{◌≡◌, refl, subst}
-use Rattle.acd_book.specs.State.{BookState, unfailing}
+use Rattle.std.proofs.Common.{subst}
+use Rattle.acd_book.specs.State.{unfailing}
 use Rattle.acd_desk.specs.declared.open_fault.OpenFault.{OpenFault}
 use Rattle.acd_desk.specs.Opening.{Refused}
 use Rattle.acd_desk.specs.Ran.{standing}
-use Rattle.acd_program.specs.Answered.{in_memory, IsNewDesk}
+use Rattle.acd_program.specs.Answered.{in_memory}
 use Rattle.acd_program.proofs.Answering.{new_over, new_refused}
 use Rattle.acd_program.proofs.memory.new_desk.Goals as goal
 

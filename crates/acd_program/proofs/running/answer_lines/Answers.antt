@@ -1,7 +1,14 @@
 use Rattle.sqlite_std_file.specs.File.{IsFresh}
-use Rattle.acd_program.proofs.Tasks.{lines_in_file}
+use Rattle.acd_lines.specs.Lines.{streams}
+use Rattle.acd_program.proofs.Inputs.{memory_input, file_input}
 use Rattle.acd_program.proofs.running.answer_lines.Goals as goal
 
-pub returns-in-Some-clause-done : goal.returns-in-Some-clause-done
-returns-in-Some-clause-done g c =
-    lines_in_file _ IsFresh c.work_in.result c.args.file c.in-Some.file c.args.ends_on_store_fault (g.R.Read.remaining c.args.reader.now) (g.W.Write.contents c.args.writer.now) _ c.in-Some.is c.work_in.ensures.worked
+pub returns-in_ok-lines_in_memory-in-None-clause-done : goal.returns-in_ok-lines_in_memory-in-None-clause-done
+returns-in_ok-lines_in_memory-in-None-clause-done g c =
+    memory_input _ IsFresh c.args.file c.args.reads c.args.ends (streams g.R.Read.remaining g.W.Write.contents (c.args.reader.now, c.lines_in_memory.new.reader) (c.args.writer.now, c.lines_in_memory.new.writer))
+    c.requests_run.ensures c.in-None.is c.in_ok-lines_in_memory-in-None.ensures
+
+pub returns-in_ok-lines_in-in-Some-clause-done : goal.returns-in_ok-lines_in-in-Some-clause-done
+returns-in_ok-lines_in-in-Some-clause-done g c =
+    file_input _ IsFresh c.args.file c.args.reads c.args.ends (streams g.R.Read.remaining g.W.Write.contents (c.args.reader.now, c.lines_in.new.reader) (c.args.writer.now, c.lines_in.new.writer))
+    c.in-Some.file c.in-Some.is c.in_ok-lines_in-in-Some.ensures

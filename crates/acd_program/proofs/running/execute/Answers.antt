@@ -1,23 +1,18 @@
 use Rattle.std.proofs.Common.{refl, inr}
 use Rattle.sqlite_std_file.specs.File.{IsFresh}
+use Rattle.acd_lines.specs.Lines.{streams}
 use Rattle.acd_program.proofs.Tasks.{lines_task, read_task}
 use Rattle.acd_program.proofs.Served.{file_tells, serve_task}
-use Rattle.acd_program.proofs.ReadsAnswered.{reading_task}
 use Rattle.acd_program.proofs.running.execute.Goals as goal
 
 pub returns-in-Lines-clause-done : goal.returns-in-Lines-clause-done
 returns-in-Lines-clause-done g c =
-    lines_task _ IsFresh c.answer_lines.result c.args.task (g.R.Read.remaining c.args.reader.now) (g.W.Write.contents c.args.writer.now) _ _ _
-    c.in-Lines.file c.in-Lines.ends_on_store_fault c.in-Lines.is c.answer_lines.ensures.done
-
-pub returns-in-ReadingLines-clause-done : goal.returns-in-ReadingLines-clause-done
-returns-in-ReadingLines-clause-done g c =
-    reading_task _ IsFresh c.answer_reading_lines.result c.args.task (g.R.Read.remaining c.args.reader.now) (g.W.Write.contents c.args.writer.now) _ _ _
-    c.in-ReadingLines.file c.in-ReadingLines.ends_on_store_fault c.in-ReadingLines.is c.answer_reading_lines.ensures.done
+    lines_task _ IsFresh c.answer_lines.result c.args.task (streams g.R.Read.remaining g.W.Write.contents (c.args.reader.now, c.answer_lines.new.reader) (c.args.writer.now, c.answer_lines.new.writer)) _ _
+    c.in-Lines.file c.in-Lines.reads c.in-Lines.ends c.in-Lines.is c.answer_lines.ensures.done
 
 pub returns-in_ok-serve_file-in-Serve-clause-done : goal.returns-in_ok-serve_file-in-Serve-clause-done
 returns-in_ok-serve_file-in-Serve-clause-done g c =
-    serve_task _ IsFresh c.args.task (g.R.Read.remaining c.args.reader.now) (g.W.Write.contents c.args.writer.now) (g.W.Write.contents c.serve_file.new.writer)
+    serve_task _ IsFresh c.args.task (streams g.R.Read.remaining g.W.Write.contents (c.args.reader.now, c.args.reader.now) (c.args.writer.now, c.serve_file.new.writer))
     (g.E.Write.contents c.args.errors.now) (g.E.Write.contents c.serve_file.new.errors) c.in-Serve.file c.in-Serve.port c.in-Serve.connections c.in-Serve.is c.in_ok-serve_file-in-Serve.ensures
 
 pub returns-in_ok-serve_file-in-Serve-clause-told : goal.returns-in_ok-serve_file-in-Serve-clause-told
@@ -26,5 +21,5 @@ returns-in_ok-serve_file-in-Serve-clause-told g c =
 
 pub returns-in-Read-clause-done : goal.returns-in-Read-clause-done
 returns-in-Read-clause-done g c =
-    read_task _ IsFresh c.work_in.result c.args.task (g.R.Read.remaining c.args.reader.now) (g.W.Write.contents c.args.writer.now) _ _ _
+    read_task _ IsFresh c.work_in.result c.args.task (streams g.R.Read.remaining g.W.Write.contents (c.args.reader.now, c.args.reader.now) (c.args.writer.now, c.work_in.new.writer)) _ _
     c.in-Read.file c.in-Read.work c.in-Read.is c.work_in.ensures.worked

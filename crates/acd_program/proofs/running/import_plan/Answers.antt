@@ -7,6 +7,6 @@ pub returns-clause-imported : goal.returns-clause-imported
 returns-clause-imported g c =
     ok_so c.work_in.result _ _
     (λ status h.
-    let done = import_done _ IsFresh (g.R.Read.remaining c.args.reader.now) (g.W.Write.contents c.args.writer.now) (g.W.Write.contents c.work_in.new.writer) status true c.deref.result h in
+    let done = import_done _ IsFresh (g.W.Write.contents c.args.writer.now) (g.W.Write.contents c.work_in.new.writer) status true c.deref.result h in
     (c.in_ok-requests.ensures.0, c.deref.result.now, c.in_ok-requests.ensures.1 ∙ ap Ok (sym c.deref.ensures.value), done.0, done.1))
     c.work_in.ensures.worked

@@ -11,4 +11,4 @@ returns-in-Ok-clause-served g c =
     let a : _ = g.E.Write.contents c.args.errors.now in
     let b : _ = g.E.Write.contents c.serve_until_failed.new.errors in
     OnOk-weaker c.unless_failed.result _ _ (λ _. begins_until (standing g.B.Book) c.args.desk.now c.serve_until_failed.new.desk a b
-    (subst (λ (r : _). OnOk r (ServedUntilFailed (standing g.B.Book) c.args.desk.now c.serve_until_failed.new.desk (Appends a b))) c.in-Ok.is c.serve_until_failed.ensures.ok)) c.unless_failed.ensures
+    (subst (λ (r : _). OnOk r (ServedUntilFailed (standing g.B.Book) c.args.desk.now c.serve_until_failed.new.desk (Appends a b))) c.in-Ok.is c.serve_until_failed.ensures.ok)) c.unless_failed.ensures.well

@@ -6,7 +6,7 @@ use Rattle.acd_sql_columns.specs.declared.relations.GroupPriority.{GroupPriority
 use Rattle.acd_sql_columns.specs.Relations.{Relations, with_priority_of, priority_part}
 use Rattle.acd_sql_columns.specs.Tables.{group_priority}
 use Rattle.acd_sql_statements.specs.Writing.{with_put, without}
-use Rattle.acd_sql_statements.proofs.Bounds.{id_fits}
+use Rattle.acd_sql_columns.proofs.Bounds.{id_fits}
 use Rattle.acd_sql_statements.proofs.Planned.{leaves_as}
 use Rattle.std.proofs.Common.{inl, inr, subst, [], ◌∷◌}
 use Rattle.acd_sql_columns.specs.Values.{id_value}
@@ -15,8 +15,8 @@ use Rattle.acd_sql_statements.specs.Refusing.{RefusesOn, RefusesPut, RefusesPrio
 use Rattle.acd_sql_statements.proofs.Refused.{by_more}
 use Rattle.acd_sql_statements.proofs.parts.put_priority.Goals as goal
 
-pub remove-requires : goal.remove-requires
-remove-requires g c = rw c.number.ensures.value (id_fits 15 _ (omega arith) c.number.ensures.formed)
+pub remove-requires-clause-key : goal.remove-requires-clause-key
+remove-requires-clause-key g c = rw c.number.ensures.value (id_fits 15 _ (omega arith) c.number.ensures.formed)
 
 pub returns-then-eq : goal.returns-then-eq
 returns-then-eq g c = record {

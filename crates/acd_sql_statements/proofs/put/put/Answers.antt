@@ -1,8 +1,10 @@
 use Rattle.std.proofs.Common.{◌≡◌, ℕ, Err, inl, inr, rules, arith, ◌∙◌}
 use Rattle.sqlite.specs.Held.{state}
 use Rattle.acd_sql_columns.proofs.Endings.{works_on}
+use Rattle.acd_sql_columns.specs.Descriptions.{the_text}
+use Rattle.acd_sql_statements.proofs.TheTexts.{the_said}
 use Rattle.sqlite.specs.State.{HasCleanDisk}
-use Rattle.acd_sql_columns.proofs.Filed.{updated_in, put_in, none_in}
+use Rattle.acd_sql_columns.proofs.Filed.{Updates, updated_in, put_in, none_in}
 use Rattle.acd_sql_statements.specs.Refusing.{HasNone, RefusesOn, RefusesPut}
 use Rattle.acd_sql_statements.proofs.Refused.{refused_on, by_more, by_known, by_same, by_later, still_drafts, unless_ok}
 use Rattle.acd_sql_statements.proofs.put.put.Goals as goal
@@ -12,7 +14,7 @@ returns-then-changed-gt0 g c = record {
   same = c.run.ensures.same;
   works = c.run.ensures.works;
   put = λ clean content drafts.
-      updated_in g.R.Described.descr g.R.Described.filed g.R.Changed.update g.met.R.Changed.updates c.args.item.now (g.R.Described.reads c.args.item.now) content (state g.S.Store c.args.tx.now.conn.now) (state g.S.Store c.run.new.tx.conn.now) c.in_ok-changed.changed drafts
+      updated_in g.R.Stored.descr g.met.R.Stored.filed (the_text g.R.Stored.descr.update) (the_said g.R.Stored.descr.update (Updates g.R.Stored.descr) c.requires.changes g.met.R.Stored.filed.updates) c.args.item.now (g.met.R.Stored.reads c.args.item.now) content (state g.S.Store c.args.tx.now.conn.now) (state g.S.Store c.run.new.tx.conn.now) c.in_ok-changed.changed drafts
       (rw (c.update_text.ensures) at (c.in_ok-changed.ensures.ran clean)) (λ none. omega (arith, none, c.if-changed-gt0.true));
   failed = λ clean r drafts. tt;
 }
@@ -27,8 +29,8 @@ returns g c = record {
       let new = state g.S.Store c.run-2.new.tx.conn.now in
       let middle : HasCleanDisk mid = omega (arith, clean, c.run-2.ensures.works.survives.clean) in
       let none : c.in_ok-changed.changed ≡ 0 = omega (arith, c.if-changed-gt0.false) in
-      put_in g.R.Described.descr g.R.Described.filed g.R.Changed.update g.met.R.Changed.updates c.args.item.now (g.R.Described.reads c.args.item.now) content old mid new c.in_ok-changed.changed c.in_ok-run.field-0 drafts
-      (rw (c.update_text.ensures) at (c.in_ok-changed.ensures.ran middle)) none (rw (c.insert_text.ensures) at (c.in_ok-run.ensures.ran clean));
+      put_in g.R.Stored.descr g.met.R.Stored.filed (the_text g.R.Stored.descr.update) (the_said g.R.Stored.descr.update (Updates g.R.Stored.descr) c.requires.changes g.met.R.Stored.filed.updates) c.args.item.now (g.met.R.Stored.reads c.args.item.now) content old mid new c.in_ok-changed.changed c.in_ok-run.field-0 drafts
+      (rw (c.update_text.ensures) at (c.in_ok-changed.ensures.ran middle)) none (rw (c.texts.ensures.insert) at (c.in_ok-run.ensures.ran clean));
   failed = λ clean r drafts. tt;
 }
 
@@ -41,10 +43,10 @@ returns-in_err-changed g c = record {
       let old = state g.S.Store c.args.tx.now.conn.now in
       let mid = state g.S.Store c.run.new.tx.conn.now in
       let x = c.args.item.now in
-      let values = g.R.Described.descr.values x in
-      by_more old mid (RefusesOn g.R.Changed.update values) (RefusesPut g.R.Described.descr g.R.Changed.update x) c.from_residual.result (λ limit r h. inl h)
-      (by_same old mid (RefusesOn g.R.Changed.update values) c.in_err-changed.field-0.0 c.from_residual.result (search rules)
-      (λ clean r d. refused_on old mid g.R.Changed.update values c.in_err-changed.field-0.0 r d (rw c.update_text.ensures at (c.in_err-changed.ensures.failed clean d.inside))));
+      let values = g.R.Stored.descr.values x in
+      by_more old mid (RefusesOn (the_text g.R.Stored.descr.update) values) (RefusesPut g.R.Stored.descr (the_text g.R.Stored.descr.update) x) c.from_residual.result (λ limit r h. inl h)
+      (by_same old mid (RefusesOn (the_text g.R.Stored.descr.update) values) c.in_err-changed.field-0.0 c.from_residual.result (search rules)
+      (λ clean r d. refused_on old mid (the_text g.R.Stored.descr.update) values c.in_err-changed.field-0.0 r d (rw (c.update_text.ensures) at (c.in_err-changed.ensures.failed clean d.inside))));
 }
 
 pub returns-in_err-run : goal.returns-in_err-run
@@ -57,15 +59,15 @@ returns-in_err-run g c = record {
       let mid = state g.S.Store c.run.new.tx.conn.now in
       let new = state g.S.Store c.run-2.new.tx.conn.now in
       let x = c.args.item.now in
-      let d = g.R.Described.descr in
+      let d = g.R.Stored.descr in
       let none : c.in_ok-changed.changed ≡ 0 = omega (arith, c.if-changed-gt0.false) in
-      by_known old new (HasNone d x) (RefusesOn d.insert (d.values x)) (RefusesPut d g.R.Changed.update x) c.from_residual-in_err-run.result
+      by_known old new (HasNone d x) (RefusesOn d.insert (d.values x)) (RefusesPut d (the_text g.R.Stored.descr.update) x) c.from_residual-in_err-run.result
       (λ clean r drafts.
       let middle : HasCleanDisk mid = omega (arith, clean, c.run-2.ensures.works.survives.clean) in
-      none_in d g.R.Described.filed g.R.Changed.update g.met.R.Changed.updates x r old mid c.in_ok-changed.changed drafts (rw c.update_text.ensures at (c.in_ok-changed.ensures.ran middle)) none)
+      none_in d g.met.R.Stored.filed (the_text g.R.Stored.descr.update) (the_said g.R.Stored.descr.update (Updates g.R.Stored.descr) c.requires.changes g.met.R.Stored.filed.updates) x r old mid c.in_ok-changed.changed drafts (rw (c.update_text.ensures) at (c.in_ok-changed.ensures.ran middle)) none)
       (λ limit r none h. inr (none, h))
       (by_same old new (RefusesOn d.insert (d.values x)) c.in_err-run.field-0.0 c.from_residual-in_err-run.result (search rules)
       (by_later {A = ℕ} old mid new (λ r. r) (RefusesOn d.insert (d.values x)) (Err c.in_err-run.field-0.0) c.run.ensures.works c.run-2.ensures.works
-      (λ middle r drafts. still_drafts d g.R.Described.filed g.R.Changed.update g.met.R.Changed.updates x r old mid c.in_ok-changed.changed drafts (rw c.update_text.ensures at (c.in_ok-changed.ensures.ran middle)) none)
-      (λ clean r drafts. refused_on mid new d.insert (d.values x) c.in_err-run.field-0.0 r drafts (rw c.insert_text.ensures at (c.in_err-run.ensures.failed clean drafts.inside)))));
+      (λ middle r drafts. still_drafts d g.met.R.Stored.filed (the_text g.R.Stored.descr.update) (the_said g.R.Stored.descr.update (Updates g.R.Stored.descr) c.requires.changes g.met.R.Stored.filed.updates) x r old mid c.in_ok-changed.changed drafts (rw (c.update_text.ensures) at (c.in_ok-changed.ensures.ran middle)) none)
+      (λ clean r drafts. refused_on mid new d.insert (d.values x) c.in_err-run.field-0.0 r drafts (rw c.texts.ensures.insert at (c.in_err-run.ensures.failed clean drafts.inside)))));
 }

@@ -4,4 +4,4 @@ use Rattle.acd_sql_statements.proofs.select.records_of.Goals as goal
 
 pub returns-in_err-one-clause-bad : goal.returns-in_err-one-clause-bad
 returns-in_err-one-clause-bad g c =
-    none_decoded g.R.Described.descr.in_row c.loop-row.row-index c.args.rows.now c.row-item.result _ c.in_err-one.field-0.0 c.from_residual.result (search rules) c.row-item.is c.loop-row-test.true c.in_err-one.ensures.bad
+    none_decoded g.R.Stored.descr.in_row c.loop-row.row-index c.args.rows.now c.row-item.result _ c.in_err-one.field-0.0 c.from_residual.result (search rules) c.row-item.is c.loop-row-test.true c.in_err-one.ensures.bad

@@ -15,8 +15,8 @@ returns g c = record {
       let new = state g.S.Store c.write.new.tx.conn.now in
       let connection = c.args.connection.now in
       drafts INSERT_CONNECTION.now (connection_values connection) _ old new c.write.result (λ x count. inserts_connection connection x old new count)
-      (rw (c.integer.ensures, c.device.ensures, c.small.ensures, c.connection_code.ensures, c.device_or_null.ensures, c.integer_or_null.ensures, c.small_or_null.ensures, c.small_or_null-2.ensures) at (c.write.ensures.ran clean));
+      (rw c.connection_values.ensures at (c.write.ensures.ran clean));
   failed =
       by_one (state g.S.Store c.args.tx.now.conn.now) (state g.S.Store c.write.new.tx.conn.now) INSERT_CONNECTION.now (connection_values c.args.connection.now) c.write.result
-      (λ clean inside. rw (c.integer.ensures, c.device.ensures, c.small.ensures, c.connection_code.ensures, c.device_or_null.ensures, c.integer_or_null.ensures, c.small_or_null.ensures, c.small_or_null-2.ensures) at (c.write.ensures.failed clean inside));
+      (λ clean inside. rw c.connection_values.ensures at (c.write.ensures.failed clean inside));
 }

@@ -5,8 +5,8 @@ use Rattle.acd_sql_statements.proofs.write.insert_meta.Goals as goal
 pub returns-clause-start : goal.returns-clause-start
 returns-clause-start g c clean =
     starts c.args.meta.now (state g.S.Store c.args.tx.now.conn.now) (state g.S.Store c.write.new.tx.conn.now) c.write.result
-    (rw (c.integer.ensures, c.integer-2.ensures, c.integer-3.ensures, c.integer-4.ensures, c.integer-5.ensures, c.integer-6.ensures, c.integer-7.ensures, c.integer-8.ensures, c.integer-9.ensures, c.small.ensures, c.integer-10.ensures, c.integer-11.ensures, c.integer-12.ensures) at (c.write.ensures.ran clean))
+    (rw c.meta_values.ensures at (c.write.ensures.ran clean))
 
 pub returns-clause-failed : goal.returns-clause-failed
 returns-clause-failed g c clean inside =
-    rw (c.integer.ensures, c.integer-2.ensures, c.integer-3.ensures, c.integer-4.ensures, c.integer-5.ensures, c.integer-6.ensures, c.integer-7.ensures, c.integer-8.ensures, c.integer-9.ensures, c.small.ensures, c.integer-10.ensures, c.integer-11.ensures, c.integer-12.ensures) at (c.write.ensures.failed clean inside)
+    rw c.meta_values.ensures at (c.write.ensures.failed clean inside)

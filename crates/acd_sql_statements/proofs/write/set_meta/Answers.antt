@@ -14,8 +14,8 @@ returns g c = record {
       let new = state g.S.Store c.write.new.tx.conn.now in
       let meta = c.args.meta.now in
       drafts UPDATE_META.now (set_values meta) _ old new c.write.result (λ x count. sets_meta meta x old new count)
-      (rw (c.integer.ensures, c.integer-2.ensures, c.integer-3.ensures, c.integer-4.ensures, c.integer-5.ensures, c.integer-6.ensures, c.integer-7.ensures, c.small.ensures, c.integer-8.ensures, c.integer-9.ensures, c.integer-10.ensures) at (c.write.ensures.ran clean));
+      (rw c.counters_values.ensures at (c.write.ensures.ran clean));
   failed =
       by_one (state g.S.Store c.args.tx.now.conn.now) (state g.S.Store c.write.new.tx.conn.now) UPDATE_META.now (set_values c.args.meta.now) c.write.result
-      (λ clean inside. rw (c.integer.ensures, c.integer-2.ensures, c.integer-3.ensures, c.integer-4.ensures, c.integer-5.ensures, c.integer-6.ensures, c.integer-7.ensures, c.small.ensures, c.integer-8.ensures, c.integer-9.ensures, c.integer-10.ensures) at (c.write.ensures.failed clean inside));
+      (λ clean inside. rw c.counters_values.ensures at (c.write.ensures.failed clean inside));
 }

@@ -6,11 +6,14 @@ use Rattle.acd_sqlbook.specs.Commit.{made_by}
 use Rattle.acd_sql_columns.specs.Draft.{HoldsContent, Drafts, AddsStop}
 use Rattle.acd_sql_columns.specs.Relations.{relations_of}
 use Rattle.acd_sql_columns.proofs.Endings.{not_committed, begins, made_whole, adds_stop}
-use Rattle.std.proofs.Common.{Err, IfErr, sym}
+use Rattle.std.proofs.Common.{Err, IfErr, sym, ap, ◌∙◌}
 use Rattle.acd_sql_columns.specs.Draft.{Works}
-use Rattle.acd_sqlbook.specs.Stopping.{StopsInAll, FailsToFile}
+use Rattle.acd_sqlbook.specs.Stopping.{HasAbove, StopsInAll, FailsToFile}
 use Rattle.acd_sqlbook.proofs.Stopped.{still_stopped, commit_stopped}
 use Rattle.acd_sqlbook.proofs.commit.commit_all.Goals as goal
+
+pub write_all-requires-clause-free : goal.write_all-requires-clause-free
+write_all-requires-clause-free g c = ap (λ h. (state g.S.Store h).step_limit) c.transaction-tx.ensures.begun ∙ c.requires.unlimited
 
 pub returns-clause-done : goal.returns-clause-done
 returns-clause-done g c clean =
@@ -70,7 +73,7 @@ returns-in_err-write_all-clause-failed g c clean x held =
     let early : HasCleanDisk made = omega (arith, late, c.drop-tx.ensures.survives.clean) in
     let begin = c.transaction-tx.ensures.begun in
     let is : c.from_residual.result ≡ Err c.in_err-write_all.field-0.0 = search rules in
-    let stops = StopsInAll c.args.changes.now c.args.events.now c.args.kept.now c.args.meta.now in
+    let stops : Content → Type 0 = λ (x : Content). StopsInAll (HasAbove c.args.last x) c.args.changes.now c.args.events.now c.args.kept.now c.args.meta.now x in
     subst (λ h. IfErr c.from_residual.result (FailsToFile stops x old (state g.S.Store h))) same
     (subst (λ r. IfErr r (FailsToFile stops x old (state g.S.Store end))) (sym is)
     (still_stopped stops x begun made (state g.S.Store end) c.in_err-write_all.field-0.0 c.drop-tx.ensures.survives.counts
@@ -87,7 +90,7 @@ returns-clause-failed g c clean x held =
     let middle : HasCleanDisk mid = omega (arith, late, c.commit.ensures.survives.clean) in
     let begin = c.transaction-tx.ensures.begun in
     let works : Works begun mid = rw begin at c.write_all.ensures.works in
-    let stops = StopsInAll c.args.changes.now c.args.events.now c.args.kept.now c.args.meta.now in
+    let stops : Content → Type 0 = λ (x : Content). StopsInAll (HasAbove c.args.last x) c.args.changes.now c.args.events.now c.args.kept.now c.args.meta.now x in
     let drafts = (rw begin at c.in_ok-write_all.ensures.put) middle x (begins old begun x refl refl held) in
     subst (λ h. IfErr c.commit.result (FailsToFile stops x old (state g.S.Store h))) same
     (commit_stopped stops x begun mid (state g.S.Store end) c.commit.result works middle c.commit.ensures.survives.counts drafts.inside (c.commit.ensures.err late))

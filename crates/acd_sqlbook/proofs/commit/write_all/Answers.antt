@@ -1,7 +1,7 @@
 use Rattle.std.proofs.Common.{arith}
 use Rattle.sqlite.specs.State.{HasCleanDisk}
 use Rattle.sqlite.specs.Held.{state}
-use Rattle.std.proofs.Common.{Err, inl, inr, rules, ℕ, Option}
+use Rattle.std.proofs.Common.{Err, None, inl, inr, rules, ◌∙◌}
 use Rattle.acd_book.specs.Content.{Content}
 use Rattle.acd_sql_columns.proofs.Endings.{works_on}
 use Rattle.acd_sql_columns.specs.Rows.{kept_values, meta_shown}
@@ -9,9 +9,13 @@ use Rattle.acd_sql_columns.specs.Relations.{relations_of}
 use Rattle.acd_sql_columns.specs.declared.texts.TheConstants.{INSERT_KEPT, UPDATE_META}
 use Rattle.acd_sql_statements.specs.Refusing.{RefusesOn}
 use Rattle.acd_sqlbook.specs.Commit.{all_filed, with_events, with_kept}
-use Rattle.acd_sqlbook.specs.Stopping.{StopsInChanges, StopsInEvents, StopsInAll}
+use Rattle.acd_sqlbook.specs.Choosing.{written}
+use Rattle.acd_sqlbook.specs.Stopping.{HasAbove, StopsInChanges, StopsInEvents, StopsInAll}
 use Rattle.acd_sqlbook.proofs.Stopped.{stops_as, stops_more, stops_same, stops_later}
 use Rattle.acd_sqlbook.proofs.commit.write_all.Goals as goal
+
+pub write_events-requires : goal.write_events-requires
+write_events-requires g c = c.write_changes.ensures.works.survives.limit ∙ c.requires.free
 
 pub returns-clause-put : goal.returns-clause-put
 returns-clause-put g c clean x d =
@@ -25,8 +29,10 @@ returns-in_err-write_changes-clause-failed g c =
     let old = state g.S.Store c.args.tx.now.conn.now in
     let one = state g.S.Store c.write_changes.new.tx.conn.now in
     let changes = c.args.changes.now in
-    stops_more old one (StopsInChanges changes) (StopsInAll changes c.args.events.now c.args.kept.now c.args.meta.now) c.from_residual.result (λ limit x h. inl h)
-    (stops_same old one (StopsInChanges changes) c.in_err-write_changes.field-0.0 c.from_residual.result (search rules) c.in_err-write_changes.ensures.failed)
+    let all : Content → Type 0 = λ (x : Content). StopsInAll (HasAbove c.args.last x) changes c.args.events.now c.args.kept.now c.args.meta.now x in
+    let some : Content → Type 0 = λ (x : Content). StopsInChanges (HasAbove c.args.last x) (written changes) x in
+    stops_more old one some all c.from_residual.result (λ x h. inl h)
+    (stops_same old one some c.in_err-write_changes.field-0.0 c.from_residual.result (search rules) c.in_err-write_changes.ensures.failed)
 
 pub returns-in_err-write_events-clause-failed : goal.returns-in_err-write_events-clause-failed
 returns-in_err-write_events-clause-failed g c =
@@ -34,10 +40,11 @@ returns-in_err-write_events-clause-failed g c =
     let one = state g.S.Store c.write_changes.new.tx.conn.now in
     let two = state g.S.Store c.write_events.new.tx.conn.now in
     let changes = c.args.changes.now in
+    let all : Content → Type 0 = λ (x : Content). StopsInAll (HasAbove c.args.last x) changes c.args.events.now c.args.kept.now c.args.meta.now x in
     let events = c.args.events.now in
     let made = λ (x : Content). all_filed x changes in
-    stops_more old two (λ limit x. StopsInEvents events limit (made x)) (StopsInAll changes events c.args.kept.now c.args.meta.now) c.from_residual-in_err-write_events.result (λ limit x h. inr (inl h))
-    (stops_same old two (λ limit x. StopsInEvents events limit (made x)) c.in_err-write_events.field-0.0 c.from_residual-in_err-write_events.result (search rules)
+    stops_more old two (λ x. StopsInEvents events (made x)) all c.from_residual-in_err-write_events.result (λ x h. inr (inl h))
+    (stops_same old two (λ x. StopsInEvents events (made x)) c.in_err-write_events.field-0.0 c.from_residual-in_err-write_events.result (search rules)
     (stops_later old one two made (StopsInEvents events) (Err c.in_err-write_events.field-0.0) c.write_changes.ensures.works c.write_events.ensures.works c.in_ok-write_changes.ensures.put c.in_err-write_events.ensures.failed))
 
 pub returns-in_err-insert_kept-clause-failed : goal.returns-in_err-insert_kept-clause-failed
@@ -47,15 +54,17 @@ returns-in_err-insert_kept-clause-failed g c =
     let two = state g.S.Store c.write_events.new.tx.conn.now in
     let three = state g.S.Store c.insert_kept.new.tx.conn.now in
     let changes = c.args.changes.now in
+    let all : Content → Type 0 = λ (x : Content). StopsInAll (HasAbove c.args.last x) changes c.args.events.now c.args.kept.now c.args.meta.now x in
     let events = c.args.events.now in
     let kept = c.args.kept.now in
     let made = λ (x : Content). with_events (all_filed x changes) events in
-    let stop : Option ℕ → Content → Type 0 = λ (limit : Option ℕ) (x : Content). RefusesOn INSERT_KEPT.now (kept_values kept) limit (relations_of x) in
-    stops_more old three (λ limit x. stop limit (made x)) (StopsInAll changes events kept c.args.meta.now) c.from_residual-in_err-insert_kept.result (λ limit x h. inr (inr (inl h)))
-    (stops_same old three (λ limit x. stop limit (made x)) c.in_err-insert_kept.field-0.0 c.from_residual-in_err-insert_kept.result (search rules)
+    let stop : Content → Type 0 = λ (x : Content). RefusesOn INSERT_KEPT.now (kept_values kept) None (relations_of x) in
+    let free = c.write_events.ensures.works.survives.limit ∙ c.write_changes.ensures.works.survives.limit ∙ c.requires.free in
+    stops_more old three (λ x. stop (made x)) all c.from_residual-in_err-insert_kept.result (λ x h. inr (inr (inl h)))
+    (stops_same old three (λ x. stop (made x)) c.in_err-insert_kept.field-0.0 c.from_residual-in_err-insert_kept.result (search rules)
     (stops_later old two three made stop (Err c.in_err-insert_kept.field-0.0) (works_on old one two c.write_changes.ensures.works c.write_events.ensures.works) c.insert_kept.ensures.works
     (λ second x d. let first : HasCleanDisk one = omega (arith, second, c.write_events.ensures.works.survives.clean) in c.in_ok-write_events.ensures.put second _ (c.in_ok-write_changes.ensures.put first x d))
-    (stops_as two three (RefusesOn INSERT_KEPT.now (kept_values kept)) stop (Err c.in_err-insert_kept.field-0.0) (λ limit x h. h) c.in_err-insert_kept.ensures.failed)))
+    (stops_as two three free (RefusesOn INSERT_KEPT.now (kept_values kept)) stop (Err c.in_err-insert_kept.field-0.0) (λ x h. h) c.in_err-insert_kept.ensures.failed)))
 
 pub returns-in_err-set_meta-clause-failed : goal.returns-in_err-set_meta-clause-failed
 returns-in_err-set_meta-clause-failed g c =
@@ -65,15 +74,17 @@ returns-in_err-set_meta-clause-failed g c =
     let three = state g.S.Store c.insert_kept.new.tx.conn.now in
     let four = state g.S.Store c.set_meta.new.tx.conn.now in
     let changes = c.args.changes.now in
+    let all : Content → Type 0 = λ (x : Content). StopsInAll (HasAbove c.args.last x) changes c.args.events.now c.args.kept.now c.args.meta.now x in
     let events = c.args.events.now in
     let kept = c.args.kept.now in
     let made = λ (x : Content). with_kept (with_events (all_filed x changes) events) kept in
-    let stop : Option ℕ → Content → Type 0 = λ (limit : Option ℕ) (x : Content). RefusesOn UPDATE_META.now (meta_shown c.args.meta.now) limit (relations_of x) in
-    stops_more old four (λ limit x. stop limit (made x)) (StopsInAll changes events kept c.args.meta.now) c.from_residual-in_err-set_meta.result (λ limit x h. inr (inr (inr h)))
-    (stops_same old four (λ limit x. stop limit (made x)) c.in_err-set_meta.field-0.0 c.from_residual-in_err-set_meta.result (search rules)
+    let stop : Content → Type 0 = λ (x : Content). RefusesOn UPDATE_META.now (meta_shown c.args.meta.now) None (relations_of x) in
+    let free = c.insert_kept.ensures.works.survives.limit ∙ c.write_events.ensures.works.survives.limit ∙ c.write_changes.ensures.works.survives.limit ∙ c.requires.free in
+    stops_more old four (λ x. stop (made x)) all c.from_residual-in_err-set_meta.result (λ x h. inr (inr (inr h)))
+    (stops_same old four (λ x. stop (made x)) c.in_err-set_meta.field-0.0 c.from_residual-in_err-set_meta.result (search rules)
     (stops_later old three four made stop (Err c.in_err-set_meta.field-0.0) (works_on old two three (works_on old one two c.write_changes.ensures.works c.write_events.ensures.works) c.insert_kept.ensures.works) c.set_meta.ensures.works
     (λ third x d.
     let second : HasCleanDisk two = omega (arith, third, c.insert_kept.ensures.works.survives.clean) in
     let first : HasCleanDisk one = omega (arith, second, c.write_events.ensures.works.survives.clean) in
     c.in_ok-insert_kept.ensures.put third _ (c.in_ok-write_events.ensures.put second _ (c.in_ok-write_changes.ensures.put first x d)))
-    (stops_as three four (RefusesOn UPDATE_META.now (meta_shown c.args.meta.now)) stop (Err c.in_err-set_meta.field-0.0) (λ limit x h. h) c.in_err-set_meta.ensures.failed)))
+    (stops_as three four free (RefusesOn UPDATE_META.now (meta_shown c.args.meta.now)) stop (Err c.in_err-set_meta.field-0.0) (λ x h. h) c.in_err-set_meta.ensures.failed)))

@@ -1,11 +1,13 @@
-use Rattle.std.proofs.Common.{◌≡◌, ℕ, Option, length}
+use Rattle.std.proofs.Common.{◌≡◌, length}
 use Rattle.sqlite.specs.State.{HasCleanDisk}
 use Rattle.sqlite.specs.Held.{state}
 use Rattle.acd_book.specs.Content.{Content}
 use Rattle.acd_sqlbook.specs.Commit.{all_filed}
 use Rattle.acd_sql_columns.specs.Relations.{relations_of}
 use Rattle.acd_sql_columns.specs.Draft.{Drafts, Works}
-use Rattle.acd_sqlbook.specs.Stopping.{StopsInChanges}
+use Rattle.acd_sqlbook.specs.Choosing.{written}
+use Rattle.acd_sqlbook.specs.Stopping.{HasAbove, StopsInChanges}
+use Rattle.acd_sqlbook.proofs.Unmet.{Unmet}
 use Rattle.acd_sqlbook.proofs.commit.write_changes.Given as goal
 
 abbrev pub invariant-loop-change : goal.invariant-loop-change
@@ -14,7 +16,7 @@ invariant-loop-change g l = record {
   works : Works (state g.S.Store l.fn.tx.conn.now) (state g.S.Store l.tx.conn.now);
   put : HasCleanDisk (state g.S.Store l.tx.conn.now) → (c : Content) → Drafts (state g.S.Store l.fn.tx.conn.now) (relations_of c) → (x : Content) × Drafts (state g.S.Store l.tx.conn.now) (relations_of x) × (all_filed x l.rest ≡ all_filed c l.changes);
   stops : HasCleanDisk (state g.S.Store l.tx.conn.now) → (c : Content) → Drafts (state g.S.Store l.fn.tx.conn.now) (relations_of c)
-      → (x : Content) × Drafts (state g.S.Store l.tx.conn.now) (relations_of x) × ((limit : Option ℕ) → StopsInChanges l.rest limit x → StopsInChanges l.changes limit c);
+      → (x : Content) × Drafts (state g.S.Store l.tx.conn.now) (relations_of x) × (StopsInChanges (HasAbove l.last c) (written l.rest) x → StopsInChanges (HasAbove l.last c) (written l.changes) c) × Unmet l.rest l.changes c x;
 }
 
 abbrev pub decreases-loop-change : goal.decreases-loop-change

@@ -13,6 +13,9 @@ use Rattle.acd_sqlbook.proofs.Stopped.{in_events, stops_more, stops_same, stops_
 use Rattle.acd_sqlbook.proofs.commit.write_events.Goals as goal
 use Rattle.std.proofs.lemmas.List.{take_all}
 
+pub write_event-requires : goal.write_event-requires
+write_event-requires g c = c.loop-event.invariant.works.survives.limit ∙ c.requires
+
 pub loop-event-preserved : goal.loop-event-preserved
 loop-event-preserved g c =
     let inv = c.loop-event.invariant in
@@ -38,7 +41,7 @@ returns-in_err-write_event-clause-failed g c =
     let i = c.loop-event.event-index in
     let es = c.args.events.now in
     let made = λ (x : Content). with_events x (take i es) in
-    stops_more old new (λ limit x. StopsAtEvent c.event-item.result limit (made x)) (StopsInEvents es) c.from_residual.result
-    (λ limit x h. in_events es i c.event-item.result _ limit x c.event-item.is c.loop-event-test.true h)
-    (stops_same old new (λ limit x. StopsAtEvent c.event-item.result limit (made x)) c.in_err-write_event.field-0.0 c.from_residual.result (search rules)
+    stops_more old new (λ x. StopsAtEvent c.event-item.result (made x)) (StopsInEvents es) c.from_residual.result
+    (λ x h. in_events es i c.event-item.result _ x c.event-item.is c.loop-event-test.true h)
+    (stops_same old new (λ x. StopsAtEvent c.event-item.result (made x)) c.in_err-write_event.field-0.0 c.from_residual.result (search rules)
     (stops_later old mid new made (StopsAtEvent c.event-item.result) (Err c.in_err-write_event.field-0.0) c.loop-event.invariant.works c.write_event.ensures.works c.loop-event.invariant.put c.in_err-write_event.ensures.failed))

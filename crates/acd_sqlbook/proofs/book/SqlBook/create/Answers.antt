@@ -1,8 +1,8 @@
-use Rattle.std.proofs.Common.{sym, ◌∙◌}
+use Rattle.std.proofs.Common.{None, refl, sym, ◌∙◌}
 use Rattle.sqlite.specs.Held.{state}
 use Rattle.acd_sqlbook.proofs.BookStates.{new_book}
 use Rattle.acd_sqlbook.specs.Causes.{unfit, occupied}
-use Rattle.acd_sqlbook.proofs.Caused.{create_cause}
+use Rattle.acd_sqlbook.proofs.Caused.{create_cause, create_unlimited}
 use Rattle.acd_sqlbook.proofs.book.SqlBook.create.Goals as goal
 
 pub returns-in-Ok-clause-made : goal.returns-in-Ok-clause-made
@@ -12,7 +12,9 @@ returns-in-Ok-clause-made g c clean =
 
 pub returns-in-Err-clause-caused : goal.returns-in-Err-clause-caused
 returns-in-Err-clause-caused g c clean store =
-    create_cause c.args.limits (state g.S.Store c.args.conn) (state g.S.Store c.set_up.new.conn) c.in-Err.error c.fault_of.result c.fault_of.ensures store (c.in-Err.ensures.failed clean)
+    let bare = state g.S.Store (record c.args.conn { step_limit = None }) in
+    create_unlimited c.args.limits (state g.S.Store c.args.conn) (state g.S.Store c.set_up.new.conn)
+    (create_cause c.args.limits bare (state g.S.Store c.set_up.new.conn) c.in-Err.error c.fault_of.result refl c.fault_of.ensures store ((rw c.set_step_limit.ensures at c.in-Err.ensures.failed) clean))
 
 pub returns-then-not-limits_fit-clause-caused : goal.returns-then-not-limits_fit-clause-caused
 returns-then-not-limits_fit-clause-caused g c clean store =

@@ -18,4 +18,4 @@ returns-clause-caused g c =
     let new = state g.S.Store c.commit_rows-done.new.ready.conn in
     rw (← c.self.view_is)
     (noted_cause (replace c.args.rows.now c.args.events.now c.args.kept.now) old new c.self.inside.failures c.noted.new.failures c.noted.result c.noted.ensures.failures
-    (replace_caused c.args.rows.now c.args.events.now c.args.kept.now old new c.commit_rows-done.result c.noted.result c.noted.ensures.answer c.commit_rows-done.ensures.blamed))
+    (replace_caused c.args.rows.now c.args.events.now c.args.kept.now old new c.self.inside.ready.unlimited c.commit_rows-done.result c.noted.result c.noted.ensures.answer c.commit_rows-done.ensures.blamed))

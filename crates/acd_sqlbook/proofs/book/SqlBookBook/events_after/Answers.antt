@@ -19,4 +19,4 @@ pub returns-clause-caused : goal.returns-clause-caused
 returns-clause-caused g c =
     rw (← c.self.view_is)
     (noted_cause read (state g.S.Store c.self.inside.ready.conn) (state g.S.Store c.events_after-found.new.self.conn) c.self.inside.failures c.noted.new.failures c.noted.result c.noted.ensures.failures
-    (reads_caused (state g.S.Store c.self.inside.ready.conn) (state g.S.Store c.events_after-found.new.self.conn) c.events_after-found.result c.noted.result c.noted.ensures.answer c.events_after-found.ensures.blamed))
+    (reads_caused (state g.S.Store c.self.inside.ready.conn) (state g.S.Store c.events_after-found.new.self.conn) c.events_after-found.result c.noted.result c.self.inside.ready.unlimited c.noted.ensures.answer c.events_after-found.ensures.blamed))

@@ -1,0 +1,72 @@
+-- That the lines of an input were answered, by what was answered over a desk in memory or over a file.
+use Rattle.std.proofs.Common.{◌≡◌, inl, inr, ℕ, Bool, true, false, List, Option, Some, None, Result, Ok, Err, OnOk, refl, sym, subst, true≢false}
+use Rattle.std.specs.Io.KnownBytes.{Appends}
+use Rattle.sqlite_disk.specs.declared.Disk.{Ghosts}
+use Rattle.acd_book.specs.Content.{Content}
+use Rattle.acd_desk.specs.declared.desk.Desk.{Desk}
+use Rattle.acd_desk.specs.Standing.{standing}
+use Rattle.acd_terms.proofs.Results.{ok_err}
+use Rattle.acd_lines.specs.Laws.{RequestsRun}
+use Rattle.acd_lines.specs.Answers.{Answers}
+use Rattle.acd_lines.specs.Input.{line_of}
+use Rattle.acd_io.specs.Sent.{Begins}
+use Rattle.acd_lines.specs.Lines.{LinesAnswered, AllLines, FirstLines, ArrivalsAnswered, RunInTurn, Streams}
+use Rattle.acd_lines.specs.Parts.{InTurn}
+use Rattle.acd_lines.specs.declared.fault.LinesFault.{LinesFault}
+use Rattle.acd_lines.proofs.Weaker.{answered_so}
+use Rattle.acd_program.specs.Answered.{in_memory, IsNewDesk, AnsweredFromNothing}
+use Rattle.acd_program.specs.Desks.{OverNewDesk}
+use Rattle.acd_program.specs.LinesOver.{Whole, LinesInMemory, in_turn}
+use Rattle.acd_program.specs.Sessions.{LinesAreFromNothing}
+use Rattle.acd_program.specs.Tasks.{MemoryAnswered, FileAnswered, InputAnswered}
+use Rattle.acd_program.proofs.Answering.{in_memory_quiet, lines_from_nothing, answers_none}
+
+-- what ended the work, and what closing its file met
+pub both_so : {F : Type 0} (r done closed : Result (Unit {0}) F) (P Q X : Type 0) → OnOk r ((done ≡ Ok tt) × (closed ≡ Ok tt)) → OnOk done P → OnOk closed Q → (P → Q → X) → OnOk r X
+both_so (Err e) done closed P Q X h p q f = tt
+both_so {F} (Ok u) done closed P Q X h p q f = f (subst (λ (x : Result (Unit {0}) F). OnOk x P) h.0 p) (subst (λ (x : Result (Unit {0}) F). OnOk x Q) h.1 q)
+
+-- ---- in memory
+
+-- requests alone, to how many lines of the input they are
+from_nothing : RequestsRun in_memory → (P : List (List ℕ) → Type 0) (W : List ℕ → Type 0) (d e : Desk Content) → IsNewDesk (standing in_memory d)
+    → LinesAnswered P (InTurn line_of (Answers (standing in_memory)) d e) W → LinesAnswered P (ArrivalsAnswered AnsweredFromNothing) W
+from_nothing runs P W d e opened h =
+    lines_from_nothing P W (standing in_memory d) (standing in_memory e) opened (in_memory_quiet d e)
+    (answered_so P (InTurn line_of (Answers (standing in_memory)) d e) (RunInTurn in_memory d e) W (runs d e) h)
+
+pub lines_are_from_nothing : {R W : Type 0} (remaining : R → Option (List ℕ)) (contents : W → Option (List ℕ)) → RequestsRun in_memory → LinesAreFromNothing remaining contents
+lines_are_from_nothing remaining contents runs reader writer (Ok u) (inl none) = absurd (ok_err none.0)
+lines_are_from_nothing {R} {W} remaining contents runs reader writer (Err why) (inl none) =
+    subst (λ (w : W). LinesAnswered (FirstLines (remaining reader.0)) (ArrivalsAnswered AnsweredFromNothing) (Begins (contents writer.0) (contents w))) (sym none.1.1)
+    (answers_none (remaining reader.0) (contents writer.0))
+lines_are_from_nothing remaining contents runs reader writer (Ok u) (inr some) =
+    from_nothing runs (AllLines (remaining reader.0)) (Appends (contents writer.0) (contents writer.1)) some.first some.final some.opened
+    (some.did.all (λ asked. absurd (true≢false (sym asked))))
+lines_are_from_nothing remaining contents runs reader writer (Err why) (inr some) =
+    from_nothing runs (FirstLines (remaining reader.0)) (Begins (contents writer.0) (contents writer.1)) some.first some.final some.opened some.did.begun
+
+memory_whole : (T : Desk Content → Desk Content → List (List ℕ) → List (List ℕ) → Type 0) (io : Streams) (r : Result (Unit {0}) LinesFault) → LinesInMemory T io r → OnOk r (OverNewDesk (Whole in_memory T false io))
+memory_whole T io (Err why) h = tt
+memory_whole T io (Ok u) (inl none) = absurd (ok_err none.0)
+memory_whole T io (Ok u) (inr some) = record {
+  first = some.first;
+  final = some.final;
+  opened = some.opened;
+  did = record { answered = some.did.all (λ asked. absurd (true≢false (sym asked))); well = λ asked. absurd (true≢false (sym asked)) };
+}
+
+pub memory_lines : (reads is_so : Bool) (io : Streams) (r : Result (Unit {0}) LinesFault) → reads ≡ is_so → LinesInMemory (in_turn is_so in_memory) io r → OnOk r (OverNewDesk (Whole in_memory (in_turn reads in_memory) false io))
+memory_lines reads is_so io r is h =
+    subst (λ (b : Bool). OnOk r (OverNewDesk (Whole in_memory (in_turn b in_memory) false io))) (sym is) (memory_whole (in_turn is_so in_memory) io r h)
+
+memory_answered : RequestsRun in_memory → (reads : Bool) (io : Streams) → OverNewDesk (Whole in_memory (in_turn reads in_memory) false io) → MemoryAnswered reads io
+memory_answered runs true io h = h
+memory_answered runs false io h = from_nothing runs (AllLines io.had) (Appends io.before io.behind) h.first h.final h.opened h.did.answered
+
+module _ {Name D : Type 0} (disk : Ghosts D) (IsFresh : Bool → D → Type 0) (named : Option Name) (reads ends : Bool) (io : Streams) where
+  pub memory_input : RequestsRun in_memory → named ≡ None → OverNewDesk (Whole in_memory (in_turn reads in_memory) false io) → InputAnswered disk IsFresh named reads ends io 0
+  memory_input runs is h = subst (λ (n : Option Name). InputAnswered disk IsFresh n reads ends io 0) (sym is) (memory_answered runs reads io h, refl)
+
+  pub file_input : (file : Name) → named ≡ Some file → FileAnswered disk IsFresh reads ends io → InputAnswered disk IsFresh named reads ends io 0
+  file_input file is h = subst (λ (n : Option Name). InputAnswered disk IsFresh n reads ends io 0) (sym is) (h, refl)

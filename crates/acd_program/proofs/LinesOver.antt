@@ -1,0 +1,162 @@
+-- Lines over a book, step by step: what a desk answered, what was told of that, and that requests alone are a session.
+use Rattle.std.proofs.Common.{◌≡◌, inl, inr, ℕ, Bool, true, false, ◌&&◌, List, Option, Result, Ok, Err, IsErrAnd, OnOk, IsTrue, refl, sym, ap, subst, ◌∙◌, true≢false}
+use Rattle.std.proofs.lemmas.Result.{err_from_is_err_and}
+use Rattle.std.specs.Io.KnownBytes.{Appends}
+use Rattle.sqlite.specs.State.{State}
+use Rattle.sqlite.specs.Held.{Held, state}
+use Rattle.sqlite_trees.specs.Tree.{Trees}
+use Rattle.sqlite_trees.specs.declared.store.Store.{Ghosts}
+use Rattle.acd_book.specs.declared.book.Book as book
+use Rattle.acd_book.specs.State.{BookState}
+use Rattle.acd_sqlbook.specs.View.{BookView, book_of}
+use Rattle.acd_desk.specs.declared.desk.Desk.{Desk}
+use Rattle.acd_desk.specs.Opening.{Opened}
+use Rattle.acd_desk.specs.Standing.{standing}
+use Rattle.acd_io.specs.Sent.{Begins}
+use Rattle.acd_terms.proofs.Results.{ok_err, same_error}
+use Rattle.acd_lines.specs.Answers.{Answers}
+use Rattle.acd_lines.specs.Input.{line_of}
+use Rattle.acd_lines.specs.Laws.{RequestsRun}
+use Rattle.acd_lines.specs.Lines.{LinesAnswered, AllLines, FirstLines, RunInTurn, Streams, streams, LinesDone}
+use Rattle.acd_lines.specs.Parts.{InTurn}
+use Rattle.acd_lines.specs.declared.fault.LinesFault.{LinesFault}
+use Rattle.acd_lines.proofs.Weaker.{answered_so}
+use Rattle.acd_program.specs.Faults.{lines_fault, open_fault, told_by}
+use Rattle.acd_program.specs.Desks.{OverDesk, OverDatabase, in_database}
+use Rattle.acd_program.specs.LinesOver.{Whole, LinesTold, LinesOver, LinesIn, DatabaseAnswered}
+use Rattle.acd_program.specs.Over.{AnswersOver, OverConnection, Unserved}
+use Rattle.acd_program.specs.Sessions.{SessionTold, LinesAreSessions}
+use Rattle.acd_program.specs.Taking.{IsOf, IsTaken}
+use Rattle.acd_program.specs.declared.fault.Fault.{Fault}
+use Rattle.acd_program.proofs.Over.{lines_over, lines_well, lines_failed, lines_since, well_lines_since, failed_lines_since, over_connection}
+use Rattle.acd_program.proofs.InFiles.{over_makes}
+use Rattle.acd_program.proofs.Taking.{unserved_refused}
+
+-- ---- what is told
+
+-- both are so, or one isn't
+told_whole : (u v : Unit {0}) (a b : Bool) → ◌≡◌ {A = Result (Unit {0}) Fault} (Ok u) (told_by (Ok v) (a && b)) → a ≡ true → b ≡ false
+told_whole u v true true h is = absurd (ok_err h)
+told_whole u v true false h is = refl
+told_whole u v false b h is = absurd (true≢false (sym is))
+
+module _ {B : Type 0} (says : book.Ghosts B) (T : Desk B → Desk B → List (List ℕ) → List (List ℕ) → Type 0) (ends : Bool) (io : Streams) where
+  -- a fault of lines is the command's
+  pub told_fault : (r : Result (Unit {0}) Fault) (why : LinesFault) (d e : Desk B) → IsErrAnd r (λ (y : Fault). y ≡ lines_fault why) → LinesDone (standing says) T ends io d e (Err why) → LinesTold says T ends io r d e
+  told_fault r why d e is h = let p = err_from_is_err_and r is in record { ended = Err why; lines = h; told = p.1 ∙ ap Err p.2 }
+
+  -- without a fault the whole input was answered
+  whole_by : (u : Unit {0}) (d e : Desk B) (ended : Result (Unit {0}) LinesFault) → ◌≡◌ {A = Result (Unit {0}) Fault} (Ok u) (told_by ended (ends && (standing says e).failed)) → LinesDone (standing says) T ends io d e ended → Whole says T ends io d e
+  whole_by u d e (Err why) told h = absurd (ok_err told)
+  whole_by u d e (Ok v) told h =
+      let well : ends ≡ true → (standing says e).failed ≡ false = told_whole u v ends (standing says e).failed told in
+      record { answered = h.all well; well = well }
+
+  whole_told : (u : Unit {0}) (d e : Desk B) → LinesTold says T ends io (Ok u) d e → Whole says T ends io d e
+  whole_told u d e h = whole_by u d e h.ended h.told h.lines
+
+-- ---- over a database
+
+module _ {S : Type 0} (store : Ghosts S) where
+  module _ (T : Desk (BookView S) → Desk (BookView S) → List (List ℕ) → List (List ℕ) → Type 0) (makes ends : Bool) (io : Streams) where
+    -- lines over the book that was taken of it
+    pub lines_in : (s : State) (taken last : BookView S) (r : Result (Unit {0}) Fault) (conn : Held S) → ((db : Trees) → IsTrue s.is_open → s.may_leave db → db ≡ s.committed.trees) → IsTaken makes s (book_of store taken) → conn ≡ last.conn
+        → LinesOver (in_database store) T ends io (book_of store taken) r last → LinesIn store T makes ends io s r conn
+    lines_in s taken last r conn settles of back (inl none) = inl (record {
+      why = open_fault none.why;
+      told = none.told;
+      unserved = subst (λ (x : Held S). Unserved makes s (state store x)) (sym back)
+          (unserved_refused makes s (state store last.conn) (book_of store taken) last.noted last.failures none.why settles of none.refused);
+      untouched = none.untouched;
+    })
+    lines_in s taken last r conn settles of back (inr some) = inr (record { taken = taken; last = last; of_old = of; over = some; back = back })
+
+    -- without a fault the whole input was answered
+    pub whole_in : (s : State) (r : Result (Unit {0}) Fault) (conn : Held S) → LinesIn store T makes ends io s r conn → OnOk r (OverDatabase store makes (Whole (in_database store) T ends io) s conn)
+    whole_in s (Err why) conn h = tt
+    whole_in s (Ok u) conn (inl none) = absurd (ok_err none.told)
+    whole_in s (Ok u) conn (inr some) = record {
+      taken = some.taken;
+      last = some.last;
+      of_old = some.of_old;
+      over = record { first = some.over.first; final = some.over.final; opened = some.over.opened; did = whole_told (in_database store) T ends io u some.over.first some.over.final some.over.did; back = some.over.back };
+      back = some.back;
+    }
+
+  -- that a new one may be made was known
+  pub over_made : (is_new makes : Bool) (Did : Desk (BookView S) → Desk (BookView S) → Type 0) (s : State) (conn : Held S) → (is_new ≡ true → makes ≡ true) → OverDatabase store is_new Did s conn → OverDatabase store makes Did s conn
+  over_made is_new makes Did s conn may h = record {
+    taken = h.taken;
+    last = h.last;
+    of_old = elim h.of_old [ inl had ↦ inl had | inr made ↦ inr (may made.0, made.1, made.2) ];
+    over = h.over;
+    back = h.back;
+  }
+
+-- ---- requests alone
+
+-- the session over a book that came of another
+told_since : (ends : Bool) (io : Streams) (r : Result (Unit {0}) Fault) (old mid new : BookState) → IsOf old mid → SessionTold ends io r mid new → SessionTold ends io r old new
+told_since ends io (Ok u) old mid new of h = well_lines_since (AllLines io.had) (Appends io.before io.behind) ends old mid new of h
+told_since ends io (Err fault) old mid new of (inl h) = inl (record { why = h.why; told = h.told; session = lines_since (FirstLines io.had) (Begins io.before io.behind) old mid new of h.session })
+told_since ends io (Err fault) old mid new of (inr h) = inr (record { told = h.told; asked = h.asked; session = failed_lines_since (FirstLines io.had) (Appends io.before io.behind) old mid new of h.session })
+
+both_asked : (a b : Bool) → (a && b) ≡ true → (a ≡ true) × (b ≡ true)
+both_asked true true h = (refl, refl)
+both_asked true false h = absurd (true≢false (sym h))
+both_asked false b h = absurd (true≢false (sym h))
+
+module _ {B : Type 0} (says : book.Ghosts B) (runs : RequestsRun says) (ends : Bool) (io : Streams) where
+  abbrev Asks : Desk B → Desk B → List (List ℕ) → List (List ℕ) → Type 0
+  Asks = InTurn line_of (Answers (standing says))
+
+  ran : (P : List (List ℕ) → Type 0) (W : List ℕ → Type 0) (d e : Desk B) → LinesAnswered P (Asks d e) W → LinesAnswered P (RunInTurn says d e) W
+  ran P W d e h = answered_so P (Asks d e) (RunInTurn says d e) W (runs d e) h
+
+  -- by how the lines ended, and whether the desk has failed where that was to end them
+  session_of_lines : (r : Result (Unit {0}) Fault) (ended : Result (Unit {0}) LinesFault) (failed : Bool) (old : BookState) (d e : Desk B) → (ends && (standing says e).failed) ≡ failed → r ≡ told_by ended failed
+      → Opened old (standing says d) → LinesDone (standing says) Asks ends io d e ended → SessionTold ends io r old (standing says e).book
+  session_of_lines (Ok u) (Err why) failed old d e is told o h = absurd (ok_err told)
+  session_of_lines (Ok u) (Ok v) true old d e is told o h = absurd (ok_err told)
+  session_of_lines (Ok u) (Ok v) false old d e is told o h =
+      let well : ends ≡ true → (standing says e).failed ≡ false = λ asked. ap (λ (b : Bool). b && (standing says e).failed) (sym asked) ∙ is in
+      lines_well (AllLines io.had) (Appends io.before io.behind) ends old (standing says d) (standing says e) o well (ran (AllLines io.had) (Appends io.before io.behind) d e (h.all well))
+  session_of_lines (Err fault) (Err why) failed old d e is told o h = inl (record {
+    why = why;
+    told = same_error told;
+    session = lines_over (FirstLines io.had) (Begins io.before io.behind) old (standing says d) (standing says e) o (ran (FirstLines io.had) (Begins io.before io.behind) d e h.begun);
+  })
+  session_of_lines (Err fault) (Ok v) true old d e is told o h = inr (record {
+    told = same_error told;
+    asked = (both_asked ends (standing says e).failed is).0;
+    session = lines_failed (FirstLines io.had) (Appends io.before io.behind) old (standing says d) (standing says e) o (both_asked ends (standing says e).failed is).1
+        (ran (FirstLines io.had) (Appends io.before io.behind) d e h.first);
+  })
+  session_of_lines (Err fault) (Ok v) false old d e is told o h = absurd (ok_err (sym told))
+
+  session_of_desk : (r : Result (Unit {0}) Fault) (old : BookState) (last : B) → OverDesk says (LinesTold says Asks ends io r) old last → SessionTold ends io r old (says.state last)
+  session_of_desk r old last h =
+      subst (λ (b : B). SessionTold ends io r old (says.state b)) (sym h.back)
+      (session_of_lines r h.did.ended (ends && (standing says h.final).failed) old h.first h.final refl h.did.told h.opened h.did.lines)
+
+pub lines_are_sessions : {S R W : Type 0} (store : Ghosts S) (remaining : R → Option (List ℕ)) (contents : W → Option (List ℕ)) → RequestsRun (in_database store) → LinesAreSessions store remaining contents
+lines_are_sessions {S} store remaining contents runs makes ends reader writer r given conn h =
+    let s : State = state store given in
+    let io : Streams = streams remaining contents reader writer in
+    let new : BookState = book_of store h.last in
+    subst (λ (x : Held S). OverConnection (SessionTold ends io r) makes s (state store x)) (sym h.back)
+    (over_connection (SessionTold ends io r) makes s (state store h.last.conn) (book_of store h.taken) h.last.noted h.last.failures (λ old of told. told_since ends io r old (book_of store h.taken) new of told) h.of_old
+    (session_of_desk (in_database store) runs ends io r (book_of store h.taken) h.last h.over))
+
+-- without a fault they are the whole session
+pub session_in : {S R W : Type 0} (store : Ghosts S) (remaining : R → Option (List ℕ)) (contents : W → Option (List ℕ)) → LinesAreSessions store remaining contents → (makes ends : Bool) (reader : R × R) (writer : W × W) (given : Held S) (r : Result (Unit {0}) Fault) (conn : Held S)
+    → LinesIn store (InTurn line_of (Answers (standing (in_database store)))) makes ends (streams remaining contents reader writer) (state store given) r conn
+    → OnOk r (DatabaseAnswered store makes false ends (streams remaining contents reader writer) (state store given) conn)
+session_in store remaining contents law makes ends reader writer given (Err why) conn h = tt
+session_in store remaining contents law makes ends reader writer given (Ok u) conn (inl none) = absurd (ok_err none.told)
+session_in store remaining contents law makes ends reader writer given (Ok u) conn (inr some) = law makes ends reader writer (Ok u) given conn some
+
+-- that a new book may be made was known
+pub answered_made : {S : Type 0} (store : Ghosts S) (is_new makes reads ends : Bool) (io : Streams) (s : State) (conn : Held S) → (is_new ≡ true → makes ≡ true) → DatabaseAnswered store is_new reads ends io s conn → DatabaseAnswered store makes reads ends io s conn
+answered_made store is_new makes false ends io s conn may h = over_makes (λ (before behind : BookState). AnswersOver ends before io.had io.before io.behind behind) is_new makes s (state store conn) may h
+answered_made store is_new makes true ends io s conn may h = over_made store is_new makes _ s conn may h

@@ -1,0 +1,11 @@
+use Rattle.sqlite.specs.Held.{state}
+use Rattle.acd_http.specs.ReadingLines.{ReadInTurn}
+use Rattle.acd_lines.specs.Lines.{streams}
+use Rattle.acd_program.specs.Desks.{in_database}
+use Rattle.acd_program.proofs.LinesOver.{whole_in}
+use Rattle.acd_program.proofs.connection.with_reads.Goals as goal
+
+pub returns-in-Ok-clause-done : goal.returns-in-Ok-clause-done
+returns-in-Ok-clause-done g c =
+    whole_in g.S.Store (ReadInTurn (in_database g.S.Store)) c.args.makes c.args.ends (streams g.R.Read.remaining g.W.Write.contents (c.args.reader.now, c.lines_over_connection.new.reader) (c.args.writer.now, c.lines_over_connection.new.writer))
+    (state g.S.Store c.args.conn) c.lines_over_connection.result.0 c.lines_over_connection.result.1 c.lines_over_connection.ensures.done

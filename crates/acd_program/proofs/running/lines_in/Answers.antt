@@ -1,0 +1,18 @@
+use Rattle.std.proofs.Common.{true}
+use Rattle.sqlite.specs.Files.{over_files, file_state}
+use Rattle.acd_lines.specs.Lines.{streams}
+use Rattle.acd_program.proofs.Inputs.{both_so}
+use Rattle.acd_program.proofs.LinesOver.{answered_made}
+use Rattle.acd_program.proofs.running.lines_in.Goals as goal
+
+pub returns : goal.returns
+returns g c =
+    both_so c.done_and_closed.result c.database_lines-conn.result.0 c.close_connection.result _ _ _ c.done_and_closed.ensures c.database_lines-conn.ensures.done c.close_connection.ensures
+    (λ answered closed. record {
+      conn = c.in_ok-conn.conn;
+      last = c.database_lines-conn.result.1;
+      opened = c.in_ok-conn.ensures.opened;
+      answered = answered_made over_files c.in_ok-conn.is_new true c.args.reads c.args.ends
+          (streams g.R.Read.remaining g.W.Write.contents (c.args.reader.now, c.database_lines-conn.new.reader) (c.args.writer.now, c.database_lines-conn.new.writer)) (file_state c.in_ok-conn.conn) c.database_lines-conn.result.1 c.in_ok-conn.ensures.makes answered;
+      closed = closed;
+    })

@@ -1,0 +1,62 @@
+-- Why a command did not do what it was asked, by why its parts didn't.
+use Rattle.std.specs.Prelude.{Bool, true, false, Result, Ok, Err}
+use Rattle.sqlite.specs.declared.error.Error.{Error}
+use Rattle.sqlite.specs.declared.error.Error.TheVariants.{SqliteFailure}
+use Rattle.sqlite.specs.declared.error.ErrorCode.TheVariants.{OutOfMemory}
+use Rattle.acd_book.specs.declared.fault.BookFault.{BookFault}
+use Rattle.acd_book.specs.declared.fault.BookFault.TheVariants as book
+use Rattle.acd_sql_schema.specs.declared.fault.AdoptFault.{AdoptFault}
+use Rattle.acd_sql_schema.specs.declared.fault.AdoptFault.TheVariants as adopt
+use Rattle.acd_desk.specs.declared.fault.DeskFault.{DeskFault}
+use Rattle.acd_desk.specs.declared.fault.DeskFault.TheVariants as desk
+use Rattle.acd_desk.specs.declared.open_fault.OpenFault.{OpenFault}
+use Rattle.acd_desk.specs.declared.open_fault.OpenFault.TheVariants as opening
+use Rattle.acd_lines.specs.declared.fault.LinesFault.{LinesFault}
+use Rattle.acd_lines.specs.declared.fault.LinesFault.TheVariants as lines
+use Rattle.acd_program.specs.declared.fault.Fault.{Fault}
+use Rattle.acd_program.specs.declared.fault.Fault.TheVariants.{WrongVersion, BadRow, BadRows, NoMemory, Store, Read, Write}
+
+-- of a book
+abbrev pub book_fault : BookFault → Fault
+book_fault book.NoMemory = NoMemory
+book_fault book.Store = Store
+
+-- of a book that isn't made, as of one that isn't taken
+abbrev pub unmade_fault : BookFault → AdoptFault
+unmade_fault book.NoMemory = adopt.NoMemory
+unmade_fault book.Store = adopt.Store
+
+-- of the tables that a database holds
+abbrev pub adopt_fault : AdoptFault → Fault
+adopt_fault (adopt.WrongVersion version) = WrongVersion version
+adopt_fault (adopt.BadRow table) = BadRow table
+adopt_fault adopt.NoMemory = NoMemory
+adopt_fault adopt.Store = Store
+
+-- of a book that makes no desk
+abbrev pub open_fault : OpenFault → Fault
+open_fault (opening.Rows rule) = BadRows rule
+open_fault opening.NoMemory = NoMemory
+open_fault opening.Store = Store
+
+-- of a desk that tells nothing
+abbrev pub desk_fault : DeskFault → Fault
+desk_fault desk.NoMemory = NoMemory
+desk_fault desk.StoreFault = Store
+
+-- of lines
+abbrev pub lines_fault : LinesFault → Fault
+lines_fault lines.Read = Read
+lines_fault lines.Write = Write
+lines_fault lines.NoMemory = NoMemory
+
+-- of the database in a file: want of memory is one fault, and anything else the other
+abbrev pub by_memory : {F : Type 0} → Error → F → F → F
+by_memory (SqliteFailure OutOfMemory) none other = none
+by_memory _ none other = other
+
+-- what a command is told of how its lines ended: that the desk has failed is a fault where that was to end them
+abbrev pub told_by : Result (Unit {0}) LinesFault → Bool → Result (Unit {0}) Fault
+told_by (Err why) failed = Err (lines_fault why)
+told_by (Ok done) true = Err Store
+told_by (Ok done) false = Ok done

@@ -1,0 +1,55 @@
+-- Lines that ask for services alone: as a session over a database, and as what the abstract desk answers over a new desk in memory.
+use Rattle.std.specs.Prelude.{◌≡◌, ◌⊎◌, ℕ, Bool, true, List, Option, Result, Ok, Err}
+use Rattle.std.specs.Io.KnownBytes.{Appends}
+use Rattle.sqlite.specs.Held.{Held, state}
+use Rattle.sqlite_trees.specs.declared.store.Store.{Ghosts}
+use Rattle.acd_book.specs.State.{BookState}
+use Rattle.acd_io.specs.Sent.{Begins}
+use Rattle.acd_lines.specs.Answers.{Answers}
+use Rattle.acd_lines.specs.Input.{line_of}
+use Rattle.acd_lines.specs.Lines.{LinesAnswered, FirstLines, ArrivalsAnswered, Streams, streams}
+use Rattle.acd_lines.specs.Parts.{InTurn}
+use Rattle.acd_lines.specs.declared.fault.LinesFault.{LinesFault}
+use Rattle.acd_desk.specs.Standing.{standing}
+use Rattle.acd_program.specs.Answered.{in_memory, AnsweredFromNothing, AnswersAll}
+use Rattle.acd_program.specs.Faults.{lines_fault}
+use Rattle.acd_program.specs.Desks.{OverDatabase, in_database}
+use Rattle.acd_program.specs.LinesOver.{LinesTold, LinesInMemory}
+use Rattle.acd_program.specs.Over.{IsSession, IsFailedSession, AnswersOver, OverConnection}
+use Rattle.acd_program.specs.declared.fault.Fault.{Fault}
+use Rattle.acd_program.specs.declared.fault.Fault.TheVariants.{Store}
+
+module _ (ends : Bool) (io : Streams) where
+  -- reading or writing ended it, and the session is over a beginning of the input
+  pub record Stopped (old new : BookState) (fault : Fault) : Type 0 where
+    pub why : LinesFault
+    pub told : fault ≡ lines_fault why
+    pub session : LinesAnswered (FirstLines io.had) (ArrivalsAnswered (IsSession old new)) (Begins io.before io.behind)
+
+  -- a storeFault ended it, which was asked for; it is over the first lines, and all of their answers were written
+  pub record Failed (old new : BookState) (fault : Fault) : Type 0 where
+    pub told : fault ≡ Store
+    pub asked : ends ≡ true
+    pub session : LinesAnswered (FirstLines io.had) (ArrivalsAnswered (IsFailedSession old new)) (Appends io.before io.behind)
+
+  abbrev pub SessionTold : Result (Unit {0}) Fault → BookState → BookState → Type 0
+  SessionTold (Ok done) old new = AnswersOver ends old io.had io.before io.behind new
+  SessionTold (Err fault) old new = Stopped old new fault ⊎ Failed old new fault
+
+-- over any reader and any writer
+abbrev pub LinesAreSessions : {S R W : Type 0} → Ghosts S → (R → Option (List ℕ)) → (W → Option (List ℕ)) → Type 0
+LinesAreSessions {S} {R} {W} store remaining contents = (makes ends : Bool) (reader : R × R) (writer : W × W) (result : Result (Unit {0}) Fault) (old new : Held S)
+    → OverDatabase store makes (LinesTold (in_database store) (InTurn line_of (Answers (standing (in_database store)))) ends (streams remaining contents reader writer) result) (state store old) new
+    → OverConnection (SessionTold ends (streams remaining contents reader writer) result) makes (state store old) (state store new)
+
+-- ---- in memory
+
+-- all lines are answered so, or behind any fault a beginning of them
+abbrev pub AnswersTold : Streams → Result (Unit {0}) LinesFault → Type 0
+AnswersTold io (Ok done) = AnswersAll io.had io.before io.behind
+AnswersTold io (Err why) = LinesAnswered (FirstLines io.had) (ArrivalsAnswered AnsweredFromNothing) (Begins io.before io.behind)
+
+abbrev pub LinesAreFromNothing : {R W : Type 0} → (R → Option (List ℕ)) → (W → Option (List ℕ)) → Type 0
+LinesAreFromNothing {R} {W} remaining contents = (reader : R × R) (writer : W × W) (result : Result (Unit {0}) LinesFault)
+    → LinesInMemory (InTurn line_of (Answers (standing in_memory))) (streams remaining contents reader writer) result
+    → AnswersTold (streams remaining contents reader writer) result

@@ -1,0 +1,9 @@
+use Rattle.std.proofs.Common.{ap, ltb}
+use Rattle.acd_rules.proofs.Looking.{given}
+use Rattle.acd_rules.proofs.grouped.fn.alike.partition_point.Goals as goal
+
+pub returns : goal.returns
+returns g c =
+    λ key by.
+    let call = (g.met.F.FnMut.1.post_iff _ _ _).0 c.number.ensures in
+    ap (λ n. ltb n c.captures.wanted) (given g.F.Fn _ _ _ _ _ by call.1)

@@ -1,0 +1,6 @@
+use Rattle.std.proofs.Common.{arith}
+use Rattle.acd_sql_columns.proofs.Bounds.{id_fits}
+use Rattle.acd_sql_columns.proofs.bind.agent.Goals as goal
+
+pub integer-requires : goal.integer-requires
+integer-requires c = rw c.number.ensures.value (id_fits 9 _ (omega arith) c.number.ensures.formed)

@@ -1,6 +1,0 @@
-use Rattle.std.proofs.Common.{arith}
-use Rattle.acd_sql_statements.proofs.Bounds.{id_fits}
-use Rattle.acd_sql_statements.proofs.bind.device.Goals as goal
-
-pub integer-requires : goal.integer-requires
-integer-requires c = rw c.number.ensures.value (id_fits 15 _ (omega arith) c.number.ensures.formed)
