@@ -5,6 +5,7 @@ from collections.abc import Callable
 from contextlib import suppress
 from typing import Any
 
+import acd_due
 from acd_client import Client, Unanswered
 
 from .exchange import Exchange
@@ -69,11 +70,22 @@ class DeskLine:
         waits = any(row.body["service"] == "tick" for row in self.x.rows.requests.values())
         if 0 < self.x.settings.tick <= time.monotonic() - self.ticked and not waits:
             self.ticked = time.monotonic()
-            self.x.steps.step(self.x.steps.ask, "tick", "ticked")
+            if await self.tick_is_due():
+                self.x.steps.step(self.x.steps.ask, "tick", "ticked")
         for _ in range(16):
             if self.x.rows.requests:
                 await self.send()
         await self.follow()
+
+    async def tick_is_due(self) -> bool:
+        """Whether a tick ends something. A desk that refuses to say (an older one has no snapshot) is sent a tick each step."""
+        shown = await self.call(self.client.attempt, "GET", "/snapshot")
+        if shown.status != 200:
+            return True
+        try:
+            return acd_due.is_due(shown.body, self.x.steps.now())
+        except (LookupError, TypeError) as fault:
+            raise Unanswered("the reply is no snapshot") from fault
 
     async def send(self) -> None:
         row = self.x.rows.requests[min(self.x.rows.requests, key=int)]

@@ -26,7 +26,7 @@ class Settings:
     desk: str = option("", f"the desk; without it EXCHANGE_DESK of the environment, which others can't read, or {DESK}")
     file: str = option("exchange.db", "its own file")
     poll: float = option(0.1, "seconds between two looks for events")
-    tick: int = option(0, "sends the desk's ticks too, each so many seconds; with 0 acd-tick does")
+    tick: int = option(0, "looks each so many seconds whether a tick ends something, and sends the desk its ticks; with 0 acd-tick does")
     waiting: str = option("queued", "callers who wait get 182, or are answered with music", choices=("queued", "music"))
     refused: str = option("reject", "offers that a phone refuses are rejected, or wait for the end of their ring", choices=("reject", "wait"))
     music: str = option("", "a WAV file of 8000 Hz, 16 bits, one channel; without it silence")

@@ -91,8 +91,8 @@ class Line(unittest.TestCase):
         self.assertEqual((sorted(bench.x.rows.strangers), [known and known["number"] for known in desk.known]), (["7", "9"], [None, 3]))
 
     def test_ticks(self) -> None:
-        """None without the option; with it one a while, and no second one while one waits."""
-        cases: list[tuple[int, list[str]]] = [(0, []), (1, ["tick"])]
+        """None without the option; with it one a while, and no second one while one waits. A desk without snapshots is sent one each time."""
+        cases: list[tuple[int, list[str]]] = [(0, []), (1, ["/snapshot", "tick"])]
         for tick, wanted in cases:
             desk = Desk({})
             bench, line = self.line(desk, tick=tick)
@@ -105,7 +105,26 @@ class Line(unittest.TestCase):
                 with self.assertRaises(Unanswered):
                     asyncio.run(line.once())
                 line.ticked = 0.0
-            self.assertEqual([service for service, _ in bench.asked()], ["silence", *wanted])
+            self.assertEqual([service for service, _ in bench.asked()], ["silence", *wanted[1:]])
+
+    def test_ticks_that_are_due(self) -> None:
+        """By the bridge's clock, or by the moment of the desk's last request where that is greater; a reply that is no snapshot brings none."""
+        def shown(offered: int, ring: int, moment: int) -> dict[str, Any]:
+            connections = [{"device": "100", "group": "100", "state": "queued"}, {"device": "201", "group": "100", "offered": offered, "state": "alerting"}]
+            return {"agents": [], "calls": [{"connections": connections}], "groups": [{"device": "100", "ring": ring, "wrap": 0}], "moment": moment}
+
+        cases = [(shown(980, 20, 0), ["tick"]), (shown(981, 20, 999), []), (shown(981, 20, 1001), ["tick"]), (shown(0, 0, 2000), []), (shown(1200, 0, 0), [])]
+        for snapshot, wanted in cases:
+            desk = Desk({"/snapshot": snapshot})
+            asyncio.run(self.line(desk, tick=1)[1].once())
+            self.assertEqual((snapshot, desk.asked), (snapshot, ["/snapshot", *wanted]))
+        desk = Desk({"/snapshot": {"calls": []}})
+        bench, line = self.line(desk, tick=1)
+        with self.assertRaises(Unanswered):
+            asyncio.run(line.once())
+        bench.x.steps.step(bench.x.steps.ask, "first")
+        asyncio.run(line.once())
+        self.assertEqual(desk.asked, ["/snapshot", "first"])
 
     def test_a_tick_that_is_refused_is_told(self) -> None:
         """The same answer once an hour at most, and each other one; what the desk will be asked again too."""
@@ -116,7 +135,7 @@ class Line(unittest.TestCase):
         class Refusing(Desk):
             def send(self, body: dict[str, Any]) -> Answer:
                 self.asked.append(body["service"])
-                answer = answers[(len(self.asked) - 1) % len(answers)]
+                answer = answers[(self.asked.count("tick") - 1) % len(answers)]
                 if isinstance(answer, Unanswered):
                     raise answer
                 return answer

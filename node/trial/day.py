@@ -33,15 +33,15 @@ def sent_ticks(machines):
 
 
 def three_tickers(machines, chance, many=5, step=2):
-    """A call that rings while a ticker at each machine sends its ticks: one of a step is kept, though each of them sent one."""
-    for invoke, service in enumerate([{"service": "addGroup", "device": "900", "name": "Ticks", "ring": 3600, "wrap": 0}, {"service": "addStation", "device": "901"},
-                                      {"service": "addAgent", "agent": "9", "name": "Tess"}, {"service": "setAgentState", "agent": "9", "requested": "loggedOn", "device": "901", "group": "900"},
-                                      {"service": "setAgentState", "agent": "9", "requested": "ready"}, {"service": "arriveCall", "caller": "0999", "called": "900"}], 1):
+    """After-call work that is over in each step, while a ticker at each machine sends its ticks: one of a step is kept, though several are sent."""
+    for invoke, service in enumerate([{"service": "addGroup", "device": "900", "name": "Ticks", "ring": 0, "wrap": 1}, {"service": "addStation", "device": "901"},
+                                      {"service": "addAgent", "agent": "9", "name": "Tess"}, {"service": "setAgentState", "agent": "9", "requested": "loggedOn", "device": "901", "group": "900"}], 1):
         machines.ask_until_answered(json.dumps({"requester": "ticks", "invoke": invoke, **service}), chance, [])
     words = [HERE.parent / "tools/operating/acd-tick", "--step", str(step), "--port"]
     tickers = [subprocess.Popen([*words, str(machines.ports[n])], env={**os.environ, "ACD_CLOCK": CLOCK}) for n in (1, 2, 3)]
-    for _ in range(20):
-        time.sleep(many)
+    for invoke in range(5, 5 + 20 * many):
+        machines.ask_until_answered(json.dumps({"requester": "ticks", "invoke": invoke, "service": "setAgentState", "agent": "9", "requested": "workingAfterCall"}), chance, [])
+        time.sleep(step)
         if len(set(sent_ticks(machines))) >= many:
             break
     for ticker in tickers:
@@ -57,13 +57,8 @@ def three_tickers(machines, chance, many=5, step=2):
         machines.start_node(n)
     machines.see("one tick of a step is kept, on all machines", kept == kept[:1] * 3 and sorted(kept[0]) == sorted(set(sent)) and len(kept[0]) >= many, (kept, sent))
     machines.see("though several were sent", len(sent) > len(kept[0]), (kept[0], sent))
-    machines.ask_until_answered('{"requester":"ticks","invoke":7,"service":"clearConnection","call":%d,"device":"0999"}' % last_call(machines), chance, [])
-
-
-def last_call(machines):
-    for n in (1, 2, 3):
-        machines.ask_until_answered('{"requester":"ticks","invoke":8,"service":"tick"}', random.Random(n), [], [n])  # each is there again
-    return json.loads(machines.ask(1, None, target="/devices/901")[1])["connections"][0]["call"]
+    for n in (1, 2, 3):                                    # each is there again
+        machines.ask_until_answered('{"requester":"ticks","invoke":999,"service":"setAgentState","agent":"9","requested":"loggedOff"}', random.Random(n), [], [n])
 
 
 def small_quota(program, folder, encrypted, count, chance):

@@ -28,7 +28,7 @@ TOP = DEBIAN.parents[1]
 OPERATING = TOP / "tools/operating"
 MAINTAINER = "Hullapricot maintainers <maintainers@users.noreply.hullapricot.example>"
 UNITS = ("acd.service", "acd-tick.service", "acd-gate.service", "acd-copy.service", "acd-copy.timer", "acd-local.service",
-         "acd-node.service", "acd-node-upkeep.service", "acd-node-upkeep.timer")
+         "acd-node.service", "acd-node-upkeep.service", "acd-node-upkeep.timer", "acd-records.service")
 MANUAL = ("acd.1", "acd-calls.1", "acd-plan.1", "acd-ready.8", "acd-tick.8", "acd-gate.8", "acd-copy.8", "acd-local.8", "acd-node.8")
 BOARD = TOP / "board"
 PAGES = (".html", ".css", ".js")
@@ -268,7 +268,7 @@ def lay_out(root, options, moment):
     put("usr/sbin/acd-gate", (BOARD / "gate/acd-gate").read_bytes(), 0o755)
     for name in ("acd-calls", "acd-plan"):
         put(f"usr/bin/{name}", (OPERATING / name).read_bytes(), 0o755)
-    for module in (*sorted(OPERATING.glob("acd_*.py")), TOP / "clients/python/acd_client.py"):
+    for module in (*sorted(OPERATING.glob("acd_*.py")), TOP / "clients/python/acd_client.py", TOP / "clients/python/acd_due.py"):
         put(f"usr/share/acd/{module.name}", module.read_bytes())
     for page in sorted(path for path in BOARD.rglob("*") if path.suffix in PAGES):
         put(f"usr/share/acd/board/{page.relative_to(BOARD)}", page.read_bytes())
@@ -297,7 +297,7 @@ def lay_out(root, options, moment):
     with tempfile.TemporaryDirectory() as scratch:
         libraries = library_packages(root / "usr/bin/acd", Path(scratch))
     put("DEBIAN/control", f"Package: acd\nVersion: {version}\nArchitecture: amd64\nMaintainer: {MAINTAINER}\nInstalled-Size: {size}\n"
-                          f"Depends: {', '.join(filter(None, [libraries, 'adduser, curl, python3, python3-bcrypt, python3-passlib']))}\n"
+                          f"Depends: {', '.join(filter(None, [libraries, 'adduser, python3, python3-bcrypt, python3-passlib']))}\n"
                           f"Recommends: nftables\nSuggests: nginx, etcd-server, etcd-client\nSection: net\nPriority: optional\n"
                           f"Description: {DESCRIPTION} Built by {kit_name} from the sources of checksum\n {source}.\n")
     put("DEBIAN/md5sums", sums)
@@ -312,7 +312,8 @@ def lay_out_exchange(root, version, moment):
     put, versions, doc = putter(root), changes(), "usr/share/doc/acd-exchange/"
     for file in sorted((EXCHANGE / "bridge").glob("*.py")):
         put(f"usr/share/acd-exchange/bridge/{file.name}", file.read_bytes())
-    put("usr/share/acd-exchange/acd_client.py", (TOP / "clients/python/acd_client.py").read_bytes())
+    for module in ("acd_client.py", "acd_due.py"):
+        put(f"usr/share/acd-exchange/{module}", (TOP / "clients/python" / module).read_bytes())
     put("usr/share/acd-exchange/acd-exchange", (EXCHANGE / "acd-exchange").read_bytes(), 0o755)
     put("usr/sbin/acd-account", (EXCHANGE / "acd-account").read_bytes(), 0o755)
     (root / "usr/sbin/acd-exchange").symlink_to("../share/acd-exchange/acd-exchange")

@@ -13,7 +13,7 @@ PROBE = "/usr/local/bin/probe"
 # what a unit's probe goes without: it ends, prints to a file, has no settings, and takes no folder from the unit
 LEFT_OUT = {"Type", "Restart", "RestartSec", "RestartPreventExitStatus", "Environment", "EnvironmentFile", "RuntimeDirectory",
             "ExecStart", "ExecStartPre", "ExecStopPost", "ExecReload", "ExecCondition"}
-AS_ROOT = {"User", "DynamicUser", "AmbientCapabilities", "StateDirectory"}
+AS_ROOT = {"User", "Group", "DynamicUser", "AmbientCapabilities", "StateDirectory"}
 
 LOOPBACK = {"connect to loopback"}
 INTERNET = LOOPBACK | {"connect elsewhere", "AF_INET6"}
@@ -32,6 +32,7 @@ MAY = {
     "acd-node-upkeep.service": (INTERNET | {"read the desk's file", "signal the desk"}, INTERNET | OF_ROOT),
     "acd-exchange.service": (NETWORK | {"write the exchange's folder"}, NETWORK | OF_ROOT - {"read the accounts"}),
     "acd-edge.service": (NETWORK | {"read the accounts", "AF_NETLINK"}, NETWORK | OF_ROOT | {"AF_NETLINK"}),
+    "acd-records.service": ({"read the desk's file", "signal the desk"}, {"read the accounts", "see another user's process"}),
 }
 FOLDER = "/usr/lib/systemd/system"
 
@@ -44,6 +45,7 @@ class Units(Cases):
         self.try_copy()
         self.try_restore()
         self.try_exchange()
+        self.try_records()
         self.try_two_users()
         self.try_refusals()
 
@@ -122,6 +124,21 @@ class Units(Cases):
         """What phones are answered, from within the container's network."""
         words = ["nsenter", "--target", str(self.container.leader), "--net", sys.executable, __file__]
         return json.loads(subprocess.run(words, stdout=subprocess.PIPE, check=True, text=True).stdout)
+
+    def try_records(self):
+        """Behind a copy the days that are over are written, for the gate to read and for nobody else. Here the last copy is named as one of the day after tomorrow."""
+        self.done("systemctl", "start", "acd-copy")
+        self.expect("the records come behind the copy", self.eventually(lambda: "0 files written" in self.journal("acd-records"), True), True)
+        later = self.done("date", "-u", "-d", "2 days", "+%Y-%m-%dT%H%M%SZ").strip()
+        copies = "/var/lib/acd/copies"
+        self.done("mv", f"{copies}/{[name for name in self.done('ls', copies).split() if name.endswith('Z')][-1]}", f"{copies}/{later}")
+        self.done("systemctl", "start", "acd-records")
+        told = self.done("sh", "-c", "stat -c '%U %G %a %n' /var/lib/acd-records /var/lib/acd-records/records /var/lib/acd-records/records/*.csv").splitlines()
+        self.expect_in("whose they are", "\n".join(told), r"\A(acd acd-gate 750 \S+\n){2}acd acd-gate 640 \S+\.csv\Z")
+        for user, may in (("acd-gate", True), ("ben", False)):
+            self.expect(f"{user} reads them", self.run("test", "-r", told[-1].split()[-1], user=user)[0] == 0, may)
+        self.expect_in("the call", self.done("cat", told[-1].split()[-1]), r"'?0301234,100,")
+        self.done("rm", "-r", f"{copies}/{later}")
 
     # what they may not
 

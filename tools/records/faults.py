@@ -1,30 +1,80 @@
-"""Faults that are planted in acd-calls, acd-plan and acd_reach.py: what each is, the text that it changes, and what it changes it to."""
+"""Faults that are planted in acd-calls, acd-plan and what they stand on: what each is, the text that it changes, and what it changes it to."""
 
 CALLS = [
-    ("the ring isn't waited", '        if "queued" in states or "offered" in states:\n            self.waited', '        if "queued" in states:\n            self.waited'),
-    ("held is talked", '["connected", "connected"]:', '["connected", "connected"] or "hold" in states:'),
-    ("held where both hold", '        if "hold" in states:', '        if states == ["hold", "hold"]:'),
-    ("a return is an entry", 'if kind == "queued" and cause != "noAnswer":', 'if kind == "queued":'),
-    ("rings by distribution alone", 'elif kind == "delivered":', 'elif kind == "delivered" and cause == "distributed":'),
-    ("caller and other exchanged", '"by caller" if device == self.caller', '"by caller" if device != self.caller'),
-    ("a busy destination isn't told", '        if "fail" in states:\n            return "busy"\n', ""),
-    ("abandoned where it rang isn't told", '        if "queued" in states or "offered" in states:\n            return', '        if "queued" in states:\n            return'),
-    ("a private call takes the wrap-up", 'if before == "offered":', "if device in self.at:"),
-    ("no wrap-up of a call", '("busy", "workingAfterCall"):', '("busy", "busy"):'),
-    ("a span counts to the day it began on", "end = min(moment, self.day_ends)", "end = moment"),
-    ("days of another zone", "datetime.datetime.combine(day, datetime.time())", "datetime.datetime.combine(day, datetime.time(1))"),
-    ("days of 24 hours", "midnight(self.day + datetime.timedelta(days=1))", "midnight(self.day) + 86400"),
-    ("entered in another zone", "datetime.datetime.fromtimestamp(self.entered)", "datetime.datetime.utcfromtimestamp(self.entered)"),
-    ("every diversion isn't answered", 'if cause == "noAnswer":', 'if kind == "diverted" and device in self.at:'),
-    ("a rejected ring isn't answered", "is_refused = not self.by_ticks[moment, call, device]", "is_refused = False"),
-    ("a reject of a tick's second isn't answered", "        self.by_ticks[moment, call, device] = 0\n", ""),
-    ("refused rejects count", "SELECT moment, request FROM kept WHERE status = 200 AND request", "SELECT moment, request FROM kept WHERE request"),
-    ("what goes on isn't counted", "            if not call.is_cleared:\n                call.pass_to(moment)", "            pass"),
-    ("agents who are logged on aren't counted", "        for number, agent in self.agents.items():\n            self.pass_to(moment, number, agent)\n", ""),
-    ("caller and called exchanged", 'request["device"], request["called"], moment', 'request["called"], request["device"], moment'),
+    ("moments of another zone", "datetime.datetime.fromtimestamp(moment).strftime", "datetime.datetime.utcfromtimestamp(moment).strftime"),
     ("agents by their text", 'int("1" + key[1])', "key[1]"),
+    ("who let it ring while it rings", "leg.answered is None and leg.ended_at is not None", "leg.answered is None"),
+    ("the last answer", "when(min((leg.answered", "when(max((leg.answered"),
+    ("since leaves its day out", "self.options.since <= day", "self.options.since < day"),
+    ("until leaves its day out", "day <= self.options.until", "day < self.options.until"),
+    ("a formula goes out", "changes = FORMULA.match(field) or", "changes ="),
+    ("a number loses its 0", " else LOST.fullmatch(field))", " else None)"),
+    ("a name may seem a date", "LIKE_NUMBER.match(field) if column in NAMED", "None if column in NAMED"),
+    ("names of the desk alone", "            names[kind] |= office.names[kind]", "            pass"),
+    ("the oldest copy", "made, place = max(found)", "made, place = min(found)"),
+    ("a day ends with the last request", "end = max(book.last_moment(), made)", "end = book.last_moment()"),
+]
+BOOK = [
+    ("refused rejects count", """moment, request, body in self.rows.execute(f"SELECT moment, request, body FROM kept WHERE status = 200 AND""",
+     """moment, request, body in self.rows.execute(f"SELECT moment, request, '{{\\"result\\":0}}' FROM kept WHERE"""),
+    ("caller and called exchanged", 'request["device" if is_made else "caller"], request["called"], moment', 'request["called"], request["device" if is_made else "caller"], moment'),
+    ("the first group of a log-on alone", 'else request["groups"]', 'else request["groups"][:1]'),
     ("the log isn't read", "PAGELESS = 0x40000000, 56", "PAGELESS = 0x40000000, 1 << 60"),
     ("a file that is open is read", "fcntl.lockf(held, fcntl.LOCK_SH | fcntl.LOCK_NB, 512, LOCKED)", "pass"),
+    ("a log that began anew is taken", 'if before and before == head(folder / "book-wal") == head(log):', "if True:"),
+]
+RECORDS = [
+    ("the ring isn't waited", 'self.waited += seconds * ("queued" in states or "offered" in states)', 'self.waited += seconds * ("queued" in states)'),
+    ("held is talked", 'are_talking = states == ["connected", "connected"]', 'are_talking = states == ["connected", "connected"] or "hold" in states'),
+    ("held where both hold", 'self.held += seconds * ("hold" in states)', 'self.held += seconds * (states == ["hold", "hold"])'),
+    ("who is held holds", 'leg.held += seconds * (leg.state == "hold")', 'leg.held += seconds * ("hold" in states)'),
+    ("a return is an entry", 'if kind == "queued" and cause != "noAnswer":', 'if kind == "queued":'),
+    ("rings by distribution alone", 'kind == "delivered"))', 'cause == "distributed"))'),
+    ("caller and other exchanged", '"by caller" if device == self.caller', '"by caller" if device != self.caller'),
+    ("an agent who hangs up isn't told", '"by agent" if is_agent else "by other"', '"by other"'),
+    ("a busy destination isn't told", '        if "fail" in states:\n            return "busy"\n', ""),
+    ("abandoned where it rang isn't told", '        if "queued" in states or "offered" in states:\n            return', '        if "queued" in states:\n            return'),
+    ("who hangs up while it rings isn't told", '        if own in RINGS:\n            return f"at {device} while it rang"\n', ""),
+    ("who takes it out of the queue isn't told", '        if own == "queued":\n            return f"at {device} while it waited"\n', ""),
+    ("the last who is cleared ended it", '            if call.ended == "live":\n', "            if True:\n"),
+    ("a private call takes the wrap-up", 'if before == "offered":\n', "if agent:\n"),
+    ("no wrap-up of a call", '("busy", "workingAfterCall"):', '("busy", "busy"):'),
+    ("a span counts to the day it began on", "end = min(moment, self.calendar.ends)", "end = moment"),
+    ("days of another zone", "datetime.datetime.combine(day, datetime.time())", "datetime.datetime.combine(day, datetime.time(1))"),
+    ("days of 24 hours", "midnight(self.day + datetime.timedelta(days=1))", "midnight(self.day) + 86400"),
+    ("every diversion isn't answered", 'elif cause == "noAnswer":', 'elif kind == "diverted" and device in self.at:'),
+    ("a rejected ring isn't answered", "is_refused = not self.by_ticks[moment, call, device]", "is_refused = False"),
+    ("a reject of a tick's second isn't answered", "        self.by_ticks[moment, call, device] = 0\n", ""),
+    ("what goes on isn't counted", "            if call.ended_at is None:\n                call.pass_to(moment)", "            pass"),
+    ("agents who are logged on aren't counted", "        for number, agent in self.agents.items():\n            self.pass_to(moment, number, agent)\n", ""),
+    ("own calls that are answered aren't counted", ' or (kind == "established" and before != "offered")', ""),
+    ("a hang-up while it rings isn't counted", '                if call.at[device].state == "offered":', "                if False:"),
+    ("the first log-on's groups for ever", "agent.groups = number, next(self.log_ons, [])", "agent.groups = number, [next(self.log_ons, []), agent.groups][bool(agent.groups)]"),
+    ("the first time that it was logged on is its last", "else day.first, end\n", "else day.first, day.last or end\n"),
+]
+QUARTERS = [
+    ("a return enters anew", '            if cause != "noAnswer":', "            if True:"),
+    ("the limit itself isn't in time", "waited <= limit", "waited < limit"),
+    ("who gives up at once counts", "quarter.late += moment - queued > self.limit_of(group)", "quarter.late += 1"),
+    ("who waits through a quarter isn't there", "                self.found[each, group].most = waiting", "                pass"),
+    ("moved where it is distributed", 'if cause == "deflected" and group is not None:', "if group is not None:"),
+    ("who gave up waits on", "            if group in self.cleared:\n                self.change(moment, group, -1)\n", ""),
+    ("half a percent is cut off", "(self.in_time / counted) + 0.5)", "(self.in_time / counted))"),
+    ("the last wait is the longest", "max(quarter.longest or 0, waited)", "waited"),
+    ("after-call work isn't handling", '(before, kind) == ("agentBusy", "agentWorkingAfterCall")', "False"),
+    ("the level of the answered alone", "counted = self.answered + self.late", "counted = self.answered"),
+]
+DAYS = [
+    ("the day that goes on is written", "return day < self.today and (", "return ("),
+    ("a file stays for ever", "(self.today - day).days <= AGAIN or ", ""),
+    ("each file is written anew", " or str(day) > self.newest[kind])", " or True)"),
+    ("days of before the first run aren't written", " or str(day) > self.newest[kind])", ")"),
+    ("for all to read", "0o640", "0o644"),
+    ("what a killed run left stays", "                left.unlink()", "                pass"),
+]
+OFFICE = [
+    ("one limit for all", 'seconds(self.limits.get(f"limit.{group}")) or ', ""),
+    ("a zone that isn't there", "if zone is not None and not is_zone(zone):", "if False:"),
 ]
 PLAN = [
     ("ring and wrap exchanged", 'group["ring"], group["wrap"]', 'group["wrap"], group["ring"]'),
@@ -61,6 +111,10 @@ REACH = [
     ("the requester isn't the login's", "return login if re.fullmatch(", "return otherwise if re.fullmatch("),
     ("a login in the address", """    if not good or "@" in parts.netloc:""", "    if not good:"),
 ]
+
+# of which script, in which file
+ALL = [("calls", "acd-calls", CALLS), ("calls", "acd_book.py", BOOK), ("calls", "acd_records.py", RECORDS), ("calls", "acd_quarters.py", QUARTERS), ("calls", "acd_days.py", DAYS),
+       ("calls", "acd_office.py", OFFICE), ("plan", "acd-plan", PLAN), ("plan", "acd_reach.py", REACH)]
 
 
 def planted(text, old, new):

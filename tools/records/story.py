@@ -1,4 +1,4 @@
-"""A story of six calls around a midnight, and what has to come of it, reckoned by hand."""
+"""A story of eight calls around a midnight, and what has to come of it, reckoned by hand."""
 
 LINES = """\
 86300 {"requester":"plan","invoke":1,"service":"addGroup","device":"100","name":"Billing","ring":20,"wrap":30}
@@ -38,26 +38,65 @@ LINES = """\
 86545 {"requester":"desk","invoke":18,"service":"rejectCall","call":6,"device":"201"}
 86545 {"requester":"desk","invoke":19,"service":"setAgentState","agent":"7","requested":"ready"}
 86545 {"requester":"desk","invoke":20,"service":"rejectCall","call":6,"device":"201"}
+86550 {"requester":"desk","invoke":21,"service":"setAgentState","agent":"7","requested":"ready"}
+86555 {"requester":"desk","invoke":22,"service":"clearConnection","call":6,"device":"201"}
+86558 {"requester":"desk","invoke":23,"service":"setAgentState","agent":"7","requested":"notReady"}
+86560 {"requester":"pbx","invoke":10,"service":"arriveCall","caller":"0306","called":"100"}
+86570 {"requester":"pbx","invoke":11,"service":"clearConnection","call":7,"device":"100"}
+86580 {"requester":"pbx","invoke":12,"service":"arriveCall","caller":"0307","called":"100"}
 """
 # call 1 was on hold from 86335 to 86345; the wrap-up behind it ended as the agent was ready, at 86380, that behind call 3 by the tick at 86500.
 # Call 2 rang from 86380 on and wasn't answered; call 3 was answered at 86430, waited from 86440 and was answered again at 86455. Call 6 rang from
 # 86510 on and was rejected at 86525; it rang anew, and a tick took it back at 86545; in the same second a reject came too late and was refused,
-# and the call rang once more and was rejected
+# and the call rang once more and was rejected. It rang a fourth time at 86550, and the agent threw the caller out; call 7 was taken out of the queue
 CALLS = """\
-number,caller,called,entered,groups,rings,agent,station,waited,talked,held,wrapped_up,ended
-1,0301,100,1970-01-01 23:58:40,100,1,7,201,5,25,10,20,by caller
-2,0302,100,1970-01-01 23:59:10,100,1,,,60,0,0,0,abandoned
-3,202,201,1970-01-02 00:00:20,100,2,7 7,201 201,15,25,0,30,by other
-4,0303,201,1970-01-02 00:01:20,,1,,,0,0,0,0,not answered
-5,0304,201,1970-01-02 00:01:22,,0,,,0,0,0,0,busy
-6,0305,100,1970-01-02 00:01:50,100,3,,,35,0,0,0,live
+number,caller,called,entered,groups,rings,agent,station,waited,talked,held,wrapped_up,ended,rung,answered_at,ended_at
+1,0301,100,1970-01-01 23:58:40,100,1,7,201,5,25,10,20,by caller,,1970-01-01 23:58:45,1970-01-01 23:59:20
+2,0302,100,1970-01-01 23:59:10,100,1,,,60,0,0,0,abandoned,7,,1970-01-02 00:00:10
+3,202,201,1970-01-02 00:00:20,100,2,7 7,201 201,15,25,0,30,by agent,,1970-01-02 00:00:30,1970-01-02 00:01:10
+4,0303,201,1970-01-02 00:01:20,,1,,,0,0,0,0,not answered,7,,1970-01-02 00:01:30
+5,0304,201,1970-01-02 00:01:22,,0,,,0,0,0,0,busy,,,1970-01-02 00:01:25
+6,0305,100,1970-01-02 00:01:50,100,4,,,45,0,0,0,at 201 while it rang,7 7 7 7,,1970-01-02 00:02:35
+7,0306,100,1970-01-02 00:02:40,100,0,,,10,0,0,0,at 100 while it waited,,,1970-01-02 00:02:50
+8,0307,100,1970-01-02 00:03:00,100,0,,,0,0,0,0,live,,,
 """
-# ready from 86310 to 86325 and from 86380 to midnight; busy up to 86360; and on the next day ready from 86450 to 86455 and from 86500 on, up to
-# the end at 86545. Ticks took offers back at 86400 and 86545. Ben was logged on from 86390 to 86520, and nothing else
-DAYS = """\
-day,agent,name,logged_on,ready,talking,wrap_up,rings_not_answered,rings_refused
-1970-01-01,7,Ana,90,35,35,20,0,0
-1970-01-01,8,"Ben, senior",10,0,0,0,0,0
-1970-01-02,7,Ana,145,50,15,30,2,2
-1970-01-02,8,"Ben, senior",120,0,0,0,0,0
+LEGS = """\
+call,leg,device,agent,group,begun,answered_at,ended_at,waited,rang,talked,held,wrapped_up,ended,to
+1,1,100,,100,1970-01-01 23:58:40,,1970-01-01 23:58:40,0,0,0,0,0,offered,201
+1,2,201,7,100,1970-01-01 23:58:40,1970-01-01 23:58:45,1970-01-01 23:59:20,0,5,25,10,20,by caller,
+2,1,100,,100,1970-01-01 23:59:10,,1970-01-01 23:59:40,30,0,0,0,0,offered,201
+2,2,201,7,100,1970-01-01 23:59:40,,1970-01-02 00:00:00,0,20,0,0,0,taken back,100
+2,3,100,,100,1970-01-02 00:00:00,,1970-01-02 00:00:10,10,0,0,0,0,abandoned,
+3,1,202,8,,1970-01-02 00:00:20,,1970-01-02 00:01:10,0,0,25,0,0,by agent,
+3,2,201,7,,1970-01-02 00:00:25,1970-01-02 00:00:30,1970-01-02 00:00:40,0,5,10,0,0,transferred,100
+3,3,100,,100,1970-01-02 00:00:40,,1970-01-02 00:00:50,10,0,0,0,0,offered,201
+3,4,201,7,100,1970-01-02 00:00:50,1970-01-02 00:00:55,1970-01-02 00:01:10,0,5,15,0,30,by agent,
+4,1,201,7,,1970-01-02 00:01:20,,1970-01-02 00:01:30,0,10,0,0,0,not answered,
+5,1,201,7,,1970-01-02 00:01:22,,1970-01-02 00:01:25,0,0,0,0,0,busy,
+6,1,100,,100,1970-01-02 00:01:50,,1970-01-02 00:01:50,0,0,0,0,0,offered,201
+6,2,201,7,100,1970-01-02 00:01:50,,1970-01-02 00:02:05,0,15,0,0,0,rejected,100
+6,3,100,,100,1970-01-02 00:02:05,,1970-01-02 00:02:05,0,0,0,0,0,offered,201
+6,4,201,7,100,1970-01-02 00:02:05,,1970-01-02 00:02:25,0,20,0,0,0,taken back,100
+6,5,100,,100,1970-01-02 00:02:25,,1970-01-02 00:02:25,0,0,0,0,0,offered,201
+6,6,201,7,100,1970-01-02 00:02:25,,1970-01-02 00:02:25,0,0,0,0,0,rejected,100
+6,7,100,,100,1970-01-02 00:02:25,,1970-01-02 00:02:30,5,0,0,0,0,offered,201
+6,8,201,7,100,1970-01-02 00:02:30,,1970-01-02 00:02:35,0,5,0,0,0,at 201 while it rang,
+7,1,100,,100,1970-01-02 00:02:40,,1970-01-02 00:02:50,10,0,0,0,0,at 100 while it waited,
+8,1,100,,100,1970-01-02 00:03:00,,,0,0,0,0,0,live,
+"""
+# ready from 86310 to 86325 and from 86380 to midnight; busy up to 86360; and on the next day ready from 86450 to 86455, from 86500 to 86545 and from
+# 86550 to 86558. Ticks took offers back at 86400 and 86545. Ben was logged on from 86390 to 86520, and made call 3
+AGENTS = """\
+day,agent,name,logged_on,ready,talking,wrap_up,rings_not_answered,rings_refused,rings_hung_up,rings,calls,own_calls,not_ready,first_on,last_on,groups
+1970-01-01,7,Ana,90,35,35,20,0,0,0,2,1,0,0,1970-01-01 23:58:30,1970-01-02 00:00:00,100
+1970-01-01,8,"Ben, senior",10,0,0,0,0,0,0,0,0,0,10,1970-01-01 23:59:50,1970-01-02 00:00:00,100
+1970-01-02,7,Ana,180,58,15,30,2,2,1,5,1,1,77,1970-01-02 00:00:00,1970-01-02 00:03:00,100
+1970-01-02,8,"Ben, senior",120,0,0,0,0,0,0,0,0,1,120,1970-01-02 00:00:00,1970-01-02 00:02:00,100
+"""
+# call 1 waited 5 s, call 3 15 s; calls 2, 6 and 7 gave up behind 60, 45 and 10 s, or were made to. The agent was busy with call 1, and behind it, from
+# 86325 to 86380, with call 3 from 86455 to 86500
+GROUPS = """\
+begin,group,entered,answered,abandoned,moved,limit,in_time,abandoned_late,service_level,waited,longest,most_waiting,handled,handling
+1970-01-01 23:45:00,100,2,1,0,0,20,1,0,100,5,5,1,1,55
+1970-01-02 00:00:00,100,4,1,3,0,20,1,2,33,15,15,1,1,45
 """

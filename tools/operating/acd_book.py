@@ -1,0 +1,132 @@
+"""A desk's file, as records of calls are read out of it: its events, and what only the kept requests tell. Tested, not proved."""
+import fcntl
+import json
+import shutil
+import sqlite3
+import time
+from collections import Counter
+from pathlib import Path
+
+KINDS = ["serviceInitiated", "originated", "queued", "delivered", "diverted", "established", "held", "retrieved", "transferred", "failed", "connectionCleared",
+         "callCleared", "agentLoggedOn", "agentLoggedOff", "agentNotReady", "agentReady", "agentBusy", "agentWorkingAfterCall"]
+CAUSES = [None, "newCall", "distributed", "deflected", "transferred", "noAnswer", "busy"]
+
+# the first of the bytes that who has the file open keeps locked, and the most that a log without a page has
+LOCKED, PAGELESS = 0x40000000, 56
+# the bytes of a log's head, and how often a file that is written meanwhile is copied
+HEAD, TRIES = 32, 10
+
+
+class Fault(Exception):
+    """Why there is nothing to tell."""
+
+
+def identifier(number):
+    """A device or an agent as its digits; it is kept as the digit 1 and these."""
+    return None if number is None else str(number)[1:]
+
+
+class Book:
+    """What a file tells, in the order in which it happened."""
+
+    def __init__(self, rows):
+        self.rows = rows
+
+    def events(self):
+        """Moment, kind, device, call, agent, group, to, cause and waited of each event."""
+        for moment, kind, device, call, agent, group, to, cause, waited in self.rows.execute(
+                "SELECT moment, kind, device, call, agent, grp, target, cause, waited FROM events ORDER BY number"):
+            yield moment, KINDS[kind - 1], identifier(device), call, identifier(agent), identifier(group), identifier(to), CAUSES[cause or 0], waited
+
+    def granted(self, *texts):
+        """Moment, request and result of the granted requests that have one of these texts."""
+        has = " OR ".join("request LIKE ?" for _ in texts)
+        for moment, request, body in self.rows.execute(f"SELECT moment, request, body FROM kept WHERE status = 200 AND ({has}) ORDER BY stamp", [f"%{text}%" for text in texts]):
+            yield moment, json.loads(request), json.loads(body)["result"]
+
+    def calls_that_came(self):
+        """Number, caller, called and moment of each call, and whether the caller is a station. Who called whom stands in no event."""
+        for moment, request, result in self.granted('"service":"arriveCall"', '"service":"makeCall"'):
+            is_made = request["service"] == "makeCall"
+            yield result["call"], request["device" if is_made else "caller"], request["called"], moment, is_made
+
+    def log_ons(self):
+        """The groups of each log-on. The event has none where there are several."""
+        for _, request, _ in self.granted('"requested":"loggedOn"'):
+            yield [request["group"]] if "group" in request else request["groups"]
+
+    def returns_by_ticks(self):
+        """How many of a call's returns from a device in a moment a tick made: as many as there are more of them than of kept rejectCalls."""
+        returns = Counter()
+        for moment, call, device in self.rows.execute("SELECT moment, call, device FROM events WHERE kind = ? AND cause = ?", (KINDS.index("diverted") + 1, CAUSES.index("noAnswer"))):
+            returns[moment, call, identifier(device)] += 1
+        for moment, request, _ in self.granted('"service":"rejectCall"'):
+            returns[moment, request["call"], request["device"]] -= 1
+        return returns
+
+    def names(self):
+        """The names of groups and agents by their numbers."""
+        return {kind: {identifier(number): name for number, name in self.rows.execute(f"SELECT {column}, name FROM {table}")}
+                for kind, column, table in (("groups", "device", "acd_groups"), ("agents", "agent", "agents"))}
+
+    def last_moment(self):
+        return self.rows.execute("SELECT last_moment FROM meta").fetchone()[0]
+
+    def close(self):
+        self.rows.close()
+
+
+def opened(file, folder, is_live=False):
+    """The book in the file, which stays as it is: a log is played into the file, so one that has a log is read in a copy of both."""
+    if not file.is_file():
+        raise Fault(f"there is no file {file}")
+    log = Path(f"{file}-wal")
+    if is_open(file):
+        if not is_live:
+            raise Fault(f"{file} is open elsewhere: take a copy of it, by acd-copy, or add --live")
+        rows = sqlite3.connect(copied_live(file, log, Path(folder)))
+    elif log.exists() and log.stat().st_size > PAGELESS:
+        rows = sqlite3.connect(copied(file, log, Path(folder)))
+    else:
+        rows = sqlite3.connect(f"{file.resolve().as_uri()}?immutable=1", uri=True)
+    version = rows.execute("SELECT version FROM meta").fetchone()[0]
+    if version not in (1, 2):
+        raise Fault(f"wrong version {version}")
+    return Book(rows)
+
+
+def is_open(file):
+    with file.open("rb") as held:
+        try:
+            fcntl.lockf(held, fcntl.LOCK_SH | fcntl.LOCK_NB, 512, LOCKED)
+        except OSError:
+            return True
+    return False
+
+
+def copied(file, log, folder):
+    for part, name in ((file, "book"), (log, "book-wal")):
+        shutil.copyfile(part, folder / name)
+    return folder / "book"
+
+
+def copied_live(file, log, folder):
+    """A copy of one moment, while a desk goes on. What it writes comes into the log, and from there into the file; the log begins anew, under another head, only
+    once all of it is in the file. So a log that was copied behind the file, under the head that it had before, has all that changed in the file meanwhile."""
+    for _ in range(TRIES):
+        before = head(log)
+        book = copied(file, log, folder)
+        if before and before == head(folder / "book-wal") == head(log):
+            return book
+        time.sleep(0.2)
+    raise Fault(f"{file} changes faster than it can be copied: take a copy of it, by acd-copy")
+
+
+def head(log):
+    """The first bytes of a log, with the numbers that each beginning has anew; none where there is no whole head."""
+    try:
+        with log.open("rb") as file:
+            found = file.read(HEAD)
+    except FileNotFoundError:
+        return b""
+    return found if len(found) == HEAD and found[0] else b""

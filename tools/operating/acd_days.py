@@ -1,0 +1,77 @@
+"""Files of records, a day each: the days that are over, in FOLDER/records, FOLDER/agents and FOLDER/groups. Tested, not proved."""
+import contextlib
+import os
+
+KINDS = ("records", "agents", "groups")
+# that ended so many days ago at most are written anew where they differ: a call that went on is over by now, say. Older ones stay as they are, also
+# removed: callers' numbers are in them, and somebody may have to remove them in time
+AGAIN = 7
+
+
+class Days:
+    """The files below a folder. `today` is the first day that isn't over; `writer_of` makes a writer of rows of a stream."""
+
+    def __init__(self, folder, today, heads, writer_of):
+        self.folder, self.today, self.heads, self.writer_of = folder, today, heads, writer_of
+        self.open, self.written, self.newest = {}, 0, {}
+        for kind in KINDS:
+            (folder / kind).mkdir(mode=0o750, exist_ok=True)
+            # what a run left behind that was killed
+            for left in (folder / kind).glob(".*.new"):
+                left.unlink()
+            self.newest[kind] = max((file.stem for file in (folder / kind).glob("*.csv")), default="")
+
+    def place(self, kind, day):
+        return self.folder / kind / f"{day}.csv"
+
+    def wants(self, kind, day):
+        return day < self.today and ((self.today - day).days <= AGAIN or str(day) > self.newest[kind])
+
+    def write(self, kind, day, row):
+        """Rows come day by day; those of a day that needs no file are dropped."""
+        if kind not in self.open or self.open[kind][0] != day:
+            self.end(kind)
+            self.begin(kind, day)
+        writer = self.open[kind][2]
+        if writer:
+            writer.writerow(row)
+
+    def begin(self, kind, day):
+        stream = writer = None
+        if self.wants(kind, day):
+            stream = open(self.folder / kind / f".{day}.new", "w", newline="", encoding="utf-8")
+            writer = self.writer_of(stream)
+            writer.writerow(self.heads[kind])
+        self.open[kind] = day, stream, writer
+
+    def end(self, kind):
+        """The file is in its place at once, or as it was."""
+        day, stream, _ = self.open.pop(kind, (None, None, None))
+        if not stream:
+            return
+        with stream:
+            stream.flush()
+            os.fchmod(stream.fileno(), 0o640)
+            os.fsync(stream.fileno())
+        place, new = self.place(kind, day), self.folder / kind / f".{day}.new"
+        if place.exists() and place.read_bytes() == new.read_bytes():
+            return new.unlink()
+        os.replace(new, place)
+        self.written += 1
+
+    def __enter__(self):
+        return self
+
+    def __exit__(self, kind, *_):
+        for each in list(self.open):
+            if kind is None:
+                self.end(each)
+            else:
+                self.drop(each)
+
+    def drop(self, kind):
+        day, stream, _ = self.open.pop(kind)
+        if stream:
+            with contextlib.suppress(OSError):
+                stream.close()
+            (self.folder / kind / f".{day}.new").unlink(missing_ok=True)

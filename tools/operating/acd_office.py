@@ -1,0 +1,57 @@
+"""What the office says in /etc/acd/board.json, as far as records go by it: names in any script, limits of the service level, the zone. Tested, not proved."""
+import json
+import zoneinfo
+from dataclasses import dataclass, field
+from pathlib import Path
+
+FILE = Path("/etc/acd/board.json")
+# seconds, where nobody says otherwise, and the most; the most letters of a name. The board has the same
+LIMIT, MOST, LONGEST = 20, 86400, 80
+
+
+def texts(said):
+    """The members that are texts or numbers."""
+    said = said if isinstance(said, dict) else {}
+    return {name: str(value)[:LONGEST] for name, value in said.items() if isinstance(value, (str, int, float)) and not isinstance(value, bool)}
+
+
+def seconds(text):
+    try:
+        found = float(text)
+    except (TypeError, ValueError):
+        return None
+    return found if 0 < found <= MOST else None
+
+
+@dataclass(frozen=True)
+class Office:
+    names: dict = field(default_factory=lambda: {"groups": {}, "agents": {}})
+    limits: dict = field(default_factory=dict)
+    zone: str = None
+
+    def limit_of(self, group):
+        """Of the group, else of all."""
+        return seconds(self.limits.get(f"limit.{group}")) or seconds(self.limits.get("limit")) or LIMIT
+
+
+def office(file, tell):
+    """What stands in the file. What of it can't be read counts as if it weren't there, and is told in a line."""
+    try:
+        said = json.loads(Path(file).read_bytes())
+    except ValueError:
+        said = None
+    if not isinstance(said, dict):
+        tell(f"{file} is no JSON object: it is passed over")
+        return Office()
+    zone, names = texts(said).get("zone"), said.get("names")
+    if zone is not None and not is_zone(zone):
+        tell(f"{file}: there is no zone {zone}")
+        zone = None
+    return Office({kind: texts(names.get(kind) if isinstance(names, dict) else None) for kind in ("groups", "agents")}, texts(said.get("limits")), zone)
+
+
+def is_zone(name):
+    try:
+        return zoneinfo.ZoneInfo(name).key == name
+    except (ValueError, OSError, zoneinfo.ZoneInfoNotFoundError):
+        return False
