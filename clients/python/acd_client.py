@@ -22,7 +22,7 @@ from collections.abc import Iterator
 from typing import Any, NamedTuple, NotRequired, TypedDict, cast
 from urllib.parse import SplitResult, unquote, urlsplit
 
-__all__ = ["AnotherHistory", "Answer", "Client", "Event", "Page", "Request", "Snapshot", "Stopped", "Unanswered"]
+__all__ = ["AnotherHistory", "Answer", "Client", "Event", "Missed", "Page", "Request", "Snapshot", "Stopped", "Unanswered"]
 
 Request = dict[str, Any]
 
@@ -90,6 +90,10 @@ class Stopped(Exception):
 
 class AnotherHistory(Exception):
     """The desk's events aren't those that were followed: an older copy of its file was put back, or another file."""
+
+
+class Missed(AnotherHistory):
+    """The next events aren't in the desk's file any more: it was carried over, and they are in an archive alone. A new snapshot tells what is so now."""
 
 
 class Client:
@@ -171,7 +175,8 @@ class Client:
         return answer
 
     def page(self, after: int, known: Event | None = None) -> Page:
-        """The events above `after`, once. `known` is the event of that number: where the desk has another one there, or none, it is AnotherHistory."""
+        """The events above `after`, once. `known` is the event of that number: where the desk has another one there, or none, it is AnotherHistory; where the next ones
+        aren't there any more, Missed."""
         answer = self.attempt("GET", f"/events?after={max(after - 1, 0) if known else after}")
         if answer.status != 200 or not is_page(answer.body):
             raise Unanswered("the reply is no page of events")
@@ -179,8 +184,11 @@ class Client:
         if page["last"] < after or known and page["events"][:1] != [known]:
             raise AnotherHistory(f"event {after} isn't the one that was followed")
         events = page["events"][1:] if known else page["events"]
-        if [event["number"] for event in events] != list(range(after + 1, after + 1 + len(events))):
+        first = events[0]["number"] if events else page["last"] + 1
+        if first <= after or [event["number"] for event in events] != list(range(first, first + len(events))):
             raise Unanswered("the page has gaps")
+        if first > after + 1:
+            raise Missed(f"the events from {after + 1} to {first - 1} aren't in the desk's file any more")
         return {"events": events, "last": page["last"]}
 
     # until it is answered

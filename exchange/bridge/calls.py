@@ -1,5 +1,6 @@
 """Calls: what the desk decided, told by its events and replies, becomes of legs."""
 from collections.abc import Callable
+from typing import Any
 
 from acd_client import Answer, Event
 
@@ -80,6 +81,13 @@ class Calls:
     def ticked(self, row: Request, leg: Leg | None, answer: Answer) -> None:
         if answer.status != 200:
             self.steps.say_hourly(f"a tick of the desk is answered {answer.status} {answer.error}".rstrip())
+
+    def learn(self, agents: list[dict[str, Any]], last: Event) -> None:
+        """Who is logged on where, as of the last event."""
+        self.steps.place.known = dict(last)
+        for agent in agents:
+            if "device" in agent:
+                self.rows.agents.add(Agent(agent["device"], agent["agent"]))
 
     def take_events(self, events: list[Event]) -> None:
         for event in events:

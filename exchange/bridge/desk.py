@@ -6,7 +6,7 @@ from contextlib import suppress
 from typing import Any
 
 import acd_due
-from acd_client import Client, Unanswered
+from acd_client import Client, Missed, Unanswered
 
 from .exchange import Exchange
 
@@ -55,7 +55,12 @@ class DeskLine:
         self.x.calls.learning = not self.x.steps.place.known and not self.x.steps.place.invoke
         while self.x.rows.requests:
             await self.send()
-        await self.follow()
+        try:
+            await self.follow()
+        except Missed:
+            if not self.x.calls.learning:
+                raise
+            await self.begin()
         self.x.calls.learning = False
         shown = await self.call(self.client.attempt, "GET", "/snapshot")
         live = [str(call["call"]) for call in shown.body["calls"]] if shown.status == 200 else []
@@ -65,6 +70,15 @@ class DeskLine:
                 raise Unanswered(f"the call is answered {answer.status}")
             self.x.steps.step(self.x.compare, key, answer)
         print(f"following the desk from event {self.x.steps.place.known.get('number', 0)}", flush=True)
+
+    async def begin(self) -> None:
+        """Over a file that was carried over the snapshot tells who is logged on, and the events behind its last one are followed."""
+        shown = await self.call(self.client.attempt, "GET", "/snapshot")
+        if shown.status != 200:
+            raise Unanswered("no snapshot is shown")
+        page = await self.call(self.client.page, shown.body["last"] - 1)
+        self.x.steps.step(self.x.calls.learn, shown.body["agents"], page["events"][0])
+        await self.follow()
 
     async def once(self) -> None:
         waits = any(row.body["service"] == "tick" for row in self.x.rows.requests.values())

@@ -8,7 +8,7 @@ from contextlib import redirect_stdout, suppress
 from io import StringIO
 from typing import Any
 
-from acd_client import Answer, Event, Page, Unanswered
+from acd_client import Answer, Event, Missed, Page, Unanswered
 from bench import Bench
 from bridge.desk import DeskLine
 
@@ -65,6 +65,27 @@ class Line(unittest.TestCase):
         bench, line = self.line(Desk({}, [event(1, "serviceInitiated", 7), event(2, "callCleared", 7)]))
         self.start(line)
         self.assertEqual((bench.take(), bench.asked(), bench.x.calls.learning), ([], [], False))
+
+    def test_a_file_that_was_carried_over(self) -> None:
+        """The first events are in an archive alone: a new bridge begins with the snapshot, and one that had an event there has another history."""
+        class Carried(Desk):
+            def page(self, after: int, known: Event | None = None) -> Page:
+                page = super().page(after, known)
+                if after < 40:
+                    raise Missed("planted")
+                return page
+
+        agents = [{"agent": "7", "device": "201", "state": "ready"}, {"agent": "8", "state": "null"}]
+        shown = {"/snapshot": {"agents": agents, "calls": [{"call": 8}], "last": 41}, "/calls/8": {"connections": []}}
+        desk = Carried(shown, [], [event(41, "queued", 8)], [event(42, "callCleared", 8)])
+        bench, line = self.line(desk)
+        self.start(line)
+        self.assertEqual(({row.key: row.agent for row in bench.x.rows.agents.values()}, bench.x.steps.place.known["number"], [known and known["number"] for known in desk.known]),
+                         ({"201": "7"}, 42, [None, None, 41, 42]))
+        bench, line = self.line(Carried(shown))
+        bench.x.steps.place.known = dict(event(7, "queued", 3))
+        with self.assertRaises(Missed):
+            self.start(line)
 
     def test_requests_go_in_their_order_and_stay_until_they_are_answered(self) -> None:
         desk = Desk({})

@@ -19,7 +19,7 @@ from typing import Any
 TOP = Path(__file__).resolve().parents[3]
 sys.path.insert(0, str(TOP / "clients/python"))
 
-from acd_client import AnotherHistory, Client, Event, Stopped, Unanswered  # noqa: E402
+from acd_client import AnotherHistory, Client, Event, Missed, Stopped, Unanswered  # noqa: E402
 
 PROGRAM = os.environ.get("ACD", str(TOP / "release/acd"))
 PLAN = "kind,number,name,ring,wrap\ngroup,100,Billing,20,30\nstation,201,,,\nagent,7,Ana,,\n"
@@ -240,10 +240,22 @@ class AgainstAFalseDesk(unittest.TestCase):
 
     def test_what_is_no_page(self) -> None:
         event: dict[str, object] = {"number": 1, "moment": 5, "event": "queued", "call": 1, "device": "100"}
-        wrong: list[dict[str, object]] = [{"number": "1"}, {"number": True}, {"moment": -1}, {"event": 3}, {"device": 100}, {"call": "1"}, {"number": 2}]
+        wrong: list[dict[str, object]] = [{"number": "1"}, {"number": True}, {"moment": -1}, {"event": 3}, {"device": 100}, {"call": "1"}, {"number": 0}]
         answers = [reply(SHOWN, "404 Not Found"), reply({"events": []}), reply({"events": {}, "last": 0}), reply({"events": [7], "last": 1})]
         answers += [reply({"events": [{**event, **change}], "last": 2}) for change in wrong]
+        answers += [reply({"events": [event, {**event, "number": 3}], "last": 3})]
         self.refused(answers, lambda client: client.page(0))
+
+    def test_events_that_are_in_an_archive_alone(self) -> None:
+        """A file that was carried over begins with a later event, or has none of those that there were."""
+        event: dict[str, object] = {"number": 9, "moment": 5, "event": "queued", "call": 1, "device": "100"}
+        for page in ({"events": [event], "last": 9}, {"events": [], "last": 9}):
+            with Client(FalseDesk([reply(page), reply({**page, "last": 9})]).address) as client, self.assertRaises(Missed):
+                client.page(7 if page["events"] else 8)
+            with Client(FalseDesk([reply(page)]).address) as client, self.assertRaises(Missed):
+                next(client.follow(0))
+        with Client(FalseDesk([reply({"events": [event], "last": 9})]).address) as client:
+            self.assertEqual([each["number"] for each in client.page(8)["events"]], [9])
 
 
 if __name__ == "__main__":

@@ -1,0 +1,133 @@
+"""A year of an office, by a clock that is handed in: each week its file is carried over by acd-carry, which is killed at times. At the end archives and file, joined by
+SQLite, are sound, and so large was every file that was opened."""
+import json
+import random
+import signal
+import subprocess
+import sys
+import time
+from pathlib import Path
+
+from ground import PYTHON, TOP, held, joined, log_of
+
+sys.path.append(str(TOP / "clients/python"))
+import acd_due  # noqa: E402
+
+DAY, HOUR, WEEKS, CALLS, TALK, STEP = 86400, 3600, 52, 20, 180, 10
+GROUPS, AGENTS = ("100", "110"), 4
+
+
+class Desk:
+    """`acd lines` over a file, each request at its moment."""
+
+    def __init__(self, program, file):
+        self.process = subprocess.Popen([program, "lines", "--reads", "--file", file], stdin=subprocess.PIPE, stdout=subprocess.PIPE, text=True)
+
+    def line(self, moment, text):
+        self.process.stdin.write(f"{moment} {text}\n")
+        self.process.stdin.flush()
+        status, body = self.process.stdout.readline().split(" ", 1)
+        return int(status), json.loads(body)
+
+    def close(self):
+        self.process.stdin.close()
+        self.process.wait()
+
+
+class Office:
+    """Callers who come by day, agents who answer most of them, and ticks where one ends something."""
+
+    def __init__(self, chance):
+        self.chance, self.desk, self.invoke, self.asked, self.moment = chance, None, 0, 0, 0
+
+    def ask(self, moment, service, **members):
+        self.invoke += 1
+        self.asked += 1
+        status, body = self.desk.line(int(moment), json.dumps({"requester": "office", "invoke": self.invoke, "service": service, **members}))
+        return body.get("result") if status == 200 else None
+
+    def plan(self):
+        for group in GROUPS:
+            self.ask(0, "addGroup", device=group, name="G", ring=20, wrap=30)
+        for number in range(AGENTS):
+            station, agent = str(201 + number), str(number + 1)
+            self.ask(0, "addStation", device=station)
+            self.ask(0, "addAgent", agent=agent, name="A")
+            self.ask(0, "setAgentState", agent=agent, requested="loggedOn", device=station, group=GROUPS[number % 2])
+
+    def snapshot(self):
+        return self.desk.line(0, "GET /snapshot")[1]
+
+    def tick(self, until):
+        """The ticks that are due until a moment, at whole steps."""
+        while (end := acd_due.due_at(self.snapshot())) is not None and -(-end // STEP) * STEP <= until:
+            self.ask(-(-end // STEP) * STEP, "tick")
+
+    def act(self, moment):
+        """Somebody does something: a caller comes, rings are answered, talks end, agents are ready again."""
+        self.tick(moment)
+        shown = self.snapshot()
+        for call in shown["calls"]:
+            for each in call["connections"]:
+                if "offered" in each and self.chance.random() < 0.7:
+                    self.ask(moment, "answerCall", call=call["call"], device=each["device"])
+                elif each["state"] == "connected" and each["device"] == call["caller"] and self.chance.random() < 0.3:
+                    self.ask(moment, "clearConnection", call=call["call"], device=call["caller"])
+        for agent in shown["agents"]:
+            if agent["state"] == "notReady" and self.chance.random() < 0.8:
+                self.ask(moment, "setAgentState", agent=agent["agent"], requested="ready")
+        if self.chance.random() < 0.5:
+            self.ask(moment, "arriveCall", caller=f"0301{self.chance.randrange(9999)}", called=self.chance.choice(GROUPS))
+
+    def day(self, begin):
+        for moment in sorted(self.chance.uniform(begin + 8 * HOUR, begin + 18 * HOUR) for _ in range(CALLS * 2)):
+            self.act(int(moment))
+        self.tick(begin + DAY - 1)
+
+
+def carry(ground, file, new, chance):
+    """By the command as it is; at times it is killed, and the same command ends it. How long the last one took."""
+    words = [PYTHON, ground.scripts / "acd-carry", "--from", file, "--to", new, "--days", "2", "--desk", ground.program]
+    for _ in range(chance.choice([0, 0, 1, 2])):
+        killed = subprocess.Popen(words, stdout=subprocess.DEVNULL, stderr=subprocess.DEVNULL)
+        time.sleep(chance.uniform(0, 0.6))
+        killed.send_signal(signal.SIGKILL)
+        killed.wait()
+        # a program that it had begun goes on to its end
+        time.sleep(0.1)
+    begun = time.monotonic()
+    if not new.exists():
+        status, told, faults = ground.run(*words)
+        ground.expect(f"carried over: {faults}", status, 0)
+    return time.monotonic() - begun
+
+
+def try_year(ground, weeks=WEEKS):
+    chance = random.Random(73)
+    office, archives, longest, greatest = Office(chance), [], 0.0, 0
+    with ground.scratch() as folder:
+        file, new = folder / "desk.db", folder / "new.db"
+        for week in range(weeks):
+            begun = time.monotonic()
+            office.desk = Desk(ground.program, file)
+            office.snapshot()
+            opened = time.monotonic() - begun
+            if not week:
+                office.plan()
+            for day in range(7):
+                office.day((7 * week + day + 1) * DAY)
+            office.desk.close()
+            rows = held(file)["kept"]
+            greatest, longest = max(greatest, len(rows)), max(longest, opened)
+            carry(ground, file, new, chance)
+            archive = folder / f"week-{week:02}.db"
+            for old, name in ((file, archive), (new, file)):
+                log_of(old).unlink(missing_ok=True)
+                old.rename(name)
+            Path(f"{new}.carry").exists() and Path(f"{new}.carry").rmdir()
+            archives.append(archive)
+        ground.expect("archives and file together", ground.audit(joined(archives, file, folder / "joined.db")), (0, f"sound\nexecuted {office.asked}\n", ""))
+        ground.expect("no file has over nine days", greatest < office.asked / weeks / 7 * 9 + 400)
+        status, told, faults = ground.export("--file", file, *(word for archive in archives for word in ("--archive", archive)))
+        ground.expect(f"all events of the year: {faults}", (status, told), (0, ground.run("acd", "export", "--file", folder / "joined.db")[1]))
+    print(f"{weeks} weeks: {office.asked} requests, in files of {greatest} at most, opened in {longest:.3f} s at most", flush=True)
