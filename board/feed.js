@@ -1,17 +1,12 @@
 // Follows a desk: a snapshot to begin with, then each second the events behind it; goes on by itself after a loss, and begins anew where another file is in its place.
 // @ts-check
-import {refusal} from './words.js';
+import {refusal, word} from './words.js';
 
-/** @typedef {import('./types').Report} Report */
-/** @typedef {import('./types').Snapshot} Snapshot */
 
 const EVERY = 1000, PATIENCE = 10000, FULL = 1000, SEVERAL = 6;
 
-/**
- * A request of a desk. The server's clock less this one's, in milliseconds, is told on the way.
- * @param {string} address
- * @param {(offset:number) => void} [clock]
- */
+// A request of a desk. The server's clock less this one's, in milliseconds, is told on the way.
+/** @param {string} address @param {(offset:number) => void} [clock] */
 export async function read(address, clock) {
   const giving = new AbortController(), timer = setTimeout(() => giving.abort(), PATIENCE);
   try {
@@ -21,16 +16,12 @@ export async function read(address, clock) {
     if (!reply.ok) throw Object.assign(new Error(refusal(reply.status, await reply.text())), {status: reply.status});
     return await reply.json();
   } catch (error) {
-    throw giving.signal.aborted ? new Error('no answer') : error;
+    throw giving.signal.aborted ? new Error(word('lost.silent')) : error;
   } finally { clearTimeout(timer); }
 }
 
 export class Feed {
-  /**
-   * @param {string} base the desk's address
-   * @param {number} renew after how many milliseconds a snapshot is read anew, for what no event tells
-   * @param {import('./types').Follower} owner
-   */
+  /** @param {string} base the desk's address @param {number} renew after how many milliseconds a snapshot is read anew, for what no event tells @param {Follower} owner */
   constructor(base, renew, owner) {
     this.base = base;
     this.renew = renew;
@@ -59,7 +50,7 @@ export class Feed {
         if (!more) await this.wait(this.begun ? EVERY : 0);
       } catch (error) {
         this.losses++;
-        this.owner.tell({kind: 'lost', why: error instanceof TypeError ? 'the server cannot be reached' : error instanceof Error ? error.message : String(error)});
+        this.owner.tell({kind: 'lost', status: /** @type {any} */ (error).status, why: error instanceof TypeError ? word('lost.server') : error instanceof Error ? error.message : String(error)});
         await this.wait(Math.min(PATIENCE / 2, EVERY * 2 ** (this.losses - 1)) * (0.75 + Math.random() / 2));
       }
     }
@@ -81,9 +72,9 @@ export class Feed {
     this.owner.tell({kind: 'anew'});
   }
 
-  /** The events behind the last one, and that one again. True where there may be more. */
+  // The events behind the last one, and that one again. True where there may be more.
   async poll() {
-    const {events, last} = /** @type {import('./types').Page} */ (await this.get(`/history?after=${Math.max(0, this.last - 1)}`));
+    const {events, last} = /** @type {Page} */ (await this.get(`/history?after=${Math.max(0, this.last - 1)}`));
     if (this.last > 0) {
       const again = JSON.stringify(events.shift());
       if (last < this.last || (this.seen && again !== this.seen)) {
@@ -101,7 +92,7 @@ export class Feed {
     return last > this.last;
   }
 
-  /** Reads the agents who logged on in several groups. */
+  // Reads the agents who logged on in several groups.
   async ask() {
     for (const agent of [...this.owner.unknown()]) {
       try { this.owner.learn(await this.get(`/agents/${agent}`)); } catch (error) { if (/** @type {any} */ (error).status !== 404) throw error; }
@@ -117,17 +108,13 @@ export class Feed {
   }
 }
 
-/**
- * The number of the last event before a moment, found by halving.
- * @param {string} base
- * @param {number} last
- * @param {number} moment
- */
+// The number of the last event before a moment, found by halving.
+/** @param {string} base @param {number} last @param {number} moment */
 export async function lastBefore(base, last, moment) {
   let low = 0, high = last;
   while (low < high) {
     const middle = Math.floor((low + high) / 2);
-    const {events} = /** @type {import('./types').Page} */ (await read(`${base}/events?after=${middle}`));
+    const {events} = /** @type {Page} */ (await read(`${base}/events?after=${middle}`));
     const first = events.findIndex(event => event.moment >= moment);
     if (first < 0 && events.length) low = events[events.length - 1].number;
     else if (first === 0 || !events.length) high = middle;
@@ -136,15 +123,10 @@ export async function lastBefore(base, last, moment) {
   return low;
 }
 
-/**
- * All events behind one, in their order and a page at a time, several pages being asked for at once; up to the last that there is by then.
- * @param {string} base
- * @param {number} after
- * @param {number} last
- * @param {(events:Report[]) => boolean} take says whether to go on
- */
+// All events behind one, in their order and a page at a time, several pages being asked for at once; up to the last that there is by then.
+/** @param {string} base @param {number} after @param {number} last @param {(events:Report[]) => boolean} take says whether to go on */
 export async function history(base, after, last, take) {
-  /** @type {Promise<import('./types').Page>[]} */ const asked = [];
+  /** @type {Promise<Page>[]} */ const asked = [];
   let next = after;
   const ask = () => {
     if (next >= last) return;

@@ -1,48 +1,63 @@
 // The board: follows a desk, counts its day, and draws the view that is looked at.
 // @ts-check
-import {byId, mark, put, toggle} from './draw.js';
+import {Lead} from './act.js';
+import {alarms} from './alarms.js';
+import {save} from './csv.js';
+import {byId, make, mark, put, toggle} from './draw.js';
 import {Day} from './day.js';
-import {Feed, history, lastBefore} from './feed.js';
-import {ahead, groupLines, overdue, totals} from './reckon.js';
-import {dayBegin, searchOf, settingsOf} from './settings.js';
+import {Feed, history, lastBefore, read} from './feed.js';
+import {fault, office} from './office.js';
+import {callLines, groupLines, totals} from './reckon.js';
+import {logIn, logOut, openSession} from './session.js';
+import {dayBegin, FIELDS, FILTERS, greatestLimit, limitsOf, ownOf, searchOf, settingsOf, valueOf} from './settings.js';
 import {State} from './state.js';
-import {clock, timeOfDay} from './words.js';
+import {clock, timeOfDay, translate, word, zoneOf} from './words.js';
 import * as agents from './views/agents.js';
+import * as alarmsView from './views/alarms.js';
 import * as calls from './views/calls.js';
 import * as day from './views/day.js';
 import * as events from './views/events.js';
+import {choose} from './views/groups.js';
 import * as queues from './views/queues.js';
 import * as totalsView from './views/totals.js';
 import * as wall from './views/wall.js';
 
-/** counted: whether the day's events have been read; all: all groups together; lines: one a group
- * @typedef {{state:State, day:Day, counted:boolean, settings:import('./settings.js').Settings, now:number, recent:Report[], lines:import('./types').GroupLine[], all:ReturnType<typeof totals>}} Drawn */
-/** @typedef {import('./types').Report} Report */
-
-/** @type {Record<string, {draw:(drawn:Drawn, anew:boolean) => void}>} */
+/** @type {Record<string, View>} */
 const VIEWS = {wall, queues, agents, calls, day, events};
-const OLD = 5000, GREY = 10000, RENEW = 30000, RECENT = 400;
+const OLD = 5000, GREY = 10000, RENEW = 30000, RECENT = 4000, ASKING = 8;
 
-const settings = settingsOf(location.search);
+const usual = settingsOf(Object.entries(office.limits)), settings = settingsOf(new URLSearchParams(location.search), usual), lead = new Lead();
 // an address may have a name and password in it, and what is asked for relative to that is refused
 const base = location.origin;
 let view = 'wall', state = new State(), counting = new Day(0), counted = false;
 /** @type {Report[]} */ let recent = [];
+/** @type {Map<number, {day:Day, whole:boolean}>} */ const others = new Map();
+// calls whose caller has been asked for
+/** @type {Set<number>} */ let asked = new Set();
+/** @type {Drawn|undefined} */ let drawn;
 // the server's clock less this one's, and when the desk last answered, in milliseconds
-let offset = 0, answered = 0;
-/** @type {import('./types').Course} */ let told = {kind: 'begins'};
+let offset = 0, answered = 0, unseen = 0;
+/** @type {Course} */ let told = {kind: 'begins'};
 let share = 0;
 
-/** The server's clock, in seconds. */
+// The server's clock, in seconds.
 const serverClock = () => (Date.now() + offset) / 1000;
 
-/** The desk's clock; it stands still where the connection is lost, so that no wait goes on that may have ended. */
+// The desk's clock; it stands still where the connection is lost, so that no wait goes on that may have ended.
 const now = () => Math.max(state.moment, told.kind === 'lost' && answered ? Math.min(serverClock(), (answered + OLD + offset) / 1000) : serverClock());
+
+// The office's names, before those of the desk.
+function rename() {
+  for (const [kind, of] of /** @type {['groups'|'agents', Map<string,{name:string}>][]} */ ([['groups', state.groups], ['agents', state.agents]])) {
+    for (const [id, name] of Object.entries(office.names[kind])) { const one = of.get(id); if (one) one.name = name; }
+  }
+}
 
 const feed = new Feed(base, RENEW, {
   begin(snapshot) {
     const anew = state.last === 0;
     state = new State(snapshot, state);
+    rename();
     if (anew) count();
     schedule();
   },
@@ -60,11 +75,14 @@ const feed = new Feed(base, RENEW, {
       counting = new Day(0);
       counted = false;
       recent = [];
+      asked = new Set();
+      others.clear();
     }
     if (what.kind === 'live') {
       answered = Date.now();
       if (told.kind !== 'live') performance.mark('live');
     }
+    if (what.kind === 'lost' && what.status === 401) logIn();   // a session that has ended
     told = what;
     drawStatus();
     schedule();
@@ -74,15 +92,22 @@ const feed = new Feed(base, RENEW, {
   learn(agent) { state.learn(agent); },
 });
 
-/** Reads the day's events behind the first of it, up to those that the feed has; from then on the feed goes on with them. */
+/** @param {number} begin */
+const newDay = begin => new Day(begin, group => limitsOf(settings, group).limit, ownOf(settings));
+
+// Behind which event a day begins, with those before it that tell since when calls wait.
+/** @param {Day} of */
+const before = of => lastBefore(base, feed.last, of.begin - greatestLimit(settings) - 1);
+
+// Counts the day up to the events that the feed has; from then on the feed goes on with them.
 async function count() {
-  const mine = counting = new Day(dayBegin(settings.since, now()));
+  const mine = counting = newDay(dayBegin(settings.since, now(), office.zone));
   /** @type {Report[]} */ let found = [];
   counted = false;
   share = 0;
+  others.clear();
   try {
-    const from = await lastBefore(base, state.last, mine.begin);
-    mine.last = from;
+    const from = mine.last = await before(mine);
     while (mine === counting && mine.last < feed.last) await history(base, mine.last, feed.last, reports => {
       const taken = reports.filter(report => report.number <= feed.last);
       for (const report of taken) mine.apply(report);
@@ -98,6 +123,39 @@ async function count() {
   } catch { if (mine === counting) setTimeout(count, OLD); }
 }
 
+/** @param {number} back */
+function past(back) {
+  const had = others.get(back);
+  if (!had && counted && settings.since.includes(':') && [...others.values()].every(one => one.whole)) readPast(back);
+  return had?.whole ? had.day : undefined;
+}
+
+/** @param {number} back */
+async function readPast(back) {
+  const of = newDay(dayBegin(settings.since, now(), office.zone, back)), end = dayBegin(settings.since, now(), office.zone, back - 1), mine = {day: of, whole: false};
+  others.set(back, mine);
+  try {
+    await history(base, await before(of), feed.last, reports => {
+      const taken = reports.filter(report => report.moment < end);
+      for (const report of taken) of.apply(report);
+      return taken.length === reports.length && others.get(back) === mine;
+    });
+    mine.whole = true;
+    draw(true);
+  } catch { setTimeout(() => { if (others.get(back) === mine) others.delete(back); }, OLD); }
+}
+
+// Who calls is told by no event, but by the call.
+/** @param {number[]} calls */
+async function learn(calls) {
+  const mine = asked, wanted = calls.filter(call => !mine.has(call)).slice(0, ASKING);
+  for (const call of wanted) mine.add(call);
+  for (const call of wanted) try {
+    const {caller} = await read(`${base}/calls/${call}`), known = mine === asked && state.calls.get(call);
+    if (known) known.caller = caller;
+  } catch { /* it has ended, or the desk is gone: a snapshot tells */ }
+}
+
 let due = false;
 function schedule() {
   if (due) return;
@@ -105,79 +163,124 @@ function schedule() {
   requestAnimationFrame(() => { due = false; draw(false); });
 }
 
+/** @param {string} text */
+function empty(text) {
+  put(byId('empty'), text);
+  toggle(byId('empty'), 'hidden', !text);
+}
+
 /** @param {boolean} anew whether all may have changed */
 function draw(anew) {
-  if (state.last === 0 && state.groups.size === 0) return;
+  if (state.last === 0 && state.groups.size === 0) return told.kind === 'live' ? empty(word('empty.plan')) : undefined;
   const moment = now(), lines = groupLines(state, counting, settings, moment);
-  const drawn = {state, day: counting, counted, settings, now: moment, recent, lines, all: totals(state, counting, lines, settings)};
+  if (lines.length && !lines.some(line => line.id === settings.group)) settings.group = '';   // it is none of the own ones any more
+  drawn = {state, day: counting, counted, settings, now: moment, recent, lines, all: totals(state, counting, lines, settings, moment), past, learn, empty, lead};
+  empty(!state.groups.size ? word('empty.plan') : !lines.length ? word('empty.groups') : '');
+  choose(field('group'), lines, settings.group);
+  if (told.kind === 'live') unseen = alarmsView.draw(state, alarms(state, lines, counted, moment, serverClock()), settings, moment, view === 'wall');
   totalsView.draw(drawn);
   VIEWS[view].draw(drawn, anew);
-  drawAlarm(moment);
-  if (counted && dayBegin(settings.since, moment) !== counting.begin && told.kind === 'live') count();   // another day has begun
+  if (counted && dayBegin(settings.since, moment, office.zone) !== counting.begin && told.kind === 'live') count();   // another day has begun
 }
 
 function drawStatus() {
-  const age = Date.now() - answered, late = told.kind === 'live' && age > OLD;
-  const words = {
-    begins: 'Reading the desk', anew: 'Another desk is here: reading it', live: late ? `${clock(age / 1000)} old` : counted ? 'Live' : `Live, reading the day: ${Math.floor(100 * share)} %`,
-    lost: answered ? `What you see is ${clock(age / 1000)} old: ${'why' in told ? told.why : ''}` : `No desk: ${'why' in told ? told.why : ''}`,
-  };
-  put(byId('status-text'), words[told.kind]);
+  const age = Date.now() - answered, late = told.kind === 'live' && age > OLD, lost = told.kind === 'lost', old = word('status.age', {clock: clock(age / 1000)}), why = 'why' in told ? told.why : '';
+  // what changes each second stands beside what a screen reader is told
+  put(byId('status-text'), lost ? word(answered ? 'status.old' : 'status.none', {why}) : late ? word('status.late') : told.kind === 'live' ? word(counted ? 'status.live' : 'status.counting') : word(`status.${told.kind}`));
+  put(byId('status-age'), late || (lost && answered) ? old : told.kind === 'live' && !counted ? `${Math.floor(100 * share)} %` : '');
   mark(byId('status'), 'data-kind', late ? 'late' : told.kind);
-  toggle(document.body, 'data-old', told.kind === 'lost' && age > GREY);
-  put(byId('clock').firstElementChild, timeOfDay(serverClock()));
-}
-
-/** @param {number} moment */
-function alarmOf(moment) {
-  const early = ahead(state, serverClock());
-  if (early) return `The desk's time is ${clock(early)} ahead of the clock: until the clock has come there no ring and no after-call work ends by itself.`;
-  const found = overdue(state, moment);
-  return found ? `Nobody sends ticks to the desk: ${found.what} for ${clock(found.seconds)}, and ${clock(found.given)} is what its group gives.` : '';
-}
-
-/** @param {number} moment */
-function drawAlarm(moment) {
-  const found = told.kind === 'live' && alarmOf(moment);
-  put(byId('alarm'), found ? `■ ${found}` : '');
-  toggle(byId('alarm'), 'hidden', !found);
+  toggle(document.body, 'data-old', lost && age > GREY);
+  put(byId('band'), lost ? `■ ${answered ? word('band.old', {clock: clock(age / 1000)}) : word('status.none', {why})}` : '');
+  toggle(byId('band'), 'hidden', !lost);
+  const [time, zone] = byId('clock').children;
+  put(time, timeOfDay(serverClock()));
+  put(zone, zoneOf(serverClock()));
+  document.title = `${lost ? `■ ${word('title.lost')} – ` : unseen ? `■ ${word('title.alarms', {n: unseen})} – ` : ''}${settings.title || office.title || word('title')}: ${word(`view.${view}`)}`;
 }
 
 function show() {
-  const asked = location.hash.slice(1);
-  if (asked === 'main') return byId('main').focus();
-  view = asked in VIEWS ? asked : 'wall';
+  const hash = location.hash.slice(1);
+  view = Object.hasOwn(VIEWS, hash) ? hash : 'wall';
   mark(document.body, 'data-view', view);
-  for (const section of document.querySelectorAll('[data-for]')) toggle(section, 'hidden', section.getAttribute('data-for') !== view);
+  for (const part of document.querySelectorAll('[data-for]')) toggle(part, 'hidden', !part.getAttribute('data-for')?.split(' ').includes(view));
   for (const link of document.querySelectorAll('nav a')) if (link.getAttribute('href') === `#${view}`) mark(link, 'aria-current', 'page'); else link.removeAttribute('aria-current');
-  document.title = `${settings.title}: ${view}`;
+  drawStatus();
   draw(true);
 }
 
+const form = /** @type {HTMLFormElement} */ (document.querySelector('#settings form')), filters = byId('filters');
+/** @param {string} name @returns {any} */
+const field = name => form.elements.namedItem(name) ?? filters.querySelector(`[name="${name}"]`);
+
+// What has been set is written into the fields and the address.
 function useSettings() {
   mark(document.documentElement, 'data-theme', settings.theme);
-  put(byId('title'), settings.title);
+  put(byId('title'), settings.title || office.title || word('title'));
+  for (const [name, value] of Object.entries(settings)) {
+    const one = field(name);
+    if (one?.type === 'checkbox') one.checked = Boolean(value);
+    else if (one && document.activeElement !== one) one.value = value;
+  }
+  window.history.replaceState(null, '', location.pathname + searchOf(settings, usual) + location.hash);
 }
 
-const form = document.querySelector('#settings form');
-for (const [name, value] of Object.entries(settings)) {
-  const field = /** @type {any} */ (form).elements[name];
-  field.value = value;
-}
-form?.addEventListener('change', () => {
-  const since = settings.since;
-  for (const name of Object.keys(settings)) {
-    const field = /** @type {any} */ (form).elements[name];
-    if (field.checkValidity()) Object.assign(settings, {[name]: field.type === 'number' ? Number(field.value) : field.value});
-  }
-  window.history.replaceState(null, '', location.pathname + searchOf(settings) + location.hash);
+/** @param {Record<string,string>} wanted @param {string} [hash] the view that is to be shown */
+function filter({toggle: one, ...wanted}, hash) {
+  const states = new Set(settings.states.split(',').filter(Boolean));
+  if (one && !states.delete(one)) states.add(one);
+  Object.assign(settings, wanted, one ? {states: [...states].join(',')} : {});
   useSettings();
-  if (settings.since !== since) count();
+  if (hash && hash !== view) location.hash = hash; else draw(true);
+}
+
+form.prepend(...FIELDS.map(([name, kind = 'text', ...choices]) => {
+  const one = choices.length ? make('select', {name}, ...[kind, ...choices].map(choice => new Option(word(`set.${name}.${choice}`), choice))) : make('input', {name, type: ['s', 'percent'].includes(kind) ? 'number' : kind, min: '1'});
+  return make('label', {}, make('span', {}, word(`set.${name}`)), make('span', {}, one, ['s', 'percent'].includes(kind) ? ` ${word(`unit.${kind}`)}` : ''));
+}));
+form.addEventListener('change', event => {
+  const one = /** @type {any} */ (event.target), before = JSON.stringify(settings), given = one.type === 'checkbox' ? (one.checked ? '1' : '') : one.value;
+  one.setCustomValidity(valueOf(one.name, given) === undefined ? word('set.wrong') : '');
+  field('bad').setCustomValidity(Number(field('bad').value) < Number(field('long').value) ? word('set.order') : '');
+  put(byId('set-told'), one.validationMessage || field('bad').validationMessage);
+  if (![...form.elements].every(element => /** @type {any} */ (element).checkValidity())) return;
+  Object.assign(settings, settingsOf([...Object.entries(settings).map(([name, value]) => /** @type {[string,string]} */ ([name, String(value)])), [one.name, given]], usual));
+  useSettings();
+  if (one.name === 'lang') return location.reload();
+  if (one.name === 'notify' && one.checked) Notification.requestPermission();
+  if (['since', 'limit', 'groups'].includes(one.name) && JSON.stringify(settings) !== before) count();
   show();
 });
-form?.addEventListener('submit', event => event.preventDefault());
+form.addEventListener('submit', event => event.preventDefault());
+for (const name of FILTERS) field(name)?.addEventListener('input', () => filter({[name]: field(name).value}));
 
-for (const one of [agents, calls, day]) one.begin(() => draw(true));
+// What a button in a row or a tile asks for.
+/** @param {HTMLElement} button @param {string} key of the row */
+function press(button, key) {
+  const what = button.dataset.press, line = drawn && callLines(state, settings).find(one => String(one.number) === key);
+  if (what === 'agents') filter({group: key, find: ''}, 'agents');
+  if (what === 'calls') filter({group: '', find: button.dataset.call ?? ''}, 'calls');
+  if (what === 'agent') filter({group: '', find: line ? state.agentAt(line.device)?.id ?? line.device : ''}, 'agents');
+  if (what === 'call' && line) lead.ofCall(state, line);
+  if (what === 'state') lead.ofAgent(state, key);
+  if (what === 'priority') lead.ofGroup(state, key);
+}
+document.addEventListener('click', event => {
+  const button = /** @type {HTMLElement|null} */ (/** @type {Element} */ (event.target).closest('[data-press]')), key = /** @type {HTMLElement|null|undefined} */ (button?.closest('[data-key]'))?.dataset.key;
+  if (button && key) press(button, key);
+});
+byId('skip').addEventListener('click', (/** @type {Event} */ event) => { event.preventDefault(); byId('main').focus(); });
+byId('csv').addEventListener('click', () => {
+  if (drawn) save(`${view}-${new Date(serverClock() * 1000).toISOString().slice(0, 16).replace(/[:T]/g, '-')}.csv`, VIEWS[view].file(drawn));
+});
+
+translate();
+if (fault) {
+  put(byId('fault'), word('fault.office', {what: fault}));
+  toggle(byId('fault'), 'hidden', false);
+}
+agents.begin(() => draw(true), filter);
+alarmsView.begin(() => draw(true));
+calls.begin(() => draw(true));
 addEventListener('hashchange', show);
 addEventListener('resize', () => draw(true));
 document.addEventListener('visibilitychange', () => feed.wake());
@@ -185,5 +288,6 @@ setInterval(() => { drawStatus(); schedule(); }, 1000);
 useSettings();
 show();
 feed.run();
+openSession(() => logOut().catch(() => {})).then(who => { lead.begin(who); draw(true); });
 // for whoever looks into a board from its console, and for its tests
-Object.assign(window, {board: {feed, state: () => state, day: () => counting, counted: () => counted}});
+Object.assign(window, {board: {feed, state: () => state, day: () => counting, counted: () => counted, settings}});

@@ -2,46 +2,32 @@
 // It has no document and no network, so that node runs the same file as a browser.
 // @ts-check
 
-/** @typedef {import('./types').Snapshot} Snapshot */
-/** @typedef {import('./types').Group} Group */
-/** @typedef {import('./types').Agent} Agent */
-/** @typedef {import('./types').Call} Call */
-/** @typedef {import('./types').ConnectionState} ConnectionState */
 
 // A snapshot ranks by stamps, of at most 1000000000. Less this they come before all numbers of events, which rank what follows.
 const EARLIER = 2000000000;
 
-/** @type {Record<string,import('./types').AgentState>} */
+/** @type {Record<string,AgentState>} */
 const STATE_AFTER = {
   agentLoggedOn: 'notReady', agentLoggedOff: 'null', agentNotReady: 'notReady', agentReady: 'ready', agentBusy: 'busy', agentWorkingAfterCall: 'workingAfterCall',
 };
 
-/**
- * The order of devices and agents: that of the number which 1 and their digits make.
- * @param {string} one
- * @param {string} other
- */
+// The order of devices and agents: that of the number which 1 and their digits make.
+/** @param {string} one @param {string} other */
 export function order(one, other) { return one.length - other.length || (one < other ? -1 : Number(one > other)); }
 
-/**
- * The order in which two ready agents get calls.
- * @param {Agent} one
- * @param {Agent} other
- */
+// The order in which two ready agents get calls.
+/** @param {Agent} one @param {Agent} other */
 export function turn(one, other) { return one.rank - other.rank || order(one.id, other.id); }
 
 export class State {
-  /**
-   * @param {Snapshot} [snapshot]
-   * @param {State} [before] what was known until now: since when connections are as they are, which no snapshot tells
-   */
+  /** @param {Snapshot} [snapshot] @param {State} [before] what was known until now: since when connections are as they are, which no snapshot tells */
   constructor(snapshot, before) {
     this.last = 0;
     this.moment = 0;
     /** @type {Map<string,Group>} */ this.groups = new Map();
     /** @type {Map<string,Agent>} */ this.agents = new Map();
     /** @type {Map<number,Call>} */ this.calls = new Map();
-    /** @type {Map<string,import('./types').Station>} */ this.stations = new Map();
+    /** @type {Map<string,Station>} */ this.stations = new Map();
     // agents who logged on in several groups, and which ones no event told
     /** @type {Set<string>} */ this.unknown = new Set();
     // agents who leave a call that is being cleared, with the rank that they get
@@ -110,7 +96,7 @@ export class State {
     return id ? this.agents.get(id) : undefined;
   }
 
-  /** @param {import('./types').Report} report */
+  /** @param {Report} report */
   apply(report) {
     if (report.number <= this.last) return;   // a snapshot had it already
     this.last = report.number;
@@ -118,7 +104,7 @@ export class State {
     if ('agent' in report) this.changeAgent(report); else this.changeCall(report);
   }
 
-  /** @param {import('./types').AgentReport} report */
+  /** @param {AgentReport} report */
   changeAgent(report) {
     const agent = this.agent(report.agent);
     if (report.event === 'agentLoggedOn') {
@@ -138,7 +124,7 @@ export class State {
     this.leaving.delete(agent.id);
   }
 
-  /** @param {import('./types').CallReport} report */
+  /** @param {CallReport} report */
   changeCall(report) {
     const moment = report.moment, call = this.call(report.call, moment);
     switch (report.event) {
@@ -173,7 +159,7 @@ export class State {
     }
   }
 
-  /** @param {Call} call @param {import('./types').Queued} report */
+  /** @param {Call} call @param {Queued} report */
   enqueue(call, report) {
     if (report.cause !== 'noAnswer') {   // one that comes back keeps its place, and waits since it entered
       call.rank = report.number;
@@ -191,10 +177,8 @@ export class State {
     if (state === 'alerting' && group) this.group(group).ringing.add(call);
   }
 
-  /**
-   * The side of an external caller stands at no planned device.
-   * @param {Call} call @param {string} device
-   */
+  // The side of an external caller stands at no planned device.
+  /** @param {Call} call @param {string} device */
   isOutside(call, device) { return device === call.caller && !this.stations.has(device); }
 
   /** @param {Call} call @param {string} device @param {ConnectionState} state @param {number} since */
@@ -221,26 +205,20 @@ export class State {
     if (call.ended && connection.state !== 'alerting') this.leaving.set(agent.id, call.ended);
   }
 
-  /**
-   * An answer of /agents/{id}, read since it isn't known which groups the agent serves.
-   * @param {{agent:string, device?:string, group?:string, groups?:string[]}} text
-   */
+  // An answer of /agents/{id}, read since it isn't known which groups the agent serves.
+  /** @param {{agent:string, device?:string, group?:string, groups?:string[]}} text */
   learn(text) {
     const agent = this.agent(text.agent);
     this.unknown.delete(agent.id);
     if (agent.station && agent.station === text.device) agent.groups = text.groups ?? (text.group ? [text.group] : []);
   }
 
-  /**
-   * The calls that wait in a group, the first first.
-   * @param {Group} group
-   */
+  // The calls that wait in a group, the first first.
+  /** @param {Group} group */
   static queue(group) { return [...group.waiting].sort((one, other) => one.rank - other.rank); }
 
-  /**
-   * The agents of a group to whom a call may be offered, the next first.
-   * @param {string} group
-   */
+  // The agents of a group to whom a call may be offered, the next first.
+  /** @param {string} group */
   next(group) {
     return [...this.agents.values()].filter(agent => agent.groups.includes(group) && this.isEligible(agent)).sort(turn);
   }
@@ -248,10 +226,8 @@ export class State {
   /** @param {Agent} agent */
   isEligible(agent) { return agent.state === 'ready' && this.at(agent.station).every(connection => connection.state === 'fail'); }
 
-  /**
-   * The connections at a station.
-   * @param {string|null} device
-   */
+  // The connections at a station.
+  /** @param {string|null} device */
   at(device) {
     const found = [];
     for (const number of (device && this.stations.get(device)?.calls) || []) {

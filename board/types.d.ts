@@ -38,41 +38,45 @@ export type Connection = {device: string, state: ConnectionState, group: string 
 export type Call = {number: number, caller: string, called: string, since: number, rank: number, queued: number, connections: Map<string, Connection>, ended: number};
 export type Station = {id: string, agent: string | null, calls: Set<number>};
 
-// the day: waits are the seconds of each answered call; top and end how many more wait than at the day's begin, at most and in the end
-
-export type Step = Figures & {waits: number[], top: number, end: number};
-export type Line = {steps: Map<number, Step>, sum: Figures, waits: number[], balance: number};
+// the day
+/** within: answered in time; late: abandoned later than that; longest: wait of an answered call; handled, handling: calls that agents are done with, and seconds for them */
+export type Sums = Figures & {within: number, late: number, longest: number, handled: number, handling: number};
+/** top and end: how many more wait than at the day's begin, at most and in the end */
+export type Step = Sums & {top: number, end: number};
+export type Line = {steps: Map<number, Step>, sum: Sums, balance: number};
+/** spent: seconds by the event that began it; doing: the last event; group: of the call that is handled, since `handled` */
+export type Agents = {calls: number, missed: number, spent: Record<string, number>, doing: string, since: number, groups: Set<string>, group: string, handled: number};
+export type AgentDay = {calls: number, missed: number, talk: number, work: number, ready: number, notReady: number, groups: Set<string>};
 
 // what is reckoned of them
 
 export type Doing = 'ready' | 'ringing' | 'busy' | 'hold' | 'own' | 'workingAfterCall' | 'notReady' | 'null';
 export type Severity = 'none' | 'calm' | 'long' | 'bad';
-/** seconds: of the service level, and from which a wait is long, and too long */
-export type Limits = {limit: number, long: number, bad: number};
-/** wait: of the call that waits longest; next: the agent who gets the next call; level: the share answered in time */
-export type GroupLine = Figures & {id: string, name: string, priority: number, waiting: number, ringing: number, wait: number | null, severity: Severity,
-  counts: Record<Doing, number>, next: Agent | null, level: number | null};
-/** a call, with its busiest connection in words */
-export type CallLine = {number: number, words: string, sign: string, since: number, group: string | null, device: string, caller: string, begun: number, rank: number};
-/** text: what stands in a line's cell; wide and least: left out on a small screen */
-export type Column = {head: string, about?: string, text: (line: any) => string | number, kind?: 'words' | 'state', wide?: boolean, least?: boolean};
+export type Limits = {limit: number, goal: number, lost: number, long: number, bad: number};
+export type Share = {level: number | null, levelSeverity: Severity, lost: number | null, lostSeverity: Severity};
+/** wait: of the call that waits longest, since `queued`; next: the agent who gets the next call; level: the share answered in time; lost: the share that gave up */
+export type GroupLine = Sums & Share & {id: string, name: string, priority: number, waiting: number, ringing: number, queued: number | null, wait: number | null, severity: Severity,
+  counts: Record<Doing, number>, loggedOn: number, next: Agent | null, limits: Limits};
+export type Kind = 'wait' | 'level' | 'lost' | 'nobody' | 'ticks' | 'clock';
+/** since: where the figures tell it, else when it was first seen; values: for its words */
+export type Alarm = {key: string, kind: Kind, group: string | null, since: number | null, values: Record<string, string | number>};
+/** a call, with its busiest connection */
+export type CallLine = {number: number, state: ConnectionState | 'none', since: number, group: string | null, device: string, caller: string, begun: number, rank: number};
+/** head, about: keys of words; text: what stands in a line's cell; file: what a file has in its place; press: what the button is called that it is; wide and least: left out on a small screen */
+export type Column = {head: string, about?: string, text: (line: any) => string | number, file?: (line: any) => string | number | null, severity?: (line: any) => string, press?: string,
+  kind?: 'words' | 'state' | 'name' | 'mid' | 'name mid' | 'filed', wide?: boolean, least?: boolean};
 /** look: first, second or third, by which the style tells them apart, with colour and without */
 export type Series = {name: string, look: string, bar?: (step: any) => number, line?: (step: any) => number | null};
 /** What is shown of an agent. */
-export type Tile = {tile: HTMLElement, name: Element, sign: Element, words: Element, time: Element, place: Element, seen: boolean};
+export type Tile = {tile: HTMLElement, name: Element, sign: Element, words: Element, time: Element, place: Element, calls: Element, act: Element, seen: boolean};
 
 // who follows a desk: how it goes, a snapshot to begin with, what happens then, and the agents that have to be asked for
 
-export type Course = {kind: 'begins' | 'live' | 'anew'} | {kind: 'lost', why: string};
+export type Course = {kind: 'begins' | 'live' | 'anew'} | {kind: 'lost', why: string, status?: number};
 export type Follower = {tell: (course: Course) => void, begin: (snapshot: Snapshot) => void, take: (events: Report[]) => void,
   unknown: () => Iterable<string>, learn: (agent: any) => void, clock: (offset: number) => void};
 
-// the agent's page
-
-export type Requested = 'loggedOn' | 'ready' | 'notReady' | 'workingAfterCall' | 'loggedOff';
-export type CallService = 'answerCall' | 'holdCall' | 'retrieveCall' | 'clearConnection' | 'rejectCall' | 'singleStepTransfer' | 'deflectCall';
-/** A request that has no answer yet, and what it asks for. */
-export type Kept = {body: string, words: string};
-export type Told = {kind: 'sent' | 'waits' | 'done' | 'refused' | 'dropped', words: string, result?: {pending?: string}};
-/** What is shown of a call at the station. */
-export type Card = {card: HTMLElement, line: Element, about: Element, to: HTMLInputElement, buttons: Map<CallService, HTMLButtonElement>};
+// what a view draws
+/** counted: whether the day's events have been read; all: the own groups together; lines: one for each; past: another day, so many days before; learn: reads who calls; empty: says why nothing is shown */
+export type Drawn = {state: import('./state.js').State, day: import('./day.js').Day, counted: boolean, settings: import('./settings.js').Settings, now: number, recent: Report[], lines: GroupLine[],
+  all: ReturnType<typeof import('./reckon.js').totals>, past: (back: number) => import('./day.js').Day | undefined, learn: (calls: number[]) => void, empty: (text: string) => void, lead: import('./act.js').Lead};

@@ -1,194 +1,319 @@
-// An agent's own page: what the agent is and may do now, and the calls at the station.
+// An agent's own page: what the agent is and may do now, the calls at the station, what rings, and the day.
+/// <reference path="types.d.ts" />
 // @ts-check
 import {byId, make, mark, put, Table, toggle} from '../draw.js';
-import {Feed, read} from '../feed.js';
-import {CONNECTION, doing, longestWait} from '../reckon.js';
-import {order, State} from '../state.js';
-import {clock, DOING, PENDING} from '../words.js';
-import {services, states} from './allowed.js';
+import {office} from '../office.js';
+import {logIn, logOut, openSession} from '../session.js';
+import {clock, DOING, named, number, PENDING, refusal, timeOfDay, translate, word, zoneOf} from '../words.js';
+import {callsBy, drawCalls, joined, KEYS, say} from './calls.js';
+import * as logOn from './log-on.js';
+import {doing, isFree, isOverdue, meant, placesOf, sideOf, STATES, states, wrapLeft} from './mine.js';
 import {Requests} from './requests.js';
+import {beat, isHeard, ring, tone} from './ring.js';
 
-/** @typedef {import('../types').Call} Call */
-/** @typedef {import('../types').CallService} CallService */
-// events tell an agent's page what it needs, so a snapshot is seldom wanted anew
-const RENEW = 300000, AGAIN = 2000, MOST_GROUPS = 8;
+// milliseconds: until what is seen is late, is old, what was done goes, what was refused goes, a click is no second one
+const OLD = 6000, GREY = 10000, FLEETING = 5000, REFUSED = 30000, SECOND = 400;
 
-/** @type {Record<CallService, string>} */
-const BUTTONS = {answerCall: 'Answer', holdCall: 'Hold', retrieveCall: 'Retrieve', clearConnection: 'Hang up', rejectCall: 'Not now', singleStepTransfer: 'Transfer', deflectCall: 'Deflect'};
-
-const query = new URLSearchParams(location.search), base = location.origin;
-let id = query.get('agent') ?? '', state = new State(), offset = 0, live = false;
+const base = location.origin;
+let id = new URLSearchParams(location.search).get('agent') ?? '', acts = false, leaves = false, begun = false;
+/** @type {Who} */ let who = {};
+/** @type {Mine|null} */ let mine = null;
+/** @type {Lost|null} */ let lost = null;
+/** @type {Names} */ let names = {agents: [], groups: [], number: 0, stations: []};
+/** @type {Places} */ let places = {places: [], away: []};
 /** @type {Requests} */ let requests;
-/** @type {Map<number, import('../types').Card>} */ const cards = new Map();
-/** @type {Set<number>} */ const asked = new Set();
+// the server's clock less this one's, when the desk was last known, and when something was clicked, in milliseconds
+let offset = 0, known = 0, clicked = 0, fades = 0;
 
-const now = () => Math.max(state.moment, (Date.now() + offset) / 1000);
-const me = () => state.agents.get(id);
+const age = () => Date.now() - known;
+const isLive = () => mine !== null && mine.live && !lost && age() < OLD;
+// the desk's clock; it stands still where nobody knows what goes on
+const now = () => (Math.min(Date.now(), known + OLD) + offset) / 1000;
 
-const feed = new Feed(base, RENEW, {
-  begin(snapshot) { state = new State(snapshot, state); offer(); draw(); },
-  take(reports) { for (const report of reports) state.apply(report); draw(); },
-  tell(told) {
-    live = told.kind === 'live';
-    mark(byId('status'), 'data-kind', told.kind);
-    put(byId('status-text'), told.kind === 'lost' ? `What you see is old: ${told.why}` : live ? 'Live' : 'Reading the desk');
-    if (told.kind === 'anew') state = new State();
-    draw();
-  },
-  clock(milliseconds) { offset = milliseconds; },
-  unknown: () => state.unknown.has(id) ? [id] : [],
-  learn(agent) { state.learn(agent); draw(); },
-});
+/** @type {Namer} */
+const groupName = device => named(office.names.groups[device] ?? names.groups.find(group => group.device === device)?.name ?? device);
+/** @param {Place} place */
+const placeName = ({to, name}) => name ? `${named(name)} (${to})` : to;
+/** @type {Namer} */
+const callerName = device => placeName(places.places.find(({to}) => to === device) ?? {to: device, name: ''});
 
-/** @param {import('../types').Told} told */
-function tell(told) {
-  if (told.kind === 'dropped') byId('dropped').append(make('p', {}, `■ ${told.words}: an older page asked for this. It isn't sent again: see whether it was done`));
-  mark(byId('told'), 'data-kind', told.kind);
-  put(byId('told'), `${{sent: '…', waits: '▲', done: '✓', refused: '■', dropped: '■'}[told.kind]} ${told.words}`);
-  const agent = me();
-  if (told.result?.pending && agent) agent.pending = told.result.pending;   // which no event tells
-  feed.wake();   // what else it did comes with the next events
+/** @param {string} id @param {string} text */
+const write = (id, text) => put(byId(id), text);
+/** @param {string} id @param {boolean} is */
+const hide = (id, is) => toggle(byId(id), 'hidden', is);
+
+/** @type {Map<string, HTMLElement>} */ const notices = new Map();
+
+// A sentence that stands until somebody clicks it away, or until it isn't so any more.
+/** @type {Notice} */
+const notice = (key, words, buttons = []) => {
+  const line = notices.get(key) ?? make('p', {class: 'notice', 'data-key': key.split(' ')[0]}, make('span'), make('span'));
+  if (!line.isConnected) byId('notices').append(line);
+  notices.set(key, line);
+  put(line.children[0], words);
+  if (line.children[1].children.length !== buttons.length) line.children[1].replaceChildren(...buttons.map(([label, act]) => {
+    const button = make('button', {type: 'button'});
+    put(button, label);
+    button.addEventListener('click', () => { drop(key); act(); });
+    return button;
+  }));
+  return line;
+};
+
+/** @param {string} key */
+function drop(key) {
+  notices.get(key)?.remove();
+  notices.delete(key);
 }
 
-/** What one may choose: stations where nobody is, groups, and numbers to give a call to. */
-function offer() {
-  const stations = [...state.stations.values()].sort((one, other) => order(one.id, other.id)), groups = [...state.groups.values()].sort((one, other) => order(one.id, other.id));
-  byId('stations').replaceChildren(...stations.filter(station => !station.agent).map(station => new Option('', station.id)));
-  byId('destinations').replaceChildren(...groups.map(group => new Option(group.name, group.id)), ...stations.map(station => new Option(state.agentAt(station.id)?.name ?? 'station', station.id)));
-  const box = byId('groups');
-  if (box.children.length === groups.length) return;
-  const wanted = (query.get('groups') ?? '').split(',');
-  box.replaceChildren(...groups.map(group =>
-    make('label', {}, make('input', {type: 'checkbox', value: group.id, ...(wanted.includes(group.id) && {checked: ''})}), `${group.name} (${group.id})`)));
+/** @param {string} words */
+const refuse = words => tell({kind: 'refused', words});
+
+/** @param {Told} told */
+function tell({kind, words, key, result}) {
+  if (kind === 'dropped') notice(`dropped ${words}`, say('dropped', {what: words}), [[say('read'), () => {}]]);
+  mark(byId('told'), 'data-kind', kind);
+  write('told', `${{sent: '…', waits: '▲', done: '✓', refused: '■', dropped: '■'}[kind]} ${words}`);
+  clearTimeout(fades);
+  if (kind !== 'waits') fades = setTimeout(() => write('told', ''), kind === 'refused' ? REFUSED : FLEETING);
+  if (result?.pending && mine) mine.agent.pending = result.pending;   // which no event tells
+  if (kind === 'refused' && key === 'loggedOff') leaves = false;
+  draw();
+}
+
+// What a click asks for; the second of two clicks is none.
+/** @type {Send} */
+const send = (service, members, words, key) => {
+  const before = clicked;
+  clicked = performance.now();
+  if (clicked - before < SECOND || !isLive()) return;
+  requests.send(service, members, words, key);
+  draw();
+};
+
+/** @param {string} requested @param {Record<string, unknown>} [more] */
+const ask = (requested, more) => send('setAgentState', {agent: id, requested, ...more}, more ? say('logOnAt', {station: `${more.device}`}) : say(requested), requested);
+
+/** @type {Act} */
+function act(service, call, to) {
+  const one = mine?.calls.find(other => other.call === call), device = mine?.agent.device, side = mine && one && sideOf(mine, one), other = (one?.caller === device ? one?.called : one?.caller) ?? '';
+  const what = say(service), key = `${service} ${call}`;
+  // who says no to an offer knows why the state is another one
+  if (service === 'rejectCall') localStorage[`acd-missed-${id}`] = `${call} ${side?.since}`;
+  if (service !== 'singleStepTransfer' && service !== 'deflectCall') return send(service, {call, device}, say('button', {what, who: other}), key);
+  choose(to, what, true, place => send(service, {call, device, to: place.to}, say('moved', {what, who: other, to: placeName(place)}), key));
+}
+
+// The place that was typed; asks where it isn't one alone, and, if it is to, where nobody is logged on.
+/** @type {Choose} */
+const choose = (field, what, asks, take) => {
+  const found = meant(field.value, places, mine?.agent.device ?? ''), isEmpty = asks && found?.length === 1 && found[0].isEmpty, typed = field.value.trim();
+  drop('ask');
+  if (!found?.length) {
+    refuse(say(found ? typed ? 'nobody' : 'sayWhere' : 'away', {what, who: named(typed)}));
+    return field.focus();
+  }
+  if (found.length === 1 && !isEmpty) return take(found[0]);
+  notice('ask', isEmpty ? say('empty', {station: placeName(found[0])}) : say('which', {what}),
+    [...found.map(place => /** @type {Button} */ ([isEmpty ? say('allTheSame', {what}) : placeName(place), () => take(place)])), [say('no'), () => {}]]);
+};
+
+// What was asked for too long ago, or in another log-on: only somebody can say whether it is still wanted.
+/** @param {Kept} kept @param {(sends:boolean) => void} answer */
+function askAbout({body, words, at = 0}, answer) {
+  const {requested, call} = JSON.parse(body), {state, device} = mine?.agent ?? {};
+  if (requested && (requested === state || requested === (device ? 'loggedOn' : 'loggedOff'))) return answer(false);
+  if (!call || mine?.calls.some(one => one.call === call)) {
+    return void notice(`kept ${at} ${words}`, say('kept', {what: words, time: timeOfDay(at / 1000)}), [[say('kept.send'), () => answer(true)], [say('kept.drop'), () => answer(false)]]);
+  }
+  answer(false);
+  refuse(`${words}: ${word('error.unknownCall')}`);
+}
+
+/** @param {Heard} heard */
+function hear(heard) {
+  if (heard.kind === 'beat') beat();
+  if (heard.kind === 'lost') {
+    lost = heard;
+    if (heard.status === 401 && who.begun) return logIn();
+  }
+  if (heard.kind === 'told') {
+    lost = null;
+    mine = heard.mine;
+    // the server tells whole seconds: its clock is within one of them
+    const least = heard.date - heard.received;
+    offset = Math.min(Math.max(known ? offset : least + 500, least), least + 1000);
+    if (mine.live) known = heard.received;
+    if (mine.names) takeNames(mine.names);
+    if (mine.live && acts && !begun) requests.takeUp();
+    begun ||= mine.live;
+  }
+  draw();
+}
+
+/** @param {Names} told */
+function takeNames(told) {
+  names = told;
+  places = placesOf(names, office.names);
+  logOn.offer(names, who, id);
+  byId('destinations').replaceChildren(...places.places.map(({to, name}) => new Option(name || say('station'), to)));
+}
+
+function drawStatus() {
+  const kind = !known ? 'begins' : lost || !mine?.live ? 'lost' : age() > OLD ? 'late' : 'live';
+  const why = lost?.status ? refusal(lost.status, lost.text) : word(lost ? `lost.${lost.text}` : 'error.gatewayTimeout');
+  mark(byId('status'), 'data-kind', kind);
+  write('status-text', kind === 'lost' || (lost && !known) ? word(known ? 'status.old' : 'status.none', {why}) : word(`status.${kind}`));
+  // beside the live region, which would else be read each second
+  write('status-age', kind === 'lost' || kind === 'late' ? word('status.age', {clock: clock(age() / 1000)}) : '');
+  toggle(document.body, 'data-old', known > 0 && age() > GREY);
+  if (known) write('clock', `${timeOfDay((Date.now() + offset) / 1000)} ${zoneOf(Date.now() / 1000)}`);
 }
 
 function draw() {
-  const agent = me(), may = live ? states(state, id) : new Set();
-  put(byId('name'), agent ? `${agent.name} (${id})` : id ? `Agent ${id}` : 'Agent');
-  for (const button of /** @type {Iterable<HTMLButtonElement>} */ (byId('states').children)) button.disabled = !may.has(/** @type {any} */ (button.dataset.requested));
-  byId('log-on-button').disabled = !may.has('loggedOn');
-  toggle(byId('log-on'), 'hidden', agent?.state !== 'null');
-  for (const part of ['states', 'calls-title', 'queues-title', 'queues']) toggle(byId(part), 'hidden', agent?.state === 'null');
-  if (!agent) return put(byId('state').children[1], live ? 'No such agent is planned' : '');
-  const does = doing(state, agent), shown = DOING[does.doing];
-  put(byId('state').children[0], shown.sign);
-  put(byId('state').children[1], shown.words);
-  put(byId('state').children[2], agent.state === 'null' ? '' : clock(now() - does.since));
-  put(byId('pending'), agent.pending ? PENDING[agent.pending] : agent.station ? `at ${agent.station}` : '');
-  drawCalls(agent.station);
-  table.draw(agent.groups.flatMap(group => { const found = state.groups.get(group); return found ? [{key: group, group: found}] : []; }), true);
+  drawStatus();
+  if (!mine) return;
+  const {agent} = mine, moment = now(), isLiving = isLive(), may = acts && isLiving ? states(mine) : new Set(), isOn = Boolean(agent.device);
+  const offer = isLiving ? offerOf(mine, moment) : undefined, {does, since} = doing(mine), left = wrapLeft(mine, moment);
+  write('name', `${named(office.names.agents[id] ?? agent.name ?? '')} (${id})`);
+  for (const button of byId('states').children) button.disabled = !may.has(button.dataset.requested) || requests.out.has(button.dataset.requested);
+  for (const part of ['at-station', 'own-queues']) hide(part, !isOn);
+  hide('states', !isOn || !acts);
+  hide('log-on', agent.state !== 'null' || !acts);
+  hide('dial', !acts || !isLiving || !isFree(mine));
+  logOn.draw(may.has('loggedOn') && !requests.out.has('loggedOn'), agent);
+  mark(byId('state'), 'data-doing', does);
+  [DOING[does].sign, agent.state ? DOING[does].words : say('notPlanned'), isOn ? clock(moment - since) : ''].forEach((text, place) => put(byId('state').children[place], text));
+  write('pending', joined(left !== null && (left > 0 ? say('readyIn', {clock: clock(Math.ceil(left))}) : say('readySoon')), agent.pending && PENDING[agent.pending],
+    agent.device && say('at', {station: agent.device})));
+  toggle(document.body, 'data-rings', Boolean(offer));
+  ring(offer);
+  document.title = offer ? `◆ ${offer.title}` : `${isLiving ? DOING[does].sign : '▲'} ${agent.name ?? id}`;
+  drawCalls({mine, now: moment, acts: acts && isLiving, off: requests.out, who: callerName, group: groupName});
+  hide('no-calls', mine.calls.length > 0);
+  queues.draw(mine.groups.map(queue => ({key: queue.device, queue, moment})), true);
+  drawDay(mine, moment);
+  drawNotices(mine, moment);
+  if (leaves && isLiving && !isOn) end();
 }
 
-/** @param {string|null} station */
-function drawCalls(station) {
-  const calls = station ? [...state.station(station).calls].flatMap(number => { const call = state.calls.get(number); return call ? [call] : []; }) : [];
-  put(byId('no-calls'), station && !calls.length ? 'No call.' : '');
-  for (const [number, {card}] of cards) if (!calls.some(call => call.number === number)) { card.remove(); cards.delete(number); }
-  for (const call of calls) {
-    if (!call.caller) learnCaller(call);
-    drawCall(call, /** @type {string} */ (station));
+/** @type {AtMoment<Offer|undefined>} */
+const offerOf = (mine, moment) => {
+  for (const call of mine.calls) {
+    const side = sideOf(mine, call);
+    // a title has no isolates
+    if (side?.state === 'alerting') return {key: `${call.call} ${side.since}`, title: `${call.caller ? callerName(call.caller) : '…'} ${side.group ? groupName(side.group) : ''}`.replace(/[\u2068\u2069]/g, '').trim(),
+      words: side.group && call.queued ? say('hasWaited', {clock: clock(moment - call.queued)}) : ''};
   }
-}
+};
 
-/**
- * Who calls is told by no event, but by the call.
- * @param {Call} call
- */
-async function learnCaller(call) {
-  if (asked.has(call.number)) return;
-  asked.add(call.number);
-  try {
-    const {caller, called} = await read(`${base}/calls/${call.number}`);
-    Object.assign(state.calls.get(call.number) ?? {}, {caller, called});
-    draw();
-  } catch { asked.delete(call.number); }
-}
-
-/** @param {Call} call @param {string} station */
-function drawCall(call, station) {
-  const card = cards.get(call.number) ?? addCard(call.number), here = call.connections.get(station);
-  if (!here) return;
-  const may = services(state, call, station), group = here.group && (state.groups.get(here.group)?.name || here.group);
-  mark(card.card, 'data-state', here.state);
-  put(card.line, `${CONNECTION[here.state].slice(1).join(' ')} for ${clock(now() - here.since)}${group ? `, ${group}` : ', your own'}`);
-  const from = call.caller === station ? `to ${call.called}` : `from ${call.caller || '…'}`;
-  put(card.about, `Call ${call.number} ${from}${here.state === 'alerting' && group ? `; the caller has waited ${clock(now() - call.queued)}` : ''}`);
-  for (const [service, button] of card.buttons) {
-    button.disabled = !live || !may.has(service);
-    button.classList.toggle('main', service === 'answerCall');
-  }
-  // an agent who has no time for a caller isn't to throw the caller out
-  for (const service of /** @type {CallService[]} */ (['clearConnection', 'rejectCall'])) toggle(/** @type {Element} */ (card.buttons.get(service)), 'hidden', may.has('rejectCall') !== (service === 'rejectCall'));
-  card.to.disabled = !may.has('singleStepTransfer') && !may.has('deflectCall');
-}
-
-/** @param {number} number */
-function addCard(number) {
-  const line = make('p', {class: 'line'}), about = make('p', {class: 'soft'});
-  const to = /** @type {HTMLInputElement} */ (make('input', {list: 'destinations', 'aria-label': `Where call ${number} is to go`, placeholder: 'number', inputmode: 'numeric', autocomplete: 'off'}));
-  const buttons = new Map();
-  for (const [service, words] of Object.entries(BUTTONS)) {
-    const button = make('button', {type: 'button', 'data-service': service, 'aria-label': `${words} call ${number}`}, words);
-    button.addEventListener('click', () => act(/** @type {CallService} */ (service), number, to));
-    buttons.set(service, button);
-  }
-  const all = [...buttons.values()], card = make('li', {}, line, about, make('div', {class: 'buttons'}, ...all.slice(0, 5), to, ...all.slice(5)));
-  byId('calls').append(card);
-  const made = {card, line, about, to, buttons};
-  cards.set(number, made);
-  return made;
-}
-
-/** @param {CallService} service @param {number} call @param {HTMLInputElement} to */
-function act(service, call, to) {
-  const moves = service === 'singleStepTransfer' || service === 'deflectCall', device = me()?.station;
-  if (moves && !/^\d{1,15}$/.test(to.value)) {
-    tell({kind: 'refused', words: `${BUTTONS[service]}: say to which number`});
-    return to.focus();
-  }
-  requests.send(service, {call, device, ...(moves ? {to: to.value} : {})}, `${BUTTONS[service]} call ${call}${moves ? ` to ${to.value}` : ''}`);
-}
-
-const table = new Table(byId('queues'), [
-  {head: 'Group', kind: 'words', text: ({group}) => `${group.name} (${group.id})`},
-  {head: 'Waiting', text: ({group}) => group.waiting.size},
-  {head: 'Longest', text: ({group}) => { const wait = longestWait(group, now()); return wait === null ? '–' : clock(wait); }},
-  {head: 'Ready', text: ({group}) => state.next(group.id).length},
+const queues = new Table(byId('queues'), [
+  {head: 'head.group', kind: 'words', text: ({queue}) => `${groupName(queue.device)} (${queue.device})`},
+  {head: 'head.waiting', text: ({queue}) => number(queue.calls.length)},
+  {head: 'head.longest', text: ({queue, moment}) => queue.calls.length ? clock(moment - Math.min(.../** @type {OwnQueue} */ (queue).calls.map(({queued = moment}) => queued))) : '–'},
+  {head: 'head.ready', text: ({queue}) => say('of', {n: queue.ready, all: queue.loggedOn})},
+]);
+const lastCalls = new Table(byId('day'), [
+  {head: 'head.time', kind: 'words', text: ({call}) => timeOfDay(call.moment, true)},
+  {head: 'head.caller', kind: 'words', text: ({call}) => call.caller ? callerName(call.caller) : '–'},
+  {head: 'head.group', kind: 'words', text: ({call}) => call.group ? groupName(call.group) : say('direct')},
+  {head: 'head.talk', text: ({call}) => clock(call.talked)},
 ]);
 
-byId('states').addEventListener('click', (/** @type {Event} */ event) => {
-  const button = /** @type {HTMLElement} */ (event.target).closest('button'), requested = button?.dataset.requested;
-  if (requested) requests.send('setAgentState', {agent: id, requested}, button.textContent ?? '');
-});
-byId('log-on').addEventListener('submit', (/** @type {Event} */ event) => {
-  event.preventDefault();
-  const groups = /** @type {HTMLInputElement[]} */ ([...byId('groups').querySelectorAll('input:checked')]).map(input => input.value);
-  if (!groups.length || groups.length > MOST_GROUPS) return tell({kind: 'refused', words: 'Log on: choose one to eight groups'});
-  const device = byId('log-on').elements.station.value;
-  requests.send('setAgentState', {agent: id, requested: 'loggedOn', device, ...(groups.length === 1 ? {group: groups[0]} : {groups})}, `Log on at ${device}`);
-});
-byId('log-on').elements.station.value = query.get('station') ?? '';
+/** @type {AtMoment<void>} */
+const drawDay = ({agent: {state, since = 0}, day}, moment) => {
+  hide('own-day', !day);
+  if (!day) return;
+  const talking = day.talking + (state === 'busy' ? Math.max(0, moment - Math.max(since, day.begins)) : 0);
+  write('day-sums', joined(say('day.calls', {n: day.answered}), day.answered && say('day.average', {clock: clock(talking / day.answered)}), day.missed && say('day.missed', {n: day.missed})));
+  hide('day', !day.calls.length);
+  lastCalls.draw(day.calls.map(call => ({key: `${call.call} ${call.moment}`, call})).reverse(), true);
+};
 
-/** Who is logged in, as the gate tells it; nobody where there is none. */
-async function who() {
-  for (;; await new Promise(done => setTimeout(done, AGAIN))) {
-    try { return await read(`${base}/who`); } catch (fault) {
-      const {status, message} = /** @type {any} */ (fault);
-      if (status === 404) return {};
-      tell({kind: 'waits', words: `Who is logged in? ${message}`});
-    }
+const missedKey = () => `${mine?.missed?.call} ${mine?.missed?.since}`;
+
+/** @type {AtMoment<void>} */
+const drawNotices = ({agent, missed}, moment) => {
+  const place = `acd-missed-${id}`, isOff = agent.state === 'notReady';
+  if (missed && acts && localStorage[place] !== missedKey()) {
+    // the buttons may be of an offer before this one
+    const read = () => { localStorage[place] = missedKey(); };
+    /** @type {Button} */ const ready = [say('ready'), () => { ask('ready'); if (requests.out.has('ready')) read(); }];
+    notice('missed', say(isOff ? 'missed.off' : 'missed', {who: missed.caller ?? say('somebody'), group: groupName(missed.group ?? ''), clock: clock(missed.moment - missed.since), time: timeOfDay(missed.moment)}),
+      [...(isOff ? [ready] : []), [say('read'), read]]);
+  } else drop('missed');
+  for (const [key, is] of /** @type {[string, unknown][]} */ ([['ticks', isLive() && mine && isOverdue(mine, moment)], ['sound', acts && agent.device && byId('tone').checked && !isHeard()], ['leaves', leaves]])) {
+    if (is) notice(key, say(key)); else drop(key);
   }
+};
+
+function end() {
+  const {begun} = who;
+  leaves = false;
+  who.begun = 0;   // what is refused now leads to no log-in
+  logOut().catch(() => {
+    who.begun = begun;
+    refuse(`${word('log.off')}: ${word('lost.server')}`);
+  });
 }
 
-/** Whose page it is: the address says so, or the gate. */
+// What clicks and keys do.
+function listen() {
+  callsBy(act);
+  for (const requested of STATES) {
+    const button = make('button', {type: 'button', 'data-requested': requested}, say(requested));
+    button.addEventListener('click', () => ask(requested));
+    byId('states').append(button);
+  }
+  logOn.askBy((device, groups) => ask('loggedOn', {device, ...(groups.length === 1 ? {group: groups[0]} : {groups})}), refuse);
+  byId('dial').addEventListener('submit', (/** @type {Event} */ event) => {
+    event.preventDefault();
+    const field = byId('called'), what = say('makeCall');
+    choose(field, what, false, place => {
+      send('makeCall', {device: mine?.agent.device, called: place.to}, say('button', {what, who: placeName(place)}), 'makeCall');
+      field.value = '';
+    });
+  });
+  addEventListener('keydown', event => {
+    if (!(event.key in KEYS) || event.altKey || event.ctrlKey || event.metaKey || event.shiftKey) return;
+    event.preventDefault();
+    if (!event.repeat) [...byId('calls').querySelectorAll(`[data-service=${KEYS[event.key]}]`)].find(button => !button.hidden)?.click();
+  });
+  byId('tone').checked = localStorage['acd-tone'] !== 'off';
+  byId('tone').addEventListener('change', () => {
+    localStorage['acd-tone'] = byId('tone').checked ? 'on' : 'off';
+    if (byId('tone').checked) tone();
+  });
+  const offerNotices = () => hide('notify', !('Notification' in window) || Notification.permission !== 'default');
+  byId('notify').addEventListener('click', () => Notification.requestPermission().then(offerNotices));
+  offerNotices();
+}
+
+// The session of an agent who is logged on ends behind the log-off, or at a second wish.
+function leave() {
+  if (!acts || !mine?.agent.device || leaves) return end();
+  ask('loggedOff');
+  leaves = requests.out.has('loggedOff');
+  draw();
+}
+
+/** Whose page it is: the address says so, or the gate. A login that is no agent's only looks at another's. */
 async function begin() {
-  const {agent, login, why} = await who();
-  id ||= agent ?? '';
-  if (why) return tell({kind: 'refused', words: `${login}: ${why}`});
-  if (!id) return tell({kind: 'refused', words: 'Whose page is this? Add ?agent= and your number to the address'});
-  requests = new Requests(`${base}/csta`, id, login ?? `agent${id}`, localStorage, tell);
-  setInterval(draw, 1000);
-  feed.run();
+  translate();
+  listen();
+  who = await openSession(leave, why => tell({kind: 'waits', words: say('who', {why})}));
+  id ||= who.agent ?? '';
+  acts = who.agent === id || who.role === 'exchange';
+  const login = named(who.login ?? '');
+  write('told', '');
+  if (!who.login) return refuse(say('noGate'));
+  if (who.why) return refuse(`${login}: ${who.why}`);
+  if (!id) return notice('nobody', say('noNumber', {login})).append(make('a', {href: '../'}, say('board')));
+  if (!acts) notice('looks', say('looks', {login, number: id}));
+  requests = new Requests(`${base}/csta`, id, who.login ?? '', {isLive, logOn: () => mine?.agent.logOn ?? null, tell, ask: askAbout});
+  const worker = new Worker(new URL('listening.js', import.meta.url), {type: 'module'});
+  worker.onmessage = ({data}) => hear(data);
+  worker.postMessage(`${base}/mine?agent=${id}`);
 }
 begin();
-Object.assign(window, {agent: {state: () => state, requests: () => requests}});
+Object.assign(window, {agent: {mine: () => mine, requests: () => requests}});

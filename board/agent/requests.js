@@ -1,77 +1,99 @@
-// Sends requests one after the other, each until it is answered. One that isn't is kept in the browser and sent again, the same bytes, so that it acts once.
-// A gate takes a login's own requesters alone: it refuses what an older page kept, which is told and let go.
+// Sends requests one after the other, each until it is answered. One that isn't is kept in the browser and sent again, the same bytes, so that it acts once: for a minute, in
+// the same log-on. Behind that it is asked about, since nobody may want any more what was clicked then.
 // @ts-check
-import {refusal} from '../words.js';
+import {refusal, word} from '../words.js';
 
-/** @typedef {import('../types').Kept} Kept */
-const PATIENCE = 10000;
+// milliseconds: until a try is given up, between two at most, of all tries, by which a clock may go back, until what was done is told, in which a click is a second one
+const PATIENCE = 10000, LONGEST_PAUSE = 5000, FRESH = 60000, BACK = 5000, SETTLES = 300, TWICE = 3000;
+// what a second click is refused by, behind a first one that was granted
+const SECOND = ['wrongConnectionState', 'unknownConnection', 'unknownCall', 'wrongAgentState'];
 
-/**
- * A name that no other page has: with an old page's, a count from 1 would get kept replies and do nothing.
- * @param {string} owner
- */
-function newRequester(owner) {
-  const letters = 'abcdefghijklmnopqrstuvwxyz012345';
-  return `${owner}-${[...crypto.getRandomValues(new Uint8Array(16))].map(number => letters[number % 32]).join('')}`;
-}
+const sleep = (/** @type {number} */ milliseconds) => new Promise(done => setTimeout(done, milliseconds));
 
 export class Requests {
-  /**
-   * @param {string} address
-   * @param {string} agent
-   * @param {string} owner whom the gate knows by the requester
-   * @param {Storage} storage
-   * @param {(told:import('../types').Told) => void} tell
-   */
-  constructor(address, agent, owner, storage, tell) {
+  invoke = 0;
+  turn = Promise.resolve();
+  // what was clicked and has no answer, and when what was clicked was granted
+  /** @type {Set<string>} */ out = new Set();
+  /** @type {Map<string, number>} */ granted = new Map();
+
+  /** @param {string} address @param {string} agent @param {string} owner whom the gate knows by the requester @param {Asking} page */
+  constructor(address, agent, owner, page) {
     this.address = address;
-    this.requester = newRequester(owner);
-    this.invoke = 0;
-    this.storage = storage;
     this.place = `acd-unanswered-${agent} `;
-    this.tell = tell;
-    this.turn = Promise.resolve();
-    // of an earlier load, in their order
-    for (const place of Object.keys(storage).filter(place => place.startsWith(this.place)).sort()) this.queue(place, JSON.parse(storage[place]));
+    this.page = page;
+    // no other page has it: with an old page's, a count from 1 would get kept replies and do nothing
+    this.requester = `${owner}-${crypto.randomUUID().replaceAll('-', '').slice(-16)}`;
   }
 
-  /**
-   * @param {string} service
-   * @param {Record<string, unknown>} members
-   * @param {string} words what it asks for
-   */
-  send(service, members, words) {
-    const one = {body: JSON.stringify({requester: this.requester, invoke: ++this.invoke, service, ...members}), words}, place = `${this.place}${Date.now()} ${this.requester} ${this.invoke}`;
-    this.storage.setItem(place, JSON.stringify(one));
-    this.queue(place, one);
-  }
-
-  /** @param {string} place @param {Kept} one */
-  queue(place, one) { this.turn = this.turn.then(() => this.deliver(place, one)); }
-
-  /** @param {string} place @param {Kept} one */
-  async deliver(place, {body, words}) {
-    for (let times = 0; ; times++) {
-      this.tell(times ? {kind: 'waits', words: `${words}: no answer yet, it is sent again`} : {kind: 'sent', words});
-      const reply = await this.post(body);
-      if (reply) {
-        this.storage.removeItem(place);
-        if (reply.status === 403 && !body.includes(this.requester)) return this.tell({kind: 'dropped', words});
-        return this.tell(reply.status === 200 ? {kind: 'done', words, result: JSON.parse(reply.text).result} : {kind: 'refused', words: `${words}: ${refusal(reply.status, reply.text)}`});
-      }
-      await new Promise(done => setTimeout(done, Math.min(PATIENCE, 1000 * 2 ** times)));
+  // What an earlier load of the page kept, in its order.
+  takeUp() {
+    for (const place of Object.keys(localStorage).filter(place => place.startsWith(this.place)).sort()) {
+      try { this.queue(place, JSON.parse(localStorage[place])); } catch { localStorage.removeItem(place); }
     }
   }
 
-  /**
-   * The reply, or nothing where it says no more than that none came: the proxy's, or that memory or the store failed.
-   * @param {string} body
-   */
+  // Words say what is asked for, and key what was clicked: the same isn't asked for while it is out.
+  /** @type {Send} */
+  send = (service, members, words, key) => {
+    if (!this.out.has(key)) this.keep(`${this.place}${Date.now()} ${this.requester} ${++this.invoke}`, {body: JSON.stringify({requester: this.requester, invoke: this.invoke, service, ...members}), words, key});
+  };
+
+  /** @type {Keep} */
+  keep = (place, one) => {
+    const now = {...one, at: Date.now(), logOn: this.page.logOn()};
+    localStorage[place] = JSON.stringify(now);
+    this.queue(place, now);
+  };
+
+  /** @type {Keep} */
+  queue = (place, one) => {
+    const {key = ''} = one;
+    this.out.add(key);
+    this.turn = this.turn.then(() => this.deliver(place, one)).catch(() => {}).then(() => { setTimeout(() => this.out.delete(key), SETTLES); });
+  };
+
+  /** @param {Kept} one */
+  isFresh({at = 0, logOn}) { return Date.now() - at < FRESH && at - Date.now() < BACK && logOn === this.page.logOn(); }
+
+  /** @param {string} place @param {Kept} one */
+  async deliver(place, one) {
+    for (let times = 0; this.isFresh(one); times++) {
+      if (!times) this.page.tell({kind: 'sent', words: one.words});
+      const reply = await this.post(one.body);
+      if (reply) {
+        localStorage.removeItem(place);
+        return this.answered(one, reply.status, reply.text);
+      }
+      this.page.tell({kind: 'waits', words: word('agent.again', {what: one.words})});
+      await sleep(Math.min(LONGEST_PAUSE, 1000 * 2 ** times));
+      // which log-on it is, is known where the desk answers
+      while (!this.page.isLive() && this.isFresh(one)) await sleep(SETTLES);
+    }
+    this.page.ask(one, sends => {
+      localStorage.removeItem(place);
+      if (sends) this.keep(place, one);
+    });
+  }
+
+  /** @param {Kept} one @param {number} status @param {string} text */
+  answered({body, words, key = ''}, status, text) {
+    // a gate takes a login's own requesters alone
+    if (status === 403 && !body.includes(this.requester)) return this.page.tell({kind: 'dropped', words});
+    if (status === 200) {
+      this.granted.set(key, Date.now());
+      return this.page.tell({kind: 'done', words, key, result: JSON.parse(text).result});
+    }
+    if (Date.now() - (this.granted.get(key) ?? 0) > TWICE || !SECOND.some(name => text.includes(`"${name}"`))) this.page.tell({kind: 'refused', key, words: `${words}: ${refusal(status, text)}`});
+  }
+
+  // The reply, or nothing where it says no more than that none came: the proxy's, or that memory or the store failed.
+  /** @param {string} body */
   async post(body) {
     const giving = new AbortController(), timer = setTimeout(() => giving.abort(), PATIENCE);
     try {
-      const reply = await fetch(this.address, {method: 'POST', body, headers: {'content-type': 'application/json'}, signal: giving.signal}), text = await reply.text();
-      return [429, 500, 502, 503, 504].includes(reply.status) ? null : {status: reply.status, text};
+      const reply = await fetch(this.address, {method: 'POST', body, headers: {'content-type': 'application/json'}, signal: giving.signal}), {status} = reply, text = await reply.text();
+      return [429, 500, 502, 503, 504].includes(status) ? null : {status, text};
     } catch { return null; } finally { clearTimeout(timer); }
   }
 }

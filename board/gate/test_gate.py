@@ -15,15 +15,20 @@ import sys
 import tempfile
 import threading
 import time
+import types
 import unittest
 from base64 import b64encode
 from http.server import BaseHTTPRequestHandler, ThreadingHTTPServer
 from pathlib import Path
+from unittest import mock
 
 sys.dont_write_bytecode = True
 loader = importlib.machinery.SourceFileLoader("gate", str(Path(__file__).resolve().parent / "acd-gate"))
 gate = importlib.util.module_from_spec(importlib.util.spec_from_loader(loader.name, loader))
 loader.exec_module(gate)
+import acd_days as days  # noqa: E402
+import acd_following as following  # noqa: E402
+import acd_sessions as sessions  # noqa: E402
 
 ROLES = """# who may what
 pbx exchange
@@ -34,6 +39,7 @@ ana agent 7   # at any station
 ben agent 07
 cleo stations=201,202 agent groups=100,110 agent=7
 ana-b agent agent=8
+lea lead reads=none groups=110,100
 """
 # of "secret" by SHA-1, as `htpasswd -s` makes it
 SECRET = "{SHA}5en6G6MezRroT3XKqkdPOmY/BfQ="
@@ -176,10 +182,18 @@ class RoleTest(GateTest):
     def test_faulty_lines(self):
         for words in ("", "wizard", "agent", "agent 7 8", "agent 7 agent=7", "agent=7", "agent agent 7", "office 7", "office agent=7", "exchange stations=201", "supervisor groups=100",
                       "agent 7 stations=", "agent 7 stations=201,", "agent 7 stations=201, 202", "agent 7 stations=201 stations=202", "agent 7 groups=all", "agent 7 room=1", "agent x",
-                      "agent 7 Stations=201", "agent 7 office", "agent=1234567890 agent", "agent 7 stations=1234567890123456", "agent ٧", "agent agent=٧", "agent agent= 7"):
+                      "agent 7 Stations=201", "lead", "lead agent=7 groups=100", "lead groups=100 stations=201", "lead groups=", "lead groups=100 reads=own", "supervisor reads=own", "office reads=some",
+                      "agent 7 reads=", "agent 7 reads=own reads=own", "reads=all", "agent 7 office", "agent=1234567890 agent", "agent 7 stations=1234567890123456", "agent ٧", "agent agent=٧", "agent agent= 7"):
             found, told = roles(f"pbx exchange\n\nana {words}\r")
             self.assertEqual(found, {"pbx": gate.Role("exchange"), "ana": gate.NOTHING}, words)
             self.assertRegex(told, r"\Aacd-gate: roles, line 3: ana .*\n\Z")
+
+    def test_what_a_line_reads(self):
+        for words, wanted in (("supervisor", "all"), ("office reads=none", "none"), ("agent 7", "own"), ("reads=all agent 7", "all"), ("agent reads=none agent=7", "none"), ("lead groups=1", "all"),
+                              ("exchange reads=all", "all")):
+            found, told = roles(f"ana {words}")
+            self.assertEqual((found["ana"].reading, told), (wanted, ""), words)
+        self.assertEqual(gate.READS.reading, "all")
 
     def test_two_lines_of_a_login(self):
         found, told = roles("ana agent 7\nben office\nana agent 8")
@@ -205,7 +219,7 @@ class RoleTest(GateTest):
             self.assertFalse(self.passes("ana", state))
             self.roles.unlink()
             self.assertFalse(self.passes("eve", tick))
-        self.assertRegex(told.getvalue(), rf"\Aacd-gate: {self.roles}, line 11: ana .*\nacd-gate: {self.roles} can't be read: No such file or directory\n\Z")
+        self.assertRegex(told.getvalue(), rf"\Aacd-gate: {self.roles}, line 12: ana .*\nacd-gate: {self.roles} can't be read: No such file or directory\n\Z")
 
 
 class KeyTest(GateTest):
@@ -280,8 +294,9 @@ class RequestTest(GateTest):
             self.assertTrue(self.passes("pbx", body, **fields), fields)
 
     def test_who(self):
-        for login, wanted in (("ana", {"agent": "7", "login": "ana", "role": "agent"}), ("sup", {"login": "sup", "role": "supervisor"}), ("nobody", {"login": "nobody"}), ("Jürgen", {"login": "Jürgen"}),
-                              ("cleo", {"agent": "7", "groups": ["100", "110"], "login": "cleo", "role": "agent", "stations": ["201", "202"]})):
+        for login, wanted in (("ana", {"agent": "7", "login": "ana", "reads": "own", "role": "agent"}), ("sup", {"login": "sup", "role": "supervisor"}), ("nobody", {"login": "nobody"}), ("Jürgen", {"login": "Jürgen"}),
+                              ("cleo", {"agent": "7", "groups": ["100", "110"], "login": "cleo", "reads": "own", "role": "agent", "stations": ["201", "202"]}),
+                              ("lea", {"groups": ["100", "110"], "login": "lea", "reads": "none", "role": "lead"})):
             status, text = self.ask(login, None, "GET", "/who")
             self.assertEqual((status, json.loads(text)), (200, wanted))
 
@@ -312,6 +327,217 @@ class RequestTest(GateTest):
         for thread in threads:
             thread.join()
         self.assertEqual((told, len(self.desk.got)), ([409] * 40, 40))
+
+
+def desk_state():
+    """Agent 7 at 201 in 100 with call 1 of 100; 8 at 202 in 110 and 120 with call 2 of 120; 9 logged off; calls 3 and 4 wait in 100 and in 120."""
+    def side(device, state, **more):
+        return {"device": device, "state": state, **more}
+    return following.State({
+        "last": 10, "moment": 50, "monitors": [],
+        "groups": [{"device": group, "name": f"G{group}", "ring": 20, "wrap": 30} for group in ("100", "110", "120")],
+        "stations": [{"device": "201", "agent": "7"}, {"device": "202", "agent": "8"}, {"device": "203"}],
+        "agents": [{"agent": "7", "name": "Ana", "state": "busy", "since": 40, "stamp": 4, "device": "201", "group": "100"},
+                   {"agent": "8", "name": "Ben", "state": "ready", "since": 30, "stamp": 3, "device": "202", "groups": ["110", "120"], "pending": "notReady"},
+                   {"agent": "9", "name": "Cleo", "state": "null", "since": 0, "stamp": 1}],
+        "calls": [{"call": 1, "caller": "0301111", "called": "100", "since": 20, "connections": [side("201", "connected", group="100"), side("0301111", "connected")]},
+                  {"call": 2, "caller": "0302222", "called": "120", "since": 21, "connections": [side("202", "alerting", group="120", place=5, queued=21, offered=25), side("0302222", "connected")]},
+                  {"call": 3, "caller": "0303333", "called": "100", "since": 22, "connections": [side("100", "queued", place=6, queued=22), side("0303333", "connected")]},
+                  {"call": 4, "caller": "0304444", "called": "120", "since": 23, "connections": [side("120", "queued", place=7, queued=23), side("0304444", "connected")]}]})
+
+
+class LeadTest(unittest.TestCase):
+    def may(self, service, **members):
+        body = json.dumps({"requester": "lea-1", "invoke": 1, "service": service, **members}).encode()
+        return gate.may(gate.Role("lead", groups=frozenset({"100", "110"})), "lea", {"lea"}, body, None, lambda judge: judge(desk_state()))
+
+    def test_what_a_lead_may(self):
+        for service, members in (("setAgentState", {"agent": "7", "requested": "ready"}), ("setAgentState", {"agent": "8", "requested": "loggedOff"}), ("clearConnection", {"call": 1, "device": "201"}),
+                                 ("deflectCall", {"call": 3, "device": "100", "to": "110"}), ("deflectCall", {"call": 3, "device": "100", "to": "202"}), ("setGroupPriority", {"device": "110", "priority": 9})):
+            self.assertTrue(self.may(service, **members), (service, members))
+
+    def test_what_a_lead_may_not(self):
+        for service, members in (("setAgentState", {"agent": "9", "requested": "ready"}), ("setAgentState", {"agent": "7", "requested": "workingAfterCall"}), ("setAgentState", {"agent": ["7"], "requested": "ready"}),
+                                 ("setAgentState", {"agent": "7", "requested": ["ready"]}), ("setAgentState", {"agent": "7", "requested": "loggedOn", "device": "203", "group": "100"}),
+                                 ("clearConnection", {"call": 2, "device": "202"}), ("clearConnection", {"call": 3, "device": "100"}), ("clearConnection", {"call": 1, "device": "0301111"}),
+                                 ("clearConnection", {"call": True, "device": "201"}), ("clearConnection", {"call": 9, "device": "201"}), ("clearConnection", {"call": 1, "device": ["201"]}),
+                                 ("deflectCall", {"call": 3, "device": "100", "to": "120"}), ("deflectCall", {"call": 3, "device": "100", "to": "203"}), ("deflectCall", {"call": 4, "device": "120", "to": "110"}),
+                                 ("deflectCall", {"call": 1, "device": "201", "to": "110"}), ("deflectCall", {"call": 3, "device": "100"}), ("setGroupPriority", {"device": "120", "priority": 9}),
+                                 ("rejectCall", {"call": 1, "device": "201"}), ("tick", {}), ("addAgent", {"agent": "7"})):
+            self.assertFalse(self.may(service, **members), (service, members))
+
+    def test_a_reply_of_before(self):
+        now, replies = [0.0], gate.Replies(lambda: now[0])
+        replies.keep("lea", b"x", (200, "json", b"done"))
+        self.assertEqual((replies.of("lea", b"x"), replies.of("leo", b"x"), replies.of("lea", b"y")), ((200, "json", b"done"), None, None))
+        now[0] = gate.AGAIN
+        self.assertIsNone(replies.of("lea", b"x"))
+        for number in range(2 * gate.MOST_REPLIES):
+            replies.keep("lea", b"%d" % number, (200, "json", b""))
+        self.assertEqual(len(replies.found), gate.MOST_REPLIES)
+
+    def test_rates(self):
+        now = [0.0]
+        rates = gate.Rates(lambda: now[0])
+        self.assertEqual(sum(rates.takes("ana", gate.READS) for _ in range(2 * gate.AT_ONCE)), gate.AT_ONCE)
+        self.assertTrue(rates.takes("ben", gate.READS))
+        now[0] += 1
+        self.assertEqual(sum(rates.takes("ana", gate.READS) for _ in range(2 * gate.AT_ONCE)), gate.EACH_SECOND[None])
+
+
+class FollowTest(unittest.TestCase):
+    def changes(self, state, **report):
+        state.touched, state.dirty, state.renamed = set(), set(), False
+        state.apply({"number": state.last + 1, "moment": 60, **report})
+        return state.touched, state.dirty, state.renamed
+
+    def test_own(self):
+        state = desk_state()
+        told = following.own_text(state, "8", frozenset())
+        self.assertEqual(told["agent"], {"agent": "8", "device": "202", "groups": ["110", "120"], "logOn": 10, "name": "Ben", "pending": "notReady", "since": 30, "state": "ready"})
+        self.assertEqual(told["calls"], [{"call": 2, "called": "120", "caller": "0302222", "queued": 21, "since": 21, "connections": [
+            {"device": "202", "group": "120", "since": 25, "state": "alerting"}, {"device": "0302222", "since": 21, "state": "connected"}]}])
+        self.assertEqual(told["groups"], [{"calls": [], "device": "110", "loggedOn": 1, "name": "G110", "ready": 0, "ring": 20, "wrap": 30},
+                                          {"calls": [{"call": 4, "caller": "...444", "queued": 23}], "device": "120", "loggedOn": 1, "name": "G120", "ready": 0, "ring": 20, "wrap": 30}])
+        self.assertEqual([group["device"] for group in following.own_text(state, "9", frozenset({"120", "100", "7"}))["groups"]], ["100", "120"])
+        self.assertEqual(following.own_text(state, "77", frozenset()), {"agent": {"agent": "77"}, "calls": [], "groups": []})
+
+    def test_whom_a_report_touches(self):
+        state = desk_state()
+        self.assertEqual(self.changes(state, event="queued", call=5, device="110", cause="newCall"), (set(), {"110"}, False))
+        self.assertEqual(self.changes(state, event="connectionCleared", call=2, device="202"), ({"8"}, {"110", "120"}, False))
+        self.assertIsNone(state.agents["8"].pending)
+        self.assertEqual(self.changes(state, event="callCleared", call=2, group="120"), (set(), set(), False))
+        self.assertEqual(self.changes(state, event="agentLoggedOff", agent="7", device="201"), ({"7"}, {"100"}, True))
+        self.assertEqual(self.changes(state, event="agentLoggedOn", agent="7", device="203", group="120"), ({"7"}, {"120"}, True))
+        self.assertEqual((state.agent_at("203").id, state.agent_at("201"), state.groups["120"].agents), ("7", None, {"7", "8"}))
+        self.assertEqual(self.changes(state, event="diverted", call=3, device="100", to="203", cause="distributed", group="100"), (set(), {"100"}, False))
+        self.assertEqual(self.changes(state, event="delivered", call=3, device="203", cause="distributed", group="120"), ({"7"}, {"120"}, False))
+        self.assertEqual([state.groups[group].waiting for group in ("100", "120")], [set(), {state.calls[4]}])
+
+    def test_since_when_a_connection_is_as_it_is(self):
+        state = desk_state()
+        for moment, event in ((61, "held"), (62, "retrieved")):
+            self.changes(state, event=event, call=1, device="201", moment=moment)
+            self.assertEqual(state.calls[1].connections["201"].since, moment)
+
+    def test_a_call_that_comes_back_keeps_its_place(self):
+        state = desk_state()
+        for report in ({"event": "queued", "call": 6, "device": "120", "cause": "newCall"}, {"event": "diverted", "call": 2, "device": "202", "to": "120", "cause": "noAnswer", "group": "120"},
+                       {"event": "queued", "call": 2, "device": "120", "cause": "noAnswer"}):
+            self.changes(state, **report)
+        self.assertEqual([(one["call"], one["queued"]) for one in following.queue_text(state, state.groups["120"])["calls"]], [(2, 21), (4, 23), (6, 60)])
+
+    def test_groups_that_no_report_tells(self):
+        state = desk_state()
+        self.changes(state, event="agentLoggedOn", agent="9", device="203")
+        self.assertEqual(state.unknown, {"9"})
+        state.learn({"agent": "9", "device": "203", "groups": ["100", "120"]})
+        self.assertEqual((state.unknown, state.agents["9"].groups), (set(), ["100", "120"]))
+
+    def test_what_a_new_snapshot_alone_tells(self):
+        before, state = desk_state(), desk_state()
+        state.differs(before)
+        self.assertEqual((state.touched, state.dirty, state.renamed), (set(), set(), False))
+        state.agents["7"].name, state.groups["110"].ring, state.agents["8"].pending = "Anna", 5, None
+        state.differs(before)
+        self.assertEqual((state.touched, state.dirty, state.renamed), ({"7", "8"}, {"110"}, True))
+
+
+    def test_which_log_on_it_is(self):
+        state = desk_state()
+        self.changes(state, event="agentLoggedOn", agent="9", device="203", group="120")
+        self.assertEqual([state.agents[agent].log_on for agent in "789"], [10, 10, 11])
+        self.changes(state, event="agentReady", agent="9", device="203")
+        self.assertEqual(state.agents["9"].log_on, 11)
+        agent = {"agent": "9", "name": "Cleo", "state": "ready", "since": 60, "stamp": 1, "device": "203", "group": "120"}
+        snapshot = {"last": 20, "moment": 70, "groups": [], "stations": [{"device": "203", "agent": "9"}], "calls": []}
+        for what, more, log_on in (("nothing happened", {}, 11), ("another state, by what no report told", {"state": "notReady"}, 20), ("of later", {"since": 61}, 20), ("elsewhere", {"device": "202"}, 20)):
+            self.assertEqual(following.State({**snapshot, "agents": [{**agent, **more}]}, state).agents["9"].log_on, log_on, what)
+        self.changes(state, event="agentLoggedOff", agent="9", device="203")
+        self.assertIsNone(state.agents["9"].log_on)
+
+    def test_the_first_event_of_a_day(self):
+        moments = [5, 5, 7, 7, 7, 9, 20, 20, 31]
+        for moment in range(40):
+            found = days.first_of(lambda after: [{"number": number, "moment": moments[number - 1]} for number in range(after + 1, min(after + 3, len(moments) + 1))], len(moments), moment)
+            self.assertEqual(found, sum(one < moment for one in moments), moment)
+        self.assertEqual(days.first_of(lambda after: self.fail("nothing is asked"), 0, 5), 0)
+
+    def test_a_question_that_is_out(self):
+        asked = following.Following(None)
+        asked.live, asked.heard = True, time.monotonic()
+        self.assertTrue(asked.is_live())
+        asked.heard -= following.AWAY
+        self.assertFalse(asked.is_live())
+
+
+class SessionTest(unittest.TestCase):
+    def setUp(self):
+        self.folder = tempfile.TemporaryDirectory()
+        self.file, self.hashes, self.now = Path(self.folder.name) / "sessions", {"ana": "hash", "ben": "other"}, 1e9
+        self.sessions = self.opened()
+
+    def tearDown(self):
+        self.folder.cleanup()
+
+    def opened(self):
+        return sessions.Sessions(self.file, types.SimpleNamespace(now=lambda: self.hashes), lambda: self.now)
+
+    def test_begin_and_end(self):
+        first, second = self.sessions.begin("ana"), self.sessions.begin("ana")
+        self.assertNotEqual(first, second)
+        self.assertEqual(self.sessions.of(first).login, "ana")
+        self.assertEqual([self.opened().of(token).login for token in (first, second)], ["ana", "ana"])
+        self.assertNotIn(first, self.file.read_text())
+        self.sessions.end(first)
+        self.assertEqual([self.opened().of(token) is None for token in (first, second)], [True, False])
+        for odd in (None, "", "x", first, sessions.digest(second)):
+            self.assertIsNone(self.sessions.of(odd), odd)
+
+    def test_times(self):
+        token, hour = self.sessions.begin("ana"), 3600
+        for moved, good in ((12 * hour - 1, True), (1, False)):
+            self.now += moved
+            self.assertEqual(self.sessions.of(token) is not None, good)
+        token = self.sessions.begin("ana")
+        for number in range(23):
+            self.now += hour
+            self.assertIsNotNone(self.sessions.use(token), number)
+        self.now += hour - 1
+        self.assertIsNotNone(self.opened().of(token))
+        self.now += 1
+        self.assertIsNone(self.sessions.use(token))
+
+    def test_another_password(self):
+        token = self.sessions.begin("ana")
+        self.hashes["ana"] = "new"
+        self.assertIsNone(self.sessions.of(token))
+        del self.hashes["ana"]
+        self.assertIsNone(self.sessions.of(token))
+
+    def test_cookies(self):
+        token = "a" * 43
+        for field, wanted in (("", None), ("a=b", None), (f"__Host-acd={token}", token), (f"x=1; __Host-acd={token}; y=2", token), (f"__Host-acd={token};__Host-acd={token}", ""), ("__Host-acd=", ""),
+                              (f"__Host-acd={token}a", ""), (f"__Host-acd ={token}", None), (f'__Host-acd="{token}"', ""), (f"acd={token}", None)):
+            self.assertEqual(sessions.cookie_of(field), wanted, field)
+
+    def test_many_and_no_file(self):
+        with mock.patch.object(sessions, "MOST", 3), mock.patch.object(self.sessions, "keep"):
+            other, tokens = self.sessions.begin("ben"), []
+            for _ in range(5):
+                self.now += 1
+                tokens.append(self.sessions.begin("ana"))
+            self.assertEqual([self.sessions.of(token) is not None for token in (other, *tokens)], [True, False, False, True, True, True])
+        self.file.write_text('no session\n{"digest":"x"}\n[]\n')
+        with contextlib.redirect_stderr(io.StringIO()) as told:
+            self.assertEqual(self.opened().found, {})
+        self.assertEqual(told.getvalue().count("has a line that is no session"), 3)
+        self.file = Path("/proc/none/sessions")
+        with contextlib.redirect_stderr(io.StringIO()) as told:
+            unkept = self.opened()
+            self.assertIsNotNone(unkept.of(unkept.begin("ana")))
+        self.assertIn("can't be written", told.getvalue())
 
 
 def basic(login, password="secret"):

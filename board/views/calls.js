@@ -1,37 +1,46 @@
-// The live calls, those that wait first; as many as were asked for.
+// The live calls of the own groups, those that wait first; as many as were asked for.
 // @ts-check
 import {byId, put, Table, toggle} from '../draw.js';
+import {office} from '../office.js';
 import {callLines, severity} from '../reckon.js';
-import {clock} from '../words.js';
-import {choose} from './groups.js';
+import {limitsOf} from '../settings.js';
+import {clock, CONNECTION, named, SIGN, word} from '../words.js';
 
 const PAGE = 100;
 let most = PAGE;
+/** @param {CallLine & {severity:Severity}} line */
+const stateOf = ({state, severity}) => `${state === 'queued' ? SIGN[severity] : CONNECTION[state].sign} ${CONNECTION[state].words}`;
 
-const table = new Table(byId('calls'), [
-  {head: 'Call', kind: 'words', text: line => line.number},
-  {head: 'State', kind: 'state', text: line => `${line.sign} ${line.words}`},
-  {head: 'For', text: line => line.age},
-  {head: 'Group', kind: 'words', text: line => line.groupName},
-  {head: 'At', kind: 'words', text: line => line.who},
-  {head: 'Caller', kind: 'words', wide: true, text: line => line.caller},
-  {head: 'In all', wide: true, text: line => line.whole},
+const table = new Table(byId('calls-table'), [
+  {head: 'head.call', kind: 'words', text: line => String(line.number), file: line => line.number},
+  {head: 'head.state', kind: 'state', text: stateOf},
+  {head: 'head.for', text: line => clock(line.age), file: line => Math.floor(line.age)},
+  {head: 'head.group', kind: 'name', text: line => line.groupName && named(line.groupName)},
+  {head: 'head.at', kind: 'name', press: 'agent', text: line => line.state !== 'queued' && line.who ? named(line.who) : '', file: line => line.state === 'queued' ? '' : line.who},
+  {head: 'head.caller', kind: 'words', text: line => line.caller},
+  {head: 'head.whole', wide: true, text: line => clock(line.whole), file: line => Math.floor(line.whole)},
+  {head: 'head.act', kind: 'words', press: 'call', text: line => line.acts},
 ]);
 
 /** @param {() => void} redraw */
-export function begin(redraw) {
-  byId('calls-group').addEventListener('input', redraw);
-  byId('calls-more').addEventListener('click', () => { most += PAGE; redraw(); });
-}
+export function begin(redraw) { byId('calls-more').addEventListener('click', () => { most += PAGE; redraw(); }); }
 
-/** @param {import('../main.js').Drawn} drawn */
-export function draw({state, settings, now}) {
-  choose(byId('calls-group'), state);
-  const group = byId('calls-group').value, found = callLines(state).filter(line => !group || line.group === group);
-  table.draw(found.slice(0, most).map(line => ({
-    ...line, key: String(line.number), severity: line.words === 'waiting' ? severity(now - line.since, settings) : '', age: clock(now - line.since), whole: clock(now - line.begun),
-    groupName: line.group ? state.groups.get(line.group)?.name || line.group : '', who: state.agentAt(line.device)?.name || line.device,
+/** @param {Drawn} drawn */
+export function draw({state, settings, now, learn, lead}) {
+  const find = settings.find.trim().toLowerCase(), {group} = settings;
+  const found = callLines(state, settings).filter(line => !group || line.group === group).map(line => {
+    const agent = state.agentAt(line.device), groupName = line.group ? state.groups.get(line.group)?.name || line.group : '';
+    return {...line, agent: agent?.id, who: agent?.name || office.names.stations[line.device] || line.device, groupName};
+  }).filter(line => !find || `${line.number} ${line.caller} ${line.who} ${line.groupName}`.toLowerCase().includes(find));
+  const shown = found.slice(0, most);
+  learn(shown.filter(line => !line.caller).map(line => line.number));
+  table.draw(shown.map(line => ({
+    ...line, key: String(line.number), severity: line.state === 'queued' ? severity(now - line.since, limitsOf(settings, line.group ?? '')) : '', age: now - line.since, whole: now - line.begun,
+    acts: lead.may(line) ? word(line.state === 'queued' ? 'act.move' : 'act.end') : '',
   })), true);
-  put(byId('calls-rest'), found.length > most ? `and ${found.length - most} more` : found.length ? '' : 'No calls.');
+  toggle(byId('calls-table'), 'data-acts', lead.acts());
+  put(byId('calls-rest'), found.length > most ? word('calls.rest', {n: found.length - most}) : found.length ? '' : word('calls.none'));
   toggle(byId('calls-more'), 'hidden', found.length <= most);
 }
+
+export const file = () => table.file();

@@ -1,14 +1,17 @@
-// A choice among the groups.
+// The choice among the own groups.
 // @ts-check
-import {order} from '../state.js';
+import {named, word} from '../words.js';
 
-/** @param {HTMLSelectElement} select @param {import('../state.js').State} state */
-export function choose(select, state) {
-  const groups = [...state.groups.values()].sort((one, other) => order(one.id, other.id)), names = groups.map(group => group.name ? `${group.name} (${group.id})` : group.id);
-  const key = names.join('\n');
-  if (select.dataset.names === key) return;
-  const kept = select.value;
-  select.dataset.names = key;
-  select.replaceChildren(new Option('all', ''), ...groups.map((group, place) => new Option(names[place], group.id)));
-  select.value = state.groups.has(kept) ? kept : '';
+// A group or an agent with its number, as text.
+/** @param {{id:string, name:string}} one */
+export const withNumber = ({id, name}) => name && name !== id ? `${named(name)} (${id})` : id;
+
+/** @param {HTMLSelectElement} select @param {{id:string, name:string}[]} groups @param {string} chosen */
+export function choose(select, groups, chosen) {
+  const names = groups.map(withNumber), key = names.join('\n');
+  if (select.dataset.names !== key) {
+    select.dataset.names = key;
+    select.replaceChildren(new Option(word('filter.all'), ''), ...groups.map((group, place) => new Option(names[place], group.id)));
+  }
+  if (select.value !== chosen) select.value = groups.some(group => group.id === chosen) ? chosen : '';
 }

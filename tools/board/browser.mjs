@@ -54,6 +54,13 @@ export class Browser {
   size(width, height) { return this.command('Emulation.setDeviceMetricsOverride', {width, height, deviceScaleFactor: 1, mobile: false}); }
 
   open(address) { return this.ask('POST', '/url', {url: address}); }
+
+  /** A page that is loaded anew, also where its address differs by no more than what is behind #. */
+  async fresh(address) {
+    await this.open('about:blank');
+    await this.open(address);
+  }
+
   run(script, ...args) { return this.ask('POST', '/execute/sync', {script, args}); }
   async find(selector) { return (await this.ask('POST', '/element', {using: 'css selector', value: selector}))[ELEMENT]; }
   async click(selector) { return this.ask('POST', `/element/${await this.find(selector)}/click`, {}); }

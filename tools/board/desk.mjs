@@ -1,7 +1,7 @@
 // A desk over a file in a folder, fed by lines and served; with a gate and nginx before it where a browser is to see it.
 import {execFileSync, spawn, spawnSync} from 'node:child_process';
 import {existsSync} from 'node:fs';
-import {mkdir, readFile, rm, symlink, writeFile} from 'node:fs/promises';
+import {cp, mkdir, readFile, rm, writeFile} from 'node:fs/promises';
 import {join} from 'node:path';
 import {freePort, sleep, until} from './browser.mjs';
 
@@ -88,7 +88,8 @@ export class Front {
   static async start(folder, desk, roles, port) {
     const front = new Front(), [gate, site] = [await freePort(), port ?? await freePort()], file = join(folder, `front${site}`);
     await mkdir(join(file, 'share'), {recursive: true});
-    await symlink(join(TOP, 'board'), join(file, 'share/board'));
+    // files of its own, so that a trial may put some beside them
+    await cp(join(TOP, 'board'), join(file, 'share/board'), {recursive: true});
     execFileSync('openssl', ['req', '-x509', '-newkey', 'rsa:2048', '-nodes', '-subj', '/CN=desk', '-days', '2', '-keyout', `${file}/desk.key`, '-out', `${file}/desk.crt`], {stdio: 'ignore'});
     await writeFile(`${file}/roles`, roles.map(([login, ...role]) => `${login} ${role.join(' ')}\n`).join(''));
     await writeFile(`${file}/users`, roles.map(([login]) => `${login}:{SHA}5en6G6MezRroT3XKqkdPOmY/BfQ=\n`).join(''));
@@ -97,7 +98,7 @@ export class Front {
     await writeFile(`${file}/nginx.conf`, `daemon off; user root; pid ${file}/pid; error_log ${file}/errors; worker_processes 1; events {}
 http { include /etc/nginx/mime.types; access_log off; ${['client_body', 'proxy', 'fastcgi', 'uwsgi', 'scgi'].map(kind => `${kind}_temp_path ${file};`).join(' ')} ${conf} }\n`);
     const told = [];
-    Object.assign(front, {file, address: `https://127.0.0.1:${site}`, children: [
+    Object.assign(front, {file, gate, address: `https://127.0.0.1:${site}`, children: [
       spawn('/usr/bin/python3', ['-B', join(TOP, 'board/gate/acd-gate'), '--port', gate, '--desk', desk.port, '--roles', `${file}/roles`, '--users', `${file}/users`].map(String), {stdio: ['ignore', 'ignore', 'inherit']}),
       spawn('nginx', ['-c', `${file}/nginx.conf`], {stdio: ['ignore', 'ignore', 'pipe']}),
     ]});
@@ -111,7 +112,7 @@ http { include /etc/nginx/mime.types; access_log off; ${['client_body', 'proxy',
   }
 
   /** The address of a page, with a login in it. */
-  page(login, path) { return `${this.address.replace('//', `//${login}:secret@`)}${path}`; }
+  page(login, path) { return `${this.address.replace('//', `//${login}:secret@`)}/basic?${path}`; }
 
   /** By curl, since the certificate is nobody's. */
   async ask(login, path, body, ...more) {

@@ -2,6 +2,7 @@
 import {spawn} from 'node:child_process';
 import {join} from 'node:path';
 import {sleep, until} from './browser.mjs';
+import {run} from './desk.mjs';
 import {contrast, unreached, untold} from './looks.mjs';
 import {reportLines} from './model.mjs';
 
@@ -9,7 +10,7 @@ export const VIEWS = ['wall', 'queues', 'agents', 'calls', 'day', 'events'];
 export const PHONE = [390, 844], SCREEN = [1920, 1080];
 const HERE = new URL('.', import.meta.url).pathname;
 
-export const live = browser => until(() => browser.run('return window.board?.counted() && document.querySelector("#status-text").textContent === "Live"'), 60);
+export const live = browser => until(() => browser.run('return window.board?.counted() && document.querySelector("#status").dataset.kind === "live"'), 60);
 
 /** People who carry the day on; their program can be stopped and let go on. */
 export function people(desk, calls) {
@@ -18,8 +19,14 @@ export function people(desk, calls) {
   return {stop: () => child.kill('SIGUSR1'), goOn: () => child.kill('SIGUSR2'), end: () => { child.kill('SIGKILL'); return ended; }};
 }
 
-/** Each number on the wall and in the queues against the desk's report, its reads and its events. */
-export async function numbers(see, browser, desk, folks, moments) {
+/** What the day's figures are, reckoned from the desk's events by another program. */
+export async function reckoned(desk, ...words) { return JSON.parse(await run('python3', ['-B', join(HERE, 'figures.py'), '--desk', desk.port, ...words])); }
+
+const SHOWN = `return {moment: Date.now() / 1000, tiles: [...document.querySelectorAll('#totals div')].map(tile => ['dt', 'b', 'small'].map(part => tile.querySelector(part).textContent)),
+  rows: [...document.querySelectorAll(arguments[0] + ' tbody tr')].map(row => [...row.children].map(cell => cell.textContent))}`;
+
+/** Each number on the wall, in the queues, of the agents and in what each did today, against the desk's report, its reads and its events. */
+export async function numbers(see, browser, desk, folks, moments, {groups = [], limits = {}} = {}) {
   see('the board is live, and has the whole day', await live(browser));
   for (let moment = 1; moment <= moments; moment++) {
     await sleep(1500);
@@ -31,66 +38,92 @@ export async function numbers(see, browser, desk, folks, moments) {
     for (const view of ['wall', 'queues']) {
       await browser.run(`location.hash = '${view}'`);
       await sleep(250);
-      const begin = Date.now(), shown = await browser.run(`return {tiles: [...document.querySelectorAll('#totals div')].map(tile => [tile.querySelector('dt').textContent, tile.querySelector('b').textContent, tile.querySelector('small').textContent]),
-        rows: [...document.querySelectorAll('#${view} tbody tr')].map(row => [...row.children].map(cell => cell.textContent))}`);
-      const wrong = await wrongNumbers(desk, view, shown, begin);
+      const wrong = await wrongNumbers(desk, view, await browser.run(SHOWN, `#${view}-table`), {groups, limits});
       see(`moment ${moment}: the numbers of ${view}`, wrong.length === 0, wrong.slice(0, 3).join('; '));
     }
-    await browser.run(`location.hash = 'agents'`);
+    await browser.run(`location.hash = 'agents'; document.querySelector('#agents-details').open = true`);
     await sleep(400);
-    const wrong = wrongTiles(await desk.get('/snapshot'), await browser.run(`return [...document.querySelectorAll('#agents li:not([hidden])')].map(tile => ['strong', '.words', 'small'].map(part => tile.querySelector(part).textContent))`));
-    see(`moment ${moment}: the agents`, wrong.length === 0, wrong.slice(0, 3).join('; '));
+    const told = await browser.run(`return [...document.querySelectorAll('#agents-list li:not([hidden])')].map(tile => ['strong', '.words', 'small', '.calls'].map(part => tile.querySelector(part).textContent))`);
+    const wrong = [...wrongTiles(await desk.get('/snapshot'), told, groups), ...await wrongDays(desk, await browser.run(SHOWN, '#agents-table'), groups)];
+    see(`moment ${moment}: the agents`, wrong.length === 0 && told.length > 0, wrong.slice(0, 3).join('; '));
     folks.goOn();
   }
 }
 
 const seconds = text => text === '–' ? null : text.split(':').reduce((sum, part) => 60 * sum + Number(part), 0);
-const percent = (part, whole) => whole ? `${Math.round(100 * part / whole)} %` : '–';
+const percent = (part, whole) => whole ? `${Math.round(100 * part / whole)}%` : '–', plain = text => text.replace(/^[■▲] /, '').replaceAll(',', '');
+const NONE = {entered: 0, answered: 0, abandoned: 0, moved: 0, waited: 0, within: 0, late: 0, handled: 0, handling: 0};
 
-async function wrongNumbers(desk, view, {tiles, rows}, begin) {
-  const wrong = [], report = reportLines(await desk.get('/reports/queues')), passed = (Date.now() - begin) / 1000, snapshot = await desk.get('/snapshot'), events = await desk.events(0);
+async function wrongNumbers(desk, view, {tiles, rows, moment}, {groups, limits}) {
+  const wrong = [], report = reportLines(await desk.get('/reports/queues')).filter(line => !groups.length || groups.includes(line[0])), passed = Date.now() / 1000 - moment, snapshot = await desk.get('/snapshot');
+  const day = await reckoned(desk, '--end', Math.floor(moment), '--groups', groups.join(','), ...Object.entries(limits).flatMap(([group, limit]) => ['--limit-of', `${group}=${limit}`]));
   const see = (what, has, wanted) => { if (String(has) !== String(wanted)) wrong.push(`${what} is ${has} and not ${wanted}`); };
-  const near = (what, has, wanted) => { if ((has === null) !== (wanted === null) || Math.abs(has - wanted) > 2.5 + passed) wrong.push(`${what} is ${has} s and not ${wanted} s`); };
-  const answered = group => events.filter(event => event.event === 'established' && event.group && (!group || event.group === group));
-  const level = group => percent(answered(group).filter(event => event.waited <= 20).length, answered(group).length);
-  const idle = device => !device.connections.some(one => one.state !== 'fail');
-  const stations = new Map(snapshot.stations.map(station => [station.device, station]));
-  const ready = snapshot.agents.filter(agent => agent.state === 'ready' && idle(stations.get(agent.device)));
+  const near = (what, has, wanted, by = 2.5 + passed) => { if ((has === null) !== (wanted === null) || Math.abs(has - wanted) > by) wrong.push(`${what} is ${has} and not ${wanted}`); };
+  const level = of => percent(of.within, of.answered + of.late), lost = of => percent(of.abandoned, of.answered + of.abandoned), average = (part, whole) => whole ? Math.floor(part / whole) : null;
+  const stations = new Map(snapshot.stations.map(station => [station.device, station])), serves = agent => !groups.length || (agent.groups ?? [agent.group]).some(group => groups.includes(group));
+  const staff = snapshot.agents.filter(agent => agent.state !== 'null' && serves(agent)), ready = staff.filter(agent => agent.state === 'ready' && !stations.get(agent.device).connections.some(one => one.state !== 'fail'));
   const names = new Map(snapshot.groups.map(group => [view === 'wall' ? group.name : `${group.name} (${group.device})`, group.device])), sum = place => report.reduce((all, line) => all + Number(line[place]), 0);
-  const longest = text => text === '-' ? null : Number(text), tile = name => tiles.find(one => one[0] === name) ?? [];
-  see('Waiting', tile('Waiting')[1], sum(1));
-  see('Ringing', tile('Waiting')[2], sum(2) ? `and ${sum(2)} ringing` : '');
-  near('Longest wait', seconds(tile('Longest wait')[1] ?? ''), report.map(line => longest(line[8])).reduce((most, one) => one === null ? most : Math.max(most ?? 0, one), null));
-  see('Agents ready', tile('Agents ready').slice(1).map(text => text.replace('▲ ', '')), [ready.length, `of ${snapshot.agents.filter(agent => agent.state !== 'null').length} logged on`]);
-  see('Within 20 s', tile('Within 20 s')[1], level());
-  see('Abandoned', tile('Abandoned').slice(1), [sum(5), percent(sum(5), sum(4) + sum(5)).replace('–', '')]);
+  const longest = text => text === '-' ? null : Number(text), tile = name => (tiles.find(one => one[0].startsWith(name)) ?? ['', '', '']).map(plain), all = {...NONE, ...day.groups.all};
+  see('Waiting', tile('Waiting').slice(1), [sum(1), sum(2) ? `and ${sum(2)} ringing` : '']);
+  near('Longest wait', seconds(tile('Longest wait')[1]), report.map(line => longest(line[8])).reduce((most, one) => one === null ? most : Math.max(most ?? 0, one), null));
+  see('Agents ready', tile('Agents ready').slice(1), [ready.length, `of ${staff.length} logged on`]);
+  see('In time', tile('In time')[1], level(all));
+  see('Abandoned', tile('Abandoned').slice(1), [sum(5), `${lost(all)} goal 5%`]);
   see('Answered', tile('Answered')[1], sum(4));
+  see('the averages', [tile('Speed')[1], tile('Handling')[1]].map(seconds), [average(all.waited, all.answered), average(all.handling, all.handled)]);
+  const spent = Object.entries(day.agents).filter(([id]) => staff.some(({agent}) => agent === id) || !groups.length).map(([, of]) => [(of.talk ?? 0) + (of.work ?? 0), of.ready ?? 0]).reduce(([busy, free], [more, other]) => [busy + more, free + other], [0, 0]);
+  if (!groups.length) near('Occupancy', Number(tile('Occupancy')[1].replace('%', '')), 100 * spent[0] / (spent[0] + spent[1]), 1);
   see('groups', rows.length, report.length);
   for (const row of rows) {
-    const group = names.get(row[0]), line = report.find(one => one[0] === group) ?? [], free = ready.filter(agent => (agent.groups ?? [agent.group]).includes(group)).length;
+    const group = names.get(row[0]), line = report.find(one => one[0] === group) ?? [], of = {...NONE, ...day.groups[group]}, here = agent => (agent.groups ?? [agent.group]).includes(group), free = `${ready.filter(here).length} / ${staff.filter(here).length}`;
     see(`${row[0]}: waiting`, row[2], line[1]);
     near(`${row[0]}: longest`, seconds(row[3]), longest(line[8]));
-    if (view === 'wall') { see(`${row[0]}: ready, in time`, [row[4], row[6]], [free, level(group)]); continue; }
+    if (view === 'wall') { see(`${row[0]}: ready, in time`, [row[4], plain(row[6])], [free, level(of)]); continue; }
     const next = (await desk.get(`/queues/${group}`)).ready[0], named = snapshot.agents.find(agent => agent.agent === next)?.name ?? '–';
-    see(`${row[0]}: ringing, ready, next, in time`, [row[4], row[5], row[6], row[10]], [line[2], free, named, level(group)]);
-    see(`${row[0]}: entered, answered, abandoned, moved`, row.slice(11, 15), line.slice(3, 7));
-    see(`${row[0]}: average`, seconds(row[15]), line[7] === '-' ? null : Number(line[7]));
+    see(`${row[0]}: ringing, ready, next, in time`, [row[4], row[5], row[7], plain(row[11])], [line[2], free, named, level(of)]);
+    see(`${row[0]}: entered, answered, abandoned, moved`, [12, 13, 14, 16].map(place => plain(row[place])), line.slice(3, 7));
+    see(`${row[0]}: abandoned, in percent`, plain(row[15]), lost(of));
+    see(`${row[0]}: average, handling`, [seconds(row[17]), seconds(row[18])], [line[7] === '-' ? null : Number(line[7]), average(of.handling, of.handled)]);
   }
+  return wrong;
+}
+
+/** How what each agent did today differs from what the desk's events say. */
+async function wrongDays(desk, {rows, moment}, groups) {
+  const {agents} = await reckoned(desk, '--end', Math.floor(moment)), wrong = [];
+  for (const [who, id, , calls, ...times] of rows) {
+    const of = {calls: 0, missed: 0, talk: 0, work: 0, ready: 0, notReady: 0, ...agents[id]}, missed = times.pop(), wanted = [of.talk, of.work, of.ready, of.notReady];
+    if (Number(calls) !== of.calls || Number(missed) !== of.missed || times.some((time, place) => Math.abs(seconds(time) - wanted[place]) > 3)) wrong.push(`${who}: ${[calls, missed, ...times]} and not ${[of.calls, of.missed, ...wanted]}`);
+  }
+  if (!rows.length && !groups.length) wrong.push('no agent has a line');
   return wrong;
 }
 
 const ALONE = {ready: 'ready', busy: 'on a call', workingAfterCall: 'after-call work', notReady: 'not ready'};
 
 /** How the tiles of the agents who are logged on differ from a snapshot: name, state, station, calls and groups; no event tells what is pending. */
-function wrongTiles({agents, calls, groups}, tiles) {
+function wrongTiles({agents, calls, groups}, tiles, own) {
   const names = new Map(groups.map(group => [group.device, group.name])), ends = calls.flatMap(call => call.connections.map(one => ({...one, call: call.call})));
-  const wanted = agents.filter(agent => agent.state !== 'null').map(({agent, name, state, device, group, groups: several}) => {
-    const here = ends.filter(one => one.device === device), given = here.find(one => one.group), own = state === 'ready' && here.some(one => one.state !== 'fail');
-    const words = given ? {alerting: 'ringing', hold: 'call on hold', connected: 'on a call'}[given.state] : own ? 'own call' : ALONE[state];
-    return [name, words, [`${agent} at ${device}`, ...here.map(one => `call ${one.call}`), ...(several ?? [group]).map(one => names.get(one))].join(', ')].join(' | ');
+  const wanted = agents.filter(agent => agent.state !== 'null' && (!own.length || (agent.groups ?? [agent.group]).some(one => own.includes(one)))).map(({agent, name, state, device, group, groups: several}) => {
+    const here = ends.filter(one => one.device === device), given = here.find(one => one.group), free = state === 'ready' && here.some(one => one.state !== 'fail');
+    const words = given ? {alerting: 'ringing', hold: 'call on hold', connected: 'on a call'}[given.state] : free ? 'own call' : ALONE[state];
+    return [name, words, [`${agent} at ${device}`, ...(several ?? [group]).map(one => names.get(one))].join(', '), here.map(one => `call ${one.call}`).join('')].join(' | ');
   });
-  const shown = tiles.map(([name, words, place]) => [name, words.replace(/: .*/, ''), place.replace(/; .*/, '')].join(' | '));
+  const shown = tiles.map(([name, words, place, calls]) => [name, words.replace(/: .*/, ''), place.replace(/; .*/, ''), calls].join(' | '));
   return [...shown.filter(tile => !wanted.includes(tile)).map(tile => `+${tile}`), ...wanted.filter(tile => !shown.includes(tile)).map(tile => `-${tile}`)];
+}
+
+/** The events of own groups: each that is shown is of one of their calls or agents, and no call that came to one of them is left out. */
+export async function ownEvents(see, browser, desk, address, own) {
+  await browser.fresh(`${address}?since=0&groups=${own}#events`);
+  await live(browser);
+  await sleep(1500);
+  const shown = (await browser.run('return [...document.querySelectorAll("#events-list .number")].map(one => Number(one.textContent))')).sort((one, other) => one - other), events = await desk.events(0), {agents, stations} = await desk.get('/snapshot');
+  const staff = new Set(agents.filter(one => (one.groups ?? [one.group]).some(group => own.includes(group))).map(one => one.agent)), seats = stations.filter(one => staff.has(one.agent)).map(one => one.device);
+  const calls = new Set(events.filter(one => 'call' in one && [one.device, one.group, one.to].some(place => own.includes(place) || seats.includes(place))).map(one => one.call)), isOwn = one => calls.has(one.call) || staff.has(one.agent) || own.includes(one.group);
+  const byNumber = new Map(events.map(one => [one.number, one])), strange = shown.map(number => byNumber.get(number)).filter(one => one && !isOwn(one));
+  const missing = events.filter(one => one.number > shown[0] && one.number <= shown[shown.length - 1] && one.event === 'queued' && own.includes(one.device) && !shown.includes(one.number));
+  see('events are those of the own groups', shown.length > 50 && !strange.length && !missing.length, `${shown.length} ${JSON.stringify(strange[0])} ${JSON.stringify(missing[0])}`);
 }
 
 /** That nothing moves while the figures change, but for the wall, which is sorted anew. */
@@ -117,7 +150,7 @@ export async function looks(see, browser, address, folder) {
     await browser.run('document.activeElement.blur()');
     await browser.picture(join(folder, `${view}-${theme}.png`));
     if (view === 'wall') {
-      const least = await browser.run(`return Math.min(...[...document.querySelectorAll('#wall tbody :is(th, td)')].map(cell => parseFloat(getComputedStyle(cell).fontSize)))`);
+      const least = await browser.run(`return Math.min(...[...document.querySelectorAll('#wall-table tbody :is(th, td)')].map(cell => parseFloat(getComputedStyle(cell).fontSize)))`);
       see(`the wall's rows, ${theme}: at least 32 px`, least >= 32, least);
     }
     if (theme === 'light') continue;
@@ -145,22 +178,31 @@ export async function settings(see, browser, address) {
   await browser.open(`${address}?limit=45&title=North&theme=light#queues`);
   await live(browser);
   const shown = await browser.run('return [document.querySelector("#title").textContent, document.querySelector("#totals div:nth-child(4) dt").textContent, document.querySelector("[name=limit]").value, document.title]');
-  see('settings of the address', String(shown) === 'North,Within 45 s,45,North: queues', String(shown));
+  see('settings of the address', String(shown).startsWith('North,In time: within 45 s,45,') && shown[3].endsWith('North: Queues'), String(shown));
   await browser.run('const field = document.querySelector("[name=goal]"); field.value = "90"; field.dispatchEvent(new Event("change", {bubbles: true}))');
   const search = await browser.run('return location.search');
   see('a changed setting stands in the address', ['limit=45', 'title=North', 'goal=90'].every(part => search.includes(part)), search);
+  await browser.run('const field = document.querySelector("[name=long]"); field.value = "300"; field.dispatchEvent(new Event("change", {bubbles: true}))');
+  see('long is not more than too long', await browser.text('#set-told') === 'Too long has to be more than long' && !(await browser.run('return location.search')).includes('long'), await browser.text('#set-told'));
+  await browser.fresh(`${address}?since=soon&limit=-3&theme=pink&long=300&bad=100&groups=x&group=100&states=ready&find=a&sort=time#agents`);
+  await live(browser);
+  const {settings, search: kept} = await browser.run('const {since, limit, theme, long, bad, groups} = window.board.settings; return {settings: [since, limit, theme, long, bad, groups], search: location.search}');
+  see('what is no value is as it comes', String(settings) === '00:00,20,,300,300,', String(settings));
+  see('filters stay in the address', ['group=100', 'states=ready', 'find=a', 'sort=time'].every(part => kept.includes(part)), kept);
+  const chosen = await browser.run('return [document.querySelector("[name=group]").value, document.querySelector("[name=find]").value, document.querySelector("#states [aria-pressed=true]")?.dataset.doing, document.querySelector("[name=sort]").value]');
+  see('and in their fields', String(chosen) === '100,a,ready,time', String(chosen));
 }
 
 /** An offer that nobody takes back, since nobody sends ticks. */
 export async function alarm(see, browser, desk, address) {
   await browser.open(`${address}#wall`);
   await live(browser);
-  const shown = () => browser.run('return document.querySelector("#alarm").hidden ? "" : document.querySelector("#alarm").textContent');
+  const shown = () => browser.run('return document.querySelector("#alarm [data-key=ticks]")?.textContent ?? ""');
   see('no alarm while ticks come', await shown() === '', await shown());
   const {agents, groups} = await desk.get('/snapshot'), names = new Set(agents.filter(agent => agent.state === 'ready').flatMap(agent => agent.groups ?? [agent.group]));
   const group = groups.find(one => names.has(one.device));
   for (let call = 0; call < 3; call++) await desk.post({requester: 'try', invoke: 100 + call, service: 'arriveCall', caller: '0301234', called: group?.device ?? groups[0].device});
-  see('an alarm where an offer rings on', Boolean(await until(async () => /Nobody sends ticks/.test(await shown()), 60)), await shown());
+  see('an alarm where an offer rings on', Boolean(await until(async () => /Calls ring on without an end/.test(await shown()), 60)), await shown());
   await desk.post({requester: 'try', invoke: 110, service: 'tick'});
   see('and none behind a tick', Boolean(await until(async () => await shown() === '', 5)), await shown());
 }
@@ -183,14 +225,18 @@ export async function clockAhead(see, browser, desk, early, address) {
 
 /** A desk that is gone, back, and another one. */
 export async function losses(see, browser, desk, other, address) {
-  await browser.open(`${address}#wall`);
+  // another desk's day may have begun before midnight
+  await browser.open(`${address}?since=0#wall`);
   await live(browser);
-  const status = () => browser.text('#status-text'), old = () => browser.run('return document.body.hasAttribute("data-old")'), wait = () => browser.text('#wall td:nth-child(4)');
+  const status = () => browser.text('#status-text'), old = () => browser.run('return document.body.hasAttribute("data-old")'), wait = () => browser.text('#wall-table td:nth-child(4)');
   await desk.stop();
-  see('a lost desk is told within 5 s', Boolean(await until(async () => /What you see is .* old/.test(await status()), 5)), await status());
+  see('a lost desk is told within 5 s', Boolean(await until(async () => /^What you see is old/.test(await status()) && /\d old$/.test(await browser.text('#status-age')), 5)), await status());
   see('what is shown is grey within 15 s', Boolean(await until(old, 15)));
   const still = await wait();
-  await sleep(2500);
+  await browser.run(`window.told = []; for (const part of document.querySelectorAll('[role=alert], [role=status]')) new MutationObserver(() => window.told.push(part.textContent)).observe(part, {childList: true, characterData: true, subtree: true})`);
+  await sleep(3500);
+  see('nothing is read out each second', (await browser.run('return window.told')).length === 0, await browser.run('return window.told[0]'));
+  see('the title says so', (await browser.run('return document.title')).startsWith('■ no desk – '), await browser.run('return document.title'));
   see('no wait goes on meanwhile', await wait() === still, `${still}, ${await wait()}`);
   await desk.serve();
   see('the board goes on by itself within 10 s', Boolean(await until(async () => await status() === 'Live' && !await old(), 10)), await status());

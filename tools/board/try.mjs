@@ -11,12 +11,19 @@ import {aDay, Desk, Front, missing, run, TOP} from './desk.mjs';
 import {buttons} from './buttons.mjs';
 import {full} from './full.mjs';
 import {inLoad, record, replay, unseenFaults} from './model.mjs';
-import {alarm, clockAhead, looks, losses, numbers, people, settings, still} from './page.mjs';
-import {lostReply, olderPage, owners, PLAN, refused, shift} from './shift.mjs';
+import {alarms, nothing, troubles} from './alarms.mjs';
+import {days, overMidnight, zones} from './days.mjs';
+import {lead, office, session} from './lead.mjs';
+import {alarm, clockAhead, looks, losses, numbers, ownEvents, people, settings, still} from './page.mjs';
+import {shape} from './shape.mjs';
+import {callers, sheets} from './sheets.mjs';
+import {words} from './words.mjs';
+import {agentsPage} from './agent.mjs';
+import {PLAN} from './shift.mjs';
 
 const NEEDED = {chromedriver: 'chromium-driver', chromium: 'chromium', nginx: 'nginx-light', tsc: 'node-typescript', openssl: 'openssl', curl: 'curl', python3: 'python3'};
-const PARTS = ['files', 'gate', 'show', 'state', 'load', 'buttons', 'board', 'agent', 'full'], MOST_BYTES = 105000, MOST_CALLS = 2000, ROUNDS = 50;
-const ROLES = [['pbx', 'exchange'], ['planner', 'office'], ['sup', 'supervisor'], ['ana', 'agent', '7']];
+const PARTS = ['files', 'gate', 'show', 'state', 'load', 'buttons', 'board', 'alarms', 'words', 'shape', 'days', 'lead', 'agent', 'full'], MOST_BYTES = 150000, MOST_CALLS = 2000, ROUNDS = 50;
+const ROLES = [['pbx', 'exchange'], ['planner', 'office'], ['sup', 'supervisor'], ['ana', 'agent', '7'], ['lea', 'lead', 'groups=101,102']];
 
 class Trial {
   constructor(program, folder, pictures) { Object.assign(this, {program, folder, pictures, tried: 0, wrong: 0, missed: 0, ends: []}); }
@@ -56,9 +63,9 @@ class Trial {
 
   /** The types, and how much a browser loads at most. */
   async files() {
-    const files = readdirSync(join(TOP, 'board'), {recursive: true}).map(String).filter(name => /\.(js|css|html)$/.test(name)), bytes = files.reduce((sum, name) => sum + statSync(join(TOP, 'board', name)).size, 0);
+    const files = readdirSync(join(TOP, 'board'), {recursive: true}).map(String).filter(name => /\.(js|css|html)$/.test(name)), bytes = files.filter(name => !/^words\/(?!en)/.test(name)).reduce((sum, name) => sum + statSync(join(TOP, 'board', name)).size, 0);
     this.see(`board/ has less than ${MOST_BYTES} bytes`, bytes < MOST_BYTES, bytes);
-    const words = ['--allowJs', '--checkJs', '--strict', '--noEmit', '--target', 'es2022', '--module', 'es2022', '--lib', 'es2022,dom,dom.iterable', join(TOP, 'board/main.js'), join(TOP, 'board/agent/agent.js')];
+    const words = ['--allowJs', '--checkJs', '--strict', '--noEmit', '--target', 'es2022', '--module', 'es2022', '--moduleResolution', 'node', '--lib', 'es2022,dom,dom.iterable', ...['globals.d.ts', 'main.js', 'agent/agent.js', 'agent/listening.js', 'login/login.js', 'words/de.js'].map(name => join(TOP, 'board', name))];
     const said = await run('tsc', words);
     this.see('tsc --checkJs --strict', said === '', said.slice(0, 400));
   }
@@ -86,7 +93,7 @@ class Trial {
       await cp(join(TOP, 'board'), copy, {recursive: true});
       await writeFile(join(copy, 'package.json'), '{"type":"module"}');
     }
-    const modules = await Promise.all(['state.js', 'day.js', 'agent/allowed.js'].map(name => import(pathToFileURL(join(copy, name)))));
+    const modules = await Promise.all(['state.js', 'day.js', 'agent/mine.js'].map(name => import(pathToFileURL(join(copy, name)))));
     return Object.assign({}, ...modules);
   }
 
@@ -126,23 +133,57 @@ class Trial {
     await other.stop();
     const front = await this.front(desk), browser = await this.browser(), folks = this.keep(people(desk, 12), one => one.end()), address = front.page('sup', '/board/');
     await browser.open(`${address}?since=0#wall`);
-    await numbers(this.see, browser, desk, folks, 10);
+    await numbers(this.see, browser, desk, folks, 7);
+    const own = ['100', '103', '106'];
+    await browser.open(`${address}?since=0&groups=${own}&limit.100=45&limit.103=5#wall`);
+    await numbers(this.see, browser, desk, folks, 3, {groups: own, limits: {100: 45, 103: 5}});
+    await ownEvents(this.see, browser, desk, address, own);
     await settings(this.see, browser, address);
     await still(this.see, browser, address, 10);
     await looks(this.see, browser, address, this.pictures);
+    await callers(this.see, browser, desk, address);
+    folks.stop();
+    await sheets(this.see, browser, desk, address);
+    folks.goOn();
     await folks.end();
+    await desk.post({requester: 'try', invoke: 90, service: 'tick'});
     await alarm(this.see, browser, desk, address);
     await clockAhead(this.see, browser, desk, new Desk(this.program, join(this.folder, 'early.db'), desk.port), address);
     await losses(this.see, browser, desk, other.file, address);
   }
 
+  async alarms() {
+    const desk = await this.desk('alarms.db', troubles(Math.floor(Date.now() / 1000))), front = await this.front(desk);
+    const browser = await this.browser();
+    await alarms(this.see, browser, desk, front.page('sup', '/board/'));
+    await nothing(this.see, browser, await this.front(await this.desk('nothing.db', PLAN.slice(3, 4))));
+  }
+
+  async words() {
+    const desk = await this.desk('words.db', await aDay(0.5, '--groups', 10, '--agents', 40)), front = await this.front(desk), {groups, agents} = await desk.get('/snapshot');
+    await words(this.see, await this.browser(), join(front.file, 'share/board'), where => front.page('sup', where), [...groups, ...agents].map(one => one.name));
+  }
+
+  async shape() {
+    const desk = await this.desk('shape.db', await aDay(0.5, '--groups', 16, '--agents', 80)), front = await this.front(desk);
+    await shape(this.see, await this.browser(), front, this.pictures);
+  }
+
+  async days() {
+    const desk = await this.desk('days.db', days(Math.floor(Date.now() / 1000))), front = await this.front(desk), browser = await this.browser();
+    await zones(this.see, browser, desk, front);
+    await overMidnight(this.see, browser, front);
+  }
+
+  async lead() {
+    const desk = await this.desk('lead.db', office(Math.floor(Date.now() / 1000))), front = await this.front(desk);
+    await lead(this.see, await this.browser(), desk, front);
+    await session(this.see, await this.browser(), front);
+  }
+
   async agent() {
     const desk = await this.desk('shift.db', PLAN), front = await this.front(desk), browser = await this.browser();
-    await shift(this.see, browser, desk, front, this.pictures);
-    await lostReply(this.see, browser, desk, front);
-    await olderPage(this.see, browser, desk, front);
-    await owners(this.see, browser, desk);
-    await refused(this.see, browser, desk, front);
+    await agentsPage(this.see, browser, desk, front, this.pictures);
   }
 
   async full() {

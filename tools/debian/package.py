@@ -268,7 +268,7 @@ def lay_out(root, options, moment):
     put("usr/sbin/acd-gate", (BOARD / "gate/acd-gate").read_bytes(), 0o755)
     for name in ("acd-calls", "acd-export", "acd-plan"):
         put(f"usr/bin/{name}", (OPERATING / name).read_bytes(), 0o755)
-    for module in (*sorted(OPERATING.glob("acd_*.py")), TOP / "clients/python/acd_client.py", TOP / "clients/python/acd_due.py"):
+    for module in (*sorted(OPERATING.glob("acd_*.py")), *sorted((BOARD / "gate").glob("acd_*.py")), TOP / "clients/python/acd_client.py", TOP / "clients/python/acd_due.py"):
         put(f"usr/share/acd/{module.name}", module.read_bytes())
     for page in sorted(path for path in BOARD.rglob("*") if path.suffix in PAGES):
         put(f"usr/share/acd/board/{page.relative_to(BOARD)}", page.read_bytes())

@@ -113,7 +113,7 @@ REACH = [
 ]
 
 # of which script, in which file
-ALL = [("calls", "acd-calls", CALLS), ("calls", "acd_book.py", BOOK), ("calls", "acd_records.py", RECORDS), ("calls", "acd_quarters.py", QUARTERS), ("calls", "acd_days.py", DAYS),
+ALL = [("calls", "acd-calls", CALLS), ("calls", "acd_book.py", BOOK), ("calls", "acd_records.py", RECORDS), ("calls", "acd_quarters.py", QUARTERS), ("calls", "acd_record_days.py", DAYS),
        ("calls", "acd_office.py", OFFICE), ("plan", "acd-plan", PLAN), ("plan", "acd_reach.py", REACH)]
 
 

@@ -1,0 +1,126 @@
+"""Each agent's day, as the desk's event reports tell it: calls, talks, offers that were taken back. Unproved.
+
+A day begins at midnight of this machine's zone, as acd-calls has it. The reports of today are read once, some at a time, and carried on."""
+import datetime
+from collections import deque
+from dataclasses import dataclass, field
+
+# reports of before midnight say who is logged on where, and who talks
+EARLIER = 4 * 3600
+# the calls that a day names
+LAST = 5
+
+
+@dataclass
+class Own:
+    """`busy` is since when the agent talks; `missed_offer` the last offer that was taken back, until the agent logs on or off."""
+    answered: int = 0
+    talking: int = 0
+    missed: int = 0
+    busy: int | None = None
+    calls: deque = field(default_factory=lambda: deque(maxlen=LAST))
+    missed_offer: dict | None = None
+
+
+def midnight_before(moment):
+    return int(datetime.datetime.combine(datetime.date.fromtimestamp(moment), datetime.time()).timestamp())
+
+
+def midnight_behind(moment):
+    return int(datetime.datetime.combine(datetime.date.fromtimestamp(moment) + datetime.timedelta(days=1), datetime.time()).timestamp())
+
+
+class Days:
+    """`last` is the last report that was taken, None before the first; `whole` whether today's were all taken once."""
+
+    def __init__(self, moment):
+        self.last, self.whole = None, False
+        self.agents, self.at, self.offers, self.talks = {}, {}, {}, {}
+        self.begins, self.ends = midnight_before(moment), midnight_behind(moment)
+
+    def roll(self, moment):
+        """Whether another day has begun; then nothing of the one before counts any more."""
+        if moment < self.ends:
+            return False
+        self.begins, self.ends = midnight_before(moment), midnight_behind(moment)
+        for own in self.agents.values():
+            own.answered = own.talking = own.missed = 0
+            own.calls.clear()
+        return True
+
+    def own(self, agent):
+        found = self.agents.get(agent)
+        if found is None:
+            found = self.agents[agent] = Own()
+        return found
+
+    def take(self, report, state):
+        """The next report; state is the desk before it, or a later one, and says who calls, and who is where as long as no report did."""
+        self.last = report["number"]
+        self.roll(report["moment"])
+        if "agent" in report:
+            self.take_agent(report, report["moment"])
+        else:
+            self.take_call(report, report["moment"], state)
+
+    def take_agent(self, report, moment):
+        own, event = self.own(report["agent"]), report["event"]
+        self.at[report["device"]] = report["agent"] if event != "agentLoggedOff" else None
+        if own.busy is not None:
+            own.talking += max(0, moment - max(own.busy, self.begins))
+        own.busy = moment if event == "agentBusy" else None
+        own.answered += event == "agentBusy" and moment >= self.begins
+        if event in ("agentLoggedOn", "agentLoggedOff"):
+            own.missed_offer = None
+
+    def take_call(self, report, moment, state):
+        event, number, device = report["event"], report["call"], report.get("device")
+        if event == "delivered":
+            self.offers[device] = number, moment
+        elif event == "established":
+            self.talks.setdefault(number, {})[device] = moment, report.get("group")
+        elif event == "callCleared":
+            self.talks.pop(number, None)
+        elif event in ("diverted", "transferred", "connectionCleared"):
+            self.leave(report, moment, state)
+
+    def leave(self, report, moment, state):
+        number, device = report["call"], report["device"]
+        agent, call = self.at.get(device, state.stations[device].agent if device in state.stations else None), state.calls.get(number)
+        caller = call.caller if call else None
+        offered, since = self.offers.get(device, (None, 0))
+        if report.get("cause") == "noAnswer" and agent and offered == number:
+            own = self.own(agent)
+            own.missed += moment >= self.begins
+            own.missed_offer = {"call": number, "caller": caller, "group": report.get("group"), "moment": moment, "since": since}
+        began, group = self.talks.get(number, {}).pop(device, (None, None))
+        if began is not None and agent and moment >= self.begins:
+            self.own(agent).calls.append({"call": number, "caller": caller, "group": group, "moment": began, "talked": moment - began})
+
+    def text(self, agent):
+        """What an agent's page shows of the day; None before all of it is known."""
+        if not self.whole:
+            return None
+        own = self.agents.get(agent) or Own()
+        calls = [{name: value for name, value in call.items() if value is not None} for call in own.calls]
+        return {"answered": own.answered, "begins": self.begins, "calls": calls, "missed": own.missed, "talking": own.talking}
+
+    def missed_offer(self, agent):
+        own = self.agents.get(agent)
+        return own and own.missed_offer and {name: value for name, value in own.missed_offer.items() if value is not None}
+
+
+def first_of(ask, last, moment):
+    """The number of the last event before a moment, found by halving; ask gives the events behind a number."""
+    low, high = 0, last
+    while low < high:
+        middle = (low + high) // 2
+        events = ask(middle)
+        later = next((place for place, event in enumerate(events) if event["moment"] >= moment), None)
+        if later is None and events:
+            low = events[-1]["number"]
+        elif not later:
+            high = middle
+        else:
+            return middle + later
+    return low

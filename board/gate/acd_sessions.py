@@ -1,0 +1,127 @@
+"""Sessions of people who logged in by a form: a cookie for the browser, and its digest in a file that outlives a start. Unproved."""
+import hashlib
+import json
+import os
+import re
+import secrets
+import sys
+import threading
+import time
+from dataclasses import dataclass
+from pathlib import Path
+
+COOKIE = "__Host-acd"
+UNUSED, LONGEST = 12 * 3600, 24 * 3600
+# a click is written down once in this time
+USED_AGAIN = 60
+# of one login; beyond that its own oldest one ends, and nobody else's
+MOST = 100
+TOKEN = r"[A-Za-z0-9_-]{43}"
+
+
+@dataclass
+class Session:
+    """`bound` is a digest of the login's line in the users' file: another password ends the session."""
+    login: str
+    bound: str
+    begun: int
+    used: int
+
+    @property
+    def ends(self):
+        return min(self.used + UNUSED, self.begun + LONGEST)
+
+
+def digest(text):
+    return hashlib.sha256(text.encode()).hexdigest()
+
+
+def cookie_of(field):
+    """The session's token in a field Cookie; None where it has none, "" where it has something else under that name, or two."""
+    given = [value for name, _, value in (part.strip().partition("=") for part in field.split(";")) if name == COOKIE]
+    if not given:
+        return None
+    return given[0] if len(given) == 1 and re.fullmatch(TOKEN, given[0]) else ""
+
+
+def cookie_field(token):
+    """The field Set-Cookie of a token; without one the browser forgets its cookie."""
+    return "Set-Cookie", f"{COOKIE}={token or ''}; Path=/; Max-Age={LONGEST if token else 0}; HttpOnly; Secure; SameSite=Strict"
+
+
+class Sessions:
+    """`users` tells the hash of each login's password. Without a file sessions end with the gate."""
+
+    def __init__(self, file, users, clock=time.time):
+        self.file, self.users, self.clock, self.lock = file and Path(file), users, clock, threading.Lock()
+        self.found = self.kept()
+
+    def kept(self):
+        """What the file says; a line that can't be read is nobody's session."""
+        found = {}
+        try:
+            lines = self.file.read_text().splitlines() if self.file else []
+        except OSError:
+            lines = []
+        for line in lines:
+            try:
+                told = json.loads(line)
+                found[told["digest"]] = Session(str(told["login"]), str(told["bound"]), int(told["begun"]), int(told["used"]))
+            except (ValueError, KeyError, TypeError):
+                print(f"acd-gate: {self.file} has a line that is no session", file=sys.stderr, flush=True)
+        return found
+
+    def keep(self):
+        """Writes all sessions down, whole or not at all."""
+        if self.file is None:
+            return
+        text = "".join(json.dumps({"digest": name, **vars(session)}) + "\n" for name, session in self.found.items())
+        new = self.file.with_name(self.file.name + ".new")
+        try:
+            with os.fdopen(os.open(new, os.O_WRONLY | os.O_CREAT | os.O_TRUNC, 0o600), "w") as out:
+                out.write(text)
+                out.flush()
+                os.fsync(out.fileno())
+            new.replace(self.file)
+        except OSError as fault:
+            print(f"acd-gate: {self.file} can't be written: {fault.strerror}", file=sys.stderr, flush=True)
+
+    def bound(self, login):
+        """None for who has no password any more."""
+        hashed = self.users.now().get(login)
+        return hashed and digest(f"{login}:{hashed}")
+
+    def is_good(self, session):
+        return session is not None and session.begun - 60 <= self.clock() < session.ends and session.bound == self.bound(session.login)
+
+    def begin(self, login):
+        """The token of a new session."""
+        token, now = secrets.token_urlsafe(32), int(self.clock())
+        with self.lock:
+            self.found = {name: session for name, session in self.found.items() if self.is_good(session)}
+            own = sorted((session.used, name) for name, session in self.found.items() if session.login == login)
+            for _, name in own[:max(0, len(own) + 1 - MOST)]:
+                del self.found[name]
+            self.found[digest(token)] = Session(login, self.bound(login) or "", now, now)
+            self.keep()
+        return token
+
+    def of(self, token):
+        """The session of a token, where it is good."""
+        with self.lock:
+            session = self.found.get(digest(token)) if token else None
+            return session if self.is_good(session) else None
+
+    def use(self, token):
+        """Somebody clicked."""
+        session = self.of(token)
+        with self.lock:
+            if session and self.clock() - session.used >= USED_AGAIN:
+                session.used = int(self.clock())
+                self.keep()
+        return session
+
+    def end(self, token):
+        with self.lock:
+            if token and self.found.pop(digest(token), None):
+                self.keep()

@@ -1,0 +1,38 @@
+// Names of types that the board's modules use without importing them. No browser loads this file.
+import * as types from './types';
+
+declare global {
+  type Agent = types.Agent;
+  type AgentReport = types.AgentReport;
+  type Alarm = types.Alarm;
+  type Call = types.Call;
+  type CallLine = types.CallLine;
+  type CallReport = types.CallReport;
+  type Column = types.Column;
+  type ConnectionState = types.ConnectionState;
+  type Course = types.Course;
+  type Day = import('./day.js').Day;
+  type Doing = types.Doing;
+  type Drawn = types.Drawn;
+  type Group = types.Group;
+  type GroupLine = types.GroupLine;
+  type Limits = types.Limits;
+  type Line = types.Line;
+  type Report = types.Report;
+  type Series = types.Series;
+  type Settings = import('./settings.js').Settings;
+  type Severity = types.Severity;
+  type Snapshot = types.Snapshot;
+  type State = import('./state.js').State;
+  type Step = types.Step;
+  type Sums = types.Sums;
+  type Tile = types.Tile;
+  type Agents = types.Agents;
+  type Share = types.Share;
+  type Follower = types.Follower;
+  type Page = types.Page;
+  type AgentState = types.AgentState;
+  type Station = types.Station;
+  type Queued = types.Queued;
+  type View = {draw: (drawn: Drawn, anew: boolean) => void, file: (drawn: Drawn) => (string | number)[][]};
+}

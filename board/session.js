@@ -1,0 +1,37 @@
+// Who is logged in, and the session of a browser: that it is used, and that it ends.
+// @ts-check
+import {byId, toggle} from './draw.js';
+import {read} from './feed.js';
+
+const USED_EVERY = 60000, AGAIN = 5000, base = location.origin;
+
+// The page of log-in, which comes back to where one was.
+export const logIn = () => location.assign(`${base}/board/login/?next=${location.pathname}${location.search}${location.hash}`);
+
+// Ends the session of this browser.
+export async function logOut() {
+  await fetch(`${base}/logout`, {method: 'POST'});
+  location.replace(`${base}/board/login/`);
+}
+
+// What the gate says of the login; nothing where there is no gate. A session is used by a click or a key, and has a button that ends it.
+/** @param {() => void} leave what the button does @param {(why:string) => void} [late] @returns {Promise<Who>} */
+export async function openSession(leave, late) {
+  /** @type {Who|undefined} */ let who;
+  while (!who) try { who = /** @type {Who} */ (await read(`${base}/session`)); } catch (error) {
+    const {status, message} = /** @type {any} */ (error);
+    if ([401, 403, 404].includes(status)) return {};
+    late?.(message);
+    await new Promise(done => setTimeout(done, AGAIN));
+  }
+  if (!who.begun) return who;
+  let used = 0;
+  for (const kind of ['pointerdown', 'keydown']) addEventListener(kind, () => {
+    if (Date.now() - used < USED_EVERY) return;
+    used = Date.now();
+    fetch(`${base}/session`, {method: 'POST'}).catch(() => { used = 0; });
+  }, {capture: true, passive: true});
+  toggle(byId('log-off'), 'hidden', false);
+  byId('log-off').addEventListener('click', leave);
+  return who;
+}

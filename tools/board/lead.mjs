@@ -1,0 +1,77 @@
+// What a lead does by the board: buttons where the own groups are, each behind a question, and what the desk makes of it.
+import {sleep, until} from './browser.mjs';
+import {live} from './page.mjs';
+import {Story} from './story.mjs';
+
+/** Three groups with an agent each: one is ready, one talks, in the third a call waits. */
+export function office(now) {
+  const story = new Story(now - 600, [['100', 'Billing'], ['101', 'Orders'], ['102', 'Returns']]);
+  story.ask(now - 300, 'arriveCall', {caller: '0401', called: '101'});
+  story.ask(now - 290, 'answerCall', {call: 1, device: '201'});
+  story.ask(now - 200, 'setAgentState', {agent: '3', requested: 'notReady'});
+  story.ask(now - 100, 'arriveCall', {caller: '0402', called: '102'});
+  return story.lines;
+}
+
+export async function lead(see, browser, desk, front) {
+  const visible = selector => browser.run('return [...document.querySelectorAll(arguments[0])].filter(one => one.checkVisibility()).map(one => one.closest("[data-key]").dataset.key)', selector);
+  const acts = {agents: '#agents-list [data-press=state]', calls: '#calls-table [data-press=call]', queues: '#queues-table [data-press=priority]'};
+  const shown = async login => {
+    const found = {};
+    for (const [view, selector] of Object.entries(acts)) {
+      await browser.fresh(front.page(login, `/board/?since=0#${view}`));
+      await live(browser);
+      await sleep(1200);
+      found[view] = await visible(selector);
+    }
+    return JSON.stringify(found);
+  };
+  see('a supervisor has no button', await shown('sup') === '{"agents":[],"calls":[],"queues":[]}', await shown('sup'));
+  see('a lead has those of the own groups', await shown('lea') === '{"agents":["2","3"],"calls":["2","1"],"queues":["101","102"]}', await shown('lea'));
+  const ask = async (view, selector, chosen) => {
+    await browser.run('location.hash = arguments[0]', view);
+    await until(async () => (await visible(selector)).length, 5);
+    await browser.click(selector);
+    await sleep(200);
+    if (chosen) await browser.run('document.querySelector("#act select").value = arguments[0]', chosen);
+  };
+  const yes = () => browser.run('const button = document.querySelector("#act [value=yes]"); button.click(); button.click();'), agent = async id => (await desk.get(`/agents/${id}`)).state;
+  await ask('agents', '#agents-list [data-key="3"] [data-press=state]', 'ready');
+  await browser.press('\uE00C');
+  await sleep(800);
+  see('without a yes nothing is asked for', await agent('3') === 'notReady' && await browser.run('return !document.querySelector("#act").open'));
+  await ask('calls', '#calls-table [data-key="2"] [data-press=call]', '101');
+  await yes();
+  see('a waiting call is moved', await until(async () => (await desk.get('/calls/2')).connections.some(one => one.device === '101'), 5), JSON.stringify(await desk.get('/calls/2')));
+  await ask('agents', '#agents-list [data-key="3"] [data-press=state]', 'ready');
+  await yes();
+  see('an agent is ready', await until(async () => await agent('3') === 'ready', 5), await agent('3'));
+  see('and it is told', (await browser.text('#act-told')).startsWith('✓ '), await browser.text('#act-told'));
+  await ask('calls', '#calls-table [data-key="1"] [data-press=call]');
+  await yes();
+  see('a call is ended', await until(() => desk.get('/calls/1').then(() => false, () => true), 5));
+  await ask('queues', '#queues-table [data-key="102"] [data-press=priority]', '7');
+  await yes();
+  see('a group has another priority', await until(async () => (await desk.get('/snapshot')).groups.find(one => one.device === '102').priority === 7, 5));
+  await ask('agents', '#agents-list [data-key="3"] [data-press=state]', 'loggedOff');
+  await yes();
+  see('an agent is logged off', await until(async () => await agent('3') === 'null', 5), await agent('3'));
+  const before = (await desk.get('/events?after=999999999999999')).last;
+  await browser.run(`import('./act.js').then(({Lead}) => { const one = new Lead(); one.begin({login: 'lea', role: 'lead', groups: ['100']}); one.send('setGroupPriority', {device: '100', priority: 3}, 'done'); })`);
+  see('beyond the own groups it is refused', await until(async () => /■ .*may not/.test(await browser.text('#act-told')), 5) && (await desk.get('/snapshot')).groups.find(one => one.device === '100').priority !== 3, await browser.text('#act-told'));
+  see('and does nothing', (await desk.get('/events?after=999999999999999')).last === before);
+}
+
+/** A browser's session: a form, a board, an end. */
+export async function session(see, browser, front) {
+  await browser.fresh(`${front.address}/board/?since=0&groups=101#queues`);
+  see('without a session the page of log-in comes', await until(async () => (await browser.run('return location.pathname')) === '/board/login/', 10));
+  await browser.run('document.querySelector("[name=login]").value = "sup"; document.querySelector("[name=password]").value = "secret"; document.querySelector("button").click()');
+  see('and goes on to where one was', await until(async () => await browser.run('return location.pathname + location.search') === '/board/?since=0&groups=101', 10), await browser.run('return location.href'));
+  await live(browser);
+  await until(() => browser.run('return document.querySelector("#log-off").checkVisibility()'), 10);
+  await browser.run('document.body.click()');
+  await browser.click('#log-off');
+  see('Log off here ends it', await until(async () => (await browser.run('return location.pathname')) === '/board/login/', 10), await browser.run('return location.href'));
+  see('for good', await browser.run('return fetch("/session").then(reply => reply.status)') === 401);
+}

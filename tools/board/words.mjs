@@ -1,0 +1,54 @@
+// That all words of the board come from its table: with one whose values are `[key]`, whatever is said is in brackets or comes from the desk; and that German is whole.
+import {readFile, writeFile} from 'node:fs/promises';
+import {join} from 'node:path';
+import {sleep, until} from './browser.mjs';
+import {VIEWS} from './page.mjs';
+
+const KEYS = /(?:^|[\s{,])(?:'([a-zA-Z][\w.]*)'|"([a-zA-Z][\w.]*)"): (?=['"{])/g;
+
+/** The keys of a table of words, as its text has them. */
+export async function keysOf(file) {
+  const text = await readFile(file, 'utf8');
+  return [...text.slice(text.search(/ENGLISH = \{|export default \{/)).split('\n};')[0].matchAll(KEYS)].map(found => found[1] ?? found[2]);
+}
+
+/** Whatever a person is told by the page: texts, titles, labels, choices. */
+const SAID = `
+  const walk = document.createTreeWalker(document.documentElement, NodeFilter.SHOW_TEXT), said = [];
+  while (walk.nextNode()) if (!walk.currentNode.parentElement.closest('script, style, noscript')) said.push(walk.currentNode.textContent);
+  for (const element of document.querySelectorAll('*')) for (const name of ['title', 'aria-label', 'placeholder', 'alt']) if (element.hasAttribute(name)) said.push(element.getAttribute(name));
+  return [document.title, ...said].filter(text => text.trim());`;
+
+export async function words(see, browser, board, page, names) {
+  const keys = await keysOf(join(board, 'words.js'));
+  await writeFile(join(board, 'words/zz.js'), `export default {${keys.map(key => `'${key}': '[${key}]'`)}};`);
+  for (const view of VIEWS) {
+    await browser.open(page(`/board/?lang=zz&since=0&tone=1#${view}`));
+    await until(() => browser.run('return window.board?.counted()'), 30);
+    await browser.run('for (const details of document.querySelectorAll("details")) details.open = true');
+    await sleep(1200);
+    const said = await browser.run(SAID), left = said.map(text => rest(text, names)).filter(text => /\p{L}/u.test(text));
+    see(`${view}: all words are of the table`, said.length > 60 && !left.length, left.slice(0, 4).join('; '));
+  }
+  const german = await keysOf(join(board, 'words/de.js'));
+  see('German has each key once, and no other', String([...german].sort()) === String([...keys].sort()) && new Set(keys).size === keys.length, keys.filter(key => !german.includes(key)).concat(german.filter(key => !keys.includes(key))).slice(0, 4));
+  await inGerman(see, browser, page);
+}
+
+/** What is left of a text without what is in brackets, what the desk tells, and names of languages and zones. */
+function rest(text, names) {
+  let left = text.replace(/\[[\w.]+\]/g, '').replace(/^(English|Deutsch)$/, '').replace(/\b(UTC|GMT[+-]?\d*|CES?T|[AP]M)\b/g, '');
+  for (const name of names) left = left.replaceAll(name, '');
+  return left;
+}
+
+/** German says numbers, plurals and times as German does. */
+async function inGerman(see, browser, page) {
+  await browser.open(page('/board/?lang=de&since=0#wall'));
+  await until(() => browser.run('return window.board?.counted()'), 30);
+  await sleep(600);
+  const [lang, title, heads, level] = await browser.run('return [document.documentElement.lang, document.title, [...document.querySelectorAll("#wall-table th[scope=col]")].map(head => head.textContent), document.querySelector("#totals div:nth-child(4) b").textContent]');
+  see('the wall in German', lang === 'de' && title.endsWith('Hotline: Wand') && heads.includes('Rechtzeitig') && /^\d+\s%$/.test(level), JSON.stringify([lang, title, heads, level]));
+  const said = await browser.run(SAID), english = said.filter(text => /\b(the|Waiting|Abandoned|Settings|Longest|empty|seen|since)\b/.test(text));
+  see('and nothing English', !english.length, english.slice(0, 3).join('; '));
+}
