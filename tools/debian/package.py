@@ -278,6 +278,8 @@ def lay_out(root, options, moment):
         put(f"usr/lib/systemd/system/{name}", (OPERATING / name).read_bytes())
     for name in ("acd.env", "roles"):
         put(f"etc/acd/{name}", (OPERATING / name).read_bytes())
+    # records are written behind each copy, so their unit is wanted by that of the copies
+    put("usr/share/lintian/overrides/acd", "acd: systemd-service-file-refers-to-unusual-wantedby-target acd-copy.service *\n")
     put("usr/share/bash-completion/completions/acd", (OPERATING / "acd.bash").read_bytes())
     (root / "usr/share/bash-completion/completions/acd-plan").symlink_to("acd")
     doc = "usr/share/doc/acd/"
