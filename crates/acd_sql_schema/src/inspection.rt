@@ -48,8 +48,6 @@ fn are_connections(rows: &[Row]) -> bool
 
 // Whether the limits and the counters are in their ranges.
 fn is_good_meta<S: Alter>(conn: &mut Connection<S>) -> Result<bool, Error>
-    requires { conn.old.in_transaction ≡ false }
-    ensures idle { conn.new.in_transaction ≡ false }
     ensures seen { SeesOver (BeginsSchema nine) S.Store conn.old conn.new result
         (λ d good. TellsGood table.Meta d.trees good) }
     ensures looked { BlamesOver (BeginsSchema nine) [] S.Store conn.old conn.new result }
@@ -62,8 +60,6 @@ fn is_good_meta<S: Alter>(conn: &mut Connection<S>) -> Result<bool, Error>
 
 // Whether each value of the connections is in its range.
 fn are_good_connections<S: Alter>(conn: &mut Connection<S>) -> Result<bool, Error>
-    requires { conn.old.in_transaction ≡ false }
-    ensures idle { conn.new.in_transaction ≡ false }
     ensures seen { SeesOver (BeginsSchema nine) S.Store conn.old conn.new result
         (λ d good. TellsGood table.Connections d.trees good) }
     ensures looked { BlamesOver (BeginsSchema nine) [] S.Store conn.old conn.new result }
@@ -83,8 +79,6 @@ fn are_further(rows: &[Row]) -> bool
 
 // Whether each value of the further groups is in its range.
 fn are_good_further<S: Alter>(conn: &mut Connection<S>) -> Result<bool, Error>
-    requires { conn.old.in_transaction ≡ false }
-    ensures idle { conn.new.in_transaction ≡ false }
     ensures seen { SeesOver (λ s. s ≡ book_schema) S.Store conn.old conn.new result
         (λ d good. TellsGood table.AgentGroups d.trees good) }
     ensures looked { BlamesOver IsBookSchema [] S.Store conn.old conn.new result }
@@ -160,9 +154,7 @@ fn page_behind<S: Alter>(
     log: Log,
     number: u64,
 ) -> Result<Page, Error>
-    requires idle { conn.old.in_transaction ≡ false }
     requires number { Fits number }
-    ensures idle { conn.new.in_transaction ≡ false }
     ensures seen { SeesOver (BeginsSchema nine) S.Store conn.old conn.new result
         (λ d page. IsPageOfLog log number d.trees page) }
     ensures fits { IfOk result (λ page. PageFits page) }
@@ -181,8 +173,6 @@ fn are_pages_good<S: Alter>(
     conn: &mut Connection<S>,
     log: Log,
 ) -> Result<bool, Error>
-    requires idle { conn.old.in_transaction ≡ false }
-    ensures idle { conn.new.in_transaction ≡ false }
     ensures seen { SeesOver (BeginsSchema nine) S.Store conn.old conn.new result
         (λ d good. TellsBehind log d.trees good) }
     ensures looked { BlamesIn (IsPaged log) S.Store conn.old conn.new result }
@@ -204,8 +194,6 @@ fn is_good_log<S: Alter>(
     conn: &mut Connection<S>,
     log: Log,
 ) -> Result<bool, Error>
-    requires { conn.old.in_transaction ≡ false }
-    ensures idle { conn.new.in_transaction ≡ false }
     ensures seen { SeesOver (BeginsSchema nine) S.Store conn.old conn.new result
         (λ d good. TellsGood (table_of_log log) d.trees good) }
     ensures looked { BlamesIn (HasFiled (BeginsSchema nine)) S.Store conn.old conn.new result }
@@ -224,8 +212,6 @@ fn is_good_table<S: Alter>(
     conn: &mut Connection<S>,
     table: Table,
 ) -> Result<bool, Error>
-    requires { conn.old.in_transaction ≡ false }
-    ensures idle { conn.new.in_transaction ≡ false }
     ensures seen { SeesOver (λ s. Covers s table) S.Store conn.old conn.new result
         (λ d good. TellsGood table d.trees good) }
     ensures looked { BlamesIn (HasFiled (λ s. Covers s table)) S.Store conn.old conn.new result }
@@ -251,8 +237,6 @@ fn bad_table<S: Alter>(
     conn: &mut Connection<S>,
     tables: &[Table],
 ) -> Result<Option<Table>, Error>
-    requires idle { conn.old.in_transaction ≡ false }
-    ensures idle { conn.new.in_transaction ≡ false }
     ensures seen { SeesOver
         (λ s. Every (Covers s) tables.now) S.Store conn.old conn.new result (IsBadOf tables.now) }
     ensures looked { BlamesIn (HasFiled (λ s. Every (Covers s) tables.now))
@@ -298,8 +282,6 @@ fn misplaced<S: Alter>(
     conn: &mut Connection<S>,
     version: Version,
 ) -> Result<Option<AdoptFault>, Error>
-    requires { conn.old.in_transaction ≡ false }
-    ensures idle { conn.new.in_transaction ≡ false }
     ensures seen { SeesOver
         (λ s. s ≡ schema_of version) S.Store conn.old conn.new result (IsPlaceFound version) }
     ensures looked { BlamesIn (HasGoodTables version) S.Store conn.old conn.new result }
@@ -314,8 +296,6 @@ fn found_misplaced<S: Alter>(
     alloc: Global,
     conn: &mut Connection<S>,
 ) -> Result<Option<AdoptFault>, Error>
-    requires { conn.old.in_transaction ≡ false }
-    ensures idle { conn.new.in_transaction ≡ false }
     ensures seen { SeesOver
         (λ s. s ≡ book_schema) S.Store conn.old conn.new result (IsPlaceFound Version.Second) }
     ensures looked { BlamesIn (HasGoodTables Version.Second) S.Store conn.old conn.new result }
@@ -332,8 +312,6 @@ fn ranks_misplaced<S: Alter>(
     alloc: Global,
     conn: &mut Connection<S>,
 ) -> Result<Option<AdoptFault>, Error>
-    requires { conn.old.in_transaction ≡ false }
-    ensures idle { conn.new.in_transaction ≡ false }
     ensures seen { SeesOver (λ s. s ≡ book_schema) S.Store conn.old conn.new result
         (λ d fault. is_beside d.trees ≡ true → IsPlaceFound Version.Second d fault) }
     ensures looked { BlamesIn (HasGoodTables Version.Second) S.Store conn.old conn.new result }
@@ -351,8 +329,6 @@ fn bad_row<S: Alter>(
     conn: &mut Connection<S>,
     version: Version,
 ) -> Result<Option<AdoptFault>, Error>
-    requires idle { conn.old.in_transaction ≡ false }
-    ensures idle { conn.new.in_transaction ≡ false }
     ensures seen { SeesOver
         (λ s. s ≡ schema_of version) S.Store conn.old conn.new result (IsRowFound version) }
     ensures looked { BlamesIn (HasFiled (λ s. s ≡ schema_of version)) S.Store conn.old conn.new
@@ -382,8 +358,6 @@ fn told_by(rows: &[Row]) -> Told
 }
 
 fn version_told<S: Alter>(conn: &mut Connection<S>) -> Result<Told, Error>
-    requires { conn.old.in_transaction ≡ false }
-    ensures idle { conn.new.in_transaction ≡ false }
     ensures seen { SeesOver BeginsAsBook S.Store conn.old conn.new result IsVersionTold }
     ensures looked { BlamesOver BeginsAsBook [] S.Store conn.old conn.new result }
 {
@@ -438,8 +412,6 @@ fn compared(alloc: Global, schema: &Schema) -> Result<Likeness, Error>
 
 // Why a database whose first table alone is that of a book isn't taken.
 fn found_in_first<S: Alter>(conn: &mut Connection<S>) -> Result<Found, Error>
-    requires { conn.old.in_transaction ≡ false }
-    ensures idle { conn.new.in_transaction ≡ false }
     ensures seen { (d : Database) → BeginsAsBook d.schema → IsNoBook d.schema
         → Sees d (state S.Store conn.old) (state S.Store conn.new) result
         (λ found. IsFound d found) }
@@ -458,8 +430,6 @@ fn found_in_rows<S: Alter>(
     conn: &mut Connection<S>,
     version: Version,
 ) -> Result<Found, Error>
-    requires { conn.old.in_transaction ≡ false }
-    ensures idle { conn.new.in_transaction ≡ false }
     ensures seen { SeesOver (λ s. s ≡ schema_of version) S.Store conn.old conn.new result
         (λ d found. IsToldIn d.trees (Some (number_of version)) → IsFound d found) }
     ensures looked { BlamesIn (HasFiled (λ s. s ≡ schema_of version)) S.Store conn.old conn.new
@@ -478,8 +448,6 @@ fn found_in_whole<S: Alter>(
     conn: &mut Connection<S>,
     version: Version,
 ) -> Result<Found, Error>
-    requires { conn.old.in_transaction ≡ false }
-    ensures idle { conn.new.in_transaction ≡ false }
     ensures seen { SeesOver (λ s. s ≡ schema_of version) S.Store conn.old conn.new result IsFound }
     ensures looked { BlamesIn (HasFiled (λ s. s ≡ schema_of version)) S.Store conn.old conn.new
         result }
@@ -494,8 +462,6 @@ fn found_in_whole<S: Alter>(
 
 // What is found where the store serves.
 fn found_in<S: Alter>(alloc: Global, conn: &mut Connection<S>) -> Result<Found, Error>
-    requires { conn.old.in_transaction ≡ false }
-    ensures idle { conn.new.in_transaction ≡ false }
     ensures seen { Sees (state S.Store conn.old).now (state S.Store conn.old)
         (state S.Store conn.new) result (λ found. IsFound (state S.Store conn.old).now found) }
     ensures looked { BlamesIn IsFiled S.Store conn.old conn.new result }
@@ -514,7 +480,6 @@ fn found_in<S: Alter>(alloc: Global, conn: &mut Connection<S>) -> Result<Found, 
 /// Whether a connection holds a book, and of which version, or else why it isn't taken for one. Nothing is changed.
 pub fn look_over<S: Alter>(alloc: Global, conn: &mut Connection<S>) -> Result<Found, Error>
     requires { conn.old.in_transaction ≡ false }
-    ensures idle { conn.new.in_transaction ≡ false }
     ensures looked { HasLooked (state S.Store conn.old) (state S.Store conn.new) result
         IsFound }
     ensures blamed { BlamesIn IsFiled S.Store conn.old conn.new result }

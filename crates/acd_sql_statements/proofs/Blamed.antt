@@ -37,9 +37,20 @@ use Rattle.acd_sql_columns.proofs.Looked.{bad_among}
 use Rattle.acd_sql_columns.proofs.Queries.{probe_text, probe_plain}
 use Rattle.acd_sql_statements.specs.InRange.{IsInRange, values_of, is_good_table}
 use Rattle.acd_sql_statements.specs.Failing.{IsMemory}
-use Rattle.acd_sql_statements.specs.Reading.{BlamesIf, IsUnanswered, RefusesToShow, FailsToShow, IsAnswered, FailsToRead, Blames}
+use Rattle.acd_sql_statements.specs.Reading.{BlamesIf, Spares, IsUnanswered, RefusesToShow, FailsToShow, IsAnswered, FailsToRead, Blames}
 use Rattle.acd_sql_statements.proofs.Answered.{answered}
 use Rattle.acd_sql_statements.proofs.Failures.{not_run}
+
+-- ---- what a read spares
+
+pub read_spares : {P : Trees → Type 0} {old new : State} → Survives old new P → (old.in_transaction ≡ false → new.in_transaction ≡ false) → Spares old new
+read_spares s idle = record { counts = s.counts; limit = s.limit; idle = idle }
+
+pub nothing_read : (s : State) → Spares s s
+nothing_read s = record { counts = omega arith; limit = refl; idle = λ idle. idle }
+
+pub read_then : {old mid new : State} → Spares old mid → Spares mid new → Spares old new
+read_then first next = record { counts = omega (arith, first.counts, next.counts); limit = next.limit ∙ first.limit; idle = λ idle. next.idle (first.idle idle) }
 
 -- ---- one query
 
@@ -76,8 +87,8 @@ module _ (sql : List ℕ) (params : Row) (old new : State) where
   read_failed c held never e (inr (inr (inl steps))) = inr (inr (inl steps))
   read_failed c held never e (inr (inr (inr refused))) = absurd (never refused)
 
-  pub blames_query : {A : Type 0} {P : Trees → Type 0} (r : Result A Error) → IsAnswered sql params → Survives old new P → (HasCleanDisk new → IfErr r (FailsToQuery sql params old new)) → Blames old new r
-  blames_query r answers s fails = record { counts = s.counts; limit = s.limit; cause = λ k c held any. each r (fails k) c held }
+  pub blames_query : {A : Type 0} {P : Trees → Type 0} (r : Result A Error) → IsAnswered sql params → Survives old new P → (old.in_transaction ≡ false → new.in_transaction ≡ false) → (HasCleanDisk new → IfErr r (FailsToQuery sql params old new)) → Blames old new r
+  blames_query r answers s idle fails = record { spares = read_spares s idle; cause = λ k c held any. each r (fails k) c held }
     where
       each : {A : Type 0} (r : Result A Error) → IfErr r (FailsToQuery sql params old new) → (c : Content) → HoldsContent old c → IfErr r (FailsToRead c old new)
       each (Ok x) h c held = tt
@@ -118,23 +129,22 @@ unfolding QueriesRow
 row_failed old new e (inl h) = query_failed probe_text [] old new e h
 row_failed old new e (inr h) = absurd (never_none old new h.1)
 
-pub blames_probe : {A : Type 0} {P : Trees → Type 0} (old new : State) (e : Error) → Survives old new P → (HasCleanDisk new → QueriesRow probe_text [] old new (Err e)) → Blames {A = A} old new (Err e)
-blames_probe old new e s fails = record {
-  counts = s.counts;
-  limit = s.limit;
+pub blames_probe : {A : Type 0} {P : Trees → Type 0} (old new : State) (e : Error) → Survives old new P → (old.in_transaction ≡ false → new.in_transaction ≡ false) → (HasCleanDisk new → QueriesRow probe_text [] old new (Err e)) → Blames {A = A} old new (Err e)
+blames_probe old new e s idle fails = record {
+  spares = read_spares s idle;
   cause = λ k c held any. read_failed probe_text [] old new c held (probe_answered old.now) e (row_failed old new e (fails k));
 }
 
 -- ---- one after the other
 
-pub blames_none : {A : Type 0} {P : Trees → Type 0} (old new : State) (a : A) → Survives old new P → Blames old new (Ok a)
-blames_none old new a s = record { counts = s.counts; limit = s.limit; cause = λ k c held any. tt }
+pub blames_none : {A : Type 0} {P : Trees → Type 0} (old new : State) (a : A) → Survives old new P → (old.in_transaction ≡ false → new.in_transaction ≡ false) → Blames old new (Ok a)
+blames_none old new a s idle = record { spares = read_spares s idle; cause = λ k c held any. tt }
 
 pub blames_still : {A : Type 0} (s : State) (a : A) → Blames s s (Ok a)
-blames_still s a = record { counts = omega arith; limit = refl; cause = λ k c held any. tt }
+blames_still s a = record { spares = nothing_read s; cause = λ k c held any. tt }
 
 pub blames_fail : {A B : Type 0} (old new : State) (e : Error) → Blames {A = A} old new (Err e) → Blames {A = B} old new (Err e)
-blames_fail old new e h = record { counts = h.counts; limit = h.limit; cause = h.cause }
+blames_fail old new e h = record { spares = h.spares; cause = h.cause }
 
 -- as a `?` hands it on
 pub blames_as : {A B : Type 0} (old new : State) (e : Error) (r : Result B Error) → r ≡ Err e → Blames {A = A} old new (Err e) → Blames old new r
@@ -142,7 +152,7 @@ blames_as old new e r is h = subst (Blames old new) (sym is) (blames_fail old ne
 
 -- what was read goes on to what is made of it
 pub blames_on : {A B : Type 0} (old new : State) (a : A) (r : Result B Error) → Blames old new (Ok a) → (HasCleanDisk new → (c : Content) → HoldsContent old c → IfErr r (FailsToRead c old new)) → Blames old new r
-blames_on old new a r h on = record { counts = h.counts; limit = h.limit; cause = λ k c held any. on k c held }
+blames_on old new a r h on = record { spares = h.spares; cause = λ k c held any. on k c held }
 
 pub blames_done : {A B : Type 0} (old new : State) (a : A) (b : B) → Blames old new (Ok a) → Blames old new (Ok b)
 blames_done old new a b h = blames_on old new a (Ok b) h (λ k c held. tt)
@@ -160,22 +170,20 @@ later_if c old mid new (Err e) counts limit h = later c old mid new e counts lim
 
 pub blames_behind : {A B : Type 0} (old mid new : State) (a : A) (r : Result B Error) → Blames old mid (Ok a) → Quiet old mid → (HasCleanDisk mid → IsTrue mid.is_open) → (HasCleanDisk new → HasCleanDisk mid) → Blames mid new r → Blames old new r
 blames_behind old mid new a r first quiet live clean next = record {
-  counts = omega (arith, first.counts, next.counts);
-  limit = next.limit ∙ first.limit;
-  cause = λ k c held any. later_if c old mid new r first.counts first.limit (next.cause k c (quiet.same (clean k) c held (live (clean k))) any);
+  spares = read_then first.spares next.spares;
+  cause = λ k c held any. later_if c old mid new r first.spares.counts first.spares.limit (next.cause k c (quiet.same (clean k) c held (live (clean k))) any);
 }
 
 -- the second asks for what the first one's answer gives
 pub blames_then : {A B : Type 0} (P : Content → Type 0) (IsAnswer : Content → A → Type 0) (old mid new : State) (a : A) (r : Result B Error) → Blames old mid (Ok a) → Finds {E = Error} old mid (Ok a) IsAnswer → ((c : Content) → IsAnswer c a → P c)
     → (HasCleanDisk new → HasCleanDisk mid) → BlamesIf P mid new r → Blames old new r
 blames_then P IsAnswer old mid new a r first found so clean next = record {
-  counts = omega (arith, first.counts, next.counts);
-  limit = next.limit ∙ first.limit;
-  cause = λ k c held any. let m = clean k in later_if c old mid new r first.counts first.limit (next.cause k c (found.quiet.same m c held (found.up m)) (so c (found.answer m c held)));
+  spares = read_then first.spares next.spares;
+  cause = λ k c held any. let m = clean k in later_if c old mid new r first.spares.counts first.spares.limit (next.cause k c (found.quiet.same m c held (found.up m)) (so c (found.answer m c held)));
 }
 
 pub blames_given : {A : Type 0} (P : Content → Type 0) (old new : State) (r : Result A Error) → Blames old new r → BlamesIf P old new r
-blames_given P old new r h = record { counts = h.counts; limit = h.limit; cause = λ k c held p. h.cause k c held tt }
+blames_given P old new r h = record { spares = h.spares; cause = λ k c held p. h.cause k c held tt }
 
 -- what was read is put together, where memory alone can lack
 pub blames_memory : {A B : Type 0} (old new : State) (a : A) (r : Result B Error) → Blames old new (Ok a) → IfErr r IsMemory → Blames old new r
@@ -194,9 +202,8 @@ bad_row t c row has bad range = absurd (let apart = sym (bad_among t (values_of 
 -- the limits and the counters
 pub blames_meta : (old new : State) (rows : List Row) (a : Vec Row Global) (r : Result Meta Error) → Blames old new (Ok a) → IfErr r (λ e. (m : Meta) → rows ≡ meta_shown m ∷ [] → is_good table.Meta (meta_shown m) ≡ false)
     → (HasCleanDisk new → (c : Content) → HoldsContent old c → rows ≡ meta_shown (meta_of c.rows) ∷ []) → Blames old new r
-blames_meta old new rows a (Ok found) h bad are = record { counts = h.counts; limit = h.limit; cause = λ k c held any. tt }
+blames_meta old new rows a (Ok found) h bad are = record { spares = h.spares; cause = λ k c held any. tt }
 blames_meta old new rows a (Err e) h bad are = record {
-  counts = h.counts;
-  limit = h.limit;
+  spares = h.spares;
   cause = λ k c held any. inr (inr (inr (bad_row table.Meta c (meta_shown (meta_of c.rows)) (inl refl) (bad (meta_of c.rows) (are k c held)))));
 }

@@ -42,10 +42,9 @@ stray c further parts joined h range =
 
 pub blames_grouped : (old new : State) (found : Vec (ℕ × ℕ) Global) (parts : List AgentRow) (pairs : List (ℕ × ℕ)) (r : Result (Vec AgentRecord Global) Error) → pairs ≡ found.items → Blames old new (Ok found)
     → Finds {E = Error} old new (Ok found) (λ c found. found.items ≡ further_in c.rows.agents) → IfErr r (λ e. IsMemory e ⊎ HasStray pairs parts) → BlamesIf (λ c. parts ≡ map agent_part c.rows.agents) old new r
-blames_grouped old new found parts pairs (Ok joined) same h is fails = record { counts = h.counts; limit = h.limit; cause = λ k c held own. tt }
+blames_grouped old new found parts pairs (Ok joined) same h is fails = record { spares = h.spares; cause = λ k c held own. tt }
 blames_grouped old new found parts pairs (Err e) same h is fails = record {
-  counts = h.counts;
-  limit = h.limit;
+  spares = h.spares;
   cause = λ k c held own. each c fails (ap₂ (λ qs xs. map (joined_agent qs) xs) (same ∙ is.answer k c held) own ∙ agents_joined c.rows.agents (agents_rise c.rows.agents (stored table.Agents old c held).ascending));
 }
   where

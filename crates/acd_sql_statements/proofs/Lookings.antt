@@ -17,7 +17,7 @@ use Rattle.acd_sql_columns.proofs.Selected.{all_told}
 use Rattle.acd_sql_statements.specs.Failing.{IsMemory}
 use Rattle.acd_sql_statements.specs.Reading.{FailsToShow, FailsToDecode, RefusesToShow}
 use Rattle.acd_sql_statements.specs.Looking.{BlamesLook, FailsToLook}
-use Rattle.acd_sql_statements.proofs.Blamed.{query_failed, row_failed, probe_answered}
+use Rattle.acd_sql_statements.proofs.Blamed.{query_failed, row_failed, probe_answered, read_spares, nothing_read, read_then}
 
 -- ---- one query
 
@@ -29,43 +29,42 @@ module _ (sql : List ℕ) (params : Row) (old new : State) where
   looks d had never e (inr (inr (inl steps))) = inr (inr steps)
   looks d had never e (inr (inr (inr refused))) = absurd (never (subst (λ (x : Database). RefusesToShow x sql params) had.now refused))
 
-  pub looks_query : {A : Type 0} {P : Trees → Type 0} (r : Result A Error) → Survives old new P → (HasCleanDisk new → IfErr r (FailsToQuery sql params old new)) → BlamesLook (λ d. ¬ (RefusesToShow d sql params)) old new r
-  looks_query (Ok a) s fails = record { counts = s.counts; limit = s.limit; cause = λ k d had never. tt }
-  looks_query (Err e) s fails = record { counts = s.counts; limit = s.limit; cause = λ k d had never. looks d had never e (query_failed sql params old new e (fails k)) }
+  pub looks_query : {A : Type 0} {P : Trees → Type 0} (r : Result A Error) → Survives old new P → (old.in_transaction ≡ false → new.in_transaction ≡ false) → (HasCleanDisk new → IfErr r (FailsToQuery sql params old new)) → BlamesLook (λ d. ¬ (RefusesToShow d sql params)) old new r
+  looks_query (Ok a) s idle fails = record { spares = read_spares s idle; cause = λ k d had never. tt }
+  looks_query (Err e) s idle fails = record { spares = read_spares s idle; cause = λ k d had never. looks d had never e (query_failed sql params old new e (fails k)) }
 
 -- the query that reads no table
-pub looks_probe : {A : Type 0} {P : Trees → Type 0} (Is : Database → Type 0) (old new : State) (e : Error) → Survives old new P → (HasCleanDisk new → QueriesRow probe_text [] old new (Err e)) → BlamesLook {A = A} Is old new (Err e)
-looks_probe Is old new e s fails = record {
-  counts = s.counts;
-  limit = s.limit;
+pub looks_probe : {A : Type 0} {P : Trees → Type 0} (Is : Database → Type 0) (old new : State) (e : Error) → Survives old new P → (old.in_transaction ≡ false → new.in_transaction ≡ false) → (HasCleanDisk new → QueriesRow probe_text [] old new (Err e)) → BlamesLook {A = A} Is old new (Err e)
+looks_probe Is old new e s idle fails = record {
+  spares = read_spares s idle;
   cause = λ k d had any. looks probe_text [] old new d had (probe_answered d) e (row_failed old new e (fails k));
 }
 
-pub looks_none : {A : Type 0} {P : Trees → Type 0} (Is : Database → Type 0) (old new : State) (a : A) → Survives old new P → BlamesLook Is old new (Ok a)
-looks_none Is old new a s = record { counts = s.counts; limit = s.limit; cause = λ k d had any. tt }
+pub looks_none : {A : Type 0} {P : Trees → Type 0} (Is : Database → Type 0) (old new : State) (a : A) → Survives old new P → (old.in_transaction ≡ false → new.in_transaction ≡ false) → BlamesLook Is old new (Ok a)
+looks_none Is old new a s idle = record { spares = read_spares s idle; cause = λ k d had any. tt }
 
 -- ---- one after the other
 
 pub looks_still : {A : Type 0} (Is : Database → Type 0) (s : State) (a : A) → BlamesLook Is s s (Ok a)
-looks_still Is s a = record { counts = omega arith; limit = refl; cause = λ k d had any. tt }
+looks_still Is s a = record { spares = nothing_read s; cause = λ k d had any. tt }
 
 module _ (Is Was : Database → Type 0) (so : (d : Database) → Is d → Was d) where
   pub looks_so : {A : Type 0} (old new : State) (r : Result A Error) → BlamesLook Was old new r → BlamesLook Is old new r
-  looks_so old new r h = record { counts = h.counts; limit = h.limit; cause = λ k d had it. h.cause k d had (so d it) }
+  looks_so old new r h = record { spares = h.spares; cause = λ k d had it. h.cause k d had (so d it) }
 
   pub looks_fail : {A B : Type 0} (old new : State) (e : Error) → BlamesLook {A = A} Was old new (Err e) → BlamesLook {A = B} Is old new (Err e)
-  looks_fail old new e h = record { counts = h.counts; limit = h.limit; cause = λ k d had it. h.cause k d had (so d it) }
+  looks_fail old new e h = record { spares = h.spares; cause = λ k d had it. h.cause k d had (so d it) }
 
   -- as a `?` hands it on
   pub looks_as : {A B : Type 0} (old new : State) (e : Error) (r : Result B Error) → r ≡ Err e → BlamesLook {A = A} Was old new (Err e) → BlamesLook Is old new r
   looks_as old new e r is h = subst (BlamesLook Is old new) (sym is) (looks_fail old new e h)
 
   pub looks_done : {A B : Type 0} (old new : State) (a : A) (b : B) → BlamesLook Was old new (Ok a) → BlamesLook Is old new (Ok b)
-  looks_done old new a b h = record { counts = h.counts; limit = h.limit; cause = λ k d had it. tt }
+  looks_done old new a b h = record { spares = h.spares; cause = λ k d had it. tt }
 
   -- what was read goes on to what is made of it
   pub looks_on : {A B : Type 0} (old new : State) (a : A) (r : Result B Error) → BlamesLook Was old new (Ok a) → (HasCleanDisk new → (d : Database) → HasDatabase old d → Is d → IfErr r (FailsToLook old new)) → BlamesLook Is old new r
-  looks_on old new a r h on = record { counts = h.counts; limit = h.limit; cause = on }
+  looks_on old new a r h on = record { spares = h.spares; cause = on }
 
 later : {B : Type 0} (old mid new : State) (r : Result B Error) → old.faults ≤ mid.faults → mid.step_limit ≡ old.step_limit → IfErr r (FailsToLook mid new) → IfErr r (FailsToLook old new)
 later old mid new (Ok b) counts limit h = tt
@@ -78,12 +77,11 @@ module _ {A B : Type 0} (Is First Next : Database → Type 0) (IsAnswer : Databa
   pub looks_then : (old mid new : State) (a : A) (r : Result B Error) → ((d : Database) → Is d → First d) → BlamesLook First old mid (Ok a) → ((d : Database) → Is d → Sees d old mid (Ok a) (IsAnswer d)) → ((d : Database) → Is d → IsAnswer d a → Next d)
       → ((d : Database) → Is d → Sees d mid new r (IsLast d)) → BlamesLook Next mid new r → BlamesLook Is old new r
   looks_then old mid new a r so first seen is last next = record {
-    counts = omega (arith, first.counts, next.counts);
-    limit = next.limit ∙ first.limit;
+    spares = read_then first.spares next.spares;
     cause = λ k d had it.
         let m = (last d it).clean k in
         let saw = seen d it in
-        later old mid new r first.counts first.limit (next.cause k d (saw.same m had (saw.up m had)) (is d it (saw.answer m had)));
+        later old mid new r first.spares.counts first.spares.limit (next.cause k d (saw.same m had (saw.up m had)) (is d it (saw.answer m had)));
   }
 
 -- ---- rows that stand for no record
@@ -101,14 +99,14 @@ module _ {R : Type 0} (in_row : Row → Option R) (t : Table) (tells : (row : Ro
 
   pub looks_decoded : {B : Type 0} (Is Was : Database → Type 0) (old new : State) (rows : Vec Row Global) (r : Result B Error) → ((d : Database) → Is d → is_good_in t d.trees ≡ true) → BlamesLook Was old new (Ok rows)
       → ((d : Database) → Is d → Sees d old new (Ok rows) (λ rows. IsPermutation (rows_in t d.trees) rows.items)) → IfErr r (FailsToDecode in_row rows.items) → BlamesLook Is old new r
-  looks_decoded Is Was old new rows r good h seen fails = record { counts = h.counts; limit = h.limit; cause = λ k d had it. decoded d old new rows r k had (good d it) (seen d it) fails }
+  looks_decoded Is Was old new rows r good h seen fails = record { spares = h.spares; cause = λ k d had it. decoded d old new rows r k had (good d it) (seen d it) fails }
 
 -- ---- of the database that is there
 
 pub looks_at : {A : Type 0} (Is Was : Database → Type 0) (old new : State) (r : Result A Error) → ((d : Database) → HasDatabase old d → Is d → Was d) → BlamesLook Was old new r → BlamesLook Is old new r
-looks_at Is Was old new r so h = record { counts = h.counts; limit = h.limit; cause = λ k d had it. h.cause k d had (so d had it) }
+looks_at Is Was old new r so h = record { spares = h.spares; cause = λ k d had it. h.cause k d had (so d had it) }
 
 -- nothing is asked of it, and memory lacks
 pub looks_lacks : {A : Type 0} (Is : Database → Type 0) (s : State) (r : Result A Error) → IfErr r IsMemory → BlamesLook Is s s r
 looks_lacks Is s (Ok a) lacks = looks_still Is s a
-looks_lacks Is s (Err e) lacks = record { counts = omega arith; limit = refl; cause = λ k d had any. inl lacks }
+looks_lacks Is s (Err e) lacks = record { spares = nothing_read s; cause = λ k d had any. inl lacks }

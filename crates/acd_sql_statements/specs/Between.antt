@@ -1,5 +1,5 @@
--- What a read between transactions finds and sees, and why it fails. It leaves no transaction open.
-use Rattle.std.specs.Prelude.{◌≡◌, false, IsTrue, OnOk, Result}
+-- What a read between transactions finds and sees, and why it fails.
+use Rattle.std.specs.Prelude.{◌≡◌, IsTrue, OnOk, Result}
 use Rattle.sqlite_schema.specs.declared.schema.Schema.{Schema}
 use Rattle.sqlite_trees.specs.declared.store.Store.{Ghosts}
 use Rattle.sqlite.specs.Effect.{Database}
@@ -14,7 +14,6 @@ use Rattle.acd_sql_statements.specs.Reading.{Blames}
 
 -- of a book: it finds what `IsAnswer` says of its content, or failed for a cause that is known
 pub record LooksUp {S A : Type 0} (g : Ghosts S) (old new : Held S) (result : Result A Error) (IsAnswer : Content → A → Type 0) : Type 0 where
-  pub idle : new.in_transaction ≡ false
   pub found : Finds (state g old) (state g new) result IsAnswer
   pub blamed : Blames (state g old) (state g new) result
 
@@ -23,7 +22,6 @@ abbrev pub SeesOf : {S A : Type 0} → (Schema → Type 0) → Ghosts S → Held
 SeesOf Has g old new result IsAnswer = (d : Database) → Has d.schema → Sees d (state g old) (state g new) result (IsAnswer d)
 
 pub record LooksAt {S A : Type 0} (Has : Schema → Type 0) (g : Ghosts S) (old new : Held S) (result : Result A Error) (IsAnswer : Database → A → Type 0) : Type 0 where
-  pub idle : new.in_transaction ≡ false
   pub seen : SeesOf Has g old new result IsAnswer
 
 -- it is the whole schema of a book

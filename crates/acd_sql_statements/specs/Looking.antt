@@ -15,16 +15,15 @@ use Rattle.acd_sql_columns.specs.AnyRows.{is_good_in}
 use Rattle.acd_sql_columns.specs.Schema.{BeginsSchema}
 use Rattle.acd_sql_columns.specs.Seeing.{HasDatabase, Sees}
 use Rattle.acd_sql_statements.specs.Failing.{IsMemory}
-use Rattle.acd_sql_statements.specs.Reading.{RefusesToShow}
+use Rattle.acd_sql_statements.specs.Reading.{RefusesToShow, Spares}
 
 -- no memory, a fault of the store, or a limit of steps that was set
 abbrev pub FailsToLook : State → State → Error → Type 0
 FailsToLook old new e = IsMemory e ⊎ (MoreFaults old.faults new.faults ⊎ IsSome old.step_limit)
 
--- what a look leaves of the store's count and of the limit of steps, and why it fails at a database of which this is so
+-- why a look fails at a database of which this is so
 pub record BlamesLook {A : Type 0} (Is : Database → Type 0) (old new : State) (result : Result A Error) : Type 0 where
-  pub counts : old.faults ≤ new.faults
-  pub limit : new.step_limit ≡ old.step_limit
+  pub spares : Spares old new
   pub cause : HasCleanDisk new → (d : Database) → HasDatabase old d → Is d → IfErr result (FailsToLook old new)
 
 -- its schema is one of these, and each value of these tables is in its range

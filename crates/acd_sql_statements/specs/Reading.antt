@@ -77,10 +77,15 @@ IsToldOf d = (c : Content) → values_of d.table c ≡ map d.values (d.records (
 abbrev pub FailsToRead : Content → State → State → Error → Type 0
 FailsToRead c old new e = IsMemory e ⊎ (MoreFaults old.faults new.faults ⊎ (IsSome old.step_limit ⊎ (¬ (IsInRange c))))
 
--- what a read leaves of the store's count and of the limit of steps, and why it fails where this holds of the content
-pub record BlamesIf {A : Type 0} (P : Content → Type 0) (old new : State) (result : Result A Error) : Type 0 where
+-- what no read changes: its store's count doesn't fall, the limit of steps stays, and between transactions none is begun
+pub record Spares (old new : State) : Type 0 where
   pub counts : old.faults ≤ new.faults
   pub limit : new.step_limit ≡ old.step_limit
+  pub idle : old.in_transaction ≡ false → new.in_transaction ≡ false
+
+-- why a read fails where this holds of the content
+pub record BlamesIf {A : Type 0} (P : Content → Type 0) (old new : State) (result : Result A Error) : Type 0 where
+  pub spares : Spares old new
   pub cause : HasCleanDisk new → (c : Content) → HoldsContent old c → P c → IfErr result (FailsToRead c old new)
 
 -- of any content

@@ -1,6 +1,6 @@
 //! The queries by which a connection is looked at before it is taken for a book.
 
-ghost use Rattle.std.specs.Prelude.{◌≡◌, ◌∷◌, [], false, map, codes, IsPermutation};
+ghost use Rattle.std.specs.Prelude.{◌≡◌, ◌∷◌, [], map, codes, IsPermutation};
 ghost use Rattle.std.specs.Str.{bytes_eq};
 ghost use Rattle.sqlite_value.specs.Order.{column};
 ghost use Rattle.acd_sql_columns.specs.declared.tables.Log.TheVariants as log;
@@ -35,7 +35,6 @@ pub fn has_meta(schema: &Schema) -> bool
 
 /// The versions that the table tells.
 pub fn version_rows<S: Alter>(conn: &mut Connection<S>) -> Result<Vec<Row>, Error>
-    requires { conn.old.in_transaction ≡ false }
     ensures looks { LooksAt BeginsAsBook S.Store conn.old conn.new result
         (λ d rows. IsPermutation
         (map (λ r. column r 2 ∷ []) (d.trees (tree_of table.Meta))) rows.items) }
@@ -46,7 +45,6 @@ pub fn version_rows<S: Alter>(conn: &mut Connection<S>) -> Result<Vec<Row>, Erro
 
 /// The rows of connections in the order in which they stand. Their key isn't the number of a row, so that to put them in its order takes longer than to read them.
 pub fn unordered_connection_rows<S: Alter>(conn: &mut Connection<S>) -> Result<Vec<Row>, Error>
-    requires { conn.old.in_transaction ≡ false }
     ensures looks { LooksAt (BeginsSchema nine) S.Store conn.old conn.new result
         (λ d rows. IsPermutation (rows_in table.Connections d.trees) rows.items) }
     ensures looked { BlamesOver (BeginsSchema nine) [] S.Store conn.old conn.new result }
@@ -56,7 +54,6 @@ pub fn unordered_connection_rows<S: Alter>(conn: &mut Connection<S>) -> Result<V
 
 /// The rows of further groups, in the order in which they stand.
 pub fn further_rows<S: Alter>(conn: &mut Connection<S>) -> Result<Vec<Row>, Error>
-    requires { conn.old.in_transaction ≡ false }
     ensures looks { LooksAt IsBookSchema S.Store conn.old conn.new result
         (λ d rows. IsPermutation (rows_in table.AgentGroups d.trees) rows.items) }
     ensures looked { BlamesOver IsBookSchema [] S.Store conn.old conn.new result }
@@ -66,7 +63,6 @@ pub fn further_rows<S: Alter>(conn: &mut Connection<S>) -> Result<Vec<Row>, Erro
 
 /// An event whose number is below 1.
 pub(crate) fn low_event_rows<S: Alter>(conn: &mut Connection<S>) -> Result<Vec<Row>, Error>
-    requires { conn.old.in_transaction ≡ false }
     ensures looks { LooksAt (BeginsSchema nine) S.Store conn.old conn.new result
         (λ d rows. TellsLow log.Events d.trees rows.items) }
     ensures looked { BlamesOver (BeginsSchema nine) [] S.Store conn.old conn.new result }
@@ -76,7 +72,6 @@ pub(crate) fn low_event_rows<S: Alter>(conn: &mut Connection<S>) -> Result<Vec<R
 
 /// A kept record whose stamp is below 1.
 pub(crate) fn low_kept_rows<S: Alter>(conn: &mut Connection<S>) -> Result<Vec<Row>, Error>
-    requires { conn.old.in_transaction ≡ false }
     ensures looks { LooksAt (BeginsSchema nine) S.Store conn.old conn.new result
         (λ d rows. TellsLow log.Kept d.trees rows.items) }
     ensures looked { BlamesOver (BeginsSchema nine) [] S.Store conn.old conn.new result }

@@ -3,7 +3,7 @@
 //! A number or a limit that no INTEGER column can hold is asked for as the greatest that one can. Nothing
 //! stands above that, and no answer is so long, which is seen to before the rows are handed on.
 
-ghost use Rattle.std.specs.Prelude.{◌≡◌, ◌⊎◌, ◌-◌, ◌^◌, ◌<◌, [], false, length, map, take, filter, Some, IfErr, IfOk, OnOk};
+ghost use Rattle.std.specs.Prelude.{◌≡◌, ◌⊎◌, ◌-◌, ◌^◌, ◌<◌, [], length, map, take, filter, Some, IfErr, IfOk, OnOk};
 ghost use Rattle.acd_model.specs.Scans.{monitor_of};
 ghost use Rattle.acd_book.specs.Content.{events_behind, events_of_monitor, is_told, kept_of};
 ghost use Rattle.acd_sql_columns.specs.Rows.{event_values, kept_values};
@@ -50,7 +50,6 @@ fn event_page<S: Alter>(
     number: u64,
     limit: u64,
 ) -> Result<Vec<Row>, Error>
-    requires { conn.old.in_transaction ≡ false }
     ensures { LooksUp S.Store conn.old conn.new result
         (λ c rows. rows.items ≡ map event_values (events_behind c.events number limit)) }
 {
@@ -64,7 +63,6 @@ fn event_page_at<S: Alter>(
     number: u64,
     limit: u64,
 ) -> Result<Vec<Row>, Error>
-    requires { conn.old.in_transaction ≡ false }
     ensures { LooksUp S.Store conn.old conn.new result
         (λ c rows. rows.items
         ≡ map event_values (take limit (filter (is_told (Some device) number) c.events))) }
@@ -75,7 +73,6 @@ fn event_page_at<S: Alter>(
 
 // The rows of the first kept records above a stamp.
 fn kept_page<S: Alter>(conn: &mut Connection<S>, stamp: u64, limit: u64) -> Result<Vec<Row>, Error>
-    requires { conn.old.in_transaction ≡ false }
     ensures { LooksUp S.Store conn.old conn.new result
         (λ c rows. rows.items ≡ map kept_values (kept_behind c.kept stamp limit)) }
 {
@@ -90,7 +87,6 @@ pub fn kept_under<S: Alter>(
     requester: &Requester,
     invoke: Invoke,
 ) -> Result<Option<Kept>, Error>
-    requires { conn.old.in_transaction ≡ false }
     ensures { LooksUp S.Store conn.old conn.new result
         (λ c found. found ≡ kept_of c.kept requester.now invoke) }
 {
@@ -105,7 +101,6 @@ pub fn kept_behind<S: Alter>(
     stamp: u64,
     limit: usize,
 ) -> Result<Vec<Kept>, Error>
-    requires { conn.old.in_transaction ≡ false }
     ensures { LooksUp S.Store conn.old conn.new result
         (λ c records. records.items ≡ kept_behind c.kept stamp limit) }
 {
@@ -120,7 +115,6 @@ pub fn events_behind<S: Alter>(
     number: u64,
     limit: usize,
 ) -> Result<Vec<Event>, Error>
-    requires { conn.old.in_transaction ≡ false }
     ensures { LooksUp S.Store conn.old conn.new result
         (λ c events. events.items ≡ events_behind c.events number limit) }
 {
@@ -136,7 +130,6 @@ pub fn events_at<S: Alter>(
     number: u64,
     limit: usize,
 ) -> Result<Vec<Event>, Error>
-    requires { conn.old.in_transaction ≡ false }
     ensures { LooksUp S.Store conn.old conn.new result
         (λ c events. events.items ≡ take limit (filter (is_told (Some device) number) c.events)) }
 {
@@ -150,7 +143,6 @@ pub fn monitor_at<S: Alter>(
     conn: &mut Connection<S>,
     number: u64,
 ) -> Result<Option<MonitorRecord>, Error>
-    requires { conn.old.in_transaction ≡ false }
     ensures { LooksUp S.Store conn.old conn.new result
         (λ c found. found ≡ monitor_of c.rows number) }
 {
@@ -170,7 +162,6 @@ pub fn events_watched<S: Alter>(
     number: u64,
     limit: usize,
 ) -> Result<Vec<Event>, Error>
-    requires { conn.old.in_transaction ≡ false }
     ensures { LooksUp S.Store conn.old conn.new result
         (λ c events. events.items ≡ events_of_monitor c monitor number limit) }
 {

@@ -1,6 +1,6 @@
 //! Reads of events by their numbers.
 
-ghost use Rattle.std.specs.Prelude.{◌≡◌, ◌++◌, ◌-◌, false, IfErr, OnOk};
+ghost use Rattle.std.specs.Prelude.{◌≡◌, ◌++◌, ◌-◌, IfErr, OnOk};
 ghost use Rattle.sqlite.specs.Held.{state};
 ghost use Rattle.acd_book.specs.Content.{events_behind};
 ghost use Rattle.acd_sql_columns.specs.Finding.{Finds};
@@ -30,8 +30,6 @@ fn add_numbered<S: Alter>(
     found: &mut Vec<Event>,
     number: u64,
 ) -> Result<(), Error>
-    requires { conn.old.in_transaction ≡ false }
-    ensures idle { conn.new.in_transaction ≡ false }
     ensures found { Finds (state S.Store conn.old) (state S.Store conn.new) result
         (λ c done. found.new.items ≡ found.old.items ++ events_behind c.events (number - 1) 1) }
     ensures blamed { Blames (state S.Store conn.old) (state S.Store conn.new) result }
@@ -48,8 +46,6 @@ pub fn events_numbered<S: Alter>(
     conn: &mut Connection<S>,
     numbers: &[u64],
 ) -> Result<Vec<Event>, Error>
-    requires { conn.old.in_transaction ≡ false }
-    ensures idle { conn.new.in_transaction ≡ false }
     ensures found { Serves (state S.Store conn.old)
         → Finds (state S.Store conn.old) (state S.Store conn.new) result
         (λ c events. events.items ≡ picked c.events numbers.now) }

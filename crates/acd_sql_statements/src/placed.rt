@@ -82,7 +82,6 @@ fn are_behind_agents<S: Alter>(
     conn: &mut Connection<S>,
     pairs: &[(AgentId, DeviceId)],
 ) -> Result<bool, Error>
-    requires { conn.old.in_transaction ≡ false }
     ensures looks { LooksAt (BeginsSchema nine) S.Store conn.old conn.new result
         (λ d placed. placed ≡ are_behind (map as_agent (rows_in table.Agents d.trees)) pairs.now) }
     ensures looked { BlamesOver (BeginsSchema nine) (table.Agents ∷ [])
@@ -99,7 +98,6 @@ fn further_pairs<S: Alter>(
     alloc: Global,
     conn: &mut Connection<S>,
 ) -> Result<Vec<(AgentId, DeviceId)>, Error>
-    requires { conn.old.in_transaction ≡ false }
     ensures looks { LooksAt IsBookSchema S.Store conn.old conn.new result
         (λ d pairs. IsPermutation
         (map as_further (rows_in table.AgentGroups d.trees)) pairs.items) }
@@ -115,7 +113,6 @@ fn further_pairs<S: Alter>(
 /// Whether each further group is behind the first one of its agent, who has seven at most. A value that is out of its range is a
 /// failure of the store.
 pub fn are_further_placed<S: Alter>(alloc: Global, conn: &mut Connection<S>) -> Result<bool, Error>
-    requires { conn.old.in_transaction ≡ false }
     ensures looks { LooksAt IsBookSchema S.Store conn.old conn.new result
         (λ d placed. placed ≡ is_beside d.trees) }
     ensures looked { BlamesOver IsBookSchema (table.AgentGroups ∷ table.Agents ∷ [])
@@ -147,7 +144,6 @@ fn are_of_groups_there<S: Alter>(
     conn: &mut Connection<S>,
     priorities: &[GroupPriority],
 ) -> Result<bool, Error>
-    requires { conn.old.in_transaction ≡ false }
     ensures looks { LooksAt (BeginsSchema nine) S.Store conn.old conn.new result
         (λ d placed. placed
         ≡ are_of_groups (map as_group (rows_in table.Groups d.trees)) priorities.now) }
@@ -165,7 +161,6 @@ pub fn are_priorities_placed<S: Alter>(
     alloc: Global,
     conn: &mut Connection<S>,
 ) -> Result<bool, Error>
-    requires { conn.old.in_transaction ≡ false }
     ensures looks { LooksAt IsBookSchema S.Store conn.old conn.new result
         (λ d placed. placed ≡ is_ranked d.trees) }
     ensures looked { BlamesOver IsBookSchema (table.GroupPriority ∷ table.Groups ∷ [])

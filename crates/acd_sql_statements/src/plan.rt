@@ -57,7 +57,6 @@ fn ranked<S: Alter>(
     conn: &mut Connection<S>,
     parts: &[GroupRow],
 ) -> Result<Vec<GroupRecord>, Error>
-    requires { conn.old.in_transaction ≡ false }
     ensures { LooksUp S.Store conn.old conn.new result
         (λ c groups. parts.now ≡ map group_part c.rows.groups → groups.items ≡ c.rows.groups) }
 {
@@ -72,7 +71,6 @@ pub(crate) fn groups<S: Alter>(
     alloc: Global,
     conn: &mut Connection<S>,
 ) -> Result<Vec<GroupRecord>, Error>
-    requires { conn.old.in_transaction ≡ false }
     ensures { LooksUp S.Store conn.old conn.new result (λ c groups. groups.items ≡ c.rows.groups) }
 {
     match select::records::<GroupRow, S>(alloc, conn) {
@@ -157,7 +155,6 @@ fn further<S: Alter>(
     alloc: Global,
     conn: &mut Connection<S>,
 ) -> Result<Vec<(AgentId, DeviceId)>, Error>
-    requires { conn.old.in_transaction ≡ false }
     ensures { LooksUp S.Store conn.old conn.new result
         (λ c pairs. pairs.items ≡ further_in c.rows.agents) }
 {
@@ -173,8 +170,6 @@ fn grouped<S: Alter>(
     conn: &mut Connection<S>,
     parts: &[AgentRow],
 ) -> Result<Vec<AgentRecord>, Error>
-    requires { conn.old.in_transaction ≡ false }
-    ensures idle { conn.new.in_transaction ≡ false }
     ensures found { Finds (state S.Store conn.old) (state S.Store conn.new) result
         (λ c agents. parts.now ≡ map agent_part c.rows.agents → agents.items ≡ c.rows.agents) }
     ensures blamed { BlamesIf (λ c. parts.now ≡ map agent_part c.rows.agents)
@@ -191,7 +186,6 @@ pub(crate) fn agents<S: Alter>(
     alloc: Global,
     conn: &mut Connection<S>,
 ) -> Result<Vec<AgentRecord>, Error>
-    requires { conn.old.in_transaction ≡ false }
     ensures { LooksUp S.Store conn.old conn.new result (λ c agents. agents.items ≡ c.rows.agents) }
 {
     match select::records::<AgentRow, S>(alloc, conn) {

@@ -1,6 +1,6 @@
 //! The queries between transactions, one a function: rows of one table, in the order of its key.
 
-ghost use Rattle.std.specs.Prelude.{◌≡◌, [], Some, false, map, take, filter, option_to_list, IsPermutation};
+ghost use Rattle.std.specs.Prelude.{◌≡◌, [], Some, map, take, filter, option_to_list, IsPermutation};
 ghost use Rattle.sqlite.specs.Held.{state};
 ghost use Rattle.acd_model.specs.Scans.{monitor_of};
 ghost use Rattle.acd_book.specs.Content.{events_behind, is_told, kept_of};
@@ -27,7 +27,6 @@ use sqlite::{Alter, Connection, Error, Row};
 
 /// The row of a monitor, if it is running.
 pub fn monitor_row<S: Alter>(conn: &mut Connection<S>, monitor: u64) -> Result<Vec<Row>, Error>
-    requires idle { conn.old.in_transaction ≡ false }
     requires number { Fits monitor }
     ensures { LooksUp S.Store conn.old conn.new result
         (λ c rows. rows.items ≡ map monitor_values (option_to_list (monitor_of c.rows monitor))) }
@@ -41,10 +40,8 @@ pub fn event_rows<S: Alter>(
     number: u64,
     limit: u64,
 ) -> Result<Vec<Row>, Error>
-    requires idle { conn.old.in_transaction ≡ false }
     requires number { Fits number }
     requires limit { Fits limit }
-    ensures idle { conn.new.in_transaction ≡ false }
     ensures found { Finds (state S.Store conn.old) (state S.Store conn.new) result
         (λ c rows. rows.items ≡ map event_values (events_behind c.events number limit)) }
     ensures seen { SeesOf (BeginsSchema nine) S.Store conn.old conn.new result
@@ -65,10 +62,8 @@ pub fn kept_rows<S: Alter>(
     stamp: u64,
     limit: u64,
 ) -> Result<Vec<Row>, Error>
-    requires idle { conn.old.in_transaction ≡ false }
     requires stamp { Fits stamp }
     requires limit { Fits limit }
-    ensures idle { conn.new.in_transaction ≡ false }
     ensures found { Finds (state S.Store conn.old) (state S.Store conn.new) result
         (λ c rows. rows.items ≡ map kept_values (kept_behind c.kept stamp limit)) }
     ensures seen { SeesOf (BeginsSchema nine) S.Store conn.old conn.new result
@@ -89,7 +84,6 @@ pub fn kept_row<S: Alter>(
     requester: &Requester,
     invoke: Invoke,
 ) -> Result<Vec<Row>, Error>
-    requires idle { conn.old.in_transaction ≡ false }
     ensures { LooksUp S.Store conn.old conn.new result
         (λ c rows. rows.items
         ≡ map kept_values (option_to_list (kept_of c.kept requester.now invoke))) }
@@ -105,8 +99,6 @@ pub fn kept_row<S: Alter>(
 }
 
 pub fn connection_rows<S: Alter>(conn: &mut Connection<S>) -> Result<Vec<Row>, Error>
-    requires { conn.old.in_transaction ≡ false }
-    ensures idle { conn.new.in_transaction ≡ false }
     ensures found { Finds (state S.Store conn.old) (state S.Store conn.new) result
         (λ c rows. rows.items ≡ map connection_values c.rows.connections) }
     ensures seen { SeesOf (BeginsSchema nine) S.Store conn.old conn.new result
@@ -118,7 +110,6 @@ pub fn connection_rows<S: Alter>(conn: &mut Connection<S>) -> Result<Vec<Row>, E
 
 /// The further groups, by agent and group.
 pub fn further_rows<S: Alter>(conn: &mut Connection<S>) -> Result<Vec<Row>, Error>
-    requires { conn.old.in_transaction ≡ false }
     ensures { LooksUp S.Store conn.old conn.new result
         (λ c rows. rows.items ≡ map further_values (further_in c.rows.agents)) }
 {
@@ -132,7 +123,6 @@ pub fn event_rows_at<S: Alter>(
     number: u64,
     limit: u64,
 ) -> Result<Vec<Row>, Error>
-    requires idle { conn.old.in_transaction ≡ false }
     requires number { Fits number }
     requires limit { Fits limit }
     ensures { LooksUp S.Store conn.old conn.new result

@@ -1,6 +1,6 @@
 //! Reads between transactions: they change nothing, but that a failure may shut the connection.
 
-ghost use Rattle.std.specs.Prelude.{◌≡◌, ◌∷◌, [], false, IfOk, IsPermutation, ⊤};
+ghost use Rattle.std.specs.Prelude.{◌≡◌, ◌∷◌, [], IfOk, IsPermutation, ⊤};
 ghost use Rattle.acd_sql_statements.specs.Reading.{IsAnswered, RefusesToShow, Blames};
 ghost use Rattle.acd_sql_statements.specs.Looking.{BlamesLook, BlamesOver};
 ghost use Rattle.sqlite.specs.Given.{IsPlain};
@@ -26,8 +26,6 @@ use sqlite::{Alter, Connection, Error, Row};
 
 /// Tells whether the store still serves.
 pub fn probe<S: Alter>(conn: &mut Connection<S>) -> Result<(), Error>
-    requires { conn.old.in_transaction ≡ false }
-    ensures idle { conn.new.in_transaction ≡ false }
     ensures up { IsUp (state S.Store conn.new) result }
     ensures quiet { Quiet (state S.Store conn.old) (state S.Store conn.new) }
     ensures stops { HasCleanDisk (state S.Store conn.new)
@@ -48,8 +46,6 @@ pub(crate) fn read<S: Alter>(
     sql: &str,
     params: &[ValueRef<'_>],
 ) -> Result<Vec<Row>, Error>
-    requires { conn.old.in_transaction ≡ false }
-    ensures idle { conn.new.in_transaction ≡ false }
     ensures up { IsUp (state S.Store conn.new) result }
     ensures quiet { IsPlain (understood book_schema sql.now)
         → Quiet (state S.Store conn.old) (state S.Store conn.new) }
@@ -71,8 +67,6 @@ pub(crate) fn read<S: Alter>(
 
 /// The row of the limits and the counters.
 pub fn meta_rows<S: Alter>(conn: &mut Connection<S>) -> Result<Vec<Row>, Error>
-    requires { conn.old.in_transaction ≡ false }
-    ensures idle { conn.new.in_transaction ≡ false }
     ensures found { Finds (state S.Store conn.old) (state S.Store conn.new) result
         (λ c rows. rows.items ≡ meta_shown (meta_of c.rows) ∷ []) }
     ensures seen { SeesOf (BeginsSchema nine) S.Store conn.old conn.new result

@@ -142,7 +142,6 @@ fn only_meta(rows: &[Row]) -> Result<Meta, Error>
 
 /// The limits and the counters.
 pub fn read_meta<S: Alter>(conn: &mut Connection<S>) -> Result<Meta, Error>
-    requires { conn.old.in_transaction ≡ false }
     ensures { LooksUp S.Store conn.old conn.new result (λ c meta. meta ≡ meta_of c.rows) }
 {
     match meta_rows(conn) {
@@ -155,7 +154,6 @@ fn connections<S: Alter>(
     alloc: Global,
     conn: &mut Connection<S>,
 ) -> Result<Vec<ConnectionRecord>, Error>
-    requires { conn.old.in_transaction ≡ false }
     ensures { LooksUp S.Store conn.old conn.new result
         (λ c connections. connections.items ≡ c.rows.connections) }
 {
@@ -165,7 +163,6 @@ fn connections<S: Alter>(
 
 // The groups, the stations and the agents.
 fn planned<S: Alter>(alloc: Global, conn: &mut Connection<S>) -> Result<Plan, Error>
-    requires { conn.old.in_transaction ≡ false }
     ensures { LooksUp S.Store conn.old conn.new result
         (λ c t. (t.0.items ≡ c.rows.groups)
         × (t.1.items ≡ c.rows.stations) × (t.2.items ≡ c.rows.agents)) }
@@ -178,7 +175,6 @@ fn planned<S: Alter>(alloc: Global, conn: &mut Connection<S>) -> Result<Plan, Er
 
 // The calls, the connections and the monitors.
 fn traffic<S: Alter>(alloc: Global, conn: &mut Connection<S>) -> Result<Traffic, Error>
-    requires { conn.old.in_transaction ≡ false }
     ensures { LooksUp S.Store conn.old conn.new result
         (λ c t. (t.0.items ≡ c.rows.calls)
         × (t.1.items ≡ c.rows.connections) × (t.2.items ≡ c.rows.monitors)) }
@@ -213,7 +209,6 @@ fn joined(meta: Meta, plan: Plan, traffic: Traffic) -> Rows
 
 /// The limits, the tables and the counters.
 pub fn rows<S: Alter>(alloc: Global, conn: &mut Connection<S>) -> Result<Rows, Error>
-    requires { conn.old.in_transaction ≡ false }
     ensures { LooksUp S.Store conn.old conn.new result (λ c rows. rows ≡ c.rows) }
 {
     let meta = read_meta(conn)?;

@@ -1,6 +1,6 @@
 //! Reads of a whole table between transactions.
 
-ghost use Rattle.std.specs.Prelude.{◌≡◌, ◌∷◌, [], Some, false, map, IfErr, IfOk, IsSome, OnOk, IsPermutation};
+ghost use Rattle.std.specs.Prelude.{◌≡◌, ◌∷◌, [], Some, map, IfErr, IfOk, IsSome, OnOk, IsPermutation};
 ghost use Rattle.sqlite.specs.Held.{state};
 ghost use Rattle.acd_sql_columns.specs.AnyRows.{rows_in, TellsGood};
 ghost use Rattle.acd_sql_columns.specs.Finding.{Finds};
@@ -26,9 +26,7 @@ fn select_text<R: Stored>() -> &'static str
 
 /// The rows of a table, in the order of their keys.
 pub fn rows<R: Stored, S: Alter>(conn: &mut Connection<S>) -> Result<Vec<Row>, Error>
-    requires idle { conn.old.in_transaction ≡ false }
     requires selects { IsSome R.descr.select }
-    ensures idle { conn.new.in_transaction ≡ false }
     ensures found { Finds (state S.Store conn.old) (state S.Store conn.new) result
         (λ c rows. rows.items ≡ map R.descr.values (R.descr.records (relations_of c))) }
     ensures seen { SeesOf (BeginsSchema R.descr.base) S.Store conn.old conn.new result
@@ -69,9 +67,7 @@ pub fn records<R: Stored, S: Alter>(
     alloc: Global,
     conn: &mut Connection<S>,
 ) -> Result<Vec<R>, Error>
-    requires idle { conn.old.in_transaction ≡ false }
     requires selects { IsSome R.descr.select }
-    ensures idle { conn.new.in_transaction ≡ false }
     ensures found { Finds (state S.Store conn.old) (state S.Store conn.new) result
         (λ c found. found.items ≡ R.descr.records (relations_of c)) }
     ensures seen { SeesOf (BeginsSchema R.descr.base) S.Store conn.old conn.new result
@@ -98,7 +94,6 @@ fn are_read<R: Stored>(rows: &[Row]) -> bool
 
 /// Whether each value of a table is in its range.
 pub fn is_good<R: Stored, S: Alter>(conn: &mut Connection<S>) -> Result<bool, Error>
-    requires idle { conn.old.in_transaction ≡ false }
     requires selects { IsSome R.descr.select }
     ensures looks { LooksAt (BeginsSchema R.descr.base) S.Store conn.old conn.new result
         (λ d good. TellsGood R.descr.table d.trees good) }

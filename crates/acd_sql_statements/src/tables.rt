@@ -1,6 +1,6 @@
 //! The tables that grow with the history, and the queries that look at the rows of each.
 
-ghost use Rattle.std.specs.Prelude.{◌≡◌, false, []};
+ghost use Rattle.std.specs.Prelude.{[]};
 ghost use Rattle.acd_sql_columns.specs.Draft.{Fits};
 ghost use Rattle.acd_sql_columns.specs.AnyRows.{TellsLow, IsPageRows};
 ghost use Rattle.acd_sql_columns.specs.Schema.{nine, BeginsSchema};
@@ -14,7 +14,6 @@ use sqlite::{Alter, Connection, Error, Row};
 
 /// A row whose number is below 1.
 pub fn low_rows<S: Alter>(log: Log, conn: &mut Connection<S>) -> Result<Vec<Row>, Error>
-    requires { conn.old.in_transaction ≡ false }
     ensures looks { LooksAt (BeginsSchema nine) S.Store conn.old conn.new result
         (λ d rows. TellsLow log d.trees rows.items) }
     ensures looked { BlamesOver (BeginsSchema nine) [] S.Store conn.old conn.new result }
@@ -31,7 +30,6 @@ pub fn rows_above<S: Alter>(
     conn: &mut Connection<S>,
     number: u64,
 ) -> Result<Vec<Row>, Error>
-    requires idle { conn.old.in_transaction ≡ false }
     requires number { Fits number }
     ensures looks { LooksAt (BeginsSchema nine) S.Store conn.old conn.new result
         (λ d rows. IsPageRows log number 1000 d.trees rows.items) }

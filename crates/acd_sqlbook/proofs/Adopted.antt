@@ -274,11 +274,11 @@ module _ (old mid : State) (free : old.step_limit ≡ None) (settles : Settles o
 pub unmade_cause : (old mid new : State) (free : old.step_limit ≡ None) (settles : Settles old) (k : HasCleanDisk mid) (e : Error) (f : AdoptFault) → f ≡ adopt_fault_of e → f ≡ Store → HasLooked old mid (Ok (Book version.First)) IsFound
     → BlamesLook {A = Found} IsFiled old mid (Ok (Book version.First)) → mid.faults ≤ new.faults → FailsToMigrate mid new e → AdoptCause old new
 unmade_cause old mid new free settles k e f is store h blames counts (inl memory) = absurd (no_memory e f is store memory)
-unmade_cause old mid new free settles k e f is store h blames counts (inr (inl (inl more))) = failed (let first = blames.counts in omega (arith, more, first))
+unmade_cause old mid new free settles k e f is store h blames counts (inr (inl (inl more))) = failed (let first = blames.spares.counts in omega (arith, more, first))
 unmade_cause old mid new free settles k e f is store h blames counts (inr (inl (inr down))) = absurd (let up = h.up k in let apart = sym up ∙ down in cc)
 unmade_cause old mid new free settles k e f is store h blames counts (inr (inr untold)) =
     let same = (after_look old mid settles k (Book version.First) h).now in
-    refused ((found_in old mid settles k (Book version.First) h).schema_is) (subst (λ (l : Option ℕ). IsUntold l old.now.trees) (blames.limit ∙ free) (subst (λ (d : Database). IsUntold mid.step_limit d.trees) same untold))
+    refused ((found_in old mid settles k (Book version.First) h).schema_is) (subst (λ (l : Option ℕ). IsUntold l old.now.trees) (blames.spares.limit ∙ free) (subst (λ (d : Database). IsUntold mid.step_limit d.trees) same untold))
 
 -- ---- a limit of steps that was taken off before makes no difference
 

@@ -36,7 +36,7 @@ counts_unfit old new meta e changes events kept read unfit = record {
 }
 
 pub counts_done : {A B : Type 0} (R : Content → Type 0) (old new : State) (a : A) (b : B) → Blames {A = A} old new (Ok a) → BlamesOr {A = B} R old new (Ok b)
-counts_done R old new a b h = record { cause = λ k c held. tt; counts = h.counts; limit = h.limit }
+counts_done R old new a b h = record { cause = λ k c held. tt; counts = h.spares.counts; limit = h.spares.limit }
 
 -- the whole
 
@@ -82,7 +82,7 @@ module _ (changes : List Change) (events : List Event) (kept : Kept) where
 -- no memory for the changes, or one of them would drop a record
 pub whole_blamed : (old new : State) (held rows : Rows) (r : Result (Vec Change Global) Error) → HasRead old new (Ok held) (λ c (found : Rows). found ≡ c.rows) → Blames old new (Ok held)
     → IfErr r (λ e. IsMemory e ⊎ (¬ (AreWhole (rows_differences held rows)))) → BlamesOr (Drops rows) old new r
-whole_blamed old new held rows (Ok changes) read h fails = record { cause = λ k c holds. tt; counts = h.counts; limit = h.limit }
+whole_blamed old new held rows (Ok changes) read h fails = record { cause = λ k c holds. tt; counts = h.spares.counts; limit = h.spares.limit }
 whole_blamed old new held rows (Err e) read h fails = record {
   cause = λ k c holds.
       elim fails [

@@ -1,6 +1,5 @@
 //! The index of a book that holds some events already.
 
-ghost use Rattle.std.specs.Prelude.{◌≡◌, false};
 ghost use Rattle.sqlite.specs.Held.{state};
 ghost use Rattle.acd_sql_columns.specs.Finding.{Finds};
 ghost use Rattle.acd_sql_statements.specs.Picking.{Serves};
@@ -35,8 +34,6 @@ fn noted_to_the_end<S: Alter>(
     conn: &mut Connection<S>,
     begun: Index,
 ) -> Result<Option<Index>, Error>
-    requires { conn.old.in_transaction ≡ false }
-    ensures idle { conn.new.in_transaction ≡ false }
     ensures found { Serves (state S.Store conn.old)
         → Finds (state S.Store conn.old) (state S.Store conn.new) result
         (λ c noted. BeginsIndex begun c.events → IndexIsNoted noted c.events) }
@@ -59,8 +56,6 @@ fn noted_to_the_end<S: Alter>(
 
 // The index of all events that are held.
 fn begun<S: Alter>(alloc: Global, conn: &mut Connection<S>) -> Result<Option<Index>, Error>
-    requires { conn.old.in_transaction ≡ false }
-    ensures idle { conn.new.in_transaction ≡ false }
     ensures found { Finds (state S.Store conn.old) (state S.Store conn.new) result
         (λ c noted. IndexIsNoted noted c.events) }
     ensures blamed { Blames (state S.Store conn.old) (state S.Store conn.new) result }

@@ -29,8 +29,6 @@ fn page_at<S: Alter>(
     number: u64,
     limit: usize,
 ) -> Result<Vec<Event>, Error>
-    requires { conn.old.in_transaction ≡ false }
-    ensures idle { conn.new.in_transaction ≡ false }
     ensures found { Serves (state S.Store conn.old)
         → Finds (state S.Store conn.old) (state S.Store conn.new) result
         (λ c events. Indexes index.now c.events
@@ -53,8 +51,6 @@ fn page<S: Alter>(
     number: u64,
     limit: usize,
 ) -> Result<Vec<Event>, Error>
-    requires { conn.old.in_transaction ≡ false }
-    ensures idle { conn.new.in_transaction ≡ false }
     ensures found { Finds (state S.Store conn.old) (state S.Store conn.new) result
         (λ c events. Indexes index.now c.events
         → events.items ≡ events_of_monitor c monitor number limit) }
@@ -78,8 +74,6 @@ fn noted_page<S: Alter>(
     number: u64,
     limit: usize,
 ) -> Result<Vec<Event>, Error>
-    requires { conn.old.in_transaction ≡ false }
-    ensures idle { conn.new.in_transaction ≡ false }
     ensures found { Finds (state S.Store conn.old) (state S.Store conn.new) result
         (λ c events. IndexIsNoted noted.now c.events
         → events.items ≡ events_of_monitor c monitor number limit) }

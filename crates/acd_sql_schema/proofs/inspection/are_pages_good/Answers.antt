@@ -10,11 +10,10 @@ use Rattle.acd_sql_statements.proofs.Lookings.{looks_as, looks_done, looks_still
 use Rattle.acd_sql_schema.proofs.inspection.are_pages_good.Goals as goal
 
 pub loop-page-init : goal.loop-page-init
-loop-page-init g c = record { idle = c.requires.idle; fits = omega arith; seen = λ d is. sees_here d (state g.S.Store c.args.conn.now) tt (Left c.args.log 0 d.trees) (λ had xs are. refl); looked = looks_still (IsPaged c.args.log) (state g.S.Store c.args.conn.now) tt }
+loop-page-init g c = record { fits = omega arith; seen = λ d is. sees_here d (state g.S.Store c.args.conn.now) tt (Left c.args.log 0 d.trees) (λ had xs are. refl); looked = looks_still (IsPaged c.args.log) (state g.S.Store c.args.conn.now) tt }
 
 pub loop-page-preserved : goal.loop-page-preserved
 loop-page-preserved g c = record {
-  idle = c.page_behind.ensures.idle;
   fits = rw c.in-More.is at c.in_ok-page.ensures.fits;
   seen = λ d is. pages_more d (state g.S.Store c.args.conn.now) (state g.S.Store c.loop-page.conn) (state g.S.Store c.page_behind.new.conn) c.args.log c.loop-page.number (c.loop-page.invariant.seen d is) c.in-More.last (rw c.in-More.is at (c.in_ok-page.ensures.seen d is));
   looked =

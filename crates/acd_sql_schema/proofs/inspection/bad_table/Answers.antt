@@ -11,12 +11,11 @@ use Rattle.acd_sql_statements.proofs.Lookings.{looks_as, looks_done, looks_still
 use Rattle.acd_sql_schema.proofs.inspection.bad_table.Goals as goal
 
 pub loop-table-init : goal.loop-table-init
-loop-table-init g c = record { idle = c.requires.idle; seen = λ d is. sees_here d (state g.S.Store c.args.conn.now) tt (Good [] d.trees) (λ had filed. tt); looked = looks_still (HasFiled (λ s. Every (Covers s) c.args.tables.now)) (state g.S.Store c.args.conn.now) tt }
+loop-table-init g c = record { seen = λ d is. sees_here d (state g.S.Store c.args.conn.now) tt (Good [] d.trees) (λ had filed. tt); looked = looks_still (HasFiled (λ s. Every (Covers s) c.args.tables.now)) (state g.S.Store c.args.conn.now) tt }
 
 pub loop-table-preserved : goal.loop-table-preserved
 loop-table-preserved g c =
     let good : c.in_ok-good.good ≡ true = search rules in record {
-      idle = c.is_good_table.ensures.idle;
       seen = λ d is.
           tables_next d (state g.S.Store c.args.conn.now) (state g.S.Store c.loop-table.conn) (state g.S.Store c.is_good_table.new.conn) c.args.tables.now c.loop-table.table-index (c.loop-table.invariant.seen d is)
           _ _ c.in_ok-good.good refl c.loop-table-test.true good (c.in_ok-good.ensures.seen d (every_at (Covers d.schema) c.args.tables.now c.loop-table.table-index _ is c.loop-table-test.true));

@@ -15,7 +15,6 @@ use Rattle.acd_sql_statements.proofs.look.further_rows.Goals as goal
 
 pub returns-clause-looks : goal.returns-clause-looks
 returns-clause-looks g c = record {
-  idle = search rules;
   seen = λ d is.
       let whole = whole_begins d.schema is in
       sees_all d (state g.S.Store c.args.conn.now) (state g.S.Store c.read.new.conn) c.read.result table.AgentGroups (nine ++ two) SELECT_STANDING_AGENT_GROUPS.now further_listing asks_further whole

@@ -14,7 +14,6 @@ use Rattle.acd_sql_statements.proofs.look.unordered_connection_rows.Goals as goa
 
 pub returns-clause-looks : goal.returns-clause-looks
 returns-clause-looks g c = record {
-  idle = search rules;
   seen = λ d is.
       sees_all d (state g.S.Store c.args.conn.now) (state g.S.Store c.read.new.conn) c.read.result table.Connections nine SELECT_STANDING_CONNECTIONS.now unordered_connections asks_unordered_connections is
       (c.read.ensures.seen d (plain_of nine SELECT_STANDING_CONNECTIONS.now unordered_connections d.schema is));

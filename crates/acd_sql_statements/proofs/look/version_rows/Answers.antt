@@ -11,7 +11,6 @@ use Rattle.acd_sql_statements.proofs.look.version_rows.Goals as goal
 
 pub returns-clause-looks : goal.returns-clause-looks
 returns-clause-looks g c = record {
-  idle = search rules;
   seen = λ d begins. sees_version d (state g.S.Store c.args.conn.now) (state g.S.Store c.read.new.conn) c.read.result begins (c.read.ensures.seen d (version_plain d begins));
 }
 

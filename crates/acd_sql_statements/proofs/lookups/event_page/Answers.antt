@@ -12,7 +12,6 @@ use Rattle.acd_lemmas.proofs.Numbers.{still_below, below_is}
 
 pub returns : goal.returns
 returns g c = record {
-  idle = search rules;
   found =
       paged (λ (n : ℕ) (e : Event). nat_lt n e.number) (λ a b e low h. still_below a b e.number low h) event_values c.args.number c.args.limit (λ (x : Content). x.events)
       (state g.S.Store c.args.conn.now) (state g.S.Store c.event_rows.new.conn) c.in_ok-rows.rows c.meant.result c.min.result c.min-2.result c.min.ensures c.min-2.ensures c.in_ok-rows.ensures.found c.meant.ensures.same c.meant.ensures.none c.meant.ensures.fewer;
@@ -23,7 +22,6 @@ returns g c = record {
 
 pub returns-in_err-rows : goal.returns-in_err-rows
 returns-in_err-rows g c = record {
-  idle = search rules;
   found = finds_failed c.in_err-rows.ensures.found (search rules);
   blamed =
       blames_as (state g.S.Store c.args.conn.now) (state g.S.Store c.event_rows.new.conn) c.in_err-rows.field-0.0 c.from_residual.result (search rules) c.in_err-rows.ensures.blamed;

@@ -11,7 +11,6 @@ use Rattle.acd_sql_statements.proofs.lookups.event_page_at.Goals as goal
 
 pub returns : goal.returns
 returns g c = record {
-  idle = search rules;
   found =
       paged (is_told (Some c.args.device)) (falls_told (Some c.args.device)) event_values c.args.number c.args.limit (λ (x : Content). x.events)
       (state g.S.Store c.args.conn.now) (state g.S.Store c.event_rows_at.new.conn) c.in_ok-rows.rows c.meant.result c.min.result c.min-2.result c.min.ensures c.min-2.ensures c.in_ok-rows.ensures.found c.meant.ensures.same c.meant.ensures.none c.meant.ensures.fewer;
@@ -22,7 +21,6 @@ returns g c = record {
 
 pub returns-in_err-rows : goal.returns-in_err-rows
 returns-in_err-rows g c = record {
-  idle = search rules;
   found = finds_failed c.in_err-rows.ensures.found (search rules);
   blamed = blames_as (state g.S.Store c.args.conn.now) (state g.S.Store c.event_rows_at.new.conn) c.in_err-rows.field-0.0 c.from_residual.result (search rules) c.in_err-rows.ensures.blamed;
 }

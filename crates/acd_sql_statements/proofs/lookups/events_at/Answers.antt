@@ -13,7 +13,6 @@ use Rattle.acd_sql_statements.proofs.lookups.events_at.Goals as goal
 
 pub returns : goal.returns
 returns g c = record {
-  idle = search rules;
   found =
       recorded event_in event_values event_exact (state g.S.Store c.args.conn.now) (state g.S.Store c.event_page_at.new.conn) c.in_ok-rows.rows c.records.result
       (λ (x : Content). take c.args.limit (filter (is_told (Some c.args.device) c.args.number) x.events)) c.in_ok-rows.ensures.found
@@ -26,7 +25,6 @@ returns g c = record {
 
 pub returns-in_err-rows : goal.returns-in_err-rows
 returns-in_err-rows g c = record {
-  idle = search rules;
   found = finds_failed c.in_err-rows.ensures.found (search rules);
   blamed = blames_as (state g.S.Store c.args.conn.now) (state g.S.Store c.event_page_at.new.conn) c.in_err-rows.field-0.0 c.from_residual.result (search rules) c.in_err-rows.ensures.blamed;
 }

@@ -7,7 +7,6 @@ use Rattle.acd_sql_statements.proofs.lookups.events_watched.Goals as goal
 
 pub returns-in-Some : goal.returns-in-Some
 returns-in-Some g c = record {
-  idle = search rules;
   found =
       watched (state g.S.Store c.args.conn.now) (state g.S.Store c.monitor_at.new.conn) (state g.S.Store c.events_at.new.conn) c.args.monitor c.args.number c.max-above.result c.args.limit c.in_ok-watch.field-0 c.in-Some.watch c.events_at.result c.in-Some.is c.in_ok-watch.ensures.found c.max-above.ensures c.events_at.ensures.found;
   blamed =
@@ -16,7 +15,6 @@ returns-in-Some g c = record {
 
 pub returns-in_err-watch : goal.returns-in_err-watch
 returns-in_err-watch g c = record {
-  idle = search rules;
   found = finds_failed c.in_err-watch.ensures.found (search rules);
   blamed = blames_as (state g.S.Store c.args.conn.now) (state g.S.Store c.monitor_at.new.conn) c.in_err-watch.field-0.0 c.from_residual.result (search rules) c.in_err-watch.ensures.blamed;
 }

@@ -16,7 +16,6 @@ use Rattle.acd_sql_statements.proofs.lookups.kept_behind.Goals as goal
 
 pub returns : goal.returns
 returns g c = record {
-  idle = search rules;
   found =
       recorded_good kept_in kept_values IsReadable kept_exact (state g.S.Store c.args.conn.now) (state g.S.Store c.kept_page.new.conn) c.in_ok-rows.rows c.records.result (λ (x : Content). kept_behind x.kept c.args.stamp c.args.limit)
       (page_readable (state g.S.Store c.args.conn.now) c.args.stamp c.args.limit) c.in_ok-rows.ensures.found (rw c.deref.ensures.value at c.records.ensures.records);
@@ -28,7 +27,6 @@ returns g c = record {
 
 pub returns-in_err-rows : goal.returns-in_err-rows
 returns-in_err-rows g c = record {
-  idle = search rules;
   found = finds_failed c.in_err-rows.ensures.found (search rules);
   blamed =
       blames_as (state g.S.Store c.args.conn.now) (state g.S.Store c.kept_page.new.conn) c.in_err-rows.field-0.0 c.from_residual.result (search rules) c.in_err-rows.ensures.blamed;

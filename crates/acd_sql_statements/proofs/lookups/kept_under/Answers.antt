@@ -15,7 +15,6 @@ use Rattle.acd_sql_statements.proofs.lookups.kept_under.Goals as goal
 
 pub returns : goal.returns
 returns g c = record {
-  idle = search rules;
   found =
       first_recorded kept_in kept_values IsReadable kept_exact (state g.S.Store c.args.conn.now) (state g.S.Store c.kept_row.new.conn) c.in_ok-rows.rows c.first.result (λ (x : Content). kept_of x.kept c.args.requester.now c.args.invoke)
       (found_readable (state g.S.Store c.args.conn.now) (λ (k : Kept). is_key c.args.requester.now c.args.invoke k.request)) c.in_ok-rows.ensures.found (rw c.deref.ensures.value at c.first.ensures.found);
@@ -27,7 +26,6 @@ returns g c = record {
 
 pub returns-in_err-rows : goal.returns-in_err-rows
 returns-in_err-rows g c = record {
-  idle = search rules;
   found = finds_failed c.in_err-rows.ensures.found (search rules);
   blamed =
       blames_as (state g.S.Store c.args.conn.now) (state g.S.Store c.kept_row.new.conn) c.in_err-rows.field-0.0 c.from_residual.result (search rules) c.in_err-rows.ensures.blamed;

@@ -15,7 +15,6 @@ use Rattle.acd_sql_statements.proofs.lookups.monitor_at.Goals as goal
 
 pub returns-then-not-fits : goal.returns-then-not-fits
 returns-then-not-fits g c = record {
-  idle = search rules;
   found =
       monitor_listed (state g.S.Store c.args.conn.now) (state g.S.Store c.records.new.conn) c.args.number c.in_ok-monitors.monitors c.find.result c.in_ok-monitors.ensures.found (rw c.deref.ensures.value at c.find.ensures);
   blamed = blames_done (state g.S.Store c.args.conn.now) (state g.S.Store c.records.new.conn) c.in_ok-monitors.monitors c.find.result (c.in_ok-monitors.ensures.blamed monitors_answered (λ x. refl));
@@ -23,7 +22,6 @@ returns-then-not-fits g c = record {
 
 pub returns : goal.returns
 returns g c = record {
-  idle = search rules;
   found =
       monitor_first (state g.S.Store c.args.conn.now) (state g.S.Store c.monitor_row.new.conn) c.args.number c.in_ok-rows.rows c.first.result c.in_ok-rows.ensures.found (rw c.deref-2.ensures.value at c.first.ensures.found);
   blamed =
@@ -34,7 +32,6 @@ returns g c = record {
 
 pub returns-in_err-monitors : goal.returns-in_err-monitors
 returns-in_err-monitors g c = record {
-  idle = search rules;
   found = finds_failed c.in_err-monitors.ensures.found (search rules);
   blamed =
       blames_as (state g.S.Store c.args.conn.now) (state g.S.Store c.records.new.conn) c.in_err-monitors.field-0.0 c.from_residual.result (search rules) (c.in_err-monitors.ensures.blamed monitors_answered (λ x. refl));
@@ -42,7 +39,6 @@ returns-in_err-monitors g c = record {
 
 pub returns-in_err-rows : goal.returns-in_err-rows
 returns-in_err-rows g c = record {
-  idle = search rules;
   found = finds_failed c.in_err-rows.ensures.found (search rules);
   blamed = blames_as (state g.S.Store c.args.conn.now) (state g.S.Store c.monitor_row.new.conn) c.in_err-rows.field-0.0 c.from_residual-in_err-rows.result (search rules) c.in_err-rows.ensures.blamed;
 }

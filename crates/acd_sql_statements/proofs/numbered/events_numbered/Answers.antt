@@ -9,13 +9,9 @@ use Rattle.acd_sql_statements.proofs.numbered.events_numbered.Goals as goal
 
 pub loop-number-init : goal.loop-number-init
 loop-number-init g c = record {
-  idle = c.requires;
   found = picked_none (state g.S.Store c.args.conn.now) c.new-found.result c.new-found.ensures.items;
   blamed = λ serves. blames_still (state g.S.Store c.args.conn.now) c.new-found.result;
 }
-
-pub add_numbered-requires : goal.add_numbered-requires
-add_numbered-requires g c = c.loop-number.invariant.idle
 
 pub returns-in_err-add_numbered-clause-found : goal.returns-in_err-add_numbered-clause-found
 returns-in_err-add_numbered-clause-found g c serves =
@@ -30,7 +26,6 @@ returns-in_err-add_numbered-clause-blamed g c serves =
 
 pub loop-number-preserved : goal.loop-number-preserved
 loop-number-preserved g c = record {
-  idle = c.add_numbered.ensures.idle;
   found = λ serves. picked_more (state g.S.Store c.args.conn.now) (state g.S.Store c.loop-number.conn) (state g.S.Store c.add_numbered.new.conn) c.loop-number.found c.add_numbered.new.found c.args.numbers.now c.loop-number.number-index _ 0 refl c.loop-number-test.true
       (c.loop-number.invariant.found serves) c.in_ok-add_numbered.ensures.found;
   blamed = λ serves.
@@ -38,9 +33,6 @@ loop-number-preserved g c = record {
       blames_done (state g.S.Store c.args.conn.now) (state g.S.Store c.add_numbered.new.conn) c.in_ok-add_numbered.field-0 c.add_numbered.new.found
       (blames_behind (state g.S.Store c.args.conn.now) (state g.S.Store c.loop-number.conn) (state g.S.Store c.add_numbered.new.conn) c.loop-number.found (Ok c.in_ok-add_numbered.field-0) (c.loop-number.invariant.blamed serves) so_far.quiet so_far.up c.in_ok-add_numbered.ensures.found.quiet.clean c.in_ok-add_numbered.ensures.blamed);
 }
-
-pub returns-clause-idle : goal.returns-clause-idle
-returns-clause-idle g c = c.loop-number.invariant.idle
 
 pub returns-clause-found : goal.returns-clause-found
 returns-clause-found g c serves =

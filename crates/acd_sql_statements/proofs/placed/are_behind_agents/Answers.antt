@@ -14,14 +14,12 @@ use Rattle.acd_sql_statements.proofs.placed.are_behind_agents.Goals as goal
 
 pub returns-in-Ok-clause-looks : goal.returns-in-Ok-clause-looks
 returns-in-Ok-clause-looks g c = record {
-  idle = search rules;
   seen = λ d is.
       agents_seen d (state g.S.Store c.args.conn.now) (state g.S.Store c.records.new.conn) c.in-Ok.agents c.args.pairs.now c.are_behind.result (rw c.deref.ensures.value at c.are_behind.ensures) (c.in-Ok.ensures.seen d is);
 }
 
 pub returns-in-Err-clause-looks : goal.returns-in-Err-clause-looks
 returns-in-Err-clause-looks g c = record {
-  idle = search rules;
   seen = λ d is. sees_fail d (state g.S.Store c.args.conn.now) (state g.S.Store c.records.new.conn) c.in-Err.error _ (λ (placed : Bool). placed ≡ are_behind (map as_agent (rows_in table.Agents d.trees)) c.args.pairs.now) (c.in-Err.ensures.seen d is);
 }
 

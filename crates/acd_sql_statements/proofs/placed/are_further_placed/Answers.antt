@@ -18,14 +18,12 @@ use Rattle.acd_sql_statements.proofs.placed.are_further_placed.Goals as goal
 
 pub returns-in-Ok-clause-looks : goal.returns-in-Ok-clause-looks
 returns-in-Ok-clause-looks g c = record {
-  idle = search rules;
   seen = λ d is.
       further_seen d (state g.S.Store c.args.conn.now) (state g.S.Store c.further_pairs.new.conn) (state g.S.Store c.are_behind_agents.new.conn) c.in-Ok.pairs c.deref.result.now c.are_behind_agents.result c.deref.ensures.value (c.in-Ok.ensures.looks.seen d is) (c.are_behind_agents.ensures.looks.seen d (book_begins d.schema is));
 }
 
 pub returns-in-Err-clause-looks : goal.returns-in-Err-clause-looks
 returns-in-Err-clause-looks g c = record {
-  idle = search rules;
   seen = λ d is. sees_fail d (state g.S.Store c.args.conn.now) (state g.S.Store c.further_pairs.new.conn) c.in-Err.error _ (λ (placed : Bool). placed ≡ is_beside d.trees) (c.in-Err.ensures.looks.seen d is);
 }
 

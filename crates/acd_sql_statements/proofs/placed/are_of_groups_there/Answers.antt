@@ -14,14 +14,12 @@ use Rattle.acd_sql_statements.proofs.placed.are_of_groups_there.Goals as goal
 
 pub returns-in-Ok-clause-looks : goal.returns-in-Ok-clause-looks
 returns-in-Ok-clause-looks g c = record {
-  idle = search rules;
   seen = λ d is.
       groups_seen d (state g.S.Store c.args.conn.now) (state g.S.Store c.records.new.conn) c.in-Ok.groups c.args.priorities.now c.are_of_groups.result (rw c.deref.ensures.value at c.are_of_groups.ensures) (c.in-Ok.ensures.seen d is);
 }
 
 pub returns-in-Err-clause-looks : goal.returns-in-Err-clause-looks
 returns-in-Err-clause-looks g c = record {
-  idle = search rules;
   seen = λ d is. sees_fail d (state g.S.Store c.args.conn.now) (state g.S.Store c.records.new.conn) c.in-Err.error _ (λ (placed : Bool). placed ≡ are_of_groups (map as_group (rows_in table.Groups d.trees)) c.args.priorities.now) (c.in-Err.ensures.seen d is);
 }
 

@@ -15,14 +15,12 @@ use Rattle.acd_sql_statements.proofs.placed.further_pairs.Goals as goal
 
 pub returns-in-Ok-clause-looks : goal.returns-in-Ok-clause-looks
 returns-in-Ok-clause-looks g c = record {
-  idle = search rules;
   seen = λ d is.
       pairs_seen d (state g.S.Store c.args.conn.now) (state g.S.Store c.further_rows.new.conn) c.in-Ok.rows c.records.result (rw c.deref.ensures.value at c.records.ensures.records) (c.in-Ok.ensures.looks.seen d is);
 }
 
 pub returns-in-Err-clause-looks : goal.returns-in-Err-clause-looks
 returns-in-Err-clause-looks g c = record {
-  idle = search rules;
   seen = λ d is.
       sees_fail d (state g.S.Store c.args.conn.now) (state g.S.Store c.further_rows.new.conn) c.in-Err.error _ (λ (pairs : Vec (ℕ × ℕ) Global). IsPermutation (map as_further (rows_in table.AgentGroups d.trees)) pairs.items) (c.in-Err.ensures.looks.seen d is);
 }

@@ -14,7 +14,6 @@ use Rattle.acd_sql_statements.proofs.plan.agents.Goals as goal
 
 pub returns-in-Ok : goal.returns-in-Ok
 returns-in-Ok g c = record {
-  idle = search rules;
   found =
       behind (state g.S.Store c.args.conn.now) (state g.S.Store c.records.new.conn) (state g.S.Store c.grouped.new.conn) c.in-Ok.parts c.grouped.result (λ (x : Content) (parts : Vec AgentRow Global). parts.items ≡ map agent_part x.rows.agents)
       (λ (x : Content) (found : Vec AgentRecord Global). c.deref.result.now ≡ map agent_part x.rows.agents → found.items ≡ x.rows.agents) (λ (x : Content) (found : Vec AgentRecord Global). found.items ≡ x.rows.agents) c.in-Ok.ensures.found
@@ -26,7 +25,6 @@ returns-in-Ok g c = record {
 
 pub returns-in-Err : goal.returns-in-Err
 returns-in-Err g c = record {
-  idle = search rules;
   found = finds_failed c.in-Err.ensures.found refl;
   blamed = blames_fail (state g.S.Store c.args.conn.now) (state g.S.Store c.records.new.conn) c.in-Err.error (c.in-Err.ensures.blamed agents_answered agents_told);
 }

@@ -14,7 +14,6 @@ use Rattle.acd_sql_statements.proofs.plan.further.Goals as goal
 
 pub returns-in-Ok : goal.returns-in-Ok
 returns-in-Ok g c = record {
-  idle = search rules;
   found =
       recorded read further_values further_exact (state g.S.Store c.args.conn.now) (state g.S.Store c.further_rows.new.conn) c.in-Ok.rows c.records.result (λ (x : Content). further_in x.rows.agents) c.in-Ok.ensures.found (rw c.deref.ensures.value at c.records.ensures.records);
   blamed =
@@ -24,7 +23,6 @@ returns-in-Ok g c = record {
 
 pub returns-in-Err : goal.returns-in-Err
 returns-in-Err g c = record {
-  idle = search rules;
   found = finds_failed c.in-Err.ensures.found refl;
   blamed = blames_fail (state g.S.Store c.args.conn.now) (state g.S.Store c.further_rows.new.conn) c.in-Err.error c.in-Err.ensures.blamed;
 }

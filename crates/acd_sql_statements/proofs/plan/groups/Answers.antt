@@ -14,7 +14,6 @@ use Rattle.acd_sql_statements.proofs.plan.groups.Goals as goal
 
 pub returns-in-Ok : goal.returns-in-Ok
 returns-in-Ok g c = record {
-  idle = search rules;
   found =
       behind (state g.S.Store c.args.conn.now) (state g.S.Store c.records.new.conn) (state g.S.Store c.ranked.new.conn) c.in-Ok.parts c.ranked.result (λ (x : Content) (parts : Vec GroupRow Global). parts.items ≡ map group_part x.rows.groups)
       (λ (x : Content) (found : Vec GroupRecord Global). c.deref.result.now ≡ map group_part x.rows.groups → found.items ≡ x.rows.groups) (λ (x : Content) (found : Vec GroupRecord Global). found.items ≡ x.rows.groups) c.in-Ok.ensures.found
@@ -26,7 +25,6 @@ returns-in-Ok g c = record {
 
 pub returns-in-Err : goal.returns-in-Err
 returns-in-Err g c = record {
-  idle = search rules;
   found = finds_failed c.in-Err.ensures.found refl;
   blamed = blames_fail (state g.S.Store c.args.conn.now) (state g.S.Store c.records.new.conn) c.in-Err.error (c.in-Err.ensures.blamed groups_answered groups_told);
 }

@@ -8,7 +8,6 @@ use Rattle.acd_sql_statements.proofs.plan.ranked.Goals as goal
 
 pub returns-in-Ok : goal.returns-in-Ok
 returns-in-Ok g c = record {
-  idle = search rules;
   found =
       ranked_so (state g.S.Store c.args.conn.now) (state g.S.Store c.records.new.conn) c.in-Ok.priorities c.args.parts.now c.deref.result.now c.joined_groups.result c.deref.ensures.value c.in-Ok.ensures.found c.joined_groups.ensures.groups;
   blamed =
@@ -17,7 +16,6 @@ returns-in-Ok g c = record {
 
 pub returns-in-Err : goal.returns-in-Err
 returns-in-Err g c = record {
-  idle = search rules;
   found = finds_failed c.in-Err.ensures.found refl;
   blamed = blames_fail (state g.S.Store c.args.conn.now) (state g.S.Store c.records.new.conn) c.in-Err.error (c.in-Err.ensures.blamed priorities_answered (λ x. refl));
 }

@@ -9,7 +9,6 @@ use Rattle.acd_sql_statements.proofs.query.event_rows_at.Goals as goal
 
 pub returns : goal.returns
 returns g c = record {
-  idle = search rules;
   found =
       let e = c.read.ensures in
       finds SELECT_EVENTS_AT_DEVICE.now (id_value c.args.number ∷ id_value c.args.device ∷ id_value c.args.limit ∷ []) (state g.S.Store c.args.conn.now) (state g.S.Store c.read.new.conn) c.read.result events_at_plain _ e.up e.quiet e.stops (λ clean. rw (c.integer.ensures, c.device.ensures, c.integer-2.ensures) at (e.shown clean))

@@ -7,7 +7,6 @@ use Rattle.acd_sql_statements.proofs.query.further_rows.Goals as goal
 
 pub returns : goal.returns
 returns g c = record {
-  idle = search rules;
   found =
       let e = c.read.ensures in
       finds _ _ (state g.S.Store c.args.conn.now) (state g.S.Store c.read.new.conn) c.read.result groups_plain _ e.up e.quiet e.stops e.shown (shows_groups _ _);

@@ -10,7 +10,6 @@ use Rattle.acd_sql_statements.proofs.query.kept_row.Goals as goal
 
 pub returns : goal.returns
 returns g c = record {
-  idle = search rules;
   found =
       let e = c.read.ensures in
       finds SELECT_KEPT_OF_REQUEST.now (Text c.args.requester.now ∷ id_value c.args.invoke ∷ []) (state g.S.Store c.args.conn.now) (state g.S.Store c.read.new.conn) c.read.result key_plain _ e.up e.quiet e.stops (λ clean. rw (c.text.ensures, c.as_bytes.ensures.value, c.small.ensures, c.number.ensures.value) at (e.shown clean))

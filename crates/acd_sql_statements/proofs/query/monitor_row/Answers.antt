@@ -9,7 +9,6 @@ use Rattle.acd_sql_statements.proofs.query.monitor_row.Goals as goal
 
 pub returns : goal.returns
 returns g c = record {
-  idle = search rules;
   found =
       let e = c.read.ensures in
       finds SELECT_MONITOR.now (id_value c.args.monitor ∷ []) (state g.S.Store c.args.conn.now) (state g.S.Store c.read.new.conn) c.read.result monitor_plain _ e.up e.quiet e.stops (λ clean. rw (c.integer.ensures) at (e.shown clean))

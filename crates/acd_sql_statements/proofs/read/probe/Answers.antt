@@ -52,16 +52,16 @@ pub returns-in_err-query_row-clause-blamed : goal.returns-in_err-query_row-claus
 returns-in_err-query_row-clause-blamed g c =
     let is : c.from_residual.result ≡ Err c.in_err-query_row.field-0.0 = search rules in
     subst (λ r. Blames {A = Unit {0}} (state g.S.Store c.args.conn.now) (state g.S.Store c.query_row.new.self) r) (sym is)
-    (blames_probe (state g.S.Store c.args.conn.now) (state g.S.Store c.query_row.new.self) c.in_err-query_row.field-0.0 c.query_row.ensures.survives c.in_err-query_row.ensures.row)
+    (blames_probe (state g.S.Store c.args.conn.now) (state g.S.Store c.query_row.new.self) c.in_err-query_row.field-0.0 c.query_row.ensures.survives c.query_row.ensures.mode c.in_err-query_row.ensures.row)
 
 pub returns-clause-blamed : goal.returns-clause-blamed
-returns-clause-blamed g c = blames_none (state g.S.Store c.args.conn.now) (state g.S.Store c.query_row.new.self) tt c.query_row.ensures.survives
+returns-clause-blamed g c = blames_none (state g.S.Store c.args.conn.now) (state g.S.Store c.query_row.new.self) tt c.query_row.ensures.survives c.query_row.ensures.mode
 
 pub returns-in_err-query_row-clause-looked : goal.returns-in_err-query_row-clause-looked
 returns-in_err-query_row-clause-looked g c =
     let is : c.from_residual.result ≡ Err c.in_err-query_row.field-0.0 = search rules in
     subst (λ r. BlamesLook {A = Unit {0}} (λ d. ⊤) (state g.S.Store c.args.conn.now) (state g.S.Store c.query_row.new.self) r) (sym is)
-    (looks_probe (λ d. ⊤) (state g.S.Store c.args.conn.now) (state g.S.Store c.query_row.new.self) c.in_err-query_row.field-0.0 c.query_row.ensures.survives c.in_err-query_row.ensures.row)
+    (looks_probe (λ d. ⊤) (state g.S.Store c.args.conn.now) (state g.S.Store c.query_row.new.self) c.in_err-query_row.field-0.0 c.query_row.ensures.survives c.query_row.ensures.mode c.in_err-query_row.ensures.row)
 
 pub returns-clause-looked : goal.returns-clause-looked
-returns-clause-looked g c = looks_none (λ d. ⊤) (state g.S.Store c.args.conn.now) (state g.S.Store c.query_row.new.self) tt c.query_row.ensures.survives
+returns-clause-looked g c = looks_none (λ d. ⊤) (state g.S.Store c.args.conn.now) (state g.S.Store c.query_row.new.self) tt c.query_row.ensures.survives c.query_row.ensures.mode

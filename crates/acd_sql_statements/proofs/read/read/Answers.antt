@@ -25,8 +25,8 @@ returns-clause-seen g c d plain =
 
 pub returns-clause-blamed : goal.returns-clause-blamed
 returns-clause-blamed g c asked =
-    blames_query c.args.sql.now (bound c.args.params.now) (state g.S.Store c.args.conn.now) (state g.S.Store c.query_all.new.self) c.query_all.result asked c.query_all.ensures.survives c.query_all.ensures.err
+    blames_query c.args.sql.now (bound c.args.params.now) (state g.S.Store c.args.conn.now) (state g.S.Store c.query_all.new.self) c.query_all.result asked c.query_all.ensures.survives c.query_all.ensures.mode c.query_all.ensures.err
 
 pub returns-clause-looked : goal.returns-clause-looked
 returns-clause-looked g c =
-    looks_query c.args.sql.now (bound c.args.params.now) (state g.S.Store c.args.conn.now) (state g.S.Store c.query_all.new.self) c.query_all.result c.query_all.ensures.survives c.query_all.ensures.err
+    looks_query c.args.sql.now (bound c.args.params.now) (state g.S.Store c.args.conn.now) (state g.S.Store c.query_all.new.self) c.query_all.result c.query_all.ensures.survives c.query_all.ensures.mode c.query_all.ensures.err

@@ -16,7 +16,6 @@ use Rattle.acd_sql_statements.proofs.reads.connections.Goals as goal
 
 pub returns-in_err-rows : goal.returns-in_err-rows
 returns-in_err-rows g c = record {
-  idle = search rules;
   found =
       let is : c.from_residual.result ≡ Err c.in_err-rows.field-0.0 = search rules in
       subst (λ r. Finds (state g.S.Store c.args.conn.now) (state g.S.Store c.connection_rows.new.conn) r (λ (x : Content) (found : Vec ConnectionRecord Global). found.items ≡ x.rows.connections)) (sym is)
@@ -26,7 +25,6 @@ returns-in_err-rows g c = record {
 
 pub returns : goal.returns
 returns g c = record {
-  idle = search rules;
   found =
       recorded connection_in connection_values connection_exact (state g.S.Store c.args.conn.now) (state g.S.Store c.connection_rows.new.conn) c.in_ok-rows.rows c.records.result (λ (x : Content). x.rows.connections) c.in_ok-rows.ensures.found
       (rw c.deref.ensures.value at c.records.ensures.records);

@@ -15,7 +15,6 @@ use Rattle.acd_sql_statements.proofs.reads.planned.Goals as goal
 
 pub returns-in_err-groups : goal.returns-in_err-groups
 returns-in_err-groups g c = record {
-  idle = search rules;
   found =
       let is : c.from_residual.result ≡ Err c.in_err-groups.field-0.0 = search rules in
       subst (λ r. Finds (state g.S.Store c.args.conn.now) (state g.S.Store c.groups.new.conn) r (λ (x : Content) (t : Vec GroupRecord Global × Vec StationRecord Global × Vec AgentRecord Global). (t.0.items ≡ x.rows.groups) × (t.1.items ≡ x.rows.stations) × (t.2.items ≡ x.rows.agents))) (sym is)
@@ -27,7 +26,6 @@ returns-in_err-groups g c = record {
 
 pub returns-in_err-stations : goal.returns-in_err-stations
 returns-in_err-stations g c = record {
-  idle = search rules;
   found =
       let is : c.from_residual-in_err-stations.result ≡ Err c.in_err-stations.field-0.0 = search rules in
       subst (λ r. Finds (state g.S.Store c.args.conn.now) (state g.S.Store c.records.new.conn) r (λ (x : Content) (t : Vec GroupRecord Global × Vec StationRecord Global × Vec AgentRecord Global). (t.0.items ≡ x.rows.groups) × (t.1.items ≡ x.rows.stations) × (t.2.items ≡ x.rows.agents))) (sym is)
@@ -40,7 +38,6 @@ returns-in_err-stations g c = record {
 
 pub returns-in_err-agents : goal.returns-in_err-agents
 returns-in_err-agents g c = record {
-  idle = search rules;
   found =
       let is : c.from_residual-in_err-agents.result ≡ Err c.in_err-agents.field-0.0 = search rules in
       subst (λ r. Finds (state g.S.Store c.args.conn.now) (state g.S.Store c.agents.new.conn) r (λ (x : Content) (t : Vec GroupRecord Global × Vec StationRecord Global × Vec AgentRecord Global). (t.0.items ≡ x.rows.groups) × (t.1.items ≡ x.rows.stations) × (t.2.items ≡ x.rows.agents))) (sym is)
@@ -56,7 +53,6 @@ returns-in_err-agents g c = record {
 
 pub returns : goal.returns
 returns g c = record {
-  idle = search rules;
   found =
       chained (state g.S.Store c.args.conn.now) (state g.S.Store c.records.new.conn) (state g.S.Store c.agents.new.conn) (c.in_ok-groups.groups, c.in_ok-stations.stations) (λ (x : Content) (t : Vec GroupRecord Global × Vec StationRecord Global). (t.0.items ≡ x.rows.groups) × (t.1.items ≡ x.rows.stations)) _
       (chained (state g.S.Store c.args.conn.now) (state g.S.Store c.groups.new.conn) (state g.S.Store c.records.new.conn) c.in_ok-groups.groups _ _ c.in_ok-groups.ensures.found c.in_ok-stations.stations (c.in_ok-groups.groups, c.in_ok-stations.stations) (λ (x : Content) (t : Vec GroupRecord Global × Vec StationRecord Global). (t.0.items ≡ x.rows.groups) × (t.1.items ≡ x.rows.stations)) (λ x p q. (p, q)) c.in_ok-stations.ensures.found)

@@ -6,7 +6,6 @@ use Rattle.acd_sql_statements.proofs.reads.read_meta.Goals as goal
 
 pub returns-in-Err : goal.returns-in-Err
 returns-in-Err g c = record {
-  idle = search rules;
   found =
       finds_none (state g.S.Store c.args.conn.now) (state g.S.Store c.meta_rows.new.conn) c.in-Err.error _ c.in-Err.ensures.found.quiet c.in-Err.ensures.found.stops;
   blamed = blames_fail (state g.S.Store c.args.conn.now) (state g.S.Store c.meta_rows.new.conn) c.in-Err.error c.in-Err.ensures.blamed;
@@ -14,7 +13,6 @@ returns-in-Err g c = record {
 
 pub returns-in-Ok : goal.returns-in-Ok
 returns-in-Ok g c = record {
-  idle = search rules;
   found =
       let e = c.in-Ok.ensures.found in
       finds_meta (state g.S.Store c.args.conn.now) (state g.S.Store c.meta_rows.new.conn) c.in-Ok.rows.items c.only_meta.result (rw c.deref.ensures.value at c.only_meta.ensures.found) e.up e.quiet e.stops e.answer;

@@ -17,7 +17,6 @@ use Rattle.acd_sql_statements.proofs.reads.rows.Goals as goal
 
 pub returns-in_err-meta : goal.returns-in_err-meta
 returns-in_err-meta g c = record {
-  idle = search rules;
   found =
       let is : c.from_residual.result ≡ Err c.in_err-meta.field-0.0 = search rules in
       subst (λ r. Finds (state g.S.Store c.args.conn.now) (state g.S.Store c.read_meta.new.conn) r (λ (x : Content) (s : Rows). s ≡ x.rows)) (sym is)
@@ -29,7 +28,6 @@ returns-in_err-meta g c = record {
 
 pub returns-in_err-planned : goal.returns-in_err-planned
 returns-in_err-planned g c = record {
-  idle = search rules;
   found =
       let is : c.from_residual-in_err-planned.result ≡ Err c.in_err-planned.field-0.0 = search rules in
       subst (λ r. Finds (state g.S.Store c.args.conn.now) (state g.S.Store c.planned.new.conn) r (λ (x : Content) (s : Rows). s ≡ x.rows)) (sym is)
@@ -42,7 +40,6 @@ returns-in_err-planned g c = record {
 
 pub returns-in_err-live : goal.returns-in_err-live
 returns-in_err-live g c = record {
-  idle = search rules;
   found =
       let is : c.from_residual-in_err-live.result ≡ Err c.in_err-live.field-0.0 = search rules in
       subst (λ r. Finds (state g.S.Store c.args.conn.now) (state g.S.Store c.traffic.new.conn) r (λ (x : Content) (s : Rows). s ≡ x.rows)) (sym is)
@@ -58,7 +55,6 @@ returns-in_err-live g c = record {
 
 pub returns : goal.returns
 returns g c = record {
-  idle = search rules;
   found =
       chained (state g.S.Store c.args.conn.now) (state g.S.Store c.planned.new.conn) (state g.S.Store c.traffic.new.conn) (c.in_ok-meta.meta, c.in_ok-planned.planned) (λ (x : Content) (t : Meta × (Vec GroupRecord Global × Vec StationRecord Global × Vec AgentRecord Global)). (t.0 ≡ meta_of x.rows) × ((t.1.0.items ≡ x.rows.groups) × (t.1.1.items ≡ x.rows.stations) × (t.1.2.items ≡ x.rows.agents))) _
       (chained (state g.S.Store c.args.conn.now) (state g.S.Store c.read_meta.new.conn) (state g.S.Store c.planned.new.conn) c.in_ok-meta.meta _ _ c.in_ok-meta.ensures.found c.in_ok-planned.planned (c.in_ok-meta.meta, c.in_ok-planned.planned) (λ (x : Content) (t : Meta × (Vec GroupRecord Global × Vec StationRecord Global × Vec AgentRecord Global)). (t.0 ≡ meta_of x.rows) × ((t.1.0.items ≡ x.rows.groups) × (t.1.1.items ≡ x.rows.stations) × (t.1.2.items ≡ x.rows.agents))) (λ x p q. (p, q)) c.in_ok-planned.ensures.found)

@@ -15,7 +15,6 @@ use Rattle.acd_sql_statements.proofs.reads.traffic.Goals as goal
 
 pub returns-in_err-calls : goal.returns-in_err-calls
 returns-in_err-calls g c = record {
-  idle = search rules;
   found =
       let is : c.from_residual.result ≡ Err c.in_err-calls.field-0.0 = search rules in
       subst (λ r. Finds (state g.S.Store c.args.conn.now) (state g.S.Store c.records.new.conn) r (λ (x : Content) (t : Vec CallRecord Global × Vec ConnectionRecord Global × Vec MonitorRecord Global). (t.0.items ≡ x.rows.calls) × (t.1.items ≡ x.rows.connections) × (t.2.items ≡ x.rows.monitors))) (sym is)
@@ -27,7 +26,6 @@ returns-in_err-calls g c = record {
 
 pub returns-in_err-connections : goal.returns-in_err-connections
 returns-in_err-connections g c = record {
-  idle = search rules;
   found =
       let is : c.from_residual-in_err-connections.result ≡ Err c.in_err-connections.field-0.0 = search rules in
       subst (λ r. Finds (state g.S.Store c.args.conn.now) (state g.S.Store c.connections.new.conn) r (λ (x : Content) (t : Vec CallRecord Global × Vec ConnectionRecord Global × Vec MonitorRecord Global). (t.0.items ≡ x.rows.calls) × (t.1.items ≡ x.rows.connections) × (t.2.items ≡ x.rows.monitors))) (sym is)
@@ -40,7 +38,6 @@ returns-in_err-connections g c = record {
 
 pub returns-in_err-monitors : goal.returns-in_err-monitors
 returns-in_err-monitors g c = record {
-  idle = search rules;
   found =
       let is : c.from_residual-in_err-monitors.result ≡ Err c.in_err-monitors.field-0.0 = search rules in
       subst (λ r. Finds (state g.S.Store c.args.conn.now) (state g.S.Store c.records-2.new.conn) r (λ (x : Content) (t : Vec CallRecord Global × Vec ConnectionRecord Global × Vec MonitorRecord Global). (t.0.items ≡ x.rows.calls) × (t.1.items ≡ x.rows.connections) × (t.2.items ≡ x.rows.monitors))) (sym is)
@@ -56,7 +53,6 @@ returns-in_err-monitors g c = record {
 
 pub returns : goal.returns
 returns g c = record {
-  idle = search rules;
   found =
       chained (state g.S.Store c.args.conn.now) (state g.S.Store c.connections.new.conn) (state g.S.Store c.records-2.new.conn) (c.in_ok-calls.calls, c.in_ok-connections.connections) (λ (x : Content) (t : Vec CallRecord Global × Vec ConnectionRecord Global). (t.0.items ≡ x.rows.calls) × (t.1.items ≡ x.rows.connections)) _
       (chained (state g.S.Store c.args.conn.now) (state g.S.Store c.records.new.conn) (state g.S.Store c.connections.new.conn) c.in_ok-calls.calls _ _ c.in_ok-calls.ensures.found c.in_ok-connections.connections (c.in_ok-calls.calls, c.in_ok-connections.connections) (λ (x : Content) (t : Vec CallRecord Global × Vec ConnectionRecord Global). (t.0.items ≡ x.rows.calls) × (t.1.items ≡ x.rows.connections)) (λ x p q. (p, q)) c.in_ok-connections.ensures.found)

@@ -10,14 +10,12 @@ use Rattle.acd_sql_statements.proofs.select.is_good.Goals as goal
 
 pub returns-in-Err-clause-looks : goal.returns-in-Err-clause-looks
 returns-in-Err-clause-looks g c = record {
-  idle = search rules;
   seen = λ d is.
       sees_fail d (state g.S.Store c.args.conn.now) (state g.S.Store c.rows.new.conn) c.in-Err.error _ (λ good. TellsGood g.R.Stored.descr.table d.trees good) (c.in-Err.ensures.seen d is);
 }
 
 pub returns-in-Ok-clause-looks : goal.returns-in-Ok-clause-looks
 returns-in-Ok-clause-looks g c = record {
-  idle = search rules;
   seen = λ d is.
       told g.R.Stored.descr g.met.R.Stored.filed d (state g.S.Store c.args.conn.now) (state g.S.Store c.rows.new.conn) c.in-Ok.rows (Ok c.are_read.result) (rw c.deref.ensures.value at c.are_read.ensures) (c.in-Ok.ensures.seen d is);
 }

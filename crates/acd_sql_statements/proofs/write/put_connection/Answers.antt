@@ -52,7 +52,7 @@ returns g c = record {
       by_known old new (HasNoConnection x) (RefusesOn INSERT_CONNECTION.now (connection_values x)) (RefusesPutConnection x) c.insert_connection.result
       (λ clean r d.
       let middle : HasCleanDisk mid = omega (arith, clean, c.insert_connection.ensures.works.survives.clean) in
-      none_connected x r old mid c.in_ok-changed.changed d (rw (c.integer.ensures, c.device.ensures, c.small.ensures, c.connection_code.ensures, c.device_or_null.ensures, c.integer_or_null.ensures, c.small_or_null.ensures, c.small_or_null-2.ensures) at (c.in_ok-changed.ensures.ran middle)) none)
+      none_connected x r old mid c.in_ok-changed.changed d (rw c.connection_values.ensures at (c.in_ok-changed.ensures.ran middle)) none)
       (λ r none h. inr (none, h))
       (by_later old mid new (λ r. r) (RefusesOn INSERT_CONNECTION.now (connection_values x)) c.insert_connection.result c.changed_rows.ensures.works c.insert_connection.ensures.works
       (λ middle r d. still_connected x r old mid c.in_ok-changed.changed d (rw c.connection_values.ensures at (c.in_ok-changed.ensures.ran middle)) none)

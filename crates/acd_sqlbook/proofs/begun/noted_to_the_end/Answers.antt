@@ -6,13 +6,9 @@ use Rattle.acd_sqlbook.proofs.begun.noted_to_the_end.Goals as goal
 
 pub loop-init : goal.loop-init
 loop-init g c = record {
-  idle = c.requires;
   found = pass_begins (state g.S.Store c.args.conn.now) c.args.begun;
   blamed = λ serves. blames_still (state g.S.Store c.args.conn.now) c.args.begun;
 }
-
-pub events_behind-requires : goal.events_behind-requires
-events_behind-requires g c = c.loop.invariant.idle
 
 pub returns-in_err-page-clause-found : goal.returns-in_err-page-clause-found
 returns-in_err-page-clause-found g c serves =
@@ -50,7 +46,6 @@ returns-in-None-clause-blamed g c serves =
 
 pub loop-preserved : goal.loop-preserved
 loop-preserved g c = record {
-  idle = c.events_behind.ensures.idle;
   found = λ serves. pass_more (state g.S.Store c.args.conn.now) (state g.S.Store c.loop.conn) (state g.S.Store c.events_behind.new.conn) c.args.begun c.loop.index 1000 (c.loop.invariant.found serves)
       c.in_ok-page.page c.in-Some.next (rw c.deref.ensures.value at c.in-Some.ensures) c.in_ok-page.ensures.found;
   blamed = λ serves.
@@ -58,9 +53,6 @@ loop-preserved g c = record {
       blames_done (state g.S.Store c.args.conn.now) (state g.S.Store c.events_behind.new.conn) c.in_ok-page.page c.in-Some.next
       (blames_behind (state g.S.Store c.args.conn.now) (state g.S.Store c.loop.conn) (state g.S.Store c.events_behind.new.conn) c.loop.index (Ok c.in_ok-page.page) (c.loop.invariant.blamed serves) so_far.quiet so_far.up c.in_ok-page.ensures.found.quiet.clean c.in_ok-page.ensures.blamed);
 }
-
-pub returns-clause-idle : goal.returns-clause-idle
-returns-clause-idle g c = c.loop.invariant.idle
 
 pub returns-clause-found : goal.returns-clause-found
 returns-clause-found g c serves = pass_cut (state g.S.Store c.args.conn.now) (state g.S.Store c.loop.conn) c.args.begun c.loop.index (c.loop.invariant.found serves)

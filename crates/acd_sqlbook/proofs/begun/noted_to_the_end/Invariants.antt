@@ -9,7 +9,6 @@ use Rattle.acd_sqlbook.proofs.begun.noted_to_the_end.Given as goal
 
 abbrev pub invariant-loop : goal.invariant-loop
 invariant-loop g l = record {
-  idle : l.conn.in_transaction ≡ false;
   found : Serves (state g.S.Store l.fn.conn) → Finds {E = Error} (state g.S.Store l.fn.conn) (state g.S.Store l.conn) (Ok l.index) (HasPassed l.fn.begun);
   blamed : Serves (state g.S.Store l.fn.conn) → Blames (state g.S.Store l.fn.conn) (state g.S.Store l.conn) (Ok l.index);
 }
