@@ -14,7 +14,7 @@ use Rattle.acd_sql_columns.specs.declared.decode.EventValues.{EventValues}
 use Rattle.acd_sql_columns.specs.declared.meta.Meta.{Meta}
 use Rattle.acd_sql_columns.specs.Decoding.{as_priority, as_further, as_group, as_station, as_agent, as_call, as_connection, as_monitor, as_meta}
 use Rattle.acd_sql_columns.specs.Fields.{read_whole, shown_whole, written, Agree}
-use Rattle.acd_sql_columns.specs.Ranges.{priority_in, further_in, group_in, station_in, agent_in, call_in, connection_in, monitor_in, counters_in}
+use Rattle.acd_sql_columns.specs.Ranges.{further_in, connection_in, monitor_in, counters_in}
 use Rattle.acd_sql_columns.specs.Rows.{priority_fields, priority_made, priority_values, further_fields, further_made, further_values, group_fields, group_made, group_values, station_fields, station_made, station_values, agent_fields, agent_made, agent_values, call_fields, call_made, call_values, connection_fields, connection_made, connection_values, monitor_fields, monitor_made, monitor_values, meta_fields, meta_made, meta_shown, event_fields, event_made}
 
 pub group_agrees : Agree group_fields group_made (λ r. ⊤)

@@ -1,6 +1,5 @@
 -- Why a part of a commit isn't written.
-use Rattle.std.proofs.Common.{◌≡◌, ◌⊎◌, inl, inr, ℕ, ◌<◌, List, length, get_or, Option, None, Some, Result, Ok, Err, IsTrue, IfErr, OnOk, refl, sym, ap, subst, ◌∙◌, arith}
-use Rattle.std.specs.Prelude.{IsSome}
+use Rattle.std.proofs.Common.{◌≡◌, inl, inr, ℕ, ◌<◌, List, length, get_or, Option, Result, Ok, Err, IsTrue, IfErr, OnOk, sym, ap, subst, ◌∙◌, arith}
 use Rattle.std.proofs.lemmas.Grind.{common_steps}
 use Rattle.sqlite_value.specs.Order.{Row}
 use Rattle.sqlite.specs.declared.error.Error.{Error}
@@ -18,7 +17,7 @@ use Rattle.acd_sql_columns.proofs.Filed.{Filed, Updates, by_first, columns_given
 use Rattle.acd_sql_columns.proofs.Statements.{inert_works}
 use Rattle.acd_sql_columns.proofs.Updates.{Updating}
 use Rattle.acd_sql_columns.proofs.Sets.{set_none}
-use Rattle.acd_sql_statements.specs.Failing.{FailsToWrite, Refuses}
+use Rattle.acd_sql_statements.specs.Failing.{FailsToWrite}
 use Rattle.acd_sql_statements.specs.Refusing.{RefusesOn, FailsToLeave, IsBlamed}
 use Rattle.acd_sql_statements.proofs.Failures.{failed_after}
 
@@ -28,19 +27,11 @@ unless_ok {A} P e r is = subst (λ (r : Result A Error). OnOk r P) (sym is) tt
 
 -- ---- one statement
 
--- there is a limit, or it holds without one
-by_limit : (limit : Option ℕ) (P : Option ℕ → Type 0) → P limit → IsSome limit ⊎ P None
-by_limit None P p = inr p
-by_limit (Some n) P p = inl refl
-
 module _ (old new : State) (sql : List ℕ) (params : Row) where
   pub refused_on : (e : Error) (r : Relations) → Drafts old r → FailsToWrite old new sql params e → FailsToLeave (RefusesOn sql params) r old new e
   refused_on e r d (inl memory) = inl memory
   refused_on e r d (inr (inl failed)) = inr (inl failed)
-  refused_on e r d (inr (inr refused)) = elim (by_limit old.step_limit (λ limit. Refuses limit old.now sql params) refused) [
-    | inl steps ↦ inr (inr (inl steps))
-    | inr free ↦ inr (inr (inr (record { database = old.now; schema = d.schema; tables = d.tables; refuses = free })))
-  ]
+  refused_on e r d (inr (inr refused)) = inr (inr (record { database = old.now; schema = d.schema; tables = d.tables; refuses = refused }))
 
   pub by_one : {A : Type 0} (result : Result A Error) → (HasCleanDisk new → IsTrue old.in_transaction → IfErr result (FailsToWrite old new sql params)) → IsBlamed (RefusesOn sql params) old new result
   by_one (Ok x) h = λ clean r d. tt
@@ -50,36 +41,34 @@ module _ (old new : State) (sql : List ℕ) (params : Row) where
 
 module _ (old new : State) where
   -- the same error in an answer of another kind
-  pub by_same : {B : Type 0} (R : Relations → Type 0) (e : Error) (result : Result B Error) → result ≡ Err e → (HasCleanDisk new → (r : Relations) → Drafts old r → FailsToLeave R r old new e) → IsBlamed R old new result
+  pub by_same : {B : Type 0} (R : Option ℕ → Relations → Type 0) (e : Error) (result : Result B Error) → result ≡ Err e → (HasCleanDisk new → (r : Relations) → Drafts old r → FailsToLeave R r old new e) → IsBlamed R old new result
   by_same R e result is h = λ clean r d. subst (λ b. IfErr b (FailsToLeave R r old new)) (sym is) (h clean r d)
 
   -- where something more is known of what was seen
-  pub by_known : {A : Type 0} (Is : Relations → Type 0) (P Q : Relations → Type 0) (result : Result A Error) → (HasCleanDisk new → (r : Relations) → Drafts old r → Is r)
-      → ((r : Relations) → Is r → P r → Q r) → IsBlamed P old new result → IsBlamed Q old new result
+  pub by_known : {A : Type 0} (Is : Relations → Type 0) (P Q : Option ℕ → Relations → Type 0) (result : Result A Error) → (HasCleanDisk new → (r : Relations) → Drafts old r → Is r)
+      → ((limit : Option ℕ) (r : Relations) → Is r → P limit r → Q limit r) → IsBlamed P old new result → IsBlamed Q old new result
   by_known Is P Q (Ok x) known so h = λ clean r d. tt
   by_known Is P Q (Err e) known so h = λ clean r d. each r (known clean r d) (h clean r d)
     where
       each : (r : Relations) → Is r → FailsToLeave P r old new e → FailsToLeave Q r old new e
       each r is (inl memory) = inl memory
       each r is (inr (inl failed)) = inr (inl failed)
-      each r is (inr (inr (inl steps))) = inr (inr (inl steps))
-      each r is (inr (inr (inr p))) = inr (inr (inr (so r is p)))
+      each r is (inr (inr p)) = inr (inr (so old.step_limit r is p))
 
-  pub by_more : {A : Type 0} (P Q : Relations → Type 0) (result : Result A Error) → ((r : Relations) → P r → Q r) → IsBlamed P old new result → IsBlamed Q old new result
-  by_more P Q result so = by_known (λ r. Unit {0}) P Q result (λ clean r d. tt) (λ r known p. so r p)
+  pub by_more : {A : Type 0} (P Q : Option ℕ → Relations → Type 0) (result : Result A Error) → ((limit : Option ℕ) (r : Relations) → P limit r → Q limit r) → IsBlamed P old new result → IsBlamed Q old new result
+  by_more P Q result so = by_known (λ r. Unit {0}) P Q result (λ clean r d. tt) (λ limit r known p. so limit r p)
 
 -- behind what was written before
-pub by_later : {A : Type 0} (old mid new : State) (change : Relations → Relations) (Q : Relations → Type 0) (result : Result A Error) → Works old mid → Works mid new
-    → (HasCleanDisk mid → (r : Relations) → Drafts old r → Drafts mid (change r)) → IsBlamed Q mid new result → IsBlamed (λ r. Q (change r)) old new result
+pub by_later : {A : Type 0} (old mid new : State) (change : Relations → Relations) (Q : Option ℕ → Relations → Type 0) (result : Result A Error) → Works old mid → Works mid new
+    → (HasCleanDisk mid → (r : Relations) → Drafts old r → Drafts mid (change r)) → IsBlamed Q mid new result → IsBlamed (λ limit r. Q limit (change r)) old new result
 by_later old mid new change Q (Ok x) first second made h = λ clean r d. tt
 by_later old mid new change Q (Err e) first second made h =
     λ clean r d. let middle : HasCleanDisk mid = omega (arith, clean, second.survives.clean) in each r middle (h clean (change r) (made middle r d))
   where
-    each : (r : Relations) → HasCleanDisk mid → FailsToLeave Q (change r) mid new e → FailsToLeave (λ r. Q (change r)) r old new e
+    each : (r : Relations) → HasCleanDisk mid → FailsToLeave Q (change r) mid new e → FailsToLeave (λ limit r. Q limit (change r)) r old new e
     each r middle (inl memory) = inl memory
     each r middle (inr (inl failed)) = inr (inl (failed_after old mid new first.survives middle second.survives.counts failed))
-    each r middle (inr (inr (inl steps))) = inr (inr (inl (subst IsSome first.survives.limit steps)))
-    each r middle (inr (inr (inr q))) = inr (inr (inr q))
+    each r middle (inr (inr q)) = inr (inr (subst (λ limit. Q limit (change r)) first.survives.limit q))
 
 -- ---- an UPDATE that changed no row
 

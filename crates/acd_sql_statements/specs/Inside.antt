@@ -1,5 +1,5 @@
 -- What a statement inside a transaction leaves, and why it fails. The transaction keeps its connection, and a crash leaves what it left before.
-use Rattle.std.specs.Prelude.{◌≡◌, ℕ, List, Result, Ok, IfErr, IfOk, IsTrue, OnOk}
+use Rattle.std.specs.Prelude.{◌≡◌, ℕ, List, Option, Result, Ok, IfErr, IfOk, IsTrue, OnOk}
 use Rattle.std.specs.Borrow.{MutBor}
 use Rattle.sqlite_value.specs.Order.{Row}
 use Rattle.sqlite_trees.specs.declared.store.Store.{Ghosts}
@@ -27,7 +27,7 @@ pub record CountsRows {S : Type 0} (g : Ghosts S) (old new : MutBor (Held S)) (r
   pub failed : HasCleanDisk (state g new.now) → IsTrue (state g old.now).in_transaction → IfErr result (FailsToWrite (state g old.now) (state g new.now) sql params)
 
 -- relations that the transaction saw are now what `change` makes of them, or it failed, where `Refused` says what of it is refused
-pub record WritesRow {S : Type 0} (g : Ghosts S) (old new : MutBor (Held S)) (result : Result (Unit {0}) Error) (change : Relations → Relations) (Refused : Relations → Type 0) : Type 0 where
+pub record WritesRow {S : Type 0} (g : Ghosts S) (old new : MutBor (Held S)) (result : Result (Unit {0}) Error) (change : Relations → Relations) (Refused : Option ℕ → Relations → Type 0) : Type 0 where
   pub same : new.ghost_name ≡ old.ghost_name
   pub works : Works (state g old.now) (state g new.now)
   pub put : LeavesRelations (state g old.now) (state g new.now) result change

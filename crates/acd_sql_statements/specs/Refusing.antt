@@ -1,5 +1,5 @@
 -- Why a part of a commit isn't written, inside a transaction that saw the relations of a book.
-use Rattle.std.specs.Prelude.{◌≡◌, ◌⊎◌, ℕ, ◌<◌, ◌==◌, ◌&&◌, ◌∷◌, [], List, filter, get_or, length, map, not, take, None, Result, IfErr, IsSome}
+use Rattle.std.specs.Prelude.{◌≡◌, ◌⊎◌, ℕ, ◌<◌, ◌==◌, ◌&&◌, ◌∷◌, [], List, filter, get_or, length, map, not, take, Option, Result, IfErr}
 use Rattle.sqlite_value.specs.Order.{Row}
 use Rattle.sqlite.specs.declared.error.Error.{Error}
 use Rattle.sqlite.specs.Effect.{Database}
@@ -21,12 +21,12 @@ use Rattle.acd_sql_columns.specs.declared.texts.TheConstants.{DELETE_AGENT_GROUP
 use Rattle.acd_sql_statements.specs.Failing.{IsMemory, StoreHasFailed, Refuses}
 use Rattle.acd_sql_statements.specs.Writing.{with_put}
 
--- without a limit of steps, the store refuses to write by this text on tables of a book that hold these relations
-pub record RefusesOn (sql : List ℕ) (params : Row) (r : Relations) : Type 0 where
+-- with this limit of steps, the store refuses to write by this text on tables of a book that hold these relations
+pub record RefusesOn (sql : List ℕ) (params : Row) (limit : Option ℕ) (r : Relations) : Type 0 where
   pub database : Database
   pub schema : database.schema ≡ book_schema
   pub tables : AreTables database.trees r
-  pub refuses : Refuses None database sql params
+  pub refuses : Refuses limit database sql params
 
 -- the further groups of an agent taken out
 abbrev pub without_further : ℕ → Relations → Relations
@@ -37,43 +37,44 @@ abbrev pub HasNone : {R : Type 0} → Description R → R → Relations → Type
 HasNone d x r = filter (λ y. d.key y == d.key x) (d.records r) ≡ []
 
 -- it refuses to change the row of the record or, where there is none, to insert one
-abbrev pub RefusesPut : {R : Type 0} → Description R → List ℕ → R → Relations → Type 0
-RefusesPut d update x r = RefusesOn update (d.values x) r ⊎ (HasNone d x r × RefusesOn d.insert (d.values x) r)
+abbrev pub RefusesPut : {R : Type 0} → Description R → List ℕ → R → Option ℕ → Relations → Type 0
+RefusesPut d update x limit r = RefusesOn update (d.values x) limit r ⊎ (HasNone d x r × RefusesOn d.insert (d.values x) limit r)
 
 -- no connection is of its call at its device
 abbrev pub HasNoConnection : ConnectionRecord → Relations → Type 0
 HasNoConnection x r = filter (λ (y : ConnectionRecord). (y.call == x.call) && (y.device == x.device)) r.connections ≡ []
 
-abbrev pub RefusesPutConnection : ConnectionRecord → Relations → Type 0
-RefusesPutConnection x r =
-    RefusesOn UPDATE_CONNECTION.now (connection_values x) r ⊎ (HasNoConnection x r × RefusesOn INSERT_CONNECTION.now (connection_values x) r)
+abbrev pub RefusesPutConnection : ConnectionRecord → Option ℕ → Relations → Type 0
+RefusesPutConnection x limit r =
+    RefusesOn UPDATE_CONNECTION.now (connection_values x) limit r
+    ⊎ (HasNoConnection x r × RefusesOn INSERT_CONNECTION.now (connection_values x) limit r)
 
 -- it refuses the priority of a group: to take its row out, or to put one
-abbrev pub RefusesPriority : GroupRecord → Relations → Type 0
-RefusesPriority g r =
-    RefusesOn DELETE_GROUP_PRIORITY.now (id_value g.device ∷ []) r ⊎ RefusesPut group_priority UPDATE_GROUP_PRIORITY.now (priority_part g) r
+abbrev pub RefusesPriority : GroupRecord → Option ℕ → Relations → Type 0
+RefusesPriority g limit r =
+    RefusesOn DELETE_GROUP_PRIORITY.now (id_value g.device ∷ []) limit r ⊎ RefusesPut group_priority UPDATE_GROUP_PRIORITY.now (priority_part g) limit r
 
 -- a group, or its priority behind it
-abbrev pub RefusesGroup : GroupRecord → Relations → Type 0
-RefusesGroup g r = RefusesPut groups UPDATE_GROUP.now (group_part g) r ⊎ RefusesPriority g (with_put groups (group_part g) r)
+abbrev pub RefusesGroup : GroupRecord → Option ℕ → Relations → Type 0
+RefusesGroup g limit r = RefusesPut groups UPDATE_GROUP.now (group_part g) limit r ⊎ RefusesPriority g limit (with_put groups (group_part g) r)
 
 -- one of an agent's further groups, behind those before it
-abbrev pub RefusesFurther : ℕ → List ℕ → Relations → Type 0
-RefusesFurther agent gs r =
-    (i : ℕ) × (i < length gs) × RefusesOn INSERT_AGENT_GROUP.now (further_values (agent, get_or gs i 0))
+abbrev pub RefusesFurther : ℕ → List ℕ → Option ℕ → Relations → Type 0
+RefusesFurther agent gs limit r =
+    (i : ℕ) × (i < length gs) × RefusesOn INSERT_AGENT_GROUP.now (further_values (agent, get_or gs i 0)) limit
     (with_part table.AgentGroups (all_put (map (λ (g : ℕ). (agent, g)) (take i gs)) r.further) r)
 
 -- an agent, its further groups that are taken out behind it, or those that are put behind that
-abbrev pub RefusesAgent : AgentRecord → Relations → Type 0
-RefusesAgent a r =
-    RefusesPut agents UPDATE_AGENT.now (agent_part a) r
-    ⊎ (RefusesOn DELETE_AGENT_GROUPS.now (id_value a.agent ∷ []) (with_put agents (agent_part a) r)
-    ⊎ RefusesFurther a.agent (further_groups a.groups) (without_further a.agent (with_put agents (agent_part a) r)))
+abbrev pub RefusesAgent : AgentRecord → Option ℕ → Relations → Type 0
+RefusesAgent a limit r =
+    RefusesPut agents UPDATE_AGENT.now (agent_part a) limit r
+    ⊎ (RefusesOn DELETE_AGENT_GROUPS.now (id_value a.agent ∷ []) limit (with_put agents (agent_part a) r)
+    ⊎ RefusesFurther a.agent (further_groups a.groups) limit (without_further a.agent (with_put agents (agent_part a) r)))
 
--- why it fails, where `R r` says what of it is refused: no memory, a fault of the store, a limit of steps that was set, or that
-abbrev pub FailsToLeave : (Relations → Type 0) → Relations → State → State → Error → Type 0
-FailsToLeave R r old new e = IsMemory e ⊎ (StoreHasFailed old new ⊎ (IsSome old.step_limit ⊎ R r))
+-- why it fails, where `R limit r` says what of it is refused
+abbrev pub FailsToLeave : (Option ℕ → Relations → Type 0) → Relations → State → State → Error → Type 0
+FailsToLeave R r old new e = IsMemory e ⊎ (StoreHasFailed old new ⊎ R old.step_limit r)
 
 -- it fails by this alone
-abbrev pub IsBlamed : {A : Type 0} → (Relations → Type 0) → State → State → Result A Error → Type 0
+abbrev pub IsBlamed : {A : Type 0} → (Option ℕ → Relations → Type 0) → State → State → Result A Error → Type 0
 IsBlamed R old new result = HasCleanDisk new → (r : Relations) → Drafts old r → IfErr result (FailsToLeave R r old new)

@@ -1,6 +1,6 @@
 //! The groups and the agents, joined of what their tables hold.
 
-ghost use Rattle.std.specs.Prelude.{◌≡◌, ◌⊎◌, ◌<◌, ◌++◌, ◌∷◌, [], false, length, map, option_to_list, None, IfErr, IfOk, IfSome, OnOk};
+ghost use Rattle.std.specs.Prelude.{◌≡◌, ◌⊎◌, ◌<◌, false, length, map, option_to_list, None, IfErr, IfOk, IfSome};
 ghost use Rattle.sqlite.specs.Held.{state};
 ghost use Rattle.acd_terms.specs.Groups.{are_groups};
 ghost use Rattle.acd_sql_columns.specs.Finding.{Finds};

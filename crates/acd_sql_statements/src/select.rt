@@ -1,6 +1,6 @@
 //! Reads of a whole table between transactions.
 
-ghost use Rattle.std.specs.Prelude.{◌≡◌, ◌∷◌, [], Some, map, IfErr, IfOk, IsSome, OnOk, IsPermutation};
+ghost use Rattle.std.specs.Prelude.{◌≡◌, ◌∷◌, [], Some, map, IfErr, IfOk, IsSome, IsPermutation};
 ghost use Rattle.sqlite.specs.Held.{state};
 ghost use Rattle.acd_sql_columns.specs.AnyRows.{rows_in, TellsGood};
 ghost use Rattle.acd_sql_columns.specs.Finding.{Finds};

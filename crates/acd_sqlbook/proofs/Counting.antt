@@ -1,6 +1,6 @@
 -- Why a commit fails.
 use Rattle.std.proofs.Common.{◌≡◌, ◌⊎◌, inl, inr, ℕ, ◌≤◌, List, [], ◌∷◌, length, Some, Result, Ok, Err, IsTrue, IfErr, sym, subst, subst₂, ◌∙◌, arith}
-use Rattle.std.specs.Prelude.{Vec, IsSome}
+use Rattle.std.specs.Prelude.{Vec}
 use Rattle.std.specs.declared.alloc.Global.{Global}
 use Rattle.sqlite.specs.declared.error.Error.{Error}
 use Rattle.sqlite.specs.State.{State, HasCleanDisk}
@@ -45,13 +45,12 @@ no_request R s e r is memory = λ k c held. subst (λ b. IfErr b (λ e. FailsToR
 
 -- a failure behind what was read is one of the whole
 module _ {A : Type 0} (R Stops All : Content → Type 0) (IsAnswer : Content → A → Type 0) (old mid new : State) (a : A) where
-  undone : (c : Content) (e : Error) → old.faults ≤ mid.faults → mid.step_limit ≡ old.step_limit → IsTrue mid.is_open → (Stops c → All c)
+  undone : (c : Content) (e : Error) → old.faults ≤ mid.faults → IsTrue mid.is_open → (Stops c → All c)
       → FailsToFile Stops c mid new e → FailsToRead c old new e ⊎ All c
-  undone c e counts limit live so (inl memory) = inl (inl memory)
-  undone c e counts limit live so (inr (inl (inl more))) = inl (inr (inl (omega (arith, more, counts))))
-  undone c e counts limit live so (inr (inl (inr shut))) = absurd (let apart = sym live ∙ shut in cc)
-  undone c e counts limit live so (inr (inr (inl steps))) = inl (inr (inr (inl (subst IsSome limit steps))))
-  undone c e counts limit live so (inr (inr (inr stops))) = inr (so stops)
+  undone c e counts live so (inl memory) = inl (inl memory)
+  undone c e counts live so (inr (inl (inl more))) = inl (inr (inl (omega (arith, more, counts))))
+  undone c e counts live so (inr (inl (inr shut))) = absurd (let apart = sym live ∙ shut in cc)
+  undone c e counts live so (inr (inr stops)) = inr (so stops)
 
   undone_behind : (r : Result (Unit {0}) Error) → HasRead old mid (Ok a) IsAnswer → BlamesOr R old mid (Ok a) → (HasCleanDisk new → HasCleanDisk mid) → IsUndone Stops mid new r
       → ((c : Content) → IsAnswer c a → Stops c → All c) → IsBlamedOr All old new r
@@ -60,7 +59,7 @@ module _ {A : Type 0} (R Stops All : Content → Type 0) (IsAnswer : Content →
       λ k c held.
       let m = clean k in
       let live = read.up m in
-      undone c e h.counts h.limit live (so c (read.value m c held)) (fails k c (read.quiet.same m c held live))
+      undone c e h.counts live (so c (read.value m c held)) (fails k c (read.quiet.same m c held live))
 
 module _ (changes : List Change) (events : List Event) (kept : Kept) where
   not_counted : (old new : State) (c : Content) (e : Error) → FailsToRead c old new e ⊎ IsUncounted changes (length events) kept c → FailsToRead c old new e ⊎ StopsCommit changes events kept c

@@ -1,6 +1,5 @@
 -- Why a part of a commit isn't written.
-use Rattle.std.proofs.Common.{◌≡◌, inl, inr, ℕ, zero, suc, ◌<◌, ◌≤◌, IsTrue, length, take, get_or, List, [], ◌∷◌, Result, Ok, Err, IfErr, sym, subst, arith}
-use Rattle.std.specs.Prelude.{IsSome}
+use Rattle.std.proofs.Common.{◌≡◌, inl, inr, ℕ, zero, suc, ◌<◌, ◌≤◌, IsTrue, length, take, get_or, List, [], ◌∷◌, Option, None, Result, Ok, Err, IfErr, sym, subst, arith}
 use Rattle.sqlite.specs.declared.error.Error.{Error}
 use Rattle.sqlite.specs.State.{State, HasCleanDisk}
 use Rattle.sqlite.specs.Steps.{FailsToCommit}
@@ -11,26 +10,25 @@ use Rattle.acd_sql_columns.specs.Draft.{Drafts, Works}
 use Rattle.acd_sql_columns.specs.Relations.{Relations, relations_of}
 use Rattle.acd_sql_statements.specs.Refusing.{IsBlamed, FailsToLeave}
 use Rattle.acd_sql_statements.proofs.Failures.{failed_before, failed_after, commit_failed}
-use Rattle.acd_sql_statements.proofs.Refused.{by_more}
 use Rattle.acd_sqlbook.specs.Commit.{with_events, with_event}
 use Rattle.acd_sqlbook.specs.Stopping.{RefusesChange, StopsAtEvent, StopsInEvents, FailsToFile, IsStopped}
 
--- the change by its name
-pub by_change : (old new : State) (result : Result (Unit {0}) Error) (Meets : Type 0) (change v : Change) → change ≡ v → (P : Relations → Type 0) → ((r : Relations) → P r → RefusesChange Meets v r)
-    → IsBlamed P old new result → IsBlamed (RefusesChange Meets change) old new result
-by_change old new result Meets change v is P so h = subst (λ w. IsBlamed (RefusesChange Meets w) old new result) (sym is) (by_more old new P (RefusesChange Meets v) result so h)
-
 module _ (old new : State) where
-  -- of a content's relations
-  pub stops_as : (P : Relations → Type 0) (R : Content → Type 0) (result : Result (Unit {0}) Error) → ((c : Content) → P (relations_of c) → R c) → IsBlamed P old new result → IsStopped R old new result
-  stops_as P R (Ok x) so h = λ clean c d. tt
-  stops_as P R (Err e) so h = λ clean c d. each c (h clean (relations_of c) d)
+  -- of a content's relations, where there is no limit of steps
+  pub stops_as : old.step_limit ≡ None → (P : Option ℕ → Relations → Type 0) (R : Content → Type 0) (result : Result (Unit {0}) Error) → ((c : Content) → P None (relations_of c) → R c) → IsBlamed P old new result → IsStopped R old new result
+  stops_as free P R (Ok x) so h = λ clean c d. tt
+  stops_as free P R (Err e) so h = λ clean c d. each c (h clean (relations_of c) d)
     where
       each : (c : Content) → FailsToLeave P (relations_of c) old new e → FailsToFile R c old new e
       each c (inl memory) = inl memory
       each c (inr (inl failed)) = inr (inl failed)
-      each c (inr (inr (inl steps))) = inr (inr (inl steps))
-      each c (inr (inr (inr p))) = inr (inr (inr (so c p)))
+      each c (inr (inr p)) = inr (inr (so c (subst (λ (limit : Option ℕ). P limit (relations_of c)) free p)))
+
+  -- the change by its name
+  pub by_change : old.step_limit ≡ None → (result : Result (Unit {0}) Error) (Meets : Type 0) (change v : Change) → change ≡ v → (P : Option ℕ → Relations → Type 0) → ((r : Relations) → P None r → RefusesChange Meets v r)
+      → IsBlamed P old new result → IsStopped (λ c. RefusesChange Meets change (relations_of c)) old new result
+  by_change free result Meets change v is P so h =
+      subst (λ w. IsStopped (λ c. RefusesChange Meets w (relations_of c)) old new result) (sym is) (stops_as free P (λ c. RefusesChange Meets v (relations_of c)) result (λ c p. so (relations_of c) p) h)
 
   pub stops_more : (P R : Content → Type 0) (result : Result (Unit {0}) Error) → ((c : Content) → P c → R c) → IsStopped P old new result → IsStopped R old new result
   stops_more P R (Ok x) so h = λ clean c d. tt
@@ -39,8 +37,7 @@ module _ (old new : State) where
       each : (c : Content) → FailsToFile P c old new e → FailsToFile R c old new e
       each c (inl memory) = inl memory
       each c (inr (inl failed)) = inr (inl failed)
-      each c (inr (inr (inl steps))) = inr (inr (inl steps))
-      each c (inr (inr (inr p))) = inr (inr (inr (so c p)))
+      each c (inr (inr p)) = inr (inr (so c p))
 
   pub stops_same : (R : Content → Type 0) (e : Error) (result : Result (Unit {0}) Error) → result ≡ Err e → (HasCleanDisk new → (c : Content) → Drafts old (relations_of c) → FailsToFile R c old new e) → IsStopped R old new result
   stops_same R e result is h = λ clean c d. subst (λ b. IfErr b (FailsToFile R c old new)) (sym is) (h clean c d)
@@ -55,8 +52,7 @@ stops_later old mid new change R (Err e) first second made h =
     each : (c : Content) → HasCleanDisk mid → FailsToFile R (change c) mid new e → FailsToFile (λ c. R (change c)) c old new e
     each c middle (inl memory) = inl memory
     each c middle (inr (inl failed)) = inr (inl (failed_after old mid new first.survives middle second.survives.counts failed))
-    each c middle (inr (inr (inl steps))) = inr (inr (inl (subst IsSome first.survives.limit steps)))
-    each c middle (inr (inr (inr q))) = inr (inr (inr q))
+    each c middle (inr (inr q)) = inr (inr q)
 
 module _ (R : Content → Type 0) (c : Content) where
   -- at one of them, which is written behind others
@@ -64,8 +60,7 @@ module _ (R : Content → Type 0) (c : Content) where
       → FailsToFile Q x mid new e → FailsToFile R c old new e
   stops_behind Q x old mid new e first second middle so (inl memory) = inl memory
   stops_behind Q x old mid new e first second middle so (inr (inl failed)) = inr (inl (failed_after old mid new first.survives middle second.survives.counts failed))
-  stops_behind Q x old mid new e first second middle so (inr (inr (inl steps))) = inr (inr (inl (subst IsSome first.survives.limit steps)))
-  stops_behind Q x old mid new e first second middle so (inr (inr (inr q))) = inr (inr (inr (so q)))
+  stops_behind Q x old mid new e first second middle so (inr (inr q)) = inr (inr (so q))
 
   -- what is behind a failure changes nothing of it
   pub still_stopped : (old mid new : State) (e : Error) → mid.faults ≤ new.faults → FailsToFile R c old mid e → FailsToFile R c old new e

@@ -1,5 +1,5 @@
--- Why a part of a commit isn't written, inside a transaction that saw a content.
-use Rattle.std.specs.Prelude.{◌≡◌, ◌⊎◌, ℕ, ◌≤◌, ◌∷◌, [], List, length, Option, None, Some, Result, IfErr, IsSome, OnOk}
+-- Why a part of a commit isn't written, inside a transaction that saw a content, on a connection without a limit of steps.
+use Rattle.std.specs.Prelude.{◌≡◌, ◌⊎◌, ℕ, ◌≤◌, ◌∷◌, [], List, length, Option, None, Some, Result, IfErr, OnOk}
 use Rattle.sqlite.specs.declared.error.Error.{Error}
 use Rattle.sqlite.specs.State.{State, HasCleanDisk}
 use Rattle.acd_terms.specs.Lists.{Every}
@@ -39,15 +39,15 @@ HasAbove (Some last) c = ¬ (AreUpTo last c)
 -- on these relations the store refuses a statement of the change: it refuses a call or a connection to be inserted only where that has no row or, where `Meets`, may have one
 abbrev pub RefusesChange : Type 0 → Change → Relations → Type 0
 RefusesChange Meets Nothing r = ⊥
-RefusesChange Meets (PutGroup g) r = RefusesGroup g r
-RefusesChange Meets (PutStation s) r = RefusesOn stations.insert (stations.values s) r
-RefusesChange Meets (PutAgent a) r = RefusesAgent a r
-RefusesChange Meets (PutCall k) r = RefusesPut calls UPDATE_CALL.now k r ⊎ (Meets × RefusesOn calls.insert (calls.values k) r)
-RefusesChange Meets (PutConnection x) r = RefusesPutConnection x r ⊎ (Meets × RefusesOn INSERT_CONNECTION.now (connection_values x) r)
-RefusesChange Meets (PutMonitor w) r = RefusesPut monitors UPDATE_MONITOR.now w r
-RefusesChange Meets (RemoveCall call) r = RefusesOn DELETE_CALL.now (id_value call ∷ []) r
-RefusesChange Meets (RemoveConnection call device) r = RefusesOn DELETE_CONNECTION.now (id_value call ∷ id_value device ∷ []) r
-RefusesChange Meets (RemoveMonitor monitor) r = RefusesOn DELETE_MONITOR.now (id_value monitor ∷ []) r
+RefusesChange Meets (PutGroup g) r = RefusesGroup g None r
+RefusesChange Meets (PutStation s) r = RefusesOn stations.insert (stations.values s) None r
+RefusesChange Meets (PutAgent a) r = RefusesAgent a None r
+RefusesChange Meets (PutCall k) r = RefusesPut calls UPDATE_CALL.now k None r ⊎ (Meets × RefusesOn calls.insert (calls.values k) None r)
+RefusesChange Meets (PutConnection x) r = RefusesPutConnection x None r ⊎ (Meets × RefusesOn INSERT_CONNECTION.now (connection_values x) None r)
+RefusesChange Meets (PutMonitor w) r = RefusesPut monitors UPDATE_MONITOR.now w None r
+RefusesChange Meets (RemoveCall call) r = RefusesOn DELETE_CALL.now (id_value call ∷ []) None r
+RefusesChange Meets (RemoveConnection call device) r = RefusesOn DELETE_CONNECTION.now (id_value call ∷ id_value device ∷ []) None r
+RefusesChange Meets (RemoveMonitor monitor) r = RefusesOn DELETE_MONITOR.now (id_value monitor ∷ []) None r
 
 -- a number of it doesn't fit its column, or the store refuses it
 abbrev pub StopsAtChange : Type 0 → Change → Content → Type 0
@@ -59,7 +59,7 @@ StopsInChanges Meets [] c = ⊥
 StopsInChanges Meets (change ∷ changes) c = StopsAtChange Meets change c ⊎ StopsInChanges Meets changes (filed c change)
 
 abbrev pub StopsAtEvent : Event → Content → Type 0
-StopsAtEvent e c = (¬ (EventFits e)) ⊎ RefusesOn events.insert (events.values e) (relations_of c)
+StopsAtEvent e c = (¬ (EventFits e)) ⊎ RefusesOn events.insert (events.values e) None (relations_of c)
 
 -- one of them, behind those before it
 abbrev pub StopsInEvents : List Event → Content → Type 0
@@ -69,7 +69,7 @@ StopsInEvents (e ∷ es) c = StopsAtEvent e c ⊎ StopsInEvents es (with_event c
 -- the kept record, or behind it the counters
 abbrev pub StopsAtLast : Kept → Meta → Content → Type 0
 StopsAtLast kept meta c =
-    RefusesOn INSERT_KEPT.now (kept_values kept) (relations_of c) ⊎ RefusesOn UPDATE_META.now (meta_shown meta) (relations_of (with_kept c kept))
+    RefusesOn INSERT_KEPT.now (kept_values kept) None (relations_of c) ⊎ RefusesOn UPDATE_META.now (meta_shown meta) None (relations_of (with_kept c kept))
 
 -- the changes that are written, the events behind them, or what is last
 abbrev pub StopsInAll : Type 0 → List Change → List Event → Kept → Meta → Content → Type 0
@@ -91,7 +91,7 @@ RefusesInChanges Meets (change ∷ changes) c = RefusesChange Meets change (rela
 -- one of them, behind those before it
 abbrev pub RefusesInEvents : List Event → Content → Type 0
 RefusesInEvents [] c = ⊥
-RefusesInEvents (e ∷ es) c = RefusesOn events.insert (events.values e) (relations_of c) ⊎ RefusesInEvents es (with_event c e)
+RefusesInEvents (e ∷ es) c = RefusesOn events.insert (events.values e) None (relations_of c) ⊎ RefusesInEvents es (with_event c e)
 
 -- a statement of a change that is written, of an event behind them, or of what is last
 abbrev pub RefusesInAll : Type 0 → List Change → List Event → Kept → Meta → Content → Type 0
@@ -101,9 +101,9 @@ RefusesInAll Meets changes events kept meta c =
 
 -- ---- failures
 
--- why it fails, where `Stops c` says at what it stops: no memory, a fault of the store, a limit of steps that was set, or that
+-- why it fails, where `Stops c` says at what it stops
 abbrev pub FailsToFile : (Content → Type 0) → Content → State → State → Error → Type 0
-FailsToFile Stops c old new e = IsMemory e ⊎ (StoreHasFailed old new ⊎ (IsSome old.step_limit ⊎ Stops c))
+FailsToFile Stops c old new e = IsMemory e ⊎ (StoreHasFailed old new ⊎ Stops c)
 
 -- it fails by this alone
 abbrev pub IsStopped : {A : Type 0} → (Content → Type 0) → State → State → Result A Error → Type 0

@@ -23,8 +23,9 @@ impl<S: Alter> SqlBook<S> {
     /// Takes a connection over a book, whose values it looks at, all of them before anything is written.
     ///
     /// Tables of version 1 become those of version 2, in one transaction; of those of version 2 nothing is changed. The
-    /// connection is handed back beside a fault: after [`AdoptFault::WrongVersion`] and [`AdoptFault::BadRow`] it is as it was.
-    /// A limit of steps that was set on it is taken off first, and isn't put back, since a connection doesn't tell it.
+    /// connection is handed back beside a fault, without a limit of steps: one that was set is taken off first, and a
+    /// connection doesn't tell which it was. What it is over is as it was after [`AdoptFault::WrongVersion`] and
+    /// [`AdoptFault::BadRow`].
     pub fn adopt(
         alloc: Global,
         mut conn: Connection<S>,

@@ -1,6 +1,6 @@
 //! A book over a connection.
 
-ghost use Rattle.std.specs.Prelude.{◌≡◌, ◌≢◌, ◌⊎◌, ◌≤◌, false, None, Err, is_ok, IsTrue, IfOk, IfErr};
+ghost use Rattle.std.specs.Prelude.{◌≡◌, ◌≢◌, ◌≤◌, false, None, Err, is_ok, IsTrue, IfOk, IfErr};
 ghost use Rattle.sqlite.specs.State.{HasCleanDisk};
 ghost use Rattle.sqlite.specs.Held.{state};
 ghost use Rattle.acd_sql_columns.specs.Schema.{no_schema};
@@ -88,8 +88,8 @@ impl<S: Alter> SqlBook<S> {
     /// Makes the tables of a new book, in one transaction.
     ///
     /// Limits that no INTEGER column can hold, and a database that has any table, index or view, are
-    /// [`BookFault::Store`]. The connection is handed back beside a fault. A limit of steps that was set on it is taken
-    /// off before anything is made, and isn't put back, since a connection doesn't tell it.
+    /// [`BookFault::Store`]: the connection is handed back as it was. Beside any other fault it is handed back without a
+    /// limit of steps: one that was set is taken off before anything is made, and a connection doesn't tell which it was.
     pub fn create(
         alloc: Global,
         mut conn: Connection<S>,
@@ -107,8 +107,8 @@ impl<S: Alter> SqlBook<S> {
         ensures occupied { (state S.Store conn).now.schema ≢ no_schema
             → result ≡ Err (BookFault.Store, conn) }
         ensures handed_back { IfErr result (λ e. e.1.in_transaction ≡ false) }
-        ensures limit { IfErr result
-            (λ e. (e.1.step_limit ≡ None) ⊎ (e.1.step_limit ≡ conn.step_limit)) }
+        ensures limit { LimitsFit limits → (state S.Store conn).now.schema ≡ no_schema
+            → IfErr result (λ e. e.1.step_limit ≡ None) }
         ensures doubted { IfErr result
             (λ e. HasCleanDisk (state S.Store e.1) → HasCleanDisk (state S.Store conn)) }
         ensures stops { IfErr result (λ e. HasCleanDisk (state S.Store e.1)

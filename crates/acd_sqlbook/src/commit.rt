@@ -90,14 +90,15 @@ fn make_change<S: Alter>(
     change: &Change,
     is_new: bool,
 ) -> Result<(), Error>
-    requires { ChangeFits change.now }
+    requires fits { ChangeFits change.now }
+    requires free { (state S.Store tx.old.conn.now).step_limit ≡ None }
     ensures same { tx.new.conn.ghost_name ≡ tx.old.conn.ghost_name }
     ensures works { Works (state S.Store tx.old.conn.now) (state S.Store tx.new.conn.now) }
     ensures put { HasCleanDisk (state S.Store tx.new.conn.now) → OnOk result ((c : Content)
         → Drafts (state S.Store tx.old.conn.now) (relations_of c)
         → Drafts (state S.Store tx.new.conn.now)
         (relations_of (filed c change.now))) }
-    ensures failed { IsBlamed (RefusesChange (IsTrue is_new) change.now)
+    ensures failed { IsStopped (λ c. RefusesChange (IsTrue is_new) change.now (relations_of c))
         (state S.Store tx.old.conn.now) (state S.Store tx.new.conn.now) result }
 {
     match change {
@@ -121,6 +122,7 @@ fn write_change<S: Alter>(
     change: &Change,
     is_new: bool,
 ) -> Result<(), Error>
+    requires { (state S.Store tx.old.conn.now).step_limit ≡ None }
     ensures same { tx.new.conn.ghost_name ≡ tx.old.conn.ghost_name }
     ensures works { Works (state S.Store tx.old.conn.now) (state S.Store tx.new.conn.now) }
     ensures put { HasCleanDisk (state S.Store tx.new.conn.now) → OnOk result ((c : Content)
@@ -235,6 +237,7 @@ fn write_changes<S: Alter>(
     last: Option<u64>,
     changes: &[Change],
 ) -> Result<(), Error>
+    requires { (state S.Store tx.old.conn.now).step_limit ≡ None }
     ensures same { tx.new.conn.ghost_name ≡ tx.old.conn.ghost_name }
     ensures works { Works (state S.Store tx.old.conn.now) (state S.Store tx.new.conn.now) }
     ensures put { HasCleanDisk (state S.Store tx.new.conn.now) → OnOk result ((c : Content)
@@ -253,6 +256,7 @@ fn write_changes<S: Alter>(
 }
 
 fn write_event<S: Alter>(tx: &mut Transaction<'_, S>, event: &Event) -> Result<(), Error>
+    requires { (state S.Store tx.old.conn.now).step_limit ≡ None }
     ensures same { tx.new.conn.ghost_name ≡ tx.old.conn.ghost_name }
     ensures works { Works (state S.Store tx.old.conn.now) (state S.Store tx.new.conn.now) }
     ensures put { HasCleanDisk (state S.Store tx.new.conn.now) → OnOk result ((c : Content)
@@ -269,6 +273,7 @@ fn write_event<S: Alter>(tx: &mut Transaction<'_, S>, event: &Event) -> Result<(
 }
 
 fn write_events<S: Alter>(tx: &mut Transaction<'_, S>, events: &[Event]) -> Result<(), Error>
+    requires { (state S.Store tx.old.conn.now).step_limit ≡ None }
     ensures same { tx.new.conn.ghost_name ≡ tx.old.conn.ghost_name }
     ensures works { Works (state S.Store tx.old.conn.now) (state S.Store tx.new.conn.now) }
     ensures put { HasCleanDisk (state S.Store tx.new.conn.now) → OnOk result ((c : Content)
@@ -353,6 +358,7 @@ fn write_all<S: Alter>(
     requires stamp { Fits kept.now.stamp }
     requires request { request.now ≡ request_text kept.now.request }
     requires meta { MetaFits meta.now }
+    requires free { (state S.Store tx.old.conn.now).step_limit ≡ None }
     ensures same { tx.new.conn.ghost_name ≡ tx.old.conn.ghost_name }
     ensures works { Works (state S.Store tx.old.conn.now) (state S.Store tx.new.conn.now) }
     ensures put { HasCleanDisk (state S.Store tx.new.conn.now) → OnOk result ((c : Content)
@@ -385,6 +391,7 @@ pub(crate) fn commit_all<S: Alter>(
     requires request { request.now ≡ request_text kept.now.request }
     requires meta { MetaFits meta.now }
     requires idle { conn.old.in_transaction ≡ false }
+    requires unlimited { conn.old.step_limit ≡ None }
     ensures idle { conn.new.in_transaction ≡ false }
     ensures done { HasCleanDisk (state S.Store conn.new) → OnOk result ((c : Content)
         → HoldsContent (state S.Store conn.old) c

@@ -53,8 +53,8 @@ returns-in_err-insert_further g c = record {
       let gs = c.args.groups.now in
       let one = RefusesOn INSERT_AGENT_GROUP.now (further_values (agent, c.group-item.result)) in
       let so_far : Relations → Relations = λ (r : Relations). with_part table.AgentGroups (all_put (map (λ (k : ℕ). (agent, k)) (take i gs)) r.further) r in
-      by_more old new (λ r. one (so_far r)) (RefusesFurther agent gs) c.from_residual.result
-      (λ r h. (i, c.loop-group-test.true, subst (λ (k : ℕ). RefusesOn INSERT_AGENT_GROUP.now (further_values (agent, k)) (so_far r)) (c.group-item.is ∙ any_default gs i _ 0 c.loop-group-test.true) h))
-      (by_same old new (λ r. one (so_far r)) c.in_err-insert_further.field-0.0 c.from_residual.result (search rules)
+      by_more old new (λ limit r. one limit (so_far r)) (RefusesFurther agent gs) c.from_residual.result
+      (λ limit r h. (i, c.loop-group-test.true, subst (λ (k : ℕ). RefusesOn INSERT_AGENT_GROUP.now (further_values (agent, k)) limit (so_far r)) (c.group-item.is ∙ any_default gs i _ 0 c.loop-group-test.true) h))
+      (by_same old new (λ limit r. one limit (so_far r)) c.in_err-insert_further.field-0.0 c.from_residual.result (search rules)
       (by_later {A = Unit {0}} old mid new so_far one (Err c.in_err-insert_further.field-0.0) c.loop-group.invariant.works c.insert_further.ensures.works c.loop-group.invariant.put c.in_err-insert_further.ensures.failed));
 }

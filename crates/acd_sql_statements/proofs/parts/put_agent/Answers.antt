@@ -43,9 +43,9 @@ returns g c = record {
       let a = c.args.agent.now in
       let some = RefusesFurther a.agent c.further.result.now in
       let made : Relations → Relations = λ (r : Relations). without_further a.agent (with_put agents c.of.result r) in
-      by_more old new (λ r. some (made r)) (RefusesAgent a) c.insert_all.result
-      (λ r h. inr (inr (subst (λ (x : AgentRow). RefusesFurther a.agent (further_groups a.groups) (without_further a.agent (with_put agents x r))) c.of.ensures
-      (subst (λ (gs : List ℕ). RefusesFurther a.agent gs (made r)) c.further.ensures h))))
+      by_more old new (λ limit r. some limit (made r)) (RefusesAgent a) c.insert_all.result
+      (λ limit r h. inr (inr (subst (λ (x : AgentRow). RefusesFurther a.agent (further_groups a.groups) limit (without_further a.agent (with_put agents x r))) c.of.ensures
+      (subst (λ (gs : List ℕ). RefusesFurther a.agent gs limit (made r)) c.further.ensures h))))
       (by_later old mid new made some c.insert_all.result (works_on old first mid c.put.ensures.works c.drop_further.ensures.works) c.insert_all.ensures.works
       (λ middle r d. let before : HasCleanDisk first = omega (arith, middle, c.drop_further.ensures.works.survives.clean) in c.in_ok-drop_further.ensures.put middle _ (c.in_ok-put.ensures.put before r d))
       c.insert_all.ensures.failed);
@@ -60,7 +60,7 @@ returns-in_err-put g c = record {
       let old = state g.S.Store c.args.tx.now.conn.now in
       let mid = state g.S.Store c.put.new.tx.conn.now in
       by_more old mid (RefusesPut agents UPDATE_AGENT.now c.of.result) (RefusesAgent c.args.agent.now) c.from_residual.result
-      (λ r h. inl (subst (λ (x : AgentRow). RefusesPut agents UPDATE_AGENT.now x r) c.of.ensures h))
+      (λ limit r h. inl (subst (λ (x : AgentRow). RefusesPut agents UPDATE_AGENT.now x limit r) c.of.ensures h))
       (by_same old mid (RefusesPut agents UPDATE_AGENT.now c.of.result) c.in_err-put.field-0.0 c.from_residual.result (search rules) c.in_err-put.ensures.failed);
 }
 
@@ -76,8 +76,8 @@ returns-in_err-drop_further g c = record {
       let a = c.args.agent.now in
       let one = RefusesOn DELETE_AGENT_GROUPS.now (id_value a.agent ∷ []) in
       let put : Relations → Relations = with_put agents c.of.result in
-      by_more old new (λ r. one (put r)) (RefusesAgent a) c.from_residual-in_err-drop_further.result
-      (λ r h. inr (inl (subst (λ (x : AgentRow). one (with_put agents x r)) c.of.ensures h)))
-      (by_same old new (λ r. one (put r)) c.in_err-drop_further.field-0.0 c.from_residual-in_err-drop_further.result (search rules)
+      by_more old new (λ limit r. one limit (put r)) (RefusesAgent a) c.from_residual-in_err-drop_further.result
+      (λ limit r h. inr (inl (subst (λ (x : AgentRow). one limit (with_put agents x r)) c.of.ensures h)))
+      (by_same old new (λ limit r. one limit (put r)) c.in_err-drop_further.field-0.0 c.from_residual-in_err-drop_further.result (search rules)
       (by_later {A = Unit {0}} old mid new put one (Err c.in_err-drop_further.field-0.0) c.put.ensures.works c.drop_further.ensures.works c.in_ok-put.ensures.put c.in_err-drop_further.ensures.failed));
 }

@@ -29,8 +29,8 @@ returns g c = record {
       let mid = state g.S.Store c.put.new.tx.conn.now in
       let new = state g.S.Store c.put_priority.new.tx.conn.now in
       let z = c.args.group.now in
-      by_more old new (λ r. RefusesPriority z (with_put groups c.of.result r)) (RefusesGroup z) c.put_priority.result
-      (λ r h. inr (subst (λ (x : GroupRow). RefusesPriority z (with_put groups x r)) c.of.ensures h))
+      by_more old new (λ limit r. RefusesPriority z limit (with_put groups c.of.result r)) (RefusesGroup z) c.put_priority.result
+      (λ limit r h. inr (subst (λ (x : GroupRow). RefusesPriority z limit (with_put groups x r)) c.of.ensures h))
       (by_later old mid new (with_put groups c.of.result) (RefusesPriority z) c.put_priority.result c.put.ensures.works c.put_priority.ensures.works c.in_ok-put.ensures.put c.put_priority.ensures.failed);
 }
 
@@ -43,6 +43,6 @@ returns-in_err-put g c = record {
       let old = state g.S.Store c.args.tx.now.conn.now in
       let mid = state g.S.Store c.put.new.tx.conn.now in
       by_more old mid (RefusesPut groups UPDATE_GROUP.now c.of.result) (RefusesGroup c.args.group.now) c.from_residual.result
-      (λ r h. inl (subst (λ (x : GroupRow). RefusesPut groups UPDATE_GROUP.now x r) c.of.ensures h))
+      (λ limit r h. inl (subst (λ (x : GroupRow). RefusesPut groups UPDATE_GROUP.now x limit r) c.of.ensures h))
       (by_same old mid (RefusesPut groups UPDATE_GROUP.now c.of.result) c.in_err-put.field-0.0 c.from_residual.result (search rules) c.in_err-put.ensures.failed);
 }

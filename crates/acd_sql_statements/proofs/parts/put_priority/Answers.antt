@@ -33,7 +33,7 @@ returns-then-eq g c = record {
       let new = state g.S.Store c.remove.new.tx.conn.now in
       let z = c.args.group.now in
       by_more old new (RefusesOn DELETE_GROUP_PRIORITY.now (id_value c.number.result ∷ [])) (RefusesPriority z) c.remove.result
-      (λ r h. inl (subst (λ n. RefusesOn DELETE_GROUP_PRIORITY.now (id_value n ∷ []) r) c.number.ensures.value h)) c.remove.ensures.failed;
+      (λ limit r h. inl (subst (λ n. RefusesOn DELETE_GROUP_PRIORITY.now (id_value n ∷ []) limit r) c.number.ensures.value h)) c.remove.ensures.failed;
 }
 
 pub returns-else-eq : goal.returns-else-eq
@@ -50,5 +50,5 @@ returns-else-eq g c = record {
       let old = state g.S.Store c.args.tx.now.conn.now in
       let new = state g.S.Store c.put.new.tx.conn.now in
       let z = c.args.group.now in
-      by_more old new (RefusesPut group_priority UPDATE_GROUP_PRIORITY.now (priority_part z)) (RefusesPriority z) c.put.result (λ r h. inr h) c.put.ensures.failed;
+      by_more old new (RefusesPut group_priority UPDATE_GROUP_PRIORITY.now (priority_part z)) (RefusesPriority z) c.put.result (λ limit r h. inr h) c.put.ensures.failed;
 }

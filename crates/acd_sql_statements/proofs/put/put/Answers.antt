@@ -44,7 +44,7 @@ returns-in_err-changed g c = record {
       let mid = state g.S.Store c.run.new.tx.conn.now in
       let x = c.args.item.now in
       let values = g.R.Stored.descr.values x in
-      by_more old mid (RefusesOn (the_text g.R.Stored.descr.update) values) (RefusesPut g.R.Stored.descr (the_text g.R.Stored.descr.update) x) c.from_residual.result (λ r h. inl h)
+      by_more old mid (RefusesOn (the_text g.R.Stored.descr.update) values) (RefusesPut g.R.Stored.descr (the_text g.R.Stored.descr.update) x) c.from_residual.result (λ limit r h. inl h)
       (by_same old mid (RefusesOn (the_text g.R.Stored.descr.update) values) c.in_err-changed.field-0.0 c.from_residual.result (search rules)
       (λ clean r d. refused_on old mid (the_text g.R.Stored.descr.update) values c.in_err-changed.field-0.0 r d (rw (c.update_text.ensures) at (c.in_err-changed.ensures.failed clean d.inside))));
 }
@@ -65,7 +65,7 @@ returns-in_err-run g c = record {
       (λ clean r drafts.
       let middle : HasCleanDisk mid = omega (arith, clean, c.run-2.ensures.works.survives.clean) in
       none_in d g.met.R.Stored.filed (the_text g.R.Stored.descr.update) (the_said g.R.Stored.descr.update (Updates g.R.Stored.descr) c.requires.changes g.met.R.Stored.filed.updates) x r old mid c.in_ok-changed.changed drafts (rw (c.update_text.ensures) at (c.in_ok-changed.ensures.ran middle)) none)
-      (λ r none h. inr (none, h))
+      (λ limit r none h. inr (none, h))
       (by_same old new (RefusesOn d.insert (d.values x)) c.in_err-run.field-0.0 c.from_residual-in_err-run.result (search rules)
       (by_later {A = ℕ} old mid new (λ r. r) (RefusesOn d.insert (d.values x)) (Err c.in_err-run.field-0.0) c.run.ensures.works c.run-2.ensures.works
       (λ middle r drafts. still_drafts d g.met.R.Stored.filed (the_text g.R.Stored.descr.update) (the_said g.R.Stored.descr.update (Updates g.R.Stored.descr) c.requires.changes g.met.R.Stored.filed.updates) x r old mid c.in_ok-changed.changed drafts (rw (c.update_text.ensures) at (c.in_ok-changed.ensures.ran middle)) none)

@@ -53,7 +53,7 @@ returns g c = record {
       (λ clean r d.
       let middle : HasCleanDisk mid = omega (arith, clean, c.insert_connection.ensures.works.survives.clean) in
       none_connected x r old mid c.in_ok-changed.changed d (rw c.connection_values.ensures at (c.in_ok-changed.ensures.ran middle)) none)
-      (λ r none h. inr (none, h))
+      (λ limit r none h. inr (none, h))
       (by_later old mid new (λ r. r) (RefusesOn INSERT_CONNECTION.now (connection_values x)) c.insert_connection.result c.changed_rows.ensures.works c.insert_connection.ensures.works
       (λ middle r d. still_connected x r old mid c.in_ok-changed.changed d (rw c.connection_values.ensures at (c.in_ok-changed.ensures.ran middle)) none)
       c.insert_connection.ensures.failed);
@@ -68,7 +68,7 @@ returns-in_err-changed g c = record {
       let old = state g.S.Store c.args.tx.now.conn.now in
       let mid = state g.S.Store c.changed_rows.new.tx.conn.now in
       let x = c.args.connection.now in
-      by_more old mid (RefusesOn UPDATE_CONNECTION.now (connection_values x)) (RefusesPutConnection x) c.from_residual.result (λ r h. inl h)
+      by_more old mid (RefusesOn UPDATE_CONNECTION.now (connection_values x)) (RefusesPutConnection x) c.from_residual.result (λ limit r h. inl h)
       (by_same old mid (RefusesOn UPDATE_CONNECTION.now (connection_values x)) c.in_err-changed.field-0.0 c.from_residual.result (search rules)
       (λ clean r d. refused_on old mid UPDATE_CONNECTION.now (connection_values x) c.in_err-changed.field-0.0 r d
       (rw c.connection_values.ensures at (c.in_err-changed.ensures.failed clean d.inside))));

@@ -6,11 +6,14 @@ use Rattle.acd_sqlbook.specs.Commit.{made_by}
 use Rattle.acd_sql_columns.specs.Draft.{HoldsContent, Drafts, AddsStop}
 use Rattle.acd_sql_columns.specs.Relations.{relations_of}
 use Rattle.acd_sql_columns.proofs.Endings.{not_committed, begins, made_whole, adds_stop}
-use Rattle.std.proofs.Common.{Err, IfErr, sym}
+use Rattle.std.proofs.Common.{Err, IfErr, sym, ap, ◌∙◌}
 use Rattle.acd_sql_columns.specs.Draft.{Works}
 use Rattle.acd_sqlbook.specs.Stopping.{HasAbove, StopsInAll, FailsToFile}
 use Rattle.acd_sqlbook.proofs.Stopped.{still_stopped, commit_stopped}
 use Rattle.acd_sqlbook.proofs.commit.commit_all.Goals as goal
+
+pub write_all-requires-clause-free : goal.write_all-requires-clause-free
+write_all-requires-clause-free g c = ap (λ h. (state g.S.Store h).step_limit) c.transaction-tx.ensures.begun ∙ c.requires.unlimited
 
 pub returns-clause-done : goal.returns-clause-done
 returns-clause-done g c clean =

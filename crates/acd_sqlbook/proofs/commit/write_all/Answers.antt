@@ -1,7 +1,7 @@
 use Rattle.std.proofs.Common.{arith}
 use Rattle.sqlite.specs.State.{HasCleanDisk}
 use Rattle.sqlite.specs.Held.{state}
-use Rattle.std.proofs.Common.{Err, inl, inr, rules}
+use Rattle.std.proofs.Common.{Err, None, inl, inr, rules, ◌∙◌}
 use Rattle.acd_book.specs.Content.{Content}
 use Rattle.acd_sql_columns.proofs.Endings.{works_on}
 use Rattle.acd_sql_columns.specs.Rows.{kept_values, meta_shown}
@@ -13,6 +13,9 @@ use Rattle.acd_sqlbook.specs.Choosing.{written}
 use Rattle.acd_sqlbook.specs.Stopping.{HasAbove, StopsInChanges, StopsInEvents, StopsInAll}
 use Rattle.acd_sqlbook.proofs.Stopped.{stops_as, stops_more, stops_same, stops_later}
 use Rattle.acd_sqlbook.proofs.commit.write_all.Goals as goal
+
+pub write_events-requires : goal.write_events-requires
+write_events-requires g c = c.write_changes.ensures.works.survives.limit ∙ c.requires.free
 
 pub returns-clause-put : goal.returns-clause-put
 returns-clause-put g c clean x d =
@@ -55,12 +58,13 @@ returns-in_err-insert_kept-clause-failed g c =
     let events = c.args.events.now in
     let kept = c.args.kept.now in
     let made = λ (x : Content). with_events (all_filed x changes) events in
-    let stop : Content → Type 0 = λ (x : Content). RefusesOn INSERT_KEPT.now (kept_values kept) (relations_of x) in
+    let stop : Content → Type 0 = λ (x : Content). RefusesOn INSERT_KEPT.now (kept_values kept) None (relations_of x) in
+    let free = c.write_events.ensures.works.survives.limit ∙ c.write_changes.ensures.works.survives.limit ∙ c.requires.free in
     stops_more old three (λ x. stop (made x)) all c.from_residual-in_err-insert_kept.result (λ x h. inr (inr (inl h)))
     (stops_same old three (λ x. stop (made x)) c.in_err-insert_kept.field-0.0 c.from_residual-in_err-insert_kept.result (search rules)
     (stops_later old two three made stop (Err c.in_err-insert_kept.field-0.0) (works_on old one two c.write_changes.ensures.works c.write_events.ensures.works) c.insert_kept.ensures.works
     (λ second x d. let first : HasCleanDisk one = omega (arith, second, c.write_events.ensures.works.survives.clean) in c.in_ok-write_events.ensures.put second _ (c.in_ok-write_changes.ensures.put first x d))
-    (stops_as two three (RefusesOn INSERT_KEPT.now (kept_values kept)) stop (Err c.in_err-insert_kept.field-0.0) (λ x h. h) c.in_err-insert_kept.ensures.failed)))
+    (stops_as two three free (RefusesOn INSERT_KEPT.now (kept_values kept)) stop (Err c.in_err-insert_kept.field-0.0) (λ x h. h) c.in_err-insert_kept.ensures.failed)))
 
 pub returns-in_err-set_meta-clause-failed : goal.returns-in_err-set_meta-clause-failed
 returns-in_err-set_meta-clause-failed g c =
@@ -74,7 +78,8 @@ returns-in_err-set_meta-clause-failed g c =
     let events = c.args.events.now in
     let kept = c.args.kept.now in
     let made = λ (x : Content). with_kept (with_events (all_filed x changes) events) kept in
-    let stop : Content → Type 0 = λ (x : Content). RefusesOn UPDATE_META.now (meta_shown c.args.meta.now) (relations_of x) in
+    let stop : Content → Type 0 = λ (x : Content). RefusesOn UPDATE_META.now (meta_shown c.args.meta.now) None (relations_of x) in
+    let free = c.insert_kept.ensures.works.survives.limit ∙ c.write_events.ensures.works.survives.limit ∙ c.write_changes.ensures.works.survives.limit ∙ c.requires.free in
     stops_more old four (λ x. stop (made x)) all c.from_residual-in_err-set_meta.result (λ x h. inr (inr (inr h)))
     (stops_same old four (λ x. stop (made x)) c.in_err-set_meta.field-0.0 c.from_residual-in_err-set_meta.result (search rules)
     (stops_later old three four made stop (Err c.in_err-set_meta.field-0.0) (works_on old two three (works_on old one two c.write_changes.ensures.works c.write_events.ensures.works) c.insert_kept.ensures.works) c.set_meta.ensures.works
@@ -82,4 +87,4 @@ returns-in_err-set_meta-clause-failed g c =
     let second : HasCleanDisk two = omega (arith, third, c.insert_kept.ensures.works.survives.clean) in
     let first : HasCleanDisk one = omega (arith, second, c.write_events.ensures.works.survives.clean) in
     c.in_ok-insert_kept.ensures.put third _ (c.in_ok-write_events.ensures.put second _ (c.in_ok-write_changes.ensures.put first x d)))
-    (stops_as three four (RefusesOn UPDATE_META.now (meta_shown c.args.meta.now)) stop (Err c.in_err-set_meta.field-0.0) (λ x h. h) c.in_err-set_meta.ensures.failed)))
+    (stops_as three four free (RefusesOn UPDATE_META.now (meta_shown c.args.meta.now)) stop (Err c.in_err-set_meta.field-0.0) (λ x h. h) c.in_err-set_meta.ensures.failed)))

@@ -12,6 +12,9 @@ use Rattle.acd_sqlbook.proofs.Unmet.{unmet_next, stops_unseen}
 use Rattle.acd_sqlbook.proofs.Stopped.{stops_behind, stops_same}
 use Rattle.acd_sqlbook.proofs.commit.write_changes.Goals as goal
 
+pub write_change-requires : goal.write_change-requires
+write_change-requires g c = c.loop-change.invariant.works.survives.limit ∙ c.requires
+
 pub loop-change-preserved : goal.loop-change-preserved
 loop-change-preserved g c =
     let inv = c.loop-change.invariant in

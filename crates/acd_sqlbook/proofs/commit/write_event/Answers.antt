@@ -17,4 +17,4 @@ returns-clause-put g c clean =
 pub returns-clause-failed : goal.returns-clause-failed
 returns-clause-failed g c =
     let e = c.args.event.now in
-    stops_as (state g.S.Store c.args.tx.now.conn.now) (state g.S.Store c.insert.new.tx.conn.now) (RefusesOn events.insert (events.values e)) (StopsAtEvent e) c.insert.result (λ x h. inr h) c.insert.ensures.failed
+    stops_as (state g.S.Store c.args.tx.now.conn.now) (state g.S.Store c.insert.new.tx.conn.now) c.requires (RefusesOn events.insert (events.values e)) (StopsAtEvent e) c.insert.result (λ x h. inr h) c.insert.ensures.failed

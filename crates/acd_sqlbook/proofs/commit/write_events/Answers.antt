@@ -13,6 +13,9 @@ use Rattle.acd_sqlbook.proofs.Stopped.{in_events, stops_more, stops_same, stops_
 use Rattle.acd_sqlbook.proofs.commit.write_events.Goals as goal
 use Rattle.std.proofs.lemmas.List.{take_all}
 
+pub write_event-requires : goal.write_event-requires
+write_event-requires g c = c.loop-event.invariant.works.survives.limit ∙ c.requires
+
 pub loop-event-preserved : goal.loop-event-preserved
 loop-event-preserved g c =
     let inv = c.loop-event.invariant in
