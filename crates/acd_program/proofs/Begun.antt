@@ -1,6 +1,6 @@
 -- What becomes of two files before the store has them, step by step.
-use Rattle.std.proofs.Common.{◌≡◌, ℕ, ◌<◌, ◌≤◌, length, IsTrue, refl, sym, ap, subst, ◌∙◌, inl, inr, arith}
-use Rattle.std.proofs.lemmas.Bool.{and_parts}
+use Rattle.std.proofs.Common.{◌≡◌, ◌↔◌, ℕ, ◌<◌, ◌≤◌, Bool, false, length, Result, IfOk, IsTrue, true≢false, refl, sym, ap, subst, subst₂, ◌∙◌, inl, inr, arith}
+use Rattle.std.proofs.lemmas.Bool.{and_parts, and_from}
 use Rattle.sqlite_disk.specs.declared.Disk.{Ghosts}
 use Rattle.sqlite_disk.specs.declared.Files.{Files}
 use Rattle.sqlite_wal.specs.Reads.{IsClean, AreClean, OnlyReads, are_clean}
@@ -12,7 +12,8 @@ use Rattle.sqlite_store.specs.Opening.{FailsToOpen}
 use Rattle.sqlite_store.specs.FileStore as store
 use Rattle.sqlite_store.specs.Unopened.{state_of, files_of}
 use Rattle.sqlite.proofs.OpenLemmas.{pool_files}
-use Rattle.acd_program.specs.Files.{new_page, AreReadOnly, IsCreated, IsBegun}
+use Rattle.acd_program.proofs.Tasks.{ok_so}
+use Rattle.acd_program.specs.Files.{new_page, IsLone, AreReadOnly, IsCreated, IsReadAndCreated, IsBegun}
 
 -- the store refused to make a database
 pub refused_so : (a b : ℕ) (L P : Type 0) (e : OpenError) → e ≡ Refused → FailsToOpen a b L P e → ¬ P
@@ -29,13 +30,45 @@ module _ {D : Type 0} {g : Ghosts D} where
   pub read_only : (old new : Files D) → new.log ≡ old.log → IsTrue (g.is_usable old.log) → OnlyReads g old.db new.db → AreReadOnly g old new
   read_only old new log usable db = record { log = subst (λ (x : D). OnlyReads g old.log x) (sym log) (reads_none old.log usable); db = db }
 
-  pub begun_created : (old mid new : Files D) → AreReadOnly g old mid → (IsClean g mid.db → length (g.seen old.db) ≤ new_page) → (AreClean g new.log new.db → AreClean g mid.log mid.db)
-      → IsCreated g mid new → IsBegun g old new
-  begun_created old mid new read few clean made = record {
-    large = λ still big. absurd (too_many (length (g.seen old.db)) big (few (and_parts (g.is_clean mid.log) (g.is_clean mid.db) (clean still)).1));
-    small = inr (mid, read, made);
-    made = λ still short. (mid, read, made);
+  reads_on : (a b c : D) → OnlyReads g a b → OnlyReads g b c → OnlyReads g a c
+  reads_on a b c first second = record {
+    seen = second.seen ∙ first.seen;
+    clean = λ h. first.clean (second.clean h);
+    usable = second.usable;
+    key = second.key ∙ first.key;
+    rot = second.rot ∙ first.rot;
+    crash = λ x may. first.crash x (second.crash x may);
   }
+
+  pub read_on : (a b c : Files D) → AreReadOnly g a b → AreReadOnly g b c → AreReadOnly g a c
+  read_on a b c first second = record { log = reads_on a.log b.log c.log first.log second.log; db = reads_on a.db b.db c.db first.db second.db }
+
+  clean_before : (old new : Files D) → AreReadOnly g old new → AreClean g new.log new.db → AreClean g old.log old.db
+  clean_before old new read still =
+      let both = and_parts (g.is_clean new.log) (g.is_clean new.db) still in
+      and_from (g.is_clean old.log) (g.is_clean old.db) (read.log.clean both.0) (read.db.clean both.1)
+
+  -- a database was to be made in files that were read before, of which the log isn't one without its file
+  module _ {F : Type 0} (r : Result (Files D) F) (old mid : Files D) (read : AreReadOnly g old mid) (clean : IfOk r (λ (new : Files D). AreClean g new.log new.db → AreClean g mid.log mid.db)) where
+    pub created_behind : IfOk r (λ (new : Files D). IsCreated g mid new) → IfOk r (λ (new : Files D). IsReadAndCreated g old new)
+    created_behind h = ok_so r _ _ (λ new made. (mid, read, made)) h
+
+    pub clean_behind : IfOk r (λ (new : Files D). AreClean g new.log new.db → AreClean g old.log old.db)
+    clean_behind = ok_so r _ _ (λ new before still. clean_before old mid read (before still)) clean
+
+    pub spared_behind : (lone : Bool) → lone ≡ false → (AreClean g mid.log mid.db → IsTrue lone ↔ IsLone (g.seen old.log) (g.seen old.db))
+        → IfOk r (λ (new : Files D). AreClean g new.log new.db → ¬ IsLone (g.seen old.log) (g.seen old.db))
+    spared_behind lone is h = ok_so r _ _ (λ new before still it. true≢false (sym ((h (before still)).1 it) ∙ is)) clean
+
+  pub begun_created : (old mid new : Files D) → AreReadOnly g old mid → (IsClean g mid.db → length (g.seen old.db) ≤ new_page) → (AreClean g new.log new.db → AreClean g mid.log mid.db)
+      → (AreClean g new.log new.db → ¬ IsLone (g.seen mid.log) (g.seen mid.db)) → IsReadAndCreated g mid new → IsBegun g old new
+  begun_created old mid new read few clean spared made =
+      let whole : IsReadAndCreated g old new = (made.0, read_on old mid made.0 read made.1, made.2) in
+      record {
+        large = λ still big. absurd (too_many (length (g.seen old.db)) big (few (and_parts (g.is_clean mid.log) (g.is_clean mid.db) (clean still)).1));
+        small = inr whole;
+        made = λ still short. (λ lone. spared still (subst₂ IsLone (sym read.log.seen) (sym read.db.seen) lone), whole);
+      }
 
   -- files that have more than a first page
   pub begun_read : (old new : Files D) → AreReadOnly g old new → (IsClean g new.db → ¬ (length (g.seen old.db) ≤ new_page)) → IsBegun g old new

@@ -6,6 +6,7 @@ pub mod Works
 pub mod InFiles
 pub mod Tasks
 pub mod Begun
+pub mod Lone
 pub mod Sending
 pub mod Served
 pub mod LinesOver

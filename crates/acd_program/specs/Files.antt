@@ -1,8 +1,10 @@
 -- What becomes of the two files before the store has them.
-use Rattle.std.specs.Prelude.{◌≡◌, ◌⊎◌, ℕ, ◌<◌, ◌≤◌, [], length, IsTrue}
+use Rattle.std.specs.Prelude.{◌≡◌, ◌⊎◌, ℕ, ◌<◌, ◌≤◌, List, [], length, IsTrue}
 use Rattle.sqlite_disk.specs.declared.Disk.{Ghosts}
 use Rattle.sqlite_disk.specs.declared.Files.{Files}
+use Rattle.sqlite_wal.specs.PageSize.{IsPageSize}
 use Rattle.sqlite_wal.specs.Reads.{AreClean, OnlyReads}
+use Rattle.sqlite_wal.specs.Recovery.{IsCommitted}
 use Rattle.sqlite_store.specs.declared.store.FileStore.{FileStore}
 use Rattle.sqlite_store.specs.declared.store.open.Unopened.{Unopened}
 use Rattle.sqlite_store.specs.FileStore as store
@@ -14,6 +16,14 @@ use Rattle.sqlite.specs.Files.{file_state, IsOpened, Finds}
 -- the bytes of the first page of a new file
 abbrev pub new_page : ℕ
 new_page = 1024
+
+-- the log holds a commit of pages of some size, which an opening would take
+abbrev pub HoldsCommit : List ℕ → Type 0
+HoldsCommit log = (size : ℕ) × (frames : ℕ) × IsPageSize size × (0 < frames) × IsCommitted size log frames
+
+-- the log holds a commit, and its file has no bytes
+abbrev pub IsLone : List ℕ → List ℕ → Type 0
+IsLone log db = (length db ≡ 0) × HoldsCommit log
 
 module _ {D : Type 0} {g : Ghosts D} where
   -- the store made its database of no tables in them
@@ -43,11 +53,15 @@ module _ {D : Type 0} (g : Ghosts D) where
     pub schema : wanted_by before ≡ []
     pub after : IsMadeIn before new ⊎ IsRefusedIn before new
 
-  -- where there is more than a first page nothing but reading was done to them; else a database was to be made in them
+  -- and nothing but reading was done to them before
+  abbrev pub IsReadAndCreated : Files D → Files D → Type 0
+  IsReadAndCreated old new = (read : Files D) × AreReadOnly old read × IsCreated read new
+
+  -- where there is more than a first page nothing but reading was done to them; else a database was to be made in them, but for a log that is left without its file
   pub record IsBegun (old new : Files D) : Type 0 where
     pub large : AreClean g new.log new.db → new_page < length (g.seen old.db) → AreReadOnly old new
-    pub small : AreReadOnly old new ⊎ ((read : Files D) × AreReadOnly old read × IsCreated read new)
-    pub made : AreClean g new.log new.db → length (g.seen old.db) ≤ new_page → (read : Files D) × AreReadOnly old read × IsCreated read new
+    pub small : AreReadOnly old new ⊎ IsReadAndCreated old new
+    pub made : AreClean g new.log new.db → length (g.seen old.db) ≤ new_page → (¬ IsLone (g.seen old.log) (g.seen old.db)) × IsReadAndCreated old new
 
   -- a connection to such files, as the store opened them
   pub record IsOpenedIn (old : Files D) (conn : Held (FileStore D g)) : Type 0 where

@@ -1,6 +1,7 @@
 //! The file of a desk.
 
 ghost use Rattle.std.specs.Prelude.{◌≡◌, ◌⊎◌, ℕ, true, false, IsTrue, Ok, IfOk, OnOk};
+ghost use Rattle.sqlite.specs.Held.{IsNew};
 ghost use Rattle.sqlite_std_file.specs.File.{file_is_usable, IsFresh};
 ghost use Rattle.acd_program.specs.Faults.{by_memory};
 ghost use Rattle.acd_program.specs.Files.{IsOpenedIn};
@@ -8,7 +9,8 @@ ghost use Rattle.acd_program.specs.Tasks.{IsOpenedFrom};
 ghost use Rattle.acd_program.specs.InFiles.{IsLaidIn};
 
 use crate::fault::Fault;
-use crate::paging::{begun, options};
+use crate::lone_log::hold_commit;
+use crate::paging::{begun, disk_fault, log_fault, options};
 use crate::progress::announce;
 use sqlite::{Connection, Error, ErrorCode, FileStore};
 use sqlite_disk::{Disk, Files, Start};
@@ -39,6 +41,40 @@ fn look<'a>(rt: &HostRuntime, path: &'a str) -> Result<Found, Fault<'a>> {
             io::ErrorKind::OutOfMemory => Err(Fault::NoMemory),
             _ => Err(Fault::CannotOpen(path)),
         },
+    }
+}
+
+/// The path of the log: it lies where a link leads.
+pub(crate) fn log_path<'a>(rt: &HostRuntime, path: &'a str) -> Result<String, Fault<'a>> {
+    match fs::canonicalize(rt, path) {
+        Ok(real) => Ok(format!(in rt.alloc(); "{}-wal", real.as_str())?),
+        Err(error) if error.kind() == io::ErrorKind::NotFound => {
+            Ok(format!(in rt.alloc(); "{path}-wal")?)
+        }
+        Err(error) => Err(disk_fault(error, path)),
+    }
+}
+
+// The bytes of the log, or none where it isn't there.
+fn log_bytes<'a>(rt: &HostRuntime, path: &'a str) -> Result<Vec<u8>, Fault<'a>> {
+    let log = log_path(rt, path)?;
+    match fs::symlink_metadata(rt, log.as_str()) {
+        Ok(found) if !found.is_file() => return Err(Fault::CannotOpen(path)),
+        Ok(_) => {}
+        Err(error) if error.kind() == io::ErrorKind::NotFound => return Ok(Vec::new(rt.alloc())),
+        Err(error) => return Err(disk_fault(error, path)),
+    }
+    match fs::read(rt, log.as_str()) {
+        Ok(bytes) => Ok(bytes),
+        Err(error) => Err(disk_fault(error, path)),
+    }
+}
+
+/// Whether the log at a path holds a commit: it is left alone, where its file is missing or has no bytes.
+pub(crate) fn holds_log<'a>(rt: &HostRuntime, path: &'a str) -> Result<bool, Fault<'a>> {
+    match hold_commit(rt.alloc(), &log_bytes(rt, path)?) {
+        Ok(holds) => Ok(holds),
+        Err(error) => Err(log_fault(error, path)),
     }
 }
 
@@ -112,7 +148,7 @@ fn open_files<'a, D: Disk + Drop>(
 ) -> Result<Connection<FileStore<D>>, Fault<'a>>
     requires log { IsTrue (D.Disk.is_usable files.log) }
     requires db { IsTrue (D.Disk.is_usable files.db) }
-    ensures idle { IfOk result (λ conn. conn.in_transaction ≡ false) }
+    ensures fresh { IfOk result IsNew }
     ensures opened { IfOk result (λ conn. IsOpenedIn D.Disk files conn) }
 {
     let [first, second] = seeds;
@@ -130,7 +166,7 @@ fn open_connection<'a, S: Start>(
     path: &'a str,
     start: S,
 ) -> Result<Connection<StoreFrom<S>>, Fault<'a>>
-    ensures idle { IfOk result (λ conn. conn.in_transaction ≡ false) }
+    ensures fresh { IfOk result IsNew }
     ensures opened { IfOk result (λ conn. IsOpenedFrom ⟦<FileFrom<S> as Disk>⟧ IsFresh conn) }
 {
     let seeds = [seed(rt, path)?, seed(rt, path)?];
@@ -146,15 +182,17 @@ pub(crate) fn connect<'a, S: Start>(
     makes: bool,
     start: S,
 ) -> Result<(Connection<StoreFrom<S>>, bool), Fault<'a>>
-    ensures idle { IfOk result (λ found. found.0.in_transaction ≡ false) }
+    ensures fresh { IfOk result (λ found. IsNew found.0) }
     ensures opened { IfOk result (λ found. IsOpenedFrom ⟦<FileFrom<S> as Disk>⟧ IsFresh found.0) }
     ensures makes { IfOk result (λ found. found.1 ≡ true → makes ≡ true) }
 {
     let found = look(rt, path)?;
-    let is_new = is_new(found, makes, path)?;
     if let Found::Bytes(len) = found {
         announce(rt, path, len);
+    } else if holds_log(rt, path)? {
+        return Err(Fault::CannotOpen(path));
     }
+    let is_new = is_new(found, makes, path)?;
     let conn = open_connection(rt, path, start)?;
     Ok((conn, is_new))
 }

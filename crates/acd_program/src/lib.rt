@@ -12,6 +12,7 @@ mod desk;
 mod fault;
 mod file;
 pub mod laws;
+mod lone_log;
 mod memory;
 mod paging;
 mod plan;

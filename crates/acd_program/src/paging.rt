@@ -2,13 +2,14 @@
 
 ghost use Rattle.std.specs.Prelude.{◌≡◌, ◌≤◌, ◌<◌, ◌↔◌, length, IsTrue, IfOk};
 ghost use Rattle.sqlite_wal.specs.Reads.{IsClean, AreClean, OnlyReads};
-ghost use Rattle.acd_program.specs.Files.{new_page, AreReadOnly, IsCreated, IsBegun};
+ghost use Rattle.acd_program.specs.Files.{new_page, IsLone, AreReadOnly, IsCreated, IsReadAndCreated, IsBegun};
 
 use crate::fault::Fault;
+use crate::lone_log::is_lone;
 use sqlite_disk::{Disk, Files};
 use sqlite_pager::{Options, PageSize, Pager};
 use sqlite_store::{OpenError, Unopened};
-use sqlite_wal::probe_page_size;
+use sqlite_wal::{Error, probe_page_size};
 use std::alloc::Global;
 use std::io;
 
@@ -23,7 +24,8 @@ const CACHE: usize = 8_192_000;
 // What it takes to lay the first page.
 const ONE_PAGE: usize = 1;
 
-fn disk_fault<'a>(error: io::Error, path: &'a str) -> Fault<'a> {
+/// What kept a file from being read, as a fault.
+pub(crate) fn disk_fault<'a>(error: io::Error, path: &'a str) -> Fault<'a> {
     match error.kind() {
         io::ErrorKind::OutOfMemory => Fault::NoMemory,
         _ => Fault::CannotOpen(path),
@@ -78,6 +80,38 @@ fn created<'a, D: Disk + Drop>(
     }
 }
 
+/// What kept a log from being read, as a fault.
+pub(crate) fn log_fault<'a>(error: Error, path: &'a str) -> Fault<'a> {
+    match error {
+        Error::OutOfMemory => Fault::NoMemory,
+        Error::Io(error) => disk_fault(error, path),
+        _ => Fault::CannotOpen(path),
+    }
+}
+
+// The same, but for a log that is left without its file: that stays as it is.
+fn created_beside<'a, D: Disk + Drop>(
+    alloc: Global,
+    mut files: Files<D>,
+    seed: u64,
+    path: &'a str,
+) -> Result<Files<D>, Fault<'a>>
+    requires log { IsTrue (D.Disk.is_usable files.log) }
+    requires db { IsTrue (D.Disk.is_usable files.db) }
+    ensures created { IfOk result (λ new. IsReadAndCreated D.Disk files new) }
+    ensures clean { IfOk result
+        (λ new. AreClean D.Disk new.log new.db → AreClean D.Disk files.log files.db) }
+    ensures spared { IfOk result
+        (λ new. AreClean D.Disk new.log new.db
+        → ¬ IsLone (D.Disk.seen files.log) (D.Disk.seen files.db)) }
+{
+    match is_lone(alloc, &mut files) {
+        Ok(false) => created(alloc, files, seed, path),
+        Ok(true) => Err(Fault::CannotOpen(path)),
+        Err(error) => Err(log_fault(error, path)),
+    }
+}
+
 /// The files, with a database of no tables in them where they were new. The store would take a greater page.
 pub(crate) fn begun<'a, D: Disk + Drop>(
     alloc: Global,
@@ -94,7 +128,7 @@ pub(crate) fn begun<'a, D: Disk + Drop>(
     match may_be_new(&mut files) {
         Ok(false) => Ok(files),
         Ok(true) => {
-            let files = created(alloc, files, seed, path)?;
+            let files = created_beside(alloc, files, seed, path)?;
             if files.may_be_used() {
                 Ok(files)
             } else {

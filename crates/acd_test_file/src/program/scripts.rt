@@ -10,6 +10,8 @@
 //! | `copied PATH PATH WORD WORD` | the program, called with these words, succeeds; when it asks for more input than the step's the file and the log at the first path are copied to the second one, while the desk is open |
 //! | `lines PATH LENGTH` | a file gets lines, and behind them empty ones up to a length |
 //! | `zeros PATH LENGTH` | a file gets so many bytes that are 0 |
+//! | `gone PATH` | a file is removed |
+//! | `put PATH PATH` | the file at the first path is copied to the second one, without its log |
 //! | `patch PATH THESE BYTES` | the first bytes of the file that are as these are replaced |
 //! | `serve PATH` | the program serves a file to two callers, and the runs behind `>` are made when it listens |
 //! | `taken` | the runs behind `>` are made where something else listens on `{port}` |
@@ -24,7 +26,7 @@ use super::files::{free_path, patch, remove, state_of, write};
 use super::serving::{cannot_listen, serves};
 use acd_program::program;
 use std::alloc::{AllocError, Global};
-use std::io;
+use std::{fs, io};
 
 // What stands behind this sign and a space.
 fn behind(line: &str, sign: char) -> Option<&str> {
@@ -116,6 +118,17 @@ fn is_patched(rt: &HostRuntime, said: &str) -> io::Result<bool> {
     patch(rt, path, these.as_bytes(), bytes.as_bytes())
 }
 
+fn is_gone(rt: &HostRuntime, path: &str) -> io::Result<bool> {
+    fs::remove_file(rt, path)?;
+    Ok(true)
+}
+
+fn is_put(rt: &HostRuntime, said: &str) -> io::Result<bool> {
+    let (path, copy) = said.split_once(' ').unwrap_or((said, ""));
+    fs::copy(rt, path, copy)?;
+    Ok(true)
+}
+
 fn is_so(rt: &HostRuntime, said: &str) -> bool {
     match said.split_once(' ') {
         Some((path, state)) => state_of(rt, path) == state,
@@ -133,6 +146,8 @@ fn happens(rt: &HostRuntime, step: &str) -> io::Result<bool> {
         "copied" => is_copied(rt, said, step),
         "lines" => is_written(rt, said, step, b'\n'),
         "zeros" => is_written(rt, said, step, 0),
+        "gone" => is_gone(rt, said),
+        "put" => is_put(rt, said),
         "patch" => is_patched(rt, said),
         "is" => Ok(is_so(rt, said)),
         "serve" => serves(rt, said, step),

@@ -12,4 +12,5 @@ pub returns-then-may_be_used-clause-begun : goal.returns-then-may_be_used-clause
 returns-then-may_be_used-clause-begun g c =
     let mid : _ = c.may_be_new.new.files in
     begun_created c.args.files mid c.in_ok-files-in-Ok-true.files (read_only c.args.files mid c.may_be_new.ensures.log c.requires.log c.may_be_new.ensures.db)
-    (λ clean. (c.in-Ok-true.ensures.few clean).0 c.in-Ok-true.field-0-test) c.in_ok-files-in-Ok-true.ensures.clean c.in_ok-files-in-Ok-true.ensures.created
+    (λ clean. (c.in-Ok-true.ensures.few clean).0 c.in-Ok-true.field-0-test) c.in_ok-files-in-Ok-true.ensures.clean
+    c.in_ok-files-in-Ok-true.ensures.spared c.in_ok-files-in-Ok-true.ensures.created
