@@ -275,11 +275,16 @@ impl<S: Alter> Book for SqlBook<S> {
         ensures commits { Commits (book_of S.Store self.old) (book_of S.Store self.new) result
             (FollowsBy changes.now events.now kept.now)
             (committed_by changes.now events.now kept.now) }
-        ensures caused { IsCaused (changing changes.now events.now kept.now)
+        // What it counts from is of what the book holds, where what is noted is: as `commits` asks too.
+        ensures caused { (book_of S.Store self.old).is_sound
+            → IsCaused (changing changes.now events.now kept.now)
             (state S.Store self.old.conn) (state S.Store self.new.conn)
             self.old.failures self.new.failures result }
     {
-        let done = self.ready.commit_changes(self.alloc, changes, events, kept);
+        let counters = &mut self.notes.counters;
+        let done = self
+            .ready
+            .commit_changes(self.alloc, counters, changes, events, kept);
         let before = mem::take(&mut self.notes.index);
         self.notes.index = noted_behind(before, &done, changes, events);
         self.notes.ahead.forget();
