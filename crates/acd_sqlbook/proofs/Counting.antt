@@ -1,5 +1,5 @@
 -- Why a commit fails.
-use Rattle.std.proofs.Common.{◌≡◌, ◌⊎◌, inl, inr, ℕ, ◌≤◌, List, [], ◌∷◌, length, Some, Result, Ok, Err, IsTrue, IfErr, sym, subst, subst₂, ◌∙◌, arith}
+use Rattle.std.proofs.Common.{◌≡◌, ◌⊎◌, inl, inr, ℕ, ◌≤◌, List, [], ◌∷◌, length, Option, Some, Result, Ok, Err, IsTrue, IfErr, sym, subst, subst₂, ◌∙◌, arith}
 use Rattle.std.specs.Prelude.{Vec, IsSome}
 use Rattle.std.specs.declared.alloc.Global.{Global}
 use Rattle.sqlite.specs.declared.error.Error.{Error}

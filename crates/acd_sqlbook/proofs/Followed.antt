@@ -15,7 +15,7 @@ use Rattle.acd_sql_columns.specs.InTables.{content_of}
 use Rattle.acd_sql_columns.specs.Content.{Encodes}
 use Rattle.acd_sql_columns.specs.declared.meta.Meta.{Meta}
 use Rattle.acd_sqlbook.specs.Calls.{HasCommitted, HasReplaced}
-use Rattle.acd_sqlbook.specs.Counters.{AreCounters, AreHeld}
+use Rattle.acd_sqlbook.specs.Counters.{AreCounters}
 use Rattle.acd_sqlbook.specs.Commit.{written_by}
 use Rattle.acd_sqlbook.specs.State.{IsSoundState}
 use Rattle.acd_sqlbook.proofs.BookStates.{held_is}
@@ -160,7 +160,7 @@ pub changes_goes : (before behind : Notes) (old new : State) (r : Result (Unit {
     → HasReplaced old new r (AreCounters before.counters) (written_by changes events kept) → HasCleanDisk new → IsSoundState old → IsTrue new.is_open → (IsTrue old.is_open → AreOf before (content_of old.committed.trees))
     → AreOf behind (content_of new.committed.trees)
 changes_goes before behind old new r changes events kept on none dropped counts h k sound up noted =
-    let held : AreHeld before.counters old = λ live. (noted live).counters in
+    let held : IsTrue old.is_open → AreCounters before.counters (content_of old.committed.trees) = λ live. (noted live).counters in
     let so = replaces_so old new (AreCounters before.counters) (written_by changes events kept) held r h in
     record {
       index = index_goes before.index behind.index old new r changes events kept on so k sound up (λ live. (noted live).index);

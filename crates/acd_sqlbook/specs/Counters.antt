@@ -1,8 +1,6 @@
 -- The limits and the counters of its last commit, which a book holds.
-use Rattle.std.specs.Prelude.{◌≡◌, ℕ, Option, None, Some, IsTrue, ⊤}
-use Rattle.sqlite.specs.State.{State}
+use Rattle.std.specs.Prelude.{◌≡◌, Option, None, Some, ⊤}
 use Rattle.acd_book.specs.Content.{Content}
-use Rattle.acd_sql_columns.specs.InTables.{content_of}
 use Rattle.acd_sql_columns.specs.Relations.{meta_of}
 use Rattle.acd_sql_columns.specs.declared.meta.Meta.{Meta}
 
@@ -10,10 +8,6 @@ use Rattle.acd_sql_columns.specs.declared.meta.Meta.{Meta}
 abbrev pub AreCounters : Option Meta → Content → Type 0
 AreCounters None c = ⊤
 AreCounters (Some m) c = m ≡ meta_of c.rows
-
--- they are those of what the connection holds, while it is open
-abbrev pub AreHeld : Option Meta → State → Type 0
-AreHeld held s = IsTrue s.is_open → AreCounters held (content_of s.committed.trees)
 
 -- it stops at this, on a content of which they are held
 abbrev pub StopsWith : Option Meta → (Content → Type 0) → Content → Type 0

@@ -275,7 +275,8 @@ impl<S: Alter> Book for SqlBook<S> {
         ensures commits { Commits (book_of S.Store self.old) (book_of S.Store self.new) result
             (FollowsBy changes.now events.now kept.now)
             (committed_by changes.now events.now kept.now) }
-        // What it counts from is of what the book holds, where what is noted is: as `commits` asks too.
+        // It counts from what is noted: so the book is sound with its notes, as `commits` asks too. A new or an adopted
+        // one is, and each call leaves it so.
         ensures caused { (book_of S.Store self.old).is_sound
             → IsCaused (changing changes.now events.now kept.now)
             (state S.Store self.old.conn) (state S.Store self.new.conn)
