@@ -1,5 +1,5 @@
 -- What a call over a connection leaves of the book.
-use Rattle.std.proofs.Common.{◌≡◌, ◌⊎◌, inl, inr, ℕ, ◌+◌, ◌-◌, ◌^◌, ◌≤◌, min, nat_lt, List, Result, Ok, Err, IsTrue, IfOk, OnOk, OnErr, IsErrOf, refl, sym, ap, subst, subst₂, ◌∙◌, arith}
+use Rattle.std.proofs.Common.{◌≡◌, ◌⊎◌, inl, inr, ℕ, ◌+◌, ◌-◌, ◌^◌, ◌≤◌, min, nat_lt, List, Option, Result, Ok, Err, IsTrue, IfOk, OnOk, OnErr, IsErrOf, refl, sym, ap, subst, subst₂, ◌∙◌, arith}
 use Rattle.std.proofs.lemmas.Bool.{cases_Bool}
 use Rattle.std.proofs.lemmas.Bool.Decides.{nat_tests}
 use Rattle.sqlite_trees.specs.Tree.{Trees}
@@ -19,6 +19,8 @@ use Rattle.acd_sql_columns.specs.Relations.{meta_of}
 use Rattle.acd_sql_columns.specs.Content.{Encodes}
 use Rattle.acd_sql_columns.specs.InTables.{content_of}
 use Rattle.acd_sqlbook.specs.Calls.{HasRead, HasCommitted, HasReplaced}
+use Rattle.acd_sqlbook.specs.Counters.{AreCounters}
+use Rattle.acd_sql_columns.specs.declared.meta.Meta.{Meta}
 use Rattle.acd_sql_columns.specs.Draft.{HoldsContent}
 use Rattle.acd_sqlbook.specs.State.{IsSoundState, IsNewBook, book_state, answered, failures_after}
 use Rattle.acd_sqlbook.proofs.Committing.{commit_is}
@@ -166,11 +168,12 @@ commits_noted old new failures next r answer written after Follows makes is coun
     subst₂ (λ n a. Commits (book_state old failures) (book_state new n) a Follows after) (sym counted) (sym is)
     (commits old new failures r written after Follows makes (subst (λ n. failures ≤ n) counted low) h)
 
-pub changes_noted : (old new : State) (failures next : ℕ) (r : Result (Unit {0}) Error) (answer : Result (Unit {0}) BookFault) (changes : List Change) (events : List Event) (kept : Kept)
-    → answer ≡ answered r → next ≡ failures_after answer failures → failures ≤ next → HasCommitted old new r (written_by changes events kept)
-    → Commits (book_state old failures) (book_state new next) answer (FollowsBy changes events kept) (committed_by changes events kept)
-changes_noted old new failures next r answer changes events kept =
-    commits_noted old new failures next r answer (written_by changes events kept) (committed_by changes events kept) (FollowsBy changes events kept) (λ k c held follows. commit_is changes events kept (meta_of c.rows) c refl follows)
+pub changes_noted : (old new : State) (failures next : ℕ) (r : Result (Unit {0}) Error) (answer : Result (Unit {0}) BookFault) (held : Option Meta) (changes : List Change) (events : List Event) (kept : Kept)
+    → answer ≡ answered r → next ≡ failures_after answer failures → failures ≤ next → HasReplaced old new r (AreCounters held) (written_by changes events kept)
+    → Commits (book_state old failures) (book_state new next) answer (λ c. AreCounters held c × FollowsBy changes events kept c) (committed_by changes events kept)
+changes_noted old new failures next r answer held changes events kept is count low h =
+    commits_noted old new failures next r answer h.written (committed_by changes events kept) (λ c. AreCounters held c × FollowsBy changes events kept c)
+    (λ k c holds follows. h.same k c holds follows.0 ∙ commit_is changes events kept (meta_of c.rows) c refl follows.1) is count low h.commits
 
 pub rows_noted : (old new : State) (failures next : ℕ) (r : Result (Unit {0}) Error) (answer : Result (Unit {0}) BookFault) (rows : Rows) (events : List Event) (kept : Kept)
     → answer ≡ answered r → next ≡ failures_after answer failures → failures ≤ next → HasReplaced old new r (Follows rows events kept) (committed rows events kept)

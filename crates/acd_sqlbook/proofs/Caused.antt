@@ -1,5 +1,5 @@
 -- Why a book answers that its store has failed.
-use Rattle.std.proofs.Common.{◌≡◌, ◌⊎◌, inl, inr, ℕ, ◌<◌, List, length, Option, None, Some, Result, Ok, Err, refl, sym, ap, subst, ◌∙◌, arith}
+use Rattle.std.proofs.Common.{◌≡◌, ◌⊎◌, inl, inr, ℕ, ◌<◌, List, length, Option, None, Some, Result, Ok, Err, IsTrue, refl, sym, ap, subst, ◌∙◌, arith}
 use Rattle.std.specs.Prelude.{IsSome}
 use Rattle.std.proofs.lemmas.Bool.{cases_Bool}
 use Rattle.sqlite.specs.declared.error.Error.{Error}
@@ -20,6 +20,8 @@ use Rattle.acd_sql_statements.specs.InRange.{IsInRange}
 use Rattle.acd_sql_statements.specs.Reading.{FailsToRead, Blames}
 use Rattle.acd_sql_schema.specs.SettingUp.{FailsToSetUp, IsUnstarted}
 use Rattle.acd_sqlbook.specs.Commit.{counted}
+use Rattle.acd_sqlbook.specs.Counters.{AreCounters, StopsWith}
+use Rattle.acd_sql_columns.specs.declared.meta.Meta.{Meta}
 use Rattle.acd_sqlbook.specs.Stopping.{AllNumbersFit, Drops, HasAbove, IsBlamedOr, IsUncounted, RefusesInAll, StopsCommit, StopsReplace}
 use Rattle.acd_sqlbook.specs.State.{IsSoundState, fault_of, answered, failures_after}
 use Rattle.acd_sqlbook.specs.Causes.{BookCall, StoreCause, IsCaused, IsUnreadable, RefusesToCommit, create, read, failed, change, replace, shut, unfit, unreadable, occupied, drops, refused}
@@ -102,9 +104,14 @@ module _ (changes : List Change) (events : List Event) (kept : Kept) (old new : 
         | inr refuses ↦ refused (subst (RefusesToCommit changes events kept) (sym is) refuses)
       ]
 
-  pub changes_caused : (r : Result (Unit {0}) Error) (answer : Result (Unit {0}) BookFault) → answer ≡ answered r → IsBlamedOr (StopsCommit changes events kept) old new r → HasCleanDisk new → IsSoundState old → answer ≡ Err Store
-      → StoreCause (change changes events kept) old new
-  changes_caused = commit_caused (change changes events kept) old new (StopsCommit changes events kept) free (λ out. out) change_stops
+  -- with the counters that are held, which are those of what the connection holds while it is open
+  held_stops : (held : Option Meta) → (IsTrue old.is_open → AreCounters held (content_of old.committed.trees)) → (c : Content) → content_of old.committed.trees ≡ c → StopsWith held (StopsCommit changes events kept) c → StoreCause (change changes events kept) old new
+  held_stops held of c is stops =
+      elim (cases_Bool old.is_open) [ inl up ↦ change_stops c is (stops (subst (AreCounters held) is (of up))) | inr down ↦ shut down ]
+
+  pub changes_caused : (held : Option Meta) → (IsTrue old.is_open → AreCounters held (content_of old.committed.trees)) → (r : Result (Unit {0}) Error) (answer : Result (Unit {0}) BookFault) → answer ≡ answered r → IsBlamedOr (StopsWith held (StopsCommit changes events kept)) old new r
+      → HasCleanDisk new → IsSoundState old → answer ≡ Err Store → StoreCause (change changes events kept) old new
+  changes_caused held of = commit_caused (change changes events kept) old new (StopsWith held (StopsCommit changes events kept)) free (λ out. out) (held_stops held of)
 
 module _ (rows : Rows) (events : List Event) (kept : Kept) (old new : State) (free : old.step_limit ≡ None) where
   replace_stops : (c : Content) → content_of old.committed.trees ≡ c → StopsReplace rows events kept c → StoreCause (replace rows events kept) old new

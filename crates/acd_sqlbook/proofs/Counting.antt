@@ -1,5 +1,5 @@
 -- Why a commit fails.
-use Rattle.std.proofs.Common.{◌≡◌, ◌⊎◌, inl, inr, ℕ, ◌≤◌, List, [], ◌∷◌, length, Some, Result, Ok, Err, IsTrue, IfErr, sym, subst, subst₂, ◌∙◌, arith}
+use Rattle.std.proofs.Common.{◌≡◌, ◌⊎◌, inl, inr, ℕ, ◌≤◌, List, [], ◌∷◌, length, Option, Some, Result, Ok, Err, IsTrue, IfErr, sym, subst, subst₂, ◌∙◌, arith}
 use Rattle.std.specs.Prelude.{Vec}
 use Rattle.std.specs.declared.alloc.Global.{Global}
 use Rattle.sqlite.specs.declared.error.Error.{Error}
@@ -19,18 +19,20 @@ use Rattle.acd_sql_statements.specs.Failing.{IsMemory}
 use Rattle.acd_sql_statements.specs.Reading.{Blames, FailsToRead}
 use Rattle.acd_sqlbook.specs.Calls.{HasRead}
 use Rattle.acd_sqlbook.specs.Choosing.{written}
-use Rattle.acd_sqlbook.specs.Commit.{ChangeFits, EventFits, counted, counters_of, filed, all_filed, with_event}
+use Rattle.acd_sqlbook.specs.Counters.{AreCounters, StopsWith}
+use Rattle.acd_sqlbook.specs.Commit.{ChangeFits, EventFits, counted, filed, all_filed, with_event}
 use Rattle.acd_sqlbook.specs.Stopping.{AllNumbersFit, AreCounted, BlamesOr, Drops, HasAbove, IsBlamedOr, FailsToFile, IsUndone, IsUncounted, RefusesInAll, RefusesInChanges, RefusesInEvents, StopsInAll, StopsInChanges, StopsInEvents, StopsCommit, StopsReplace}
 use Rattle.acd_sqlbook.proofs.Replacing.{Leading}
+use Rattle.acd_sqlbook.proofs.Standing.{Counts}
 
 -- as a read fails
 pub counts_not : {A B : Type 0} (R : Content → Type 0) (old new : State) (e : Error) (r : Result B Error) → r ≡ Err e → Blames {A = A} old new (Err e) → BlamesOr R old new r
 counts_not {A} {B} R old new e r is h = subst (BlamesOr {A = B} R old new) (sym is) (record { cause = λ k c held. inl (h.cause k c held tt); counts = tt; limit = tt })
 
-pub counts_unfit : {A : Type 0} (old new : State) (meta : Meta) (e : Error) (changes : List Change) (events : ℕ) (kept : Kept) → HasRead {A = Meta} old new (Ok meta) (λ c found. found ≡ meta_of c.rows)
-    → ¬ (MetaFits (counted meta changes events kept)) → BlamesOr {A = A} (IsUncounted changes events kept) old new (Err e)
-counts_unfit old new meta e changes events kept read unfit = record {
-  cause = λ k c held. inr (subst (λ m. ¬ (MetaFits (counted m changes events kept))) (read.value k c held) unfit);
+pub counts_unfit : {A : Type 0} (old new : State) (held : Option Meta) (meta : Meta) (e : Error) (changes : List Change) (events : ℕ) (kept : Kept) → HasRead {A = Meta} old new (Ok meta) (λ c found. AreCounters held c → found ≡ meta_of c.rows)
+    → ¬ (MetaFits (counted meta changes events kept)) → BlamesOr {A = A} (StopsWith held (IsUncounted changes events kept)) old new (Err e)
+counts_unfit old new held meta e changes events kept read unfit = record {
+  cause = λ k c holds. inr (λ of. subst (λ m. ¬ (MetaFits (counted m changes events kept))) (read.value k c holds of) unfit);
   counts = tt;
   limit = tt;
 }
@@ -61,20 +63,26 @@ module _ {A : Type 0} (R Stops All : Content → Type 0) (IsAnswer : Content →
       let live = read.up m in
       undone c e h.counts live (so c (read.value m c held)) (fails k c (read.quiet.same m c held live))
 
-module _ (changes : List Change) (events : List Event) (kept : Kept) where
-  not_counted : (old new : State) (c : Content) (e : Error) → FailsToRead c old new e ⊎ IsUncounted changes (length events) kept c → FailsToRead c old new e ⊎ StopsCommit changes events kept c
+module _ (held : Option Meta) (changes : List Change) (events : List Event) (kept : Kept) where
+  abbrev Uncounted : Content → Type 0
+  Uncounted = StopsWith held (IsUncounted changes (length events) kept)
+
+  abbrev Stopped : Content → Type 0
+  Stopped = StopsWith held (StopsCommit changes events kept)
+
+  not_counted : (old new : State) (c : Content) (e : Error) → FailsToRead c old new e ⊎ Uncounted c → FailsToRead c old new e ⊎ Stopped c
   not_counted old new c e (inl read) = inl read
-  not_counted old new c e (inr unfit) = inr (inl unfit)
+  not_counted old new c e (inr unfit) = inr (λ of. inl (unfit of))
 
-  pub commit_uncounted : (old new : State) (e : Error) → BlamesOr {A = ℕ × Meta} (IsUncounted changes (length events) kept) old new (Err e) → IsBlamedOr {A = Unit {0}} (StopsCommit changes events kept) old new (Err e)
-  commit_uncounted old new e h = λ k c held. not_counted old new c e (h.cause k c held)
+  pub commit_uncounted : (old new : State) (e : Error) → BlamesOr {A = ℕ × Meta} Uncounted old new (Err e) → IsBlamedOr {A = Unit {0}} Stopped old new (Err e)
+  commit_uncounted old new e h = λ k c holds. not_counted old new c e (h.cause k c holds)
 
-  pub commit_undone : (old mid new : State) (r : Result (Unit {0}) Error) (last : ℕ) (next : Meta) → HasRead {A = ℕ × Meta} old mid (Ok (last, next)) (λ c found. found ≡ counters_of changes (length events) kept c)
-      → BlamesOr {A = ℕ × Meta} (IsUncounted changes (length events) kept) old mid (Ok (last, next)) → (HasCleanDisk new → HasCleanDisk mid) → IsUndone (λ c. StopsInAll (HasAbove (Some last) c) changes events kept next c) mid new r
-      → IsBlamedOr (StopsCommit changes events kept) old new r
+  pub commit_undone : (old mid new : State) (r : Result (Unit {0}) Error) (last : ℕ) (next : Meta) → HasRead {A = ℕ × Meta} old mid (Ok (last, next)) (Counts held changes (length events) kept)
+      → BlamesOr {A = ℕ × Meta} Uncounted old mid (Ok (last, next)) → (HasCleanDisk new → HasCleanDisk mid) → IsUndone (λ c. StopsInAll (HasAbove (Some last) c) changes events kept next c) mid new r
+      → IsBlamedOr Stopped old new r
   commit_undone old mid new r last next read h clean fails =
-      undone_behind (IsUncounted changes (length events) kept) (λ c. StopsInAll (HasAbove (Some last) c) changes events kept next c) (StopsCommit changes events kept) (λ (c : Content) (found : ℕ × Meta). found ≡ counters_of changes (length events) kept c)
-      old mid new (last, next) r read h clean fails (λ c is stops. inr (subst (λ (p : ℕ × Meta). StopsInAll (HasAbove (Some p.0) c) changes events kept p.1 c) is stops))
+      undone_behind Uncounted (λ c. StopsInAll (HasAbove (Some last) c) changes events kept next c) Stopped (Counts held changes (length events) kept) old mid new (last, next) r read h clean fails
+      (λ c counts stops of. inr (subst (λ (p : ℕ × Meta). StopsInAll (HasAbove (Some p.0) c) changes events kept p.1 c) (counts of) stops))
 
 -- ---- a commit of tables
 

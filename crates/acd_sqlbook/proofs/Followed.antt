@@ -1,5 +1,5 @@
 -- Calls over a book with what was noted of it.
-use Rattle.std.proofs.Common.{◌≡◌, List, [], Option, None, Some, Result, Ok, Err, IsTrue, IfOk, OnOk, sym, ap, subst, ◌∙◌}
+use Rattle.std.proofs.Common.{◌≡◌, inl, inr, List, [], Option, None, Some, Result, Ok, Err, IsTrue, IfOk, OnOk, OnErr, sym, ap, subst, ◌∙◌}
 use Rattle.acd_terms.specs.declared.event.Event.{Event}
 use Rattle.acd_book.specs.Content.{Content}
 use Rattle.acd_book.specs.State.{BookState, BookStep, Reads, Commits}
@@ -12,7 +12,10 @@ use Rattle.acd_model.specs.declared.moves.Change.{Change}
 use Rattle.acd_book.specs.declared.kept.Kept.{Kept}
 use Rattle.acd_sql_columns.specs.Draft.{HoldsContent}
 use Rattle.acd_sql_columns.specs.InTables.{content_of}
-use Rattle.acd_sqlbook.specs.Calls.{HasCommitted}
+use Rattle.acd_sql_columns.specs.Content.{Encodes}
+use Rattle.acd_sql_columns.specs.declared.meta.Meta.{Meta}
+use Rattle.acd_sqlbook.specs.Calls.{HasCommitted, HasReplaced}
+use Rattle.acd_sqlbook.specs.Counters.{AreCounters}
 use Rattle.acd_sqlbook.specs.Commit.{written_by}
 use Rattle.acd_sqlbook.specs.State.{IsSoundState}
 use Rattle.acd_sqlbook.proofs.BookStates.{held_is}
@@ -27,7 +30,7 @@ here n c d same = subst (AreOf n) (sym same)
 
 -- where nothing is noted
 pub blank_of : (n : Notes) → IsBlank n → (c : Content) → AreOf n c
-blank_of n is c = record { index = subst (λ (o : Option Index). IndexIsNoted o c.events) (sym is.index) tt; ahead = none_ahead n.ahead c.kept is.ahead }
+blank_of n is c = record { index = subst (λ (o : Option Index). IndexIsNoted o c.events) (sym is.index) tt; ahead = none_ahead n.ahead c.kept is.ahead; counters = subst (λ (o : Option Meta). AreCounters o c) (sym is.counters) tt }
 
 -- a step of the book is one of it with what was noted
 step_with : {F : Type 0} (before behind : Notes) (old new : BookState) → BookStep F old new
@@ -87,6 +90,43 @@ commits_followed before behind old new r Follows after goes h = record {
   cause = h.cause;
 }
 
+-- The same, where what it makes rests on what was noted before.
+module _ (before behind : Notes) (old new : BookState) (r : Result (Unit {0}) BookFault) (P Follows : Content → Type 0) (after : Content → Content) (noted : (c : Content) → AreOf before c → P c) where
+  made_with : (r : Result (Unit {0}) BookFault) (Q : Type 0) → OnOk r (old.is_open × new.is_open) → (old.is_open → OnOk r Q) → OnOk r Q
+  made_with (Ok x) Q up made = made up.0
+  made_with (Err e) Q up made = tt
+
+  pub commits_resting : (new.is_clean → old.is_sound → new.is_open → (old.is_open → AreOf before old.content) → AreOf behind new.content)
+      → Commits old new r (λ c. P c × Follows c) after → Commits (followed before old) (followed behind new) r Follows after
+  commits_resting goes h = record {
+    step = step_with before behind old new h.step (λ k s of up. goes k s up of);
+    opened = λ k w. h.opened k w.0;
+    made = λ k w follows. made_with r (new.content ≡ after old.content) (h.opened k w.0) (λ up. h.made k w.0 (noted old.content (w.1 up), follows));
+    undone = λ k w. h.undone k w.0;
+    stops = λ k w c stop. elim (h.stops k w.0 c stop) [ inl was ↦ inl was | inr is ↦ inr (is.0, λ follows. is.1 (noted old.content (w.1 is.0), follows)) ];
+    cause = h.cause;
+  }
+
+-- a commit that makes `after` of a content where this holds of it, over a connection of whose content it holds
+module _ (old new : State) (P : Content → Type 0) (after : Content → Content) (holds : IsTrue old.is_open → P (content_of old.committed.trees)) where
+  held_so : (c : Content) → HoldsContent old c → P c
+  held_so c held = subst P (held_is old c held) (holds held.is_open)
+
+  made_so : (r : Result (Unit {0}) Error) (h : HasReplaced old new r P after) → HasCleanDisk new → OnOk r ((c : Content) → HoldsContent old c → HoldsContent new (h.written c))
+      → OnOk r ((c : Content) → HoldsContent old c → HoldsContent new (after c))
+  made_so (Ok x) h k made = λ (c : Content) (held : HoldsContent old c). subst (HoldsContent new) (h.same k c held (held_so c held)) (made c held)
+  made_so (Err e) h k made = tt
+
+  pub replaces_so : (r : Result (Unit {0}) Error) → HasReplaced old new r P after → HasCommitted old new r after
+  replaces_so r h = record {
+    clean = h.commits.clean;
+    up = h.commits.up;
+    was_open = h.commits.was_open;
+    made = λ k. made_so r h k (h.commits.made k);
+    undone = h.commits.undone;
+    stops = λ k shows db left. elim (h.commits.stops k shows db left) [ inl was ↦ inl was | inr is ↦ inr (is.0, λ c held. subst (Encodes db) (h.same k c held (held_so c held)) (is.1 c held)) ];
+  }
+
 -- the index behind a commit of changes is of the events that it leaves
 index_goes : (before behind : Option Index) (old new : State) (r : Result (Unit {0}) Error) (changes : List Change) (events : List Event) (kept : Kept) → IsNotedBehind before r events behind
     → HasCommitted old new r (written_by changes events kept) → HasCleanDisk new → IsSoundState old → IsTrue new.is_open → (IsTrue old.is_open → IndexIsNoted before (content_of old.committed.trees).events)
@@ -104,11 +144,27 @@ index_goes before (Some next) old new (Ok a) changes events kept on h k sound up
     subst (λ (l : List Event). IndexIsNoted (Some next) l) (sym (ap (λ (c : Content). c.events) made ∙ written_events changes events kept held.0 i.last goes.rise of_held.last))
     (goes.of_both held.0.events of_held)
 
+-- what it has counted is held
+counters_go : (held : Option Meta) (old new : State) (r : Result (Unit {0}) Error) (after : Content → Content) → OnErr r (held ≡ None)
+    → (HasCleanDisk new → (c : Content) → HoldsContent old c → OnOk r (AreCounters held (after c)))
+    → HasCommitted old new r after → HasCleanDisk new → IsSoundState old → IsTrue new.is_open → AreCounters held (content_of new.committed.trees)
+counters_go held old new (Ok x) after none counts h k sound up =
+    let there = sound.stands (h.was_open k up) in
+    subst (AreCounters held) (sym (held_is new (after there.0) (h.made k there.0 there.1))) (counts k there.0 there.1)
+counters_go held old new (Err e) after none counts h k sound up = subst (λ (o : Option Meta). AreCounters o (content_of new.committed.trees)) (sym none) tt
+
 -- and nothing is read ahead any more
 pub changes_goes : (before behind : Notes) (old new : State) (r : Result (Unit {0}) Error) (changes : List Change) (events : List Event) (kept : Kept) → IsNotedBehind before.index r events behind.index → behind.ahead.records.items ≡ []
-    → HasCommitted old new r (written_by changes events kept) → HasCleanDisk new → IsSoundState old → IsTrue new.is_open → (IsTrue old.is_open → AreOf before (content_of old.committed.trees))
+    → OnErr r (behind.counters ≡ None)
+    → (HasCleanDisk new → (c : Content) → HoldsContent old c → AreCounters before.counters c → OnOk r (AreCounters behind.counters (written_by changes events kept c)))
+    → HasReplaced old new r (AreCounters before.counters) (written_by changes events kept) → HasCleanDisk new → IsSoundState old → IsTrue new.is_open → (IsTrue old.is_open → AreOf before (content_of old.committed.trees))
     → AreOf behind (content_of new.committed.trees)
-changes_goes before behind old new r changes events kept on none h k sound up noted = record {
-  index = index_goes before.index behind.index old new r changes events kept on h k sound up (λ live. (noted live).index);
-  ahead = none_ahead behind.ahead (content_of new.committed.trees).kept none;
-}
+changes_goes before behind old new r changes events kept on none dropped counts h k sound up noted =
+    let held : IsTrue old.is_open → AreCounters before.counters (content_of old.committed.trees) = λ live. (noted live).counters in
+    let so = replaces_so old new (AreCounters before.counters) (written_by changes events kept) held r h in
+    record {
+      index = index_goes before.index behind.index old new r changes events kept on so k sound up (λ live. (noted live).index);
+      ahead = none_ahead behind.ahead (content_of new.committed.trees).kept none;
+      counters = counters_go behind.counters old new r (written_by changes events kept) dropped
+          (λ k c there. counts k c there (subst (AreCounters before.counters) (held_is old c there) (held there.is_open))) so k sound up;
+    }

@@ -1,5 +1,5 @@
 -- Calls over a connection that was tried first.
-use Rattle.std.proofs.Common.{◌≡◌, inl, inr, ℕ, List, length, Result, Ok, Err, IsTrue, IfOk, OnOk, OnErr, ap, subst, ◌∙◌}
+use Rattle.std.proofs.Common.{◌≡◌, inl, inr, ℕ, List, length, Option, Some, None, Result, Ok, Err, IsTrue, IfOk, OnOk, OnErr, refl, sym, ap, subst, ◌∙◌}
 use Rattle.sqlite.specs.declared.error.Error.{Error}
 use Rattle.sqlite.specs.State.{State, HasCleanDisk}
 use Rattle.acd_terms.specs.declared.event.Event.{Event}
@@ -10,10 +10,11 @@ use Rattle.acd_sql_columns.specs.declared.meta.Meta.{Meta}
 use Rattle.acd_sqlbook.specs.Commit.{counted, counters_of, made_by, written_by}
 use Rattle.acd_sql_columns.specs.Relations.{meta_of}
 use Rattle.acd_sql_columns.specs.Content.{Encodes}
-use Rattle.acd_sqlbook.specs.Calls.{HasRead, HasCommitted}
+use Rattle.acd_sqlbook.specs.Calls.{HasRead, HasCommitted, HasReplaced}
+use Rattle.acd_sqlbook.specs.Counters.{AreCounters}
 use Rattle.acd_sql_columns.specs.Draft.{HoldsContent, Quiet, NoStop, AddsStop}
 use Rattle.acd_sql_columns.specs.Finding.{Finds}
-use Rattle.acd_sql_statements.proofs.Chained.{quiet_on}
+use Rattle.acd_sql_statements.proofs.Chained.{quiet_on, quiet_still}
 
 ok_map : {A : Type 0} (P Q : A → Type 0) (r : Result A Error) → ((a : A) → P a → Q a) → IfOk r P → IfOk r Q
 ok_map P Q (Ok a) f h = f a h
@@ -47,12 +48,30 @@ reads_on old new a (Err e) P Q h on = record { quiet = h.quiet; up = λ k. tt; s
 pub reads_fail : {A B : Type 0} (old new : State) (e : Error) (P : Content → A → Type 0) (Q : Content → B → Type 0) → HasRead old new (Err e) P → HasRead old new (Err e) Q
 reads_fail old new e P Q h = record { quiet = h.quiet; up = λ k. tt; stops = h.stops; value = λ k. tt }
 
-pub reads_counters : (old new : State) (meta : Meta) (r : Result (ℕ × Meta) Error) (changes : List Change) (events : ℕ) (kept : Kept) → HasRead old new (Ok meta) (λ c found. found ≡ meta_of c.rows)
-    → IfOk r (λ next. next ≡ (meta.last_call, counted meta changes events kept)) → HasRead old new r (λ c next. next ≡ counters_of changes events kept c)
-reads_counters old new meta r changes events kept h is =
-    reads_on old new meta r (λ c found. found ≡ meta_of c.rows) (λ c next. next ≡ counters_of changes events kept c) h
-    (ok_map (λ (next : ℕ × Meta). next ≡ (meta.last_call, counted meta changes events kept)) (λ (next : ℕ × Meta). (c : Content) → meta ≡ meta_of c.rows → next ≡ counters_of changes events kept c) r
-    (λ next e c same. e ∙ ap (λ (m : Meta). (m.last_call, counted m changes events kept)) same) is)
+-- what it finds says the more
+pub reads_as : {A : Type 0} (old new : State) (r : Result A Error) (P Q : Content → A → Type 0) → ((c : Content) (a : A) → P c a → Q c a) → HasRead old new r P → HasRead old new r Q
+reads_as old new r P Q so h = record {
+  quiet = h.quiet;
+  up = h.up;
+  stops = h.stops;
+  value = λ k. ok_map (λ a. (c : Content) → HoldsContent old c → P c a) (λ a. (c : Content) → HoldsContent old c → Q c a) r (λ a p c held. so c a (p c held)) (h.value k);
+}
+
+-- the counters that are held are taken for those of the database
+pub reads_held : (old new : State) (meta : Meta) → Quiet old new → (HasCleanDisk new → IsTrue new.is_open) → (HasCleanDisk new → NoStop old new)
+    → HasRead old new (Ok meta) (λ c found. AreCounters (Some meta) c → found ≡ meta_of c.rows)
+reads_held old new meta quiet live still = record { quiet = quiet; up = live; stops = λ k stands. still k; value = λ k c held of. of }
+
+-- what a commit of changes counts from the counters that are held, or that are read
+abbrev pub Counts : Option Meta → List Change → ℕ → Kept → Content → (ℕ × Meta) → Type 0
+Counts held changes events kept c found = AreCounters held c → found ≡ counters_of changes events kept c
+
+pub reads_counters : (old new : State) (held : Option Meta) (meta : Meta) (r : Result (ℕ × Meta) Error) (changes : List Change) (events : ℕ) (kept : Kept) → HasRead old new (Ok meta) (λ c found. AreCounters held c → found ≡ meta_of c.rows)
+    → IfOk r (λ next. next ≡ (meta.last_call, counted meta changes events kept)) → HasRead old new r (Counts held changes events kept)
+reads_counters old new held meta r changes events kept h is =
+    reads_on old new meta r (λ c found. AreCounters held c → found ≡ meta_of c.rows) (Counts held changes events kept) h
+    (ok_map (λ (next : ℕ × Meta). next ≡ (meta.last_call, counted meta changes events kept)) (λ (next : ℕ × Meta). (c : Content) → (AreCounters held c → meta ≡ meta_of c.rows) → Counts held changes events kept c next) r
+    (λ next e c same of. e ∙ ap (λ (m : Meta). (m.last_call, counted m changes events kept)) (same of)) is)
 
 -- ---- commits
 
@@ -112,15 +131,35 @@ module _ (old mid new : State) (r : Result (Unit {0}) Error) (made after : Conte
         ];
   }
 
-pub commits_counted : (old mid new : State) (r : Result (Unit {0}) Error) (last : ℕ) (next : Meta) (changes : List Change) (events : List Event) (kept : Kept)
-    → HasRead {A = ℕ × Meta} old mid (Ok (last, next)) (λ c found. found ≡ counters_of changes (length events) kept c)
+-- nothing was written
+pub replaces_none : {A : Type 0} (old new : State) (e : Error) (P : Content → A → Type 0) (Follows : Content → Type 0) (after : Content → Content) → HasRead old new (Err e) P → HasReplaced old new (Err e) Follows after
+replaces_none old new e P Follows after h = record { written = after; commits = commits_not old new e P after h; same = λ k c held follows. refl }
+
+-- nor was the connection asked
+pub replaces_unasked : (s : State) (e : Error) (r : Result (Unit {0}) Error) (Follows : Content → Type 0) (after : Content → Content) → r ≡ Err e → HasReplaced s s r Follows after
+replaces_unasked s e r Follows after is =
+    subst (λ r. HasReplaced s s r Follows after) (sym is)
+    (replaces_none s s e (λ c (found : Meta). found ≡ meta_of c.rows) Follows after (reads_not s s e (λ c (found : Meta). found ≡ meta_of c.rows) (quiet_still s) (λ k db left. left)))
+
+pub commits_counted : (old mid new : State) (r : Result (Unit {0}) Error) (held : Option Meta) (last : ℕ) (next : Meta) (changes : List Change) (events : List Event) (kept : Kept)
+    → HasRead {A = ℕ × Meta} old mid (Ok (last, next)) (Counts held changes (length events) kept)
     → (HasCleanDisk new → HasCleanDisk mid) → (HasCleanDisk new → OnOk r (IsTrue mid.is_open × IsTrue new.is_open)) → (HasCleanDisk new → IsTrue new.is_open → IsTrue mid.is_open)
     → (HasCleanDisk new → OnOk r ((c : Content) → HoldsContent mid c → HoldsContent new (made_by changes events kept next c)))
     → (HasCleanDisk new → OnErr r ((c : Content) → HoldsContent mid c → IsTrue new.is_open → HoldsContent new c))
-    → (HasCleanDisk new → AddsStop mid new (made_by changes events kept next)) → HasCommitted old new r (written_by changes events kept)
-commits_counted old mid new r last next changes events kept read =
-    commits_behind old mid new r (made_by changes events kept next) (written_by changes events kept) (last, next) (λ c found. found ≡ counters_of changes (length events) kept c) read
-    (λ c is. ap (λ (p : ℕ × Meta). made_by changes events kept p.1 c) is)
+    → (HasCleanDisk new → AddsStop mid new (made_by changes events kept next)) → HasReplaced old new r (AreCounters held) (written_by changes events kept)
+commits_counted old mid new r held last next changes events kept read clean up was done undone stops =
+    let written : Content → Content = made_by changes events kept next in
+    record {
+      written = written;
+      commits = commits_behind old mid new r written written (last, next) (Counts held changes (length events) kept) read (λ c counts. refl) clean up was done undone stops;
+      same = λ k c holds of. ap (λ (p : ℕ × Meta). made_by changes events kept p.1 c) (read.value (clean k) c holds of);
+    }
+
+-- what it wrote is held behind it
+pub holds_counted : (r : Result (Unit {0}) Error) (held now : Option Meta) (next : Meta) (changes : List Change) (events : List Event) (kept : Kept) (c : Content) → OnOk r (now ≡ Some next)
+    → next ≡ counted (meta_of c.rows) changes (length events) kept → OnOk r (AreCounters now (written_by changes events kept c))
+holds_counted (Ok x) held now next changes events kept c is counts = subst (λ (o : Option Meta). AreCounters o (written_by changes events kept c)) (sym is) counts
+holds_counted (Err e) held now next changes events kept c is counts = tt
 
 -- two reads, one behind the other, where the first one's answer is of use to what the second asks
 pub reads_two : {A B : Type 0} (old mid new : State) (a : A) (r : Result B Error) (P : Content → A → Type 0) (Q W : Content → B → Type 0) → HasRead old mid (Ok a) P

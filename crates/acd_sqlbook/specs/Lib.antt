@@ -9,4 +9,5 @@ pub mod Stopping
 pub mod Causes
 pub mod Indexing
 pub mod Ahead
+pub mod Counters
 pub mod Noting

@@ -3,6 +3,7 @@ use Rattle.std.specs.Prelude.{◌≡◌, [], None}
 use Rattle.acd_book.specs.Content.{Content}
 use Rattle.acd_book.specs.State.{BookState}
 use Rattle.acd_sqlbook.specs.Ahead.{IsAhead}
+use Rattle.acd_sqlbook.specs.Counters.{AreCounters}
 use Rattle.acd_sqlbook.specs.Indexing.{IndexIsNoted}
 use Rattle.acd_sqlbook.specs.declared.notes.Notes.{Notes}
 
@@ -10,11 +11,13 @@ use Rattle.acd_sqlbook.specs.declared.notes.Notes.{Notes}
 pub record IsBlank (n : Notes) : Type 0 where
   pub index : n.index ≡ None
   pub ahead : n.ahead.records.items ≡ []
+  pub counters : n.counters ≡ None
 
 -- what is noted is of this content
 pub record AreOf (n : Notes) (c : Content) : Type 0 where
   pub index : IndexIsNoted n.index c.events
   pub ahead : IsAhead n.ahead c.kept
+  pub counters : AreCounters n.counters c
 
 -- its tables are as they were made, and what is noted is of the content that it holds
 abbrev pub SoundWith : Notes → BookState → Type 0

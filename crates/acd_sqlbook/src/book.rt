@@ -275,11 +275,17 @@ impl<S: Alter> Book for SqlBook<S> {
         ensures commits { Commits (book_of S.Store self.old) (book_of S.Store self.new) result
             (FollowsBy changes.now events.now kept.now)
             (committed_by changes.now events.now kept.now) }
-        ensures caused { IsCaused (changing changes.now events.now kept.now)
+        // It counts from what is noted: so the book is sound with its notes, as `commits` asks too. A new or an adopted
+        // one is, and each call leaves it so.
+        ensures caused { (book_of S.Store self.old).is_sound
+            → IsCaused (changing changes.now events.now kept.now)
             (state S.Store self.old.conn) (state S.Store self.new.conn)
             self.old.failures self.new.failures result }
     {
-        let done = self.ready.commit_changes(self.alloc, changes, events, kept);
+        let counters = &mut self.notes.counters;
+        let done = self
+            .ready
+            .commit_changes(self.alloc, counters, changes, events, kept);
         let before = mem::take(&mut self.notes.index);
         self.notes.index = noted_behind(before, &done, changes, events);
         self.notes.ahead.forget();

@@ -4,13 +4,16 @@ ghost use Rattle.acd_sqlbook.specs.Noting.{IsBlank};
 
 use crate::ahead::Ahead;
 use crate::index::Index;
+use acd_sql_columns::Meta;
 use std::alloc::Global;
 
-/// Which events are at the devices of the running monitors, where that is known, and kept records that were read ahead.
+/// Which events are at the devices of the running monitors, where that is known, kept records that were read ahead, and
+/// the limits and the counters of the last commit, where it succeeded.
 #[derive(Drop)]
 pub(crate) struct Notes {
     pub(crate) index: Option<Index>,
     pub(crate) ahead: Ahead,
+    pub(crate) counters: Option<Meta>,
 }
 
 impl Notes {
@@ -21,6 +24,7 @@ impl Notes {
         Notes {
             index: None,
             ahead: Ahead::none(alloc),
+            counters: None,
         }
     }
 
@@ -30,5 +34,6 @@ impl Notes {
     {
         self.index = None;
         self.ahead.forget();
+        self.counters = None;
     }
 }

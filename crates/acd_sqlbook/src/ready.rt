@@ -1,15 +1,16 @@
 //! A connection that may have failed before. Its store is tried first where it isn't known to serve, since a failure
 //! may have shut it.
 
-ghost use Rattle.std.specs.Prelude.{◌≡◌, ◌↔◌, false, None, IsTrue, IfOk, IfErr, OnOk};
+ghost use Rattle.std.specs.Prelude.{◌≡◌, ◌↔◌, false, None, Some, IsTrue, IfOk, IfErr, OnOk, OnErr};
 ghost use Rattle.sqlite.specs.State.{HasCleanDisk};
 ghost use Rattle.sqlite.specs.Held.{state};
-ghost use Rattle.acd_book.specs.Content.{events_behind, kept_of};
-ghost use Rattle.acd_sqlbook.specs.Calls.{HasRead, HasCommitted};
+ghost use Rattle.acd_book.specs.Content.{Content, events_behind, kept_of};
+ghost use Rattle.acd_sqlbook.specs.Calls.{HasRead, HasReplaced};
 ghost use Rattle.acd_sqlbook.specs.Commit.{counted, counters_of, written_by};
+ghost use Rattle.acd_sqlbook.specs.Counters.{AreCounters, StopsWith};
 ghost use Rattle.acd_sql_columns.specs.Finding.{kept_behind};
 ghost use Rattle.acd_sql_columns.specs.Relations.{meta_of};
-ghost use Rattle.acd_sql_columns.specs.Draft.{Quiet, NoStop, Fits, LimitsFit, MetaFits};
+ghost use Rattle.acd_sql_columns.specs.Draft.{HoldsContent, Quiet, NoStop, Fits, LimitsFit, MetaFits};
 ghost use Rattle.acd_sql_statements.specs.Reading.{Blames};
 ghost use Rattle.acd_sqlbook.specs.Stopping.{BlamesOr, IsBlamedOr, IsUncounted, StopsCommit};
 
@@ -72,6 +73,17 @@ fn next_meta(meta: &Meta, changes: &[Change], events: u64, kept: &Kept) -> Resul
     }
 }
 
+// What is held behind a commit that wrote these counters.
+fn held_behind(done: &Result<(), Error>, meta: Meta) -> Option<Meta>
+    ensures ok { OnOk done.now (result ≡ Some meta) }
+    ensures err { OnErr done.now (result ≡ None) }
+{
+    match done {
+        Ok(()) => Some(meta),
+        Err(_) => None,
+    }
+}
+
 impl<S: Alter> Ready<S> {
     /// Tries the store where it isn't known to serve, as it isn't from here on until a call has succeeded.
     pub(crate) fn serve(&mut self) -> Result<(), Error>
@@ -90,14 +102,17 @@ impl<S: Alter> Ready<S> {
         probe(&mut self.conn)
     }
 
-    // The limits and the counters.
-    fn meta(&mut self) -> Result<Meta, Error>
+    // The limits and the counters: those that are held or, where none are, those of the database.
+    fn meta(&mut self, held: Option<Meta>) -> Result<Meta, Error>
         ensures read { HasRead (state S.Store self.old.conn) (state S.Store self.new.conn) result
-            (λ c meta. meta ≡ meta_of c.rows) }
+            (λ c meta. AreCounters held c → meta ≡ meta_of c.rows) }
         ensures blamed { Blames (state S.Store self.old.conn) (state S.Store self.new.conn) result }
     {
         self.serve()?;
-        read_meta(&mut self.conn)
+        match held {
+            Some(meta) => Ok(meta),
+            None => read_meta(&mut self.conn),
+        }
     }
 
     /// The limits.
@@ -106,7 +121,7 @@ impl<S: Alter> Ready<S> {
             (λ c limits. limits ≡ c.rows.limits) }
         ensures blamed { Blames (state S.Store self.old.conn) (state S.Store self.new.conn) result }
     {
-        match self.meta() {
+        match self.meta(None) {
             Ok(meta) => Ok(meta.limits),
             Err(error) => Err(error),
         }
@@ -170,44 +185,58 @@ impl<S: Alter> Ready<S> {
     // The last call's number, and the counters that a commit writes.
     fn counters(
         &mut self,
+        held: Option<Meta>,
         changes: &[Change],
         events: u64,
         kept: &Kept,
     ) -> Result<(u64, Meta), Error>
         ensures read { HasRead (state S.Store self.old.conn) (state S.Store self.new.conn) result
-            (λ c found. found ≡ counters_of changes.now events kept.now c) }
+            (λ c found. AreCounters held c
+            → found ≡ counters_of changes.now events kept.now c) }
         ensures fits { IfOk result (λ found. MetaFits found.1) }
         ensures stamp { OnOk result (Fits kept.now.stamp) }
-        ensures blamed { BlamesOr (IsUncounted changes.now events kept.now)
+        ensures blamed { BlamesOr (StopsWith held (IsUncounted changes.now events kept.now))
             (state S.Store self.old.conn) (state S.Store self.new.conn) result }
     {
-        let meta = self.meta()?;
+        let meta = self.meta(held)?;
         match next_meta(&meta, changes, events, kept) {
             Ok(next) => Ok((meta.last_call, next)),
             Err(error) => Err(error),
         }
     }
 
-    /// Commits the changes, the events and the kept record, all or none.
+    /// Commits the changes, the events and the kept record, all or none. What it counts from is held, or is read where
+    /// nothing is; behind it what it has counted is held or, where it failed, nothing.
     pub(crate) fn commit_changes(
         &mut self,
         alloc: Global,
+        counters: &mut Option<Meta>,
         changes: &[Change],
         events: &[Event],
         kept: &Kept,
     ) -> Result<(), Error>
-        ensures commits { HasCommitted (state S.Store self.old.conn) (state S.Store self.new.conn)
-            result (written_by changes.now events.now kept.now) }
-        ensures blamed { IsBlamedOr (StopsCommit changes.now events.now kept.now)
+        ensures commits { HasReplaced (state S.Store self.old.conn) (state S.Store self.new.conn)
+            result (AreCounters counters.old) (written_by changes.now events.now kept.now) }
+        ensures counted { HasCleanDisk (state S.Store self.new.conn) → (c : Content)
+            → HoldsContent (state S.Store self.old.conn) c → AreCounters counters.old c
+            → OnOk result
+            (AreCounters counters.new (written_by changes.now events.now kept.now c)) }
+        ensures forgotten { OnErr result (counters.new ≡ None) }
+        ensures blamed { IsBlamedOr
+            (StopsWith counters.old (StopsCommit changes.now events.now kept.now))
             (state S.Store self.old.conn) (state S.Store self.new.conn) result }
     {
+        let held = counters.take();
         let request = request_text(alloc, &kept.request)?;
-        match self.counters(changes, events.len() as u64, kept) {
+        match self.counters(held, changes, events.len() as u64, kept) {
             Ok((last, meta)) => {
                 self.fresh = false;
                 let conn = &mut self.conn;
                 let last = Some(last);
-                commit_all(conn, last, changes, events, kept, request.as_str(), &meta)
+                let done =
+                    commit_all(conn, last, changes, events, kept, request.as_str(), &meta);
+                *counters = held_behind(&done, meta);
+                done
             }
             Err(error) => Err(error),
         }

@@ -13,7 +13,7 @@ returns-clause-reads g c =
     rw (← c.self.view_is)
     (reads_followed c.self.inside.notes (record c.self.inside.notes { index = c.page_followed-found.new.noted }) _ _ _ _ _
     (read_goes c.self.inside.notes (record c.self.inside.notes { index = c.page_followed-found.new.noted }) (state g.S.Store c.self.inside.ready.conn) (state g.S.Store c.page_followed-found.new.ready.conn)
-    (λ k x held of. record { index = c.page_followed-found.ensures.noted k x held of.index; ahead = of.ahead })) (λ x a of p. p of.index)
+    (λ k x held of. record { index = c.page_followed-found.ensures.noted k x held of.index; ahead = of.ahead; counters = of.counters })) (λ x a of p. p of.index)
     (reads_noted (state g.S.Store c.self.inside.ready.conn) (state g.S.Store c.page_followed-found.new.ready.conn) c.self.inside.failures c.noted.new.failures c.page_followed-found.result c.noted.result
     (λ x found. IndexIsNoted c.self.inside.notes.index x.events → found.items ≡ events_of_monitor x c.args.monitor c.args.number c.args.limit) (g.met.S.Store.settled c.self.inside.ready.conn.store) (g.met.S.Store.stays c.page_followed-found.new.ready.conn.store)
     c.noted.ensures.answer c.noted.ensures.failures c.noted.ensures.counts c.page_followed-found.ensures.read))

@@ -12,7 +12,7 @@ returns-clause-reads g c =
     rw (← c.self.view_is)
     (reads_followed c.self.inside.notes (record c.self.inside.notes { ahead = c.kept_followed-found.new.ahead }) _ _ _ _ _
     (read_goes c.self.inside.notes (record c.self.inside.notes { ahead = c.kept_followed-found.new.ahead }) (state g.S.Store c.self.inside.ready.conn) (state g.S.Store c.kept_followed-found.new.ready.conn)
-    (λ k x held of. record { index = of.index; ahead = c.kept_followed-found.ensures.noted k x held of.ahead })) (λ x a of p. p of.ahead)
+    (λ k x held of. record { index = of.index; ahead = c.kept_followed-found.ensures.noted k x held of.ahead; counters = of.counters })) (λ x a of p. p of.ahead)
     (reads_noted (state g.S.Store c.self.inside.ready.conn) (state g.S.Store c.kept_followed-found.new.ready.conn) c.self.inside.failures c.noted.new.failures c.kept_followed-found.result c.noted.result
     (λ x found. IsAhead c.self.inside.notes.ahead x.kept → IsKeptAfter x.kept c.args.stamp found) (g.met.S.Store.settled c.self.inside.ready.conn.store) (g.met.S.Store.stays c.kept_followed-found.new.ready.conn.store)
     c.noted.ensures.answer c.noted.ensures.failures c.noted.ensures.counts c.kept_followed-found.ensures.read))

@@ -1,35 +1,58 @@
-use Rattle.std.proofs.Common.{◌≡◌, ℕ, length}
+use Rattle.std.proofs.Common.{◌≡◌, ℕ, Option, Err, length, ap, refl, rules, subst, sym}
 use Rattle.sqlite.specs.Held.{state}
-use Rattle.acd_sqlbook.specs.Commit.{counters_of, written_by}
-use Rattle.acd_sql_columns.specs.declared.meta.Meta.{Meta}
-use Rattle.acd_sqlbook.proofs.Standing.{commits_not, commits_counted}
-use Rattle.std.proofs.Common.{refl, rules}
 use Rattle.sqlite.specs.declared.error.Error.TheVariants.{SqliteFailure}
 use Rattle.sqlite.specs.declared.error.ErrorCode.TheVariants.{OutOfMemory}
-use Rattle.acd_sqlbook.specs.Stopping.{StopsCommit}
+use Rattle.acd_sql_columns.specs.declared.meta.Meta.{Meta}
+use Rattle.acd_sqlbook.specs.Calls.{HasReplaced}
+use Rattle.acd_sqlbook.specs.Commit.{written_by}
+use Rattle.acd_sqlbook.specs.Counters.{AreCounters, StopsWith}
+use Rattle.acd_sqlbook.specs.Stopping.{IsBlamedOr, StopsCommit}
 use Rattle.acd_sqlbook.proofs.Counting.{no_request, commit_uncounted, commit_undone}
+use Rattle.acd_sqlbook.proofs.Standing.{Counts, replaces_none, replaces_unasked, commits_counted, holds_counted}
 use Rattle.acd_sqlbook.proofs.ready.Ready.commit_changes.Goals as goal
+
+pub returns-in_err-request-clause-commits : goal.returns-in_err-request-clause-commits
+returns-in_err-request-clause-commits g c =
+    replaces_unasked (state g.S.Store c.args.self.now.conn) (SqliteFailure OutOfMemory) c.from_residual.result (AreCounters c.args.counters.now) (written_by c.args.changes.now c.args.events.now c.args.kept.now) (search rules)
 
 pub returns-clause-commits : goal.returns-clause-commits
 returns-clause-commits g c =
-    commits_not (state g.S.Store c.args.self.now.conn) (state g.S.Store c.counters.new.self.conn) c.in-Err.error (λ c' (found : ℕ × Meta). found ≡ counters_of c.args.changes.now (length c.args.events.now) c.args.kept.now c')
-    (written_by c.args.changes.now c.args.events.now c.args.kept.now) c.in-Err.ensures.read
+    replaces_none (state g.S.Store c.args.self.now.conn) (state g.S.Store c.counters.new.self.conn) c.in-Err.error (Counts c.take-held.result c.args.changes.now (length c.args.events.now) c.args.kept.now)
+    (AreCounters c.args.counters.now) (written_by c.args.changes.now c.args.events.now c.args.kept.now) c.in-Err.ensures.read
 
 pub returns-in-Ok-clause-commits : goal.returns-in-Ok-clause-commits
 returns-in-Ok-clause-commits g c =
-    let e = c.commit_all.ensures in
-    commits_counted (state g.S.Store c.args.self.now.conn) (state g.S.Store c.counters.new.self.conn) (state g.S.Store c.commit_all.new.conn) c.commit_all.result c.in-Ok.last c.in-Ok.meta
-    c.args.changes.now c.args.events.now c.args.kept.now c.in-Ok.ensures.read e.clean e.up e.was e.done e.undone e.stops
+    let e = c.commit_all-done.ensures in
+    let old = state g.S.Store c.args.self.now.conn in
+    let new = state g.S.Store c.commit_all-done.new.conn in
+    let taken : c.take-held.result ≡ c.args.counters.now = search rules in
+    subst (λ (o : Option Meta). HasReplaced old new c.commit_all-done.result (AreCounters o) (written_by c.args.changes.now c.args.events.now c.args.kept.now)) taken
+    (commits_counted old (state g.S.Store c.counters.new.self.conn) new c.commit_all-done.result c.take-held.result c.in-Ok.last c.in-Ok.meta
+    c.args.changes.now c.args.events.now c.args.kept.now c.in-Ok.ensures.read e.clean e.up e.was e.done e.undone e.stops)
+
+pub returns-in-Ok-clause-counted : goal.returns-in-Ok-clause-counted
+returns-in-Ok-clause-counted g c clean x holds of =
+    let taken : c.take-held.result ≡ c.args.counters.now = search rules in
+    holds_counted c.commit_all-done.result c.args.counters.now c.held_behind.result c.in-Ok.meta c.args.changes.now c.args.events.now c.args.kept.now x c.held_behind.ensures.ok
+    (ap (λ (p : ℕ × Meta). p.1) (c.in-Ok.ensures.read.value (c.commit_all-done.ensures.clean clean) x holds (subst (λ (o : Option Meta). AreCounters o x) (sym taken) of)))
 
 pub returns-in_err-request-clause-blamed : goal.returns-in_err-request-clause-blamed
 returns-in_err-request-clause-blamed g c =
-    no_request (StopsCommit c.args.changes.now c.args.events.now c.args.kept.now) (state g.S.Store c.args.self.now.conn) (SqliteFailure OutOfMemory) c.from_residual.result (search rules) refl
+    no_request (StopsWith c.args.counters.now (StopsCommit c.args.changes.now c.args.events.now c.args.kept.now)) (state g.S.Store c.args.self.now.conn) (SqliteFailure OutOfMemory) c.from_residual.result (search rules) refl
 
 pub returns-clause-blamed : goal.returns-clause-blamed
 returns-clause-blamed g c =
-    commit_uncounted c.args.changes.now c.args.events.now c.args.kept.now (state g.S.Store c.args.self.now.conn) (state g.S.Store c.counters.new.self.conn) c.in-Err.error c.in-Err.ensures.blamed
+    let old = state g.S.Store c.args.self.now.conn in
+    let new = state g.S.Store c.counters.new.self.conn in
+    let taken : c.take-held.result ≡ c.args.counters.now = search rules in
+    subst (λ (o : Option Meta). IsBlamedOr (StopsWith o (StopsCommit c.args.changes.now c.args.events.now c.args.kept.now)) old new (Err c.in-Err.error)) taken
+    (commit_uncounted c.take-held.result c.args.changes.now c.args.events.now c.args.kept.now old new c.in-Err.error c.in-Err.ensures.blamed)
 
 pub returns-in-Ok-clause-blamed : goal.returns-in-Ok-clause-blamed
 returns-in-Ok-clause-blamed g c =
-    commit_undone c.args.changes.now c.args.events.now c.args.kept.now (state g.S.Store c.args.self.now.conn) (state g.S.Store c.counters.new.self.conn) (state g.S.Store c.commit_all.new.conn) c.commit_all.result c.in-Ok.last c.in-Ok.meta
-    c.in-Ok.ensures.read c.in-Ok.ensures.blamed c.commit_all.ensures.clean c.commit_all.ensures.failed
+    let old = state g.S.Store c.args.self.now.conn in
+    let new = state g.S.Store c.commit_all-done.new.conn in
+    let taken : c.take-held.result ≡ c.args.counters.now = search rules in
+    subst (λ (o : Option Meta). IsBlamedOr (StopsWith o (StopsCommit c.args.changes.now c.args.events.now c.args.kept.now)) old new c.commit_all-done.result) taken
+    (commit_undone c.take-held.result c.args.changes.now c.args.events.now c.args.kept.now old (state g.S.Store c.counters.new.self.conn) new c.commit_all-done.result c.in-Ok.last c.in-Ok.meta
+    c.in-Ok.ensures.read c.in-Ok.ensures.blamed c.commit_all-done.ensures.clean c.commit_all-done.ensures.failed)
