@@ -36,6 +36,7 @@ HELD = [
     ("a log isn't looked for", "if len(has) > 1 and all(one.which != log_now for one in has):", "if False:", "try_moved_log"),
     ("a file isn't looked for", "if has and all(one.which != file_now for one in has):", "if False:", "try_moved"),
     ("what was removed was moved", 'if name.endswith(" (deleted)"):', "if False:", "try_removed"),
+    ("a link's link is passed over", "for _ in range(LINKS):", "for _ in range(1):", "try_by_a_link"),
     ("a link that leads nowhere is a fault", "except (FileNotFoundError, NotADirectoryError):", "except FileNotFoundError:", "try_broken_off"),
 ]
 RESTORE = [
@@ -60,6 +61,7 @@ RESTORE = [
     ("a journal stays", 'PARTS = ("", "-wal", "-journal", "-shm")', 'PARTS = ("", "-wal")', "try_journal"),
     ("no sync between", "    os.rename(source, target)\n    sync(*{source.parent, target.parent})", "    os.rename(source, target)", "try_steps"),
     ("half a folder stays where it fails", "        shutil.rmtree(half.folder, ignore_errors=True)\n        raise", "        raise", "try_unsound"),
+    ("a second name isn't told", "in (inode(one.old.at_home()), inode(one.new.at_home()))), None)", "in (inode(one.new.at_home()),)), None)", "try_two_names"),
     ("a second name stays", "        if coming.is_at_home():\n            remove(coming.at_home())\n", "", "try_two_names"),
     # what a kill alone finds
     ("the file is renamed first", "        os.link(file, leaving.at_home())\n        sync(leaving.home)", "        os.rename(file, leaving.at_home())", "file and log"),
@@ -71,7 +73,7 @@ RESTORE = [
     ("a state is written in place", "new = self.folder / \".state.json\"", "new = self.folder / \"state.json\"", "file and log"),
     ("it has its name before it has its state", "        half.save()\n        named = PutAway(fresh(file, \"put-away\"), file)\n        move(half.folder, named.folder)\n",
      "        named = PutAway(fresh(file, \"put-away\"), file)\n        move(half.folder, named.folder)\n        half.folder = named.folder\n        half.save()\n", "file and log"),
-    ("half made folders stay", "        shutil.rmtree(half)\n    found", "        pass\n    found", "file and log"),
+    ("half made folders stay", "        shutil.rmtree(half)\n    return", "        pass\n    return", "file and log"),
     ("what is in place of nothing is taken for what came", "if not self.new.is_at_home():", "if not is_hidden(self.file) and not self.old.is_at(self.file):", "no file"),
     ("an empty log is made", "        log_of(new).unlink()\n", "        pass\n", "try_no_log"),
 ]

@@ -7,7 +7,7 @@ import stat
 import subprocess
 from pathlib import Path
 
-from ground import OTHER, PYTHON, call, frames, kept, listing, log_of, spoil, sums
+from ground import OTHER, PYTHON, call, frames, free_port, kept, listing, log_of, spoil, sums
 from parts import Part
 
 DONE = r"%s is the copy of %s; what was in its place lies in (\S+), and acd-copy --undo puts it back\n"
@@ -18,7 +18,7 @@ HOLD = "import fcntl, sys, time; file = open(sys.argv[1], 'rb+'); fcntl.lockf(fi
 class Restores(Part):
     def try_all(self):
         for case in (self.try_one, self.try_no_log, self.try_journal, self.try_several, self.try_owner, self.try_mask, self.try_note, self.try_beside_a_desk, self.try_beside_others, self.try_unsound,
-                     self.try_names, self.try_node, self.try_broken_off, self.try_two_names, self.try_exchanged, self.try_room, self.try_two_desks, self.try_steps):
+                     self.try_names, self.try_node, self.try_broken_off, self.try_by_a_link, self.try_two_names, self.try_exchanged, self.try_room, self.try_two_desks, self.try_steps):
             case()
 
     # what there is
@@ -197,8 +197,15 @@ class Restores(Part):
         status = office.run("strace", "-qq", "-o", "/dev/null", "-e", f"inject=rename:signal=KILL:when={number}", *office.words(*words))[0]
         self.expect("it is broken off", status, -9)
 
+    def is_not_started(self, office, says):
+        """A start says what ends it, and touches nothing."""
+        before = listing(office.folder)
+        told = office.run(PYTHON, self.script.parent / "acd-ready", "--serve", "--file", office.file, "--port", str(free_port()))
+        self.expect("a start meanwhile", told, (64, "", f"acd-ready: {says}\n"))
+        self.expect("a start touches nothing", listing(office.folder) == before)
+
     def try_broken_off(self):
-        """What is said meanwhile: by the link, by a copy, and by another restore."""
+        """What is said meanwhile: by the link, by a start, by a copy, and by another restore."""
         office = self.copied()
         other = office.copies / "2026-01-01T000000Z"
         shutil.copytree(office.copies / office.moment, other)
@@ -206,16 +213,33 @@ class Restores(Part):
         self.broken_off(office, 5, "--restore", office.moment)
         says = f"the restore of {office.moment} isn't ended: acd-copy --restore {office.moment} ends it, acd-copy --undo takes it back"
         self.expect("the link says it", os.readlink(office.file), f"/dev/null/{says}")
+        self.is_not_started(office, says)
         self.refused("a copy meanwhile", office, f"^acd-copy: {says}\n")
         self.refused("another restore meanwhile", office, f"^acd-copy: {says}\n", "--restore", other.name)
         self.undone("taken back", office, office.moment)
         self.expect("it is whole", len(kept(office.file)), 8)
 
+    def try_by_a_link(self):
+        """A restore that is asked for by a link to the file, broken off, and ended or taken back by that link."""
+        for words in (("--restore",), ("--undo",)):
+            office = self.copied()
+            place, link = office.file, office.folder / "elsewhere" / "desk.db"
+            link.parent.mkdir()
+            link.symlink_to("../desk.db")
+            office.file = link
+            self.broken_off(office, 5, "--restore", office.moment)
+            status, said, faults = office.copy(*words, *([office.moment] if words == ("--restore",) else []))
+            self.expect(f"{words} by the link: {said}{faults}", (status, said.startswith(f"{place} is ")), (0, True))
+            self.expect("the link is as it was", (os.readlink(link), place.is_symlink(), len(office.folders("elsewhere/*"))), ("../desk.db", False, 1))
+
     def try_two_names(self):
-        """Broken off as the file has two names, and taken back: it has one before the folder goes."""
+        """Broken off as the file has two names: that is said, and taken back it has one before the folder goes."""
         office = self.copied()
         self.broken_off(office, 3, "--restore", office.moment)
         self.expect("it has two names", os.stat(office.file).st_nlink, 2)
+        says = f"the restore of {office.moment} isn't ended: acd-copy --restore {office.moment} ends it, acd-copy --undo takes it back"
+        self.is_not_started(office, says)
+        self.refused("a copy meanwhile", office, f"^acd-copy: {says}\n")
         self.broken_off(office, 2, "--undo")
         self.expect("it has one name", os.stat(office.file).st_nlink, 1)
         self.undone("taken back", office, office.moment)

@@ -13,6 +13,8 @@ from pathlib import Path
 
 PROCESSES = Path("/proc")
 DATABASE = b"SQLite format 3\0"
+# as many as the kernel follows
+LINKS = 40
 
 
 @dataclass(frozen=True)
@@ -28,9 +30,14 @@ class Open:
 
 
 def place(path):
-    """The whole path of a file, where a link to one leads. Of a link that leads nowhere it is the link's own."""
+    """The whole path of a file, where links to it lead. Of a link that leads nowhere it is the link's own."""
     path = Path(os.path.abspath(path))
-    return Path(os.path.realpath(path)) if os.path.exists(path) else Path(os.path.realpath(path.parent)) / path.name
+    for _ in range(LINKS):
+        path = Path(os.path.realpath(path.parent)) / path.name
+        if not os.path.islink(path) or not os.path.lexists(path.parent / os.readlink(path)):
+            break
+        path = path.parent / os.readlink(path)
+    return path
 
 
 def which(path):

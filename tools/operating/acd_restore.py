@@ -231,23 +231,31 @@ class PutAway:
         shutil.rmtree(gone)
 
 
-def put_away(file):
-    """The folders of this file, by their numbers. What is half made or half removed is cleared away: nobody knows of it."""
-    for half in file.parent.glob(f"{HALF}*"):
-        shutil.rmtree(half)
-    found = []
+def read(file):
+    """The folders of this file."""
     for folder in file.parent.glob("put-away-*"):
         one = PutAway(folder, file)
         if one.state().exists():
             said = json.loads(one.state().read_text())
             if said["file"] == file.name:
-                found.append(one.load(said))
-    return sorted(found, key=lambda one: one.number)
+                yield one.load(said)
+
+
+def put_away(file):
+    """The folders of this file, by their numbers. What is half made or half removed is cleared away: nobody knows of it."""
+    for half in file.parent.glob(f"{HALF}*"):
+        shutil.rmtree(half)
+    return sorted(read(file), key=lambda one: one.number)
 
 
 def unfinished(file):
-    """What the link says that has the file's name until a restore is ended; nothing where there is none."""
-    return os.readlink(file)[len(NOWHERE):] if is_hidden(file) else None
+    """How a restore is ended that was broken off while the file was a link that leads nowhere, or had a second name; nothing where there is none."""
+    if is_hidden(file):
+        return os.readlink(file)[len(NOWHERE):]
+    # where it has one name alone, no folder is looked at
+    if inode(file) is None or os.stat(file).st_nlink == 1:
+        return None
+    return next((one.told() for one in read(file) if inode(file) in (inode(one.old.at_home()), inode(one.new.at_home()))), None)
 
 
 # Who may, and beside whom

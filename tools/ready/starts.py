@@ -96,6 +96,7 @@ class Starts:
     def all(self):
         self.try_words()
         self.try_file()
+        self.try_restore()
         self.try_port()
         self.try_serving()
         self.try_make()
@@ -157,6 +158,21 @@ class Starts:
         log.write_bytes(bytes(41))
         file.write_bytes(b"")
         self.starts("a first start that ended early left no bytes, and a log that holds nothing", file, [])
+
+    def try_restore(self):
+        """A restore that was broken off has left a link that leads nowhere in the file's place: its own words are told, also where another link leads there."""
+        file, words = self.new(), "the restore of 2026-11-26T031500Z isn't ended: acd-copy --restore 2026-11-26T031500Z ends it, acd-copy --undo takes it back"
+        away = file.rename(file.with_name("away"))
+        file.symlink_to(f"/dev/null/{words}")
+        link = file.parent / "elsewhere/desk.db"
+        link.parent.mkdir()
+        link.symlink_to("../desk.db")
+        for path in (file, link):
+            self.expect(f"a restore that isn't ended, {path}", self.run("--serve", "--file", path, "--port", str(free_port())), (MEND, "", f"acd-ready: {words}\n"))
+            self.expect(f"nor is a new desk made there, {path}", self.run("--make", "--file", path), (MEND, "", f"acd-ready: {words}\n"))
+        self.expect("the link is as it was", os.readlink(file), f"/dev/null/{words}")
+        away.replace(file)
+        self.starts("with the file back", link, [1])
 
     def try_port(self):
         file = self.new()
