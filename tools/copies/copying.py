@@ -1,8 +1,10 @@
 """Copies: what is kept under which name, what is told, and that nothing that was answered is lost by a file that was moved, a log that was removed or a disk that is full."""
+import contextlib
 import os
 import re
 import shutil
 import signal
+import sqlite3
 import stat
 import subprocess
 import time
@@ -16,7 +18,7 @@ SOUND = r"sound: \S+/copies/\d{4}-\d\d-\d\dT\d{6}Z\n"
 
 class Copying(Part):
     def try_all(self):
-        for case in (self.try_anywhere, self.try_modes, self.try_settings, self.try_torn, self.try_early, self.try_whole, self.try_fewer, self.try_damaged, self.try_busy, self.try_moved,
+        for case in (self.try_anywhere, self.try_modes, self.try_settings, self.try_torn, self.try_early, self.try_no_desk, self.try_whole, self.try_fewer, self.try_damaged, self.try_busy, self.try_moved,
                      self.try_moved_log, self.try_removed, self.try_moved_meanwhile, self.try_started_meanwhile, self.try_full_disk, self.try_one_second):
             case()
 
@@ -103,6 +105,20 @@ class Copying(Part):
         office, _ = self.killed()
         spoil(log_of(office.file), 20)
         self.bad("a damaged head", office, "ends early, .*: its head is damaged, in its log; it lies")
+
+    def try_no_desk(self):
+        """A copy that the audit refuses is kept as it was copied, its log too: an audit would have emptied that."""
+        office, _ = self.killed()
+        with contextlib.closing(sqlite3.connect(office.file)) as book:
+            book.execute("PRAGMA journal_mode = WAL")
+            book.execute("UPDATE agents SET name = 'Anna'")
+            book.commit()
+            shutil.copy(log_of(office.file), office.folder / "log")
+        shutil.copy(office.folder / "log", log_of(office.file))
+        was = sums(log_of(office.file))
+        made = self.bad("an agent whom somebody renamed", office, r"the copy isn't sound: the audit says 'differs at request \d+'; it lies", "--keep", "1")
+        self.expect("its log is as it was copied", (made.name, sums(log_of(made / "desk.db"))), ("unsound", was))
+        self.expect("nothing is cleared away", [(office.copies / name).is_dir() for name in office.before], [True, True])
 
     def try_whole(self):
         """A program that knows --whole decides, and the reader of frames isn't asked; the log is put back that an audit has emptied."""

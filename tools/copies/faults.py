@@ -26,6 +26,7 @@ COPY = [
 ]
 AUDIT = [
     ("the log isn't put back", "os.replace(aside, log)", "os.unlink(aside)", "try_whole"),
+    ("that of an unsound copy isn't put back", "and found.verdict == SOUND:", "and found.verdict != EARLY:", "try_no_desk"),
     ("an older program isn't helped by the frames", "    if status != REFUSED:\n", "    if True:\n", "try_early"),
     ("the frames decide over a program that knows better", '    status, lines = audit(file, "--whole")\n', '    status, lines = REFUSED, []\n', "try_whole"),
     ("a head that can't be read is passed over", "if isinstance(found, acd_log.Unreadable) else None", "if False else None", "try_early"),

@@ -43,17 +43,22 @@ def whole_audit(file):
     return (ENDS_EARLY, [why]) if why else audit(file)
 
 
+def finding(status, lines):
+    said = "; ".join(lines)
+    if status == 0 and len(lines) == 2 and lines[0] == "sound" and lines[1].startswith("executed "):
+        return Finding(SOUND, said, int(lines[1].split()[1]))
+    return Finding(EARLY if status == ENDS_EARLY else UNSOUND, said)
+
+
 def audited(file):
-    """What the audit finds. It empties the log, so that of a file whose log ends early is put back as it was."""
+    """What the audit finds. It empties the log, so that of a file that isn't sound is put back as it was."""
     log, aside = log_of(file), f"{log_of(file)}.aside"
     if log.exists():
         shutil.copy2(log, aside)
     status, lines = whole_audit(file)
-    said = "; ".join(lines)
-    if status == ENDS_EARLY and os.path.exists(aside):
-        os.replace(aside, log)
-    elif os.path.exists(aside):
+    found = finding(status, lines)
+    if os.path.exists(aside) and found.verdict == SOUND:
         os.unlink(aside)
-    if status == 0 and len(lines) == 2 and lines[0] == "sound" and lines[1].startswith("executed "):
-        return Finding(SOUND, said, int(lines[1].split()[1]))
-    return Finding(EARLY if status == ENDS_EARLY else UNSOUND, said)
+    elif os.path.exists(aside):
+        os.replace(aside, log)
+    return found
