@@ -16,11 +16,11 @@ NEEDED = ("debootstrap", "nsenter", "systemd-nspawn", "tar")
 
 
 class Trial:
-    """parts has a class of cases for each name; prepare makes a container ready for them, given it and the packages."""
+    """parts has a class of cases for each name, which may include more packages; prepare makes a container ready for them, given it and the packages."""
 
     def __init__(self, tool, parts, prepare, included=(), needed=(), exchange=False):
         self.tool, self.parts, self.prepare, self.exchange = tool, parts, prepare, exchange
-        self.included, self.needed = ",".join(sorted({*INCLUDED, *included})), sorted({*NEEDED, *needed})
+        self.included, self.needed = {*INCLUDED, *included}, sorted({*NEEDED, *needed})
 
     def fail(self, text):
         sys.exit(f"tools/{self.tool}: {text}")
@@ -52,8 +52,8 @@ class Trial:
         folder, packages, names = self.chosen()
         folder.mkdir(parents=True, exist_ok=True)
         tried = wrong = 0
-        base = make_base(folder, self.included)
         for name in names:
+            base = make_base(folder, ",".join(sorted(self.included | set(self.parts[name].included))))
             with tempfile.TemporaryDirectory(dir=folder) as scratch:
                 unpack(base, Path(scratch) / "root")
                 container = Container(Path(scratch) / "root", folder / f"{name}.log")
@@ -63,7 +63,7 @@ class Trial:
                     cases.try_all()
                 finally:
                     container.end()
-            print(f"{name}: {cases.tried} tried, {cases.wrong} wrong", flush=True)
+            print(f"{name}: {cases.tried} tried, {cases.wrong} wrong{f', {cases.waiting} wait for a later program' if cases.waiting else ''}", flush=True)
             tried, wrong = tried + cases.tried, wrong + cases.wrong
         return 1 if wrong or not tried else 0
 

@@ -1,6 +1,5 @@
 """Cases of the clock: one that was ahead once, and one that is set late; done wrong first, and then right. No clock is set here: a container has that of its machine."""
 import json
-import re
 import time
 
 from office import FILE, STATE, Office
@@ -55,17 +54,13 @@ class Clock(Office):
         told = self.told(mark, "acd-tick")
         wanted = f"acd-tick: the desk's time is over a minute ahead of this machine's clock: until {time.strftime('%Y-%m-%d %H:%M:%S', time.gmtime(moment))} UTC no ring and no after-call work ends by a tick"
         self.expect("and that is told, once", told, [wanted])
-        page = self.inside("/usr/share/doc/acd/OPERATING.md").read_text()
-        by_hand, = re.findall(r"^    (date -d @.*)$", page, re.MULTILINE)
-        said = self.container.shell(f"TZ=UTC {by_hand}")[1]
+        said = self.container.shell(f"export TZ=UTC; {self.recipe('A clock that was ahead', 'date -d @')}")[1]
         self.expect("by hand, as the page says", said, time.strftime("%a %b %e %H:%M:%S UTC %Y\n", time.gmtime(moment)))
 
     def try_new_file(self):
         """One of the ways out: the same plan in a new file, by the page's recipe, as root, while no call is live."""
         self.clear("out")
-        page = self.inside("/usr/share/doc/acd/OPERATING.md").read_text()
-        recipe = "".join(re.findall(r"^    (.*\n)", page.partition("\n## A new year in a new file\n")[2].partition("\n## ")[0], re.MULTILINE))
-        self.expect("the recipe", self.container.shell(recipe)[0], 0)
+        self.expect("the recipe", self.typed(self.recipe("A new year in a new file", "systemctl stop acd"))[0], 0)
         self.serves("in a new file")
         self.expect("the note of the old pair went with it", [name for name in self.names() if name.startswith("desk.db")], ["desk.db", "desk.db-pair", "desk.db-wal"])
         self.expect("an offer is taken back", self.offers("new"), True)

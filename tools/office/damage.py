@@ -18,6 +18,7 @@ class Damage(Office):
         self.try_beside_the_desk()
         self.try_older_file()
         self.try_middle()
+        self.try_early_copy()
         self.try_head()
         self.try_torn_end()
         self.try_no_room()
@@ -95,7 +96,29 @@ class Damage(Office):
         self.restarts("the next start tells nothing")
         self.expect("what is before the damage is still there", self.kept("middle"), list(range(1, 11)))
         self.expect("nor keeps anything", self.folders(), [folder])
+        mark = self.mark()
+        self.expect("each copy fails while it is there", [self.run("systemctl", "start", "acd-copy")[0] for _ in range(2)], [1, 1])
+        self.expect("and says why", self.told(mark, "acd-copy"), [f"acd-copy: {STATE}/{folder} is there: the log was damaged as the desk was started"] * 2)
         self.done("mv", f"{STATE}/{folder}", "/root/damaged")
+        self.done("systemctl", "start", "acd-copy")
+
+    def try_early_copy(self):
+        """The log is damaged while the desk is stopped, and a copy is made before it is started again: kept as it was copied, and nothing is cleared away."""
+        self.done("systemctl", "start", "acd-copy")
+        copies = f"{STATE}/copies"
+        good = self.names(copies)
+        self.spoiled("early", lambda whole: whole.flipped(whole.at(whole.marks[4] + 1) + 50))
+        held, mark = self.held(), self.mark()
+        self.expect("the copy fails", self.run("systemctl", "start", "acd-copy")[0], 1)
+        told, more = self.told(mark, "acd-copy"), sorted(set(self.names(copies)) - set(good))
+        self.expect(f"it tells why: {told}", [(line.startswith("acd-copy: the copy's log ends early, answered requests are missing: "), f"it lies in {copies}/{name}," in line) for line, name in zip(told, more)], [(True, True)])
+        self.expect("its name", bool(re.fullmatch(r"\d{4}-\d\d-\d\dT\d{6}Z\.early", more[0])))
+        self.expect("its log is as it was copied", self.held(f"{copies}/{more[0]}/desk.db-wal"), held[1:])
+        self.expect("the desk's own files too", self.held() == held)
+        self.expect("all others are there", set(good) <= set(self.names(copies)))
+        self.done("systemctl", "start", "acd")
+        self.serves("behind it")
+        self.done("rm", "-r", *(f"{STATE}/{folder}" for folder in self.folders()))
 
     def try_head(self):
         self.spoiled("head", lambda whole: whole.flipped(18))

@@ -57,6 +57,24 @@ class Office(Cases):
     def names(self, folder=STATE):
         return sorted(path.name for path in self.inside(folder).iterdir())
 
+    def page(self, heading=None):
+        """OPERATING.md of the package, or its part of this heading."""
+        text = self.inside("/usr/share/doc/acd/OPERATING.md").read_text()
+        return text.partition(f"\n## {heading}\n")[2].partition("\n## ")[0] if heading else text
+
+    def recipe(self, heading, begin, **changed):
+        """The lines of a part that are to be typed, from the one that begins so up to a line that isn't; with what its reader has in the place of these words."""
+        found = re.search(rf"^    ({re.escape(begin)}.*\n(?:    .*\n)*)", self.page(heading), re.MULTILINE)
+        self.expect(f"{heading} has lines from '{begin}' on", bool(found))
+        lines = re.sub("^    ", "", found[1], flags=re.MULTILINE) if found else ""
+        for old, new in changed.items():
+            lines = lines.replace(old, new)
+        return lines
+
+    def typed(self, lines, user=None, at="/root"):
+        """What somebody types in a folder, up to the first line that fails."""
+        return self.container.shell(f"set -e; cd {at}\n{lines}", user=user)
+
     def set(self, name, value):
         """A line of acd.env."""
         settings = self.inside(SETTINGS)
