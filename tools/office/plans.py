@@ -93,7 +93,7 @@ class Plans(Office):
         """A report of the file that is served is refused; what the page says in its place has it."""
         self.expect("a report of the served file", self.run("acd", "report", "--file", FILE, user="acd"), (4, f"acd: {FILE} is open elsewhere\n"))
         self.expect_in("the page says what to ask", self.page("Fault lines, and what to do"), "is open elsewhere.*`/reports/queues` has the report")
-        self.expect_in("which has it", self.read("/reports/queues"), '"Bills"')
+        self.expect_in("which has it", self.read("/reports/queues"), r"(?m)^100 .* Bills$")
 
     def try_forgotten(self):
         """An agent who forgot to log off, and a call that nobody has any more: a supervisor can't, and the page's lines do."""

@@ -4,12 +4,13 @@ import time
 
 from office import FILE, STATE, Office
 
-LOG, NOTE, ROUNDS = f"{FILE}-wal", f"{FILE}-pair", 50
+LOG, NOTE, ROUNDS, KILLS = f"{FILE}-wal", f"{FILE}-pair", 50, 20
 
 
 class Starting(Office):
     def try_all(self):
         self.try_installed()
+        self.try_killed_make()
         self.plan()
         self.try_moved_file()
         self.try_lone_log()
@@ -32,6 +33,20 @@ class Starting(Office):
         self.expect("what runs is the program", self.done("cat", f"/proc/{self.show('MainPID')[0]}/comm"), "acd\n")
         after, wants, order = self.show("After", "Wants", "StartLimitIntervalUSec")
         self.expect("it comes behind a clock that is set, and is started again without an end", ("time-sync.target" in after.split(), "time-sync.target" in wants.split(), order), (True, True, "0"))
+
+    def try_killed_make(self):
+        """The making of a new desk is killed again and again: there is a whole one or none, and the same command makes it. Over none no start makes one."""
+        self.done("systemctl", "stop", "acd")
+        self.done("sh", "-c", f"mkdir /root/first && mv {FILE}* /root/first")
+        self.fails("before a desk is made", f"{FILE} isn't there", f"acd-ready --make --file {FILE}")
+        for number in range(KILLS):
+            self.run("timeout", "--signal=KILL", f"{0.02 + 0.01 * number:.2f}", "acd-ready", "--make", "--file", FILE)
+            said = self.run("acd-ready", "--make", "--file", FILE)
+            self.expect(f"made behind kill {number}", said in ((0, f"made {FILE}\n"), (0, f"{FILE} is there already\n")))
+            self.expect(f"it is whole, and alone, behind kill {number}", (self.run("acd", "audit", "--file", FILE, user="acd"), [name for name in self.names() if "new-desk" in name]), ((0, "sound\n"), []))
+            self.done("sh", "-c", f"rm {FILE}*")
+        self.done("sh", "-c", f"mv /root/first/* {STATE}")
+        self.restarts("with the first one")
 
     def try_moved_file(self):
         """The file is moved away under load. It goes on; a restart makes no other one, and the log stays: with the file back all is there."""
