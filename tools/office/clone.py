@@ -3,10 +3,10 @@ import subprocess
 import time
 from pathlib import Path
 
-from office import Office
+from office import HOME, Office
 
 TOP = Path(__file__).resolve().parents[2]
-CLONE, AWAY = "/opt/acd", "/root/away"
+CLONE, AWAY = "/opt/acd", f"{HOME}/away"
 FIRST = '5 {"requester":"plan","invoke":1,"service":"addStation","device":"201"}'
 
 
@@ -18,8 +18,8 @@ class Clone(Office):
         # what git has here, and nothing that was made
         self.done("install", "-d", CLONE)
         files = subprocess.run(["git", "-C", TOP, "ls-files", "-z"], stdout=subprocess.PIPE, check=True).stdout.decode().split("\0")[:-1]
-        subprocess.run(["tar", "-C", TOP, "-cf", self.inside("/root/acd.tar"), *files], check=True)
-        self.done("tar", "-C", CLONE, "--no-same-owner", "-xf", "/root/acd.tar")
+        subprocess.run(["tar", "-C", TOP, "-cf", self.inside(f"{HOME}/acd.tar"), *files], check=True)
+        self.done("tar", "-C", CLONE, "--no-same-owner", "-xf", f"{HOME}/acd.tar")
         self.expect("no toolchain is here", self.run("sh", "-c", "command -v rt")[0] != 0)
         self.try_link()
         self.try_editors_file()
@@ -68,10 +68,10 @@ class Clone(Office):
     def try_types(self):
         yaml = "/usr/lib/python3/dist-packages/yaml"
         self.without(yaml)
-        status, said = self.container.shell(f"cd /root && {CLONE}/tools/api/typescript.py > desk.d.ts")
-        self.expect(f"without Python's yaml: {said}", (status, said.count("\n"), "apt-get install python3-yaml" in said, self.inside("/root/desk.d.ts").exists()), (1, 1, True, False))
+        status, said = self.container.shell(f"cd {HOME} && {CLONE}/tools/api/typescript.py > desk.d.ts")
+        self.expect(f"without Python's yaml: {said}", (status, said.count("\n"), "apt-get install python3-yaml" in said, self.inside(f"{HOME}/desk.d.ts").exists()), (1, 1, True, False))
         self.with_it(yaml)
-        self.expect("with it", self.container.shell(f"cd /root && {CLONE}/tools/api/typescript.py > desk.d.ts && grep -q '^export type' desk.d.ts"), (0, ""))
+        self.expect("with it", self.container.shell(f"cd {HOME} && {CLONE}/tools/api/typescript.py > desk.d.ts && grep -q '^export type' desk.d.ts"), (0, ""))
 
     def try_board(self):
         """The demonstration where its port is taken, as by the proxy of the desk: told at once, with the option that takes another; and by that."""

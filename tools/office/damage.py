@@ -4,7 +4,7 @@ import shutil
 import sys
 from pathlib import Path
 
-from office import FILE, STATE, Office
+from office import FILE, HOME, STATE, Office
 
 LOG, NOTE = f"{FILE}-wal", f"{FILE}-pair"
 
@@ -44,7 +44,7 @@ class Damage(Office):
                 ("an import", ("runuser", "-u", "acd", "--", "acd", "import", "--file", FILE, "--plan", "/plan.csv")),
                 ("an audit", ("runuser", "-u", "acd", "--", "acd", "audit", "--file", FILE)),
                 ("a log that was removed", ("rm", LOG)),
-                ("a copy put back whole", ("sh", "-c", f"mkdir /root/copy && cp -p {FILE}* /root/copy && rm {FILE}* && cp -p /root/copy/* {STATE}"))):
+                ("a copy put back whole", ("sh", "-c", f"mkdir {HOME}/copy && cp -p {FILE}* {HOME}/copy && rm {FILE}* && cp -p {HOME}/copy/* {STATE}"))):
             self.killed(what.replace(" ", "-"), 2)
             for step in steps:
                 self.done(*step)
@@ -56,16 +56,16 @@ class Damage(Office):
     def try_older_file(self):
         """An older file beside the newer log, and the other way round."""
         self.done("systemctl", "stop", "acd")
-        shutil.rmtree(self.inside("/root/older"), ignore_errors=True)
+        shutil.rmtree(self.inside(f"{HOME}/older"), ignore_errors=True)
         self.killed("older", 3)
-        self.done("cp", "-rp", STATE, "/root/older")
+        self.done("cp", "-rp", STATE, f"{HOME}/older")
         self.killed("newer", 3)
         for older in (FILE, LOG):
-            self.done("mv", older, "/root/newer")
-            self.done("cp", "-p", f"/root/older/{Path(older).name}", older)
+            self.done("mv", older, f"{HOME}/newer")
+            self.done("cp", "-p", f"{HOME}/older/{Path(older).name}", older)
             self.fails(f"an older {Path(older).name}", f"{FILE} and its log {LOG} weren't here together", "put both of one copy back", f"remove {NOTE}")
             self.done("rm", older)
-            self.done("mv", "/root/newer", older)
+            self.done("mv", f"{HOME}/newer", older)
             self.restarts("with the newer one back")
             self.kill()
         self.expect("nothing was lost", (self.kept("older"), self.kept("newer")), ([1, 2, 3], [1, 2, 3]))
@@ -99,7 +99,7 @@ class Damage(Office):
         mark = self.mark()
         self.expect("each copy fails while it is there", [self.run("systemctl", "start", "acd-copy")[0] for _ in range(2)], [1, 1])
         self.expect("and says why", self.told(mark, "acd-copy"), [f"acd-copy: {STATE}/{folder} is there: the log was damaged as the desk was started"] * 2)
-        self.done("mv", f"{STATE}/{folder}", "/root/damaged")
+        self.done("mv", f"{STATE}/{folder}", f"{HOME}/damaged")
         self.done("systemctl", "start", "acd-copy")
 
     def try_early_copy(self):

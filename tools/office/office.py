@@ -10,7 +10,7 @@ from pathlib import Path
 
 from cases import Cases
 
-STATE, FILE, SETTINGS = "/var/lib/acd", "/var/lib/acd/desk.db", "/etc/acd/acd.env"
+HOME, STATE, FILE, SETTINGS = "/root", "/var/lib/acd", "/var/lib/acd/desk.db", "/etc/acd/acd.env"
 PLAN = "kind,number,name,ring,wrap\ngroup,100,Billing,3,2\nstation,201,,,\nagent,7,Ana,,\n"
 LOAD = "/usr/local/bin/load"
 
@@ -48,7 +48,7 @@ class Office(Cases):
 
     def inside(self, path=FILE):
         """A path of the container, with what is mounted there."""
-        return Path(f"/proc/{self.container.leader}/root{path}")
+        return Path("/proc", str(self.container.leader), "root", str(path).lstrip("/"))
 
     def held(self, *paths):
         """What these files have; nothing where there is none."""
@@ -71,7 +71,7 @@ class Office(Cases):
             lines = lines.replace(old, new)
         return lines
 
-    def typed(self, lines, user=None, at="/root"):
+    def typed(self, lines, user=None, at=HOME):
         """What somebody types in a folder, up to the first line that fails."""
         return self.container.shell(f"set -e; cd {at}\n{lines}", user=user)
 
@@ -109,7 +109,7 @@ class Office(Cases):
     @contextlib.contextmanager
     def loaded(self, requester):
         """Under load; at its end `self.answered` has what was answered."""
-        path = f"/root/{requester}"
+        path = f"{HOME}/{requester}"
         self.done("systemd-run", "--quiet", "--collect", f"--unit=load-{requester}", LOAD, requester, path)
         try:
             self.eventually(lambda: self.inside(path).exists() and len(self.inside(path).read_text()) > 20, True)

@@ -2,7 +2,7 @@
 import json
 import re
 
-from office import FILE, PLAN, STATE, Office
+from office import FILE, HOME, PLAN, STATE, Office
 
 HEADER = PLAN.partition("\n")[0] + "\n"
 DESK = "http://127.0.0.1:8080"
@@ -34,7 +34,7 @@ class Plans(Office):
 
     def try_home(self):
         """A plan in root's home, which the desk's user can't read; and as the page has it."""
-        self.container.put("/root/plan.csv", PLAN)
+        self.container.put(f"{HOME}/plan.csv", PLAN)
         said = self.typed(f"runuser -u acd -- acd import --file {FILE} --plan plan.csv")
         self.expect("a plan in root's home", said, (1, "acd: cannot open plan.csv\n"))
         status, said = self.typed(self.recipe("As a service of the machine", "systemctl stop acd"))
@@ -61,7 +61,7 @@ class Plans(Office):
         self.restarts("with half of it")
         self.expect("Ben alone has come", self.plan_now(), PLAN + "agent,8,Ben,,\n")
         process = self.show("MainPID")
-        self.container.put("/root/plan.csv", SECOND)
+        self.container.put(f"{HOME}/plan.csv", SECOND)
         line = self.recipe(NOON, "acd-plan --changes plan.csv --from http://127.0.0.1:8080 --send")
         status, said = self.typed(line)
         self.expect(f"by the page's line ({said})", (status, said.count("\n"), "changeGroup" in said, "addStation" in said), (0, 2, True, True))
@@ -72,7 +72,7 @@ class Plans(Office):
     def try_later_ones(self):
         """An agent's name, a ring, and one row less, which is told and stays."""
         third = SECOND.replace("Ben", "Benjamin").replace("Bills,3,2", "Bills,4,2").replace("station,202,,,\n", "")
-        self.container.put("/root/plan.csv", third)
+        self.container.put(f"{HOME}/plan.csv", third)
         status, said = self.typed(self.recipe(NOON, "acd-plan --changes plan.csv --from http://127.0.0.1:8080 --send"))
         self.expect(f"another name, another ring ({said})", (status, "acd-plan: the desk has more than the plan: station 202\n" in said, said.count("\n")), (0, True, 3))
         self.expect("they are there, and the station too", self.plan_now(), third.replace("station,201,,,\n", "station,201,,,\nstation,202,,,\n"))
@@ -80,13 +80,13 @@ class Plans(Office):
     def try_names(self):
         """A name that isn't ASCII: refused, with nothing of it taken; the page says what to write."""
         before = self.plan_now()
-        self.container.put("/root/plan.csv", SECOND + "agent,9,Jos\u00e9 M\u00fcller,,\n")
+        self.container.put(f"{HOME}/plan.csv", SECOND + "agent,9,Jos\u00e9 M\u00fcller,,\n")
         line = self.recipe(NOON, "acd-plan --changes plan.csv --from http://127.0.0.1:8080 --send")
         status, said = self.typed(line)
         self.expect_in("it is refused", said, "^acd-plan: plan row 6: name\n")
         self.expect("nothing is taken", (status, self.plan_now()), (1, before))
         self.expect_in("the page says what to write", self.page(NOON), "a name is of ASCII, `Mueller` for Müller")
-        self.container.put("/root/plan.csv", SECOND + "agent,9,Jose Mueller,,\n")
+        self.container.put(f"{HOME}/plan.csv", SECOND + "agent,9,Jose Mueller,,\n")
         self.expect("so written it is taken", (self.typed(line)[0], "agent,9,Jose Mueller,,\n" in self.plan_now()), (0, True))
 
     def try_served_file(self):

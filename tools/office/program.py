@@ -4,7 +4,7 @@ import re
 import sys
 from pathlib import Path
 
-from office import FILE, PLAN, STATE, Office
+from office import FILE, HOME, PLAN, STATE, Office
 
 sys.path.insert(0, str(Path(__file__).resolve().parents[1] / "ready"))
 from logs import Log  # noqa: E402
@@ -44,7 +44,7 @@ class Program(Office):
         self.sent("lone", 5)
         self.kill()
         file, log = self.held()
-        self.done("mv", FILE, "/root/x")
+        self.done("mv", FILE, f"{HOME}/x")
         if not self.waits("a log without its file", self.acd("lines", "--file", FILE) == (0, "")):
             for what, data in (("isn't there", None), ("has no bytes", b"")):
                 for command, *words in COMMANDS:
@@ -56,7 +56,7 @@ class Program(Office):
                     self.expect(f"{command}, where the file {what}: all is as it was", self.held() == [data, log])
         self.inside(LOG).write_bytes(log)
         self.done("chown", "acd:acd", LOG)
-        self.done("mv", "/root/x", FILE)
+        self.done("mv", f"{HOME}/x", FILE)
         self.restarts("with the file back")
         self.expect("what was answered is there", (self.kept("lone"), file is not None), ([1, 2, 3, 4, 5], True))
 
@@ -111,14 +111,14 @@ class Program(Office):
                 ("no permission", "permission|may not", FILE, "cannot open", ("chmod", "000", FILE)),
                 ("a folder", "folder|directory", STATE, "cannot open"),
                 ("another program's database", "another|no desk", other, "wrong version 0"),
-                ("a log without its file", "log", FILE, "cannot open", ("mv", FILE, "/root/x")),
+                ("a log without its file", "log", FILE, "cannot open", ("mv", FILE, f"{HOME}/x")),
                 ("a second name", "name", FILE, "cannot open", ("ln", FILE, f"{STATE}/second")),
                 ("a disk to be read only", "read-only|read only", "/srv/only/desk.db", "cannot open", ("sh", "-c", f"mkdir /srv/only && cp -p {FILE}* /srv/only && mount --bind /srv/only /srv/only && mount -o remount,ro,bind /srv/only"))):
             for words in prepared:
                 self.done(*words)
             said = f"acd: cannot open {file}" if line == "cannot open" else f"acd: {line}"
             self.why(what, said, pattern, "audit", "--file", file)
-            self.done("sh", "-c", f"umount /srv/only 2>/dev/null; rm -rf /srv/only {STATE}/second; [ ! -e /root/x ] || mv /root/x {FILE}; chmod 600 {FILE}")
+            self.done("sh", "-c", f"umount /srv/only 2>/dev/null; rm -rf /srv/only {STATE}/second; [ ! -e {HOME}/x ] || mv {HOME}/x {FILE}; chmod 600 {FILE}")
 
     def try_plans(self):
         header, rows = PLAN.split("\n", 1)

@@ -2,7 +2,7 @@
 import subprocess
 import time
 
-from office import FILE, STATE, Office
+from office import FILE, HOME, STATE, Office
 
 LOG, NOTE, ROUNDS, KILLS = f"{FILE}-wal", f"{FILE}-pair", 50, 20
 
@@ -37,7 +37,7 @@ class Starting(Office):
     def try_killed_make(self):
         """The making of a new desk is killed again and again: there is a whole one or none, and the same command makes it. Over none no start makes one."""
         self.done("systemctl", "stop", "acd")
-        self.done("sh", "-c", f"mkdir /root/first && mv {FILE}* /root/first")
+        self.done("sh", "-c", f"mkdir {HOME}/first && mv {FILE}* {HOME}/first")
         self.fails("before a desk is made", f"{FILE} isn't there", f"acd-ready --make --file {FILE}")
         for number in range(KILLS):
             self.run("timeout", "--signal=KILL", f"{0.02 + 0.01 * number:.2f}", "acd-ready", "--make", "--file", FILE)
@@ -45,7 +45,7 @@ class Starting(Office):
             self.expect(f"made behind kill {number}", said in ((0, f"made {FILE}\n"), (0, f"{FILE} is there already\n")))
             self.expect(f"it is whole, and alone, behind kill {number}", (self.run("acd", "audit", "--file", FILE, user="acd"), [name for name in self.names() if "new-desk" in name]), ((0, "sound\n"), []))
             self.done("sh", "-c", f"rm {FILE}*")
-        self.done("sh", "-c", f"mv /root/first/* {STATE}")
+        self.done("sh", "-c", f"mv {HOME}/first/* {STATE}")
         self.restarts("with the first one")
 
     def try_moved_file(self):
@@ -53,9 +53,9 @@ class Starting(Office):
         with self.loaded("moved"):
             self.done("mv", FILE, f"{STATE}/x")
             time.sleep(1)
-            answered = self.inside("/root/moved").read_text().count("\n")
+            answered = self.inside(f"{HOME}/moved").read_text().count("\n")
             time.sleep(1)
-            self.expect("the desk goes on over the moved file", self.inside("/root/moved").read_text().count("\n") > answered)
+            self.expect("the desk goes on over the moved file", self.inside(f"{HOME}/moved").read_text().count("\n") > answered)
             self.done("systemctl", "kill", "--signal=KILL", "acd")
             self.eventually(lambda: self.show("ActiveState")[0], "failed", 10)
             self.fails("a file that was moved away", f"{FILE} isn't there, but its log {LOG} is there", "put desk.db or a copy back", "don't remove it", before=(LOG, f"{STATE}/x"))
@@ -156,7 +156,7 @@ class Starting(Office):
         self.expect("the ticks tell it too", told, ["acd-tick: who listens at port 8080 is no desk, and is sent nothing"])
         asked = self.journal("stranger")
         self.expect("the stranger is asked, and sent nothing", ("GET /snapshot" in asked, "POST" in asked), (True, False))
-        status, said = self.run("dpkg", "--install", *[f"/root/{path.name}" for path in self.inside("/root").glob("acd_*.deb")])
+        status, said = self.run("dpkg", "--install", *[f"{HOME}/{path.name}" for path in self.inside(HOME).glob("acd_*.deb")])
         self.expect("an installation goes on", status, 0)
         self.expect_in("and says it", said, r"(?m)^acd: the desk isn't served: port 8080 is taken: end who listens there")
         self.done("systemctl", "stop", "stranger")
@@ -200,9 +200,9 @@ class Starting(Office):
             self.inside(f"{STATE}/filler").touch()
             self.run("sh", "-c", f"cat /dev/zero > {STATE}/filler")
             self.expect("it hasn't failed for good", [state for state in (self.show("ActiveState")[0] for _ in range(10) if not time.sleep(0.5)) if state == "failed"], [])
-            answered = self.inside("/root/full").read_text().count("\n")
+            answered = self.inside(f"{HOME}/full").read_text().count("\n")
             self.done("mount", "-o", f"remount,size={4 * size + 40000}k", STATE)
-            self.expect("there is room, and it answers again", self.eventually(lambda: self.inside("/root/full").read_text().count("\n") > answered + 20, True, 30), True)
+            self.expect("there is room, and it answers again", self.eventually(lambda: self.inside(f"{HOME}/full").read_text().count("\n") > answered + 20, True, 30), True)
         self.done("systemctl", "stop", "acd")
         self.expect("each answered request is there, once", self.kept("full")[:len(self.answered)], self.answered)
         self.done("umount", STATE)
@@ -225,7 +225,7 @@ class Starting(Office):
         """A package that is installed again over a desk whose file is away: nothing is made in its place."""
         self.done("systemctl", "stop", "acd")
         self.done("mv", FILE, f"{STATE}/x")
-        status, said = self.run("dpkg", "--install", *[f"/root/{path.name}" for path in self.inside("/root").glob("acd_*.deb")])
+        status, said = self.run("dpkg", "--install", *[f"{HOME}/{path.name}" for path in self.inside(HOME).glob("acd_*.deb")])
         self.expect("it is installed", status, 0)
         self.expect_in("and says it", said, f"(?m)^acd: the desk isn't served: {FILE} isn't there")
         self.expect("nothing is made", self.inside().exists(), False)

@@ -110,7 +110,7 @@ def seen(process, path):
     try:
         return which(path)
     except PermissionError:
-        return which(PROCESSES / f"{process}/root{path}")
+        return which(PROCESSES / str(process) / "root" / str(path).lstrip("/"))
 
 
 def look(process, path):
