@@ -231,7 +231,7 @@ class PutAway:
         shutil.rmtree(gone)
 
 
-def read(file):
+def folders_of(file):
     """The folders of this file."""
     for folder in file.parent.glob("put-away-*"):
         one = PutAway(folder, file)
@@ -245,7 +245,7 @@ def put_away(file):
     """The folders of this file, by their numbers. What is half made or half removed is cleared away: nobody knows of it."""
     for half in file.parent.glob(f"{HALF}*"):
         shutil.rmtree(half)
-    return sorted(read(file), key=lambda one: one.number)
+    return sorted(folders_of(file), key=lambda one: one.number)
 
 
 def unfinished(file):
@@ -255,7 +255,7 @@ def unfinished(file):
     # where it has one name alone, no folder is looked at
     if inode(file) is None or os.stat(file).st_nlink == 1:
         return None
-    return next((one.told() for one in read(file) if inode(file) in (inode(one.old.at_home()), inode(one.new.at_home()))), None)
+    return next((one.told() for one in folders_of(file) if inode(file) in (inode(one.old.at_home()), inode(one.new.at_home()))), None)
 
 
 # Who may, and beside whom
