@@ -56,7 +56,7 @@ class Starting(Office):
             answered = self.inside(f"{HOME}/moved").read_text().count("\n")
             time.sleep(1)
             self.expect("the desk goes on over the moved file", self.inside(f"{HOME}/moved").read_text().count("\n") > answered)
-            self.done("systemctl", "kill", "--signal=KILL", "acd")
+            self.done("sh", "-c", 'kill -KILL "$(systemctl show --value --property=MainPID acd)"')
             self.eventually(lambda: self.show("ActiveState")[0], "failed", 10)
             self.fails("a file that was moved away", f"{FILE} isn't there, but its log {LOG} is there", "put desk.db or a copy back", "don't remove it", before=(LOG, f"{STATE}/x"))
             self.expect("no other file is made", self.inside().exists(), False)
