@@ -135,22 +135,20 @@ class Office(Cases):
         said = self.done("journalctl", "--no-pager", "--quiet", "--output=cat", f"--after-cursor={mark}")
         return [line for line in said.splitlines() if line.startswith(f"{name}: ")]
 
-    def took(self):
-        """It is started again, and fails; how many seconds its process was there."""
-        self.run("systemctl", "restart", "acd")
-        self.expect("it has failed", self.eventually(lambda: self.show("ActiveState")[0], "failed", 10), "failed")
-        began, ended = (int(moment) / 1e6 for moment in self.show("ExecMainStartTimestampMonotonic", "ExecMainExitTimestampMonotonic"))
-        return ended - began
+    def slowness(self):
+        """How many times longer a small command takes than on a machine that does little else, where it is a twentieth of a second or two; at least 1."""
+        began = time.monotonic()
+        self.run("python3", "-c", "pass")
+        return max(1, (time.monotonic() - began) / 0.2)
 
     def fails(self, what, *words, status="64", before=(), told=1):
         """The desk is started again: it has failed within two seconds, by one line with these words, isn't started again, and is named; the files are as they were."""
-        were = self.held(*before)
-        # where the machine is busy with something else, the best of three counts
-        for _ in range(3):
-            mark, took = self.mark(), self.took()
-            if took < 2:
-                break
-        self.expect(f"{what}: within two seconds ({took:.1f})", 0 < took < 2)
+        were, mark, slowness = self.held(*before), self.mark(), self.slowness()
+        self.run("systemctl", "restart", "acd")
+        self.expect(f"{what}: it has failed", self.eventually(lambda: self.show("ActiveState")[0], "failed", 10), "failed")
+        began, ended = (int(moment) / 1e6 for moment in self.show("ExecMainStartTimestampMonotonic", "ExecMainExitTimestampMonotonic"))
+        slowness = max(slowness, self.slowness())
+        self.expect(f"{what}: within two seconds ({ended - began:.1f}, {slowness:.1f} times as slow as at rest)", 0 < ended - began < 2 * slowness)
         lines = self.told(mark)
         self.expect(f"{what}: {lines}", (len(lines), [word for word in words if not any(word in line for line in lines)]), (told, []))
         self.expect(f"{what}: its status", self.show("ExecMainStatus"), [status])
