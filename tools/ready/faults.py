@@ -10,7 +10,7 @@ FAULTS = [
     (READY, "the log isn't looked at", "both = [path for path in (file, log) if is_there(path)]", "both = [file]"),
     (READY, "links aren't followed", "return Path(os.path.realpath(path))", "return Path(path)"),
     (READY, "a restore that isn't ended isn't seen", "    if told:\n        raise Fault(told)\n", ""),
-    (READY, "nor where another link leads there", "acd_restore.unfinished(acd_held.place(path))", "acd_restore.unfinished(Path(path))"),
+    (READY, "nor where another link leads there", "named = acd_held.place(path)", "named = Path(path)"),
     (READY, "a new desk is made in a restore", 'its name."""\n    file = place(options.file)', 'its name."""\n    file = Path(os.path.realpath(options.file))'),
     (READY, "file and log of two times will do", "if acd_pair.is_split(file):", "if False:"),
     (READY, "each port will do", "            if fault.errno == errno.EADDRINUSE:", "            if fault.errno == errno.EADDRINUSE:\n                return\n            if False:"),
