@@ -2,6 +2,7 @@
 import argparse
 import os
 import shutil
+import signal
 import sys
 import tempfile
 from pathlib import Path
@@ -68,6 +69,7 @@ class Trial:
         return 1 if wrong or not tried else 0
 
     def main(self):
+        signal.signal(signal.SIGTERM, lambda *_: sys.exit(143))  # so that the container is ended too
         try:
             sys.exit(self.run())
         except ValueError as fault:
