@@ -84,6 +84,8 @@ class Plans(Office):
         line = self.recipe(NOON, "acd-plan --changes plan.csv --from http://127.0.0.1:8080 --send")
         status, said = self.typed(line)
         self.expect_in("it is refused", said, "^acd-plan: plan row 6: name\n")
+        shown = self.typed(f"script --quiet --return --command '{line.strip()}' /dev/null")[1]
+        self.expect_in("a terminal is told why", shown, r"(?m)^acd-plan: that is line 7: an agent's name is to be .* of ASCII, .* \(Mueller for Müller\)\r?$")
         self.expect("nothing is taken", (status, self.plan_now()), (1, before))
         self.expect_in("the page says what to write", self.page(NOON), "a name is of ASCII, `Mueller` for Müller")
         self.container.put(f"{HOME}/plan.csv", SECOND + "agent,9,Jose Mueller,,\n")
