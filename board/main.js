@@ -3,7 +3,7 @@
 import {byId, mark, put, toggle} from './draw.js';
 import {Day} from './day.js';
 import {Feed, history, lastBefore} from './feed.js';
-import {groupLines, overdue, totals} from './reckon.js';
+import {ahead, groupLines, overdue, totals} from './reckon.js';
 import {dayBegin, searchOf, settingsOf} from './settings.js';
 import {State} from './state.js';
 import {clock, timeOfDay} from './words.js';
@@ -33,8 +33,11 @@ let offset = 0, answered = 0;
 /** @type {import('./types').Course} */ let told = {kind: 'begins'};
 let share = 0;
 
+/** The server's clock, in seconds. */
+const serverClock = () => (Date.now() + offset) / 1000;
+
 /** The desk's clock; it stands still where the connection is lost, so that no wait goes on that may have ended. */
-const now = () => Math.max(state.moment, ((told.kind === 'lost' && answered ? Math.min(Date.now(), answered + OLD) : Date.now()) + offset) / 1000);
+const now = () => Math.max(state.moment, told.kind === 'lost' && answered ? Math.min(serverClock(), (answered + OLD + offset) / 1000) : serverClock());
 
 const feed = new Feed(base, RENEW, {
   begin(snapshot) {
@@ -122,13 +125,21 @@ function drawStatus() {
   put(byId('status-text'), words[told.kind]);
   mark(byId('status'), 'data-kind', late ? 'late' : told.kind);
   toggle(document.body, 'data-old', told.kind === 'lost' && age > GREY);
-  put(byId('clock').firstElementChild, timeOfDay((Date.now() + offset) / 1000));
+  put(byId('clock').firstElementChild, timeOfDay(serverClock()));
+}
+
+/** @param {number} moment */
+function alarmOf(moment) {
+  const early = ahead(state, serverClock());
+  if (early) return `The desk's time is ${clock(early)} ahead of the clock: until the clock has come there no ring and no after-call work ends by itself.`;
+  const found = overdue(state, moment);
+  return found ? `Nobody sends ticks to the desk: ${found.what} for ${clock(found.seconds)}, and ${clock(found.given)} is what its group gives.` : '';
 }
 
 /** @param {number} moment */
 function drawAlarm(moment) {
-  const found = told.kind === 'live' && overdue(state, moment);
-  put(byId('alarm'), found ? `■ Nobody sends ticks to the desk: ${found.what} for ${clock(found.seconds)}, and ${clock(found.given)} is what its group gives.` : '');
+  const found = told.kind === 'live' && alarmOf(moment);
+  put(byId('alarm'), found ? `■ ${found}` : '');
   toggle(byId('alarm'), 'hidden', !found);
 }
 

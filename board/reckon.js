@@ -11,6 +11,8 @@ import {level} from './day.js';
 
 // a tick comes each ten seconds, so what is this much overdue nobody ends
 const GRACE = 25;
+// clocks that are so many seconds apart are no fault
+const APART = 60;
 
 /** @returns {Record<Doing,number>} */
 const noCounts = () => ({ready: 0, ringing: 0, busy: 0, hold: 0, own: 0, workingAfterCall: 0, notReady: 0, null: 0});
@@ -99,6 +101,13 @@ export function totals(state, day, lines, limits) {
     wait, severity: severity(wait, limits), counts, loggedOn: state.agents.size - counts.null, ...day.all.sum, level: level(day.all.waits, limits.limit),
   };
 }
+
+/**
+ * How many seconds the desk's last moment is ahead of the clock, or 0 where that is no fault. The desk's time stands still until the clock has come there.
+ * @param {State} state
+ * @param {number} now
+ */
+export function ahead(state, now) { return state.moment > now + APART ? state.moment - now : 0; }
 
 /**
  * What should have ended by a tick: an offer that rings longer than its group gives, or after-call work. Null where nothing is.

@@ -165,6 +165,22 @@ export async function alarm(see, browser, desk, address) {
   see('and none behind a tick', Boolean(await until(async () => await shown() === '', 5)), await shown());
 }
 
+/** In the place of the desk another one, which took a request while the clock was ahead. */
+export async function clockAhead(see, browser, desk, early, address) {
+  const shown = () => browser.run('return document.querySelector("#alarm").hidden ? "" : document.querySelector("#alarm").textContent');
+  await desk.stop();
+  for (const [what, seconds, told] of [['half a minute', 30, /^$/], ['an hour', 3600, /^■ The desk's time is (59:\d\d|1:00:00) ahead of the clock/]]) {
+    await early.feed([`${Math.floor(Date.now() / 1000) + seconds} ${JSON.stringify({requester: 'early', invoke: seconds, service: 'addGroup', device: String(seconds), name: what, ring: 20, wrap: 0})}`]);
+    await early.serve();
+    await browser.open(`${address}?since=${seconds}#wall`);
+    await live(browser);
+    await sleep(1500);
+    see(`a desk's time that is ${what} ahead`, told.test(await shown()), await shown());
+    await early.stop();
+  }
+  await desk.serve();
+}
+
 /** A desk that is gone, back, and another one. */
 export async function losses(see, browser, desk, other, address) {
   await browser.open(`${address}#wall`);

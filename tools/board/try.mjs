@@ -11,7 +11,7 @@ import {aDay, Desk, Front, missing, run, TOP} from './desk.mjs';
 import {buttons} from './buttons.mjs';
 import {full} from './full.mjs';
 import {inLoad, record, replay, unseenFaults} from './model.mjs';
-import {alarm, looks, losses, numbers, people, settings, still} from './page.mjs';
+import {alarm, clockAhead, looks, losses, numbers, people, settings, still} from './page.mjs';
 import {lostReply, olderPage, owners, PLAN, refused, shift} from './shift.mjs';
 
 const NEEDED = {chromedriver: 'chromium-driver', chromium: 'chromium', nginx: 'nginx-light', tsc: 'node-typescript', openssl: 'openssl', curl: 'curl', python3: 'python3'};
@@ -132,6 +132,7 @@ class Trial {
     await looks(this.see, browser, address, this.pictures);
     await folks.end();
     await alarm(this.see, browser, desk, address);
+    await clockAhead(this.see, browser, desk, new Desk(this.program, join(this.folder, 'early.db'), desk.port), address);
     await losses(this.see, browser, desk, other.file, address);
   }
 

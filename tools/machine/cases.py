@@ -4,10 +4,12 @@ import re
 
 
 class Cases:
-    """Over a container in which the packages are installed."""
+    """Over a container in which the packages are installed. `included` are packages of Debian that it has for these cases alone."""
+
+    included = ()
 
     def __init__(self, container):
-        self.container, self.tried, self.wrong = container, 0, 0
+        self.container, self.tried, self.wrong, self.waiting = container, 0, 0, 0
 
     def expect(self, what, has, wanted=True):
         self.tried += 1

@@ -12,10 +12,14 @@ PATH = "PATH=/usr/local/sbin:/usr/local/bin:/usr/sbin:/usr/bin:/sbin:/bin"
 
 class Container:
     def __init__(self, root, log):
-        self.root = Path(root)
+        self.root, self.log = Path(root), Path(log)
+        self.log.write_bytes(b"")
         (self.root / "etc/hosts").write_text("127.0.0.1 localhost\n::1 localhost\n")
+        self.boot()
+
+    def boot(self):
         words = ["systemd-nspawn", "--quiet", "--boot", "--directory", self.root, "--private-network", "--register=no", "--keep-unit", f"--machine=acd-{os.getpid()}", *MAY]
-        with open(log, "wb") as told:
+        with open(self.log, "ab") as told:
             self.process = subprocess.Popen(words, stdin=subprocess.DEVNULL, stdout=told, stderr=told, env={**os.environ, "UNIFIED_CGROUP_HIERARCHY": "1"})
         self.leader = None
         self.leader = self.found(self.its_systemd, "a systemd in the container")

@@ -24,7 +24,7 @@ OF_ROOT = {"read the roles", "read the users", "read the accounts", "see another
 # what a program that took over the unit could do, as the unit's own user and, were it root there, as root
 MAY = {
     "acd.service": (LOOPBACK | DESK, LOOPBACK | OF_ROOT),
-    "acd-tick.service": (LOOPBACK | {"signal the desk"}, LOOPBACK | OF_ROOT),
+    "acd-tick.service": (LOOPBACK | {"signal the desk", "see what the desk has open"}, LOOPBACK | OF_ROOT),
     "acd-gate.service": (LOOPBACK | {"read the roles", "read the users"}, LOOPBACK | OF_ROOT),
     "acd-copy.service": (DESK | {"priority"}, OF_ROOT | {"priority"}),
     "acd-local.service": ({"AF_UNIX", "AF_NETLINK", "load a table"}, OF_ROOT | {"AF_UNIX", "AF_NETLINK", "load a table"}),
@@ -42,6 +42,7 @@ class Units(Cases):
         self.try_desk()
         self.try_gate()
         self.try_copy()
+        self.try_restore()
         self.try_exchange()
         self.try_two_users()
         self.try_refusals()
@@ -86,6 +87,18 @@ class Units(Cases):
         self.expect_in("the desk is halted, and the copy sound", said, r"the desk was halted for \d+ ms\nsound: /var/lib/acd/copies/")
         self.expect_in("the desk goes on", self.read("/queues/100"), '"group":"100"')
         self.expect("nothing else is told of it", [line for line in said.splitlines() if line.startswith(("cp:", "nice:", "find:", "stat:", "mv:"))], [])
+
+    def try_restore(self):
+        """Root puts the copy back, and takes that back: beside the desk it is refused, and says what stops it."""
+        moment = [name for name in self.done("ls", "/var/lib/acd/copies").split() if name.endswith("Z")][-1]
+        for words in (("--restore", moment), ("--undo",)):
+            refused = self.run("acd-copy", *words)
+            self.expect_in(f"acd-copy {words} beside the desk, {refused[0]}", refused[1], r"^acd-copy: /var/lib/acd/desk.db is open in process \d+ \(acd serve .*\): systemctl stop acd; nothing was touched\n$")
+            self.done("systemctl", "stop", "acd")
+            self.done("acd-copy", *words)
+            self.done("systemctl", "start", "acd")
+            self.expect("the desk answers of it", self.eventually(lambda: '"Billing"' in self.read("/snapshot"), True), True)
+            self.expect("it is nobody else's", self.done("stat", "-c", "%U %G %a", "/var/lib/acd/desk.db"), "acd acd 600\n")
 
     def try_exchange(self):
         """A phone registers, its agent logs off, a caller waits, and somebody speaks TLS; none of it by a second start."""

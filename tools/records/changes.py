@@ -66,6 +66,18 @@ READ = [
         b"agent,7," + b"n" * 41 + b",,\n", b"station,1,n,x,x\n", b"group,1,n,3601,x\n", b"group,1,n,00020,x\n", b"group,1,n,+20,x\n", b"group,1,n,,x\n", b"group,1,n,20,-1\n", b"group,1,n,20,\n",
         b"agent,7,A,0,x\n", b"agent,7,A,,0\n", b"station,1,,,0\n")),
 ]
+# what a terminal is told of a plan besides: the line of the file, and what is wanted there
+WANTED = "line 1 is to be kind,number,name,ring,wrap, and not "
+FAULTY = [
+    (b"", "plan header", WANTED + "nothing"), (HEADER.replace(b",", b";"), "plan header", WANTED + "'kind;number;name;ring;wrap'"), (b"n\xfcmber\n", "plan header", WANTED + "'n\\xfcmber'"),
+    (b"k" * 61 + b"\n", "plan header", WANTED + f"'{'k' * 60}'"), (HEADER + b"\n\nstation,20a,,,\n", "plan row 1: number", "that is line 4: a station's number is to be 1 to 15 digits"),
+    (HEADER + "agent,9,M\u00fcller,,\n".encode(), "plan row 1: name", "that is line 2: an agent's name is to be 1 to 40 characters of ASCII, from the blank to ~ (Mueller for M\u00fcller)"),
+    (HEADER + b"agent,7,Ana,,\nagent,1234567890,A,,\n", "plan row 2: number", "that is line 3: an agent's number is to be 1 to 9 digits"),
+    (HEADER + b"group,1,n,3601,0\n", "plan row 1: ring", "that is line 2: a group's ring is to be seconds from 0 to 3600"),
+    (HEADER + b"station,1,n,,\n", "plan row 1: name", "that is line 2: a station's name is to be empty"),
+    (HEADER + b",,,,\n", "plan row 1: kind", "that is line 2: its kind is to be group, station or agent"),
+    (HEADER + b"agent,7,\xff,,\n", "plan row 1: fields", "that is line 2: a row has 5 fields, with commas between them, in UTF-8"),
+]
 
 
 class Front(http.server.ThreadingHTTPServer):
@@ -244,6 +256,10 @@ class Changes:
             wanted = (status, len(answers.splitlines()), told.replace("acd:", "acd-plan:"))
             status, said, told = self.script("--changes", file, given=empty)
             self.expect(f"plan {plan[:80]}", (status, len(said.splitlines()), told), wanted)
+        for plan, first, why in FAULTY:
+            file.write_bytes(plan)
+            shown, status = at_a_terminal([self.trial.plan, "--changes", file], b"")
+            self.expect(f"at a terminal, plan {plan[:80]}", (status, shown), (1, f"acd-plan: {first}\r\nacd-plan: {why}\r\n"))
         self.expect("no plan", self.script("--changes", "/absent.csv", given=empty), (1, "", "acd-plan: cannot open /absent.csv\n"))
 
     def certificate(self):

@@ -1,0 +1,223 @@
+"""What the trials of acd-copy stand on: a desk's file in a folder of its own, what it holds by an independent reader, and what is said of it."""
+import contextlib
+import hashlib
+import http.client
+import json
+import os
+import shutil
+import signal
+import socket
+import sqlite3
+import struct
+import subprocess
+import tempfile
+import threading
+import time
+from pathlib import Path
+
+# that of Debian, which the scripts are run by
+PYTHON = "/usr/bin/python3"
+PLAN = "kind,number,name,ring,wrap\ngroup,100,Billing,20,30\nstation,201,,,\nagent,7,Ana,,\n"
+PLANNED = 3
+# another user, who owns a file
+OTHER = "daemon"
+
+
+class Found(Exception):
+    """What goes otherwise, where a fault is planted."""
+
+
+class Cases:
+    def __init__(self):
+        self.tried = self.wrong = 0
+        self.is_planted = False
+
+    def expect(self, what, has, wanted=True):
+        self.tried += 1
+        if has != wanted:
+            if self.is_planted:
+                raise Found(f"{what}: {has!r}")
+            self.wrong += 1
+            print(f"{what}: {has!r} and not {wanted!r}", flush=True)
+
+
+def call(number, requester="x"):
+    """A caller who waits, by the request of this number; it brings one event, and one more who waits."""
+    return {"requester": requester, "invoke": number, "service": "arriveCall", "caller": f"0301{number}", "called": "100"}
+
+
+def line(request):
+    return f"5 {json.dumps(request)}\n"
+
+
+def sums(*paths):
+    """What lies there, to the byte."""
+    return [hashlib.sha256(path.read_bytes()).hexdigest() if path.is_file() else None for path in paths]
+
+
+def log_of(file):
+    return Path(f"{file}-wal")
+
+
+def kept(file):
+    """The keys of the executed requests, in their order, as SQLite reads them; of a copy, which it may change."""
+    with tempfile.TemporaryDirectory() as scratch:
+        for part in (file, log_of(file)):
+            if part.exists():
+                shutil.copy(part, Path(scratch) / part.name)
+        with contextlib.suppress(sqlite3.Error), contextlib.closing(sqlite3.connect(Path(scratch) / file.name)) as book:
+            return [f"{requester} {invoke}" for requester, invoke in book.execute("SELECT requester, invoke FROM kept ORDER BY stamp")]
+    return []
+
+
+def frames(log):
+    """The offsets of a log's frames, by its head."""
+    head = log.read_bytes()[:32]
+    page = struct.unpack_from(">I", head, 8)[0]
+    return [offset for offset in range(32, log.stat().st_size - 24 - page + 1, 24 + page) if log.read_bytes()[offset + 8:offset + 16] == head[16:24]]
+
+
+def spoil(path, offset):
+    """Turns one bit."""
+    with open(path, "rb+") as file:
+        file.seek(offset)
+        byte = file.read(1)
+        file.seek(offset)
+        file.write(bytes([byte[0] ^ 1]))
+
+
+def free_port():
+    with socket.socket() as taken:
+        taken.bind(("127.0.0.1", 0))
+        return taken.getsockname()[1]
+
+
+class Office:
+    """A folder with the file of a desk and its copies."""
+
+    def __init__(self, folder, program, script):
+        self.folder, self.program, self.script = Path(folder), program, script
+        self.file, self.copies, self.started = self.folder / "desk.db", self.folder / "copies", []
+
+    def settings(self):
+        return {"PATH": f"{self.program.parent}:/usr/sbin:/usr/bin:/sbin:/bin", "LC_ALL": "C.UTF-8"}
+
+    def run(self, *words, given="", cwd=None, user=None, **more):
+        as_user = ["setpriv", "--reuid", user, "--regid", user, "--clear-groups", "--"] if user else []
+        told = subprocess.run([*as_user, *map(str, words)], input=given, capture_output=True, text=True, cwd=cwd or self.folder, env=self.settings(), timeout=120, **more)
+        return told.returncode, told.stdout, told.stderr
+
+    def words(self, *words):
+        return [PYTHON, self.script, "--file", self.file, "--folder", self.copies, *words]
+
+    def copy(self, *words, **how):
+        """acd-copy over this file."""
+        return self.run(*self.words(*words), **how)
+
+    # the desk
+
+    def plan(self):
+        (self.folder / "plan.csv").write_text(PLAN)
+        status, said, faults = self.run("acd", "import", "--file", self.file, "--plan", self.folder / "plan.csv")
+        if (status, said.count("200 "), faults) != (0, PLANNED, ""):
+            raise ValueError(f"no plan is taken: {said}{faults}")
+
+    def feed(self, requests, kills=False):
+        """The requests are answered; the desk is closed then, or killed, which leaves the last of them in the log."""
+        desk = subprocess.Popen(["acd", "lines", "--file", self.file], stdin=subprocess.PIPE, stdout=subprocess.PIPE, text=True, env=self.settings())
+        for request in requests:
+            desk.stdin.write(line(request))
+            desk.stdin.flush()
+            if not desk.stdout.readline().startswith("200 "):
+                raise ValueError(f"{request} isn't answered")
+        if kills:
+            desk.kill()
+        desk.communicate()
+
+    def serve(self, user=None):
+        """A desk that serves, and its port."""
+        port = free_port()
+        as_user = ["setpriv", "--reuid", user, "--regid", user, "--clear-groups", "--"] if user else []
+        desk = subprocess.Popen([*as_user, "acd", "serve", "--file", self.file, "--port", str(port), "--endless"], stdout=subprocess.PIPE, text=True, env=self.settings(), cwd=self.folder)
+        self.started.append(desk)
+        if desk.stdout.readline() != f"listening on 127.0.0.1:{port}\n":
+            raise ValueError("no desk serves")
+        return desk, port
+
+    def end(self):
+        for desk in self.started:
+            desk.send_signal(signal.SIGCONT)
+            desk.kill()
+            desk.communicate()
+        self.started = []
+
+    def copy_now(self):
+        """The moment of a copy that is sound."""
+        status, said, faults = self.copy()
+        name = said.rpartition("sound: ")[2].strip().rpartition("/")[2]
+        if status or not name:
+            raise ValueError(f"no copy is made: {said}{faults}")
+        return name
+
+    def folders(self, pattern, where=None):
+        return sorted((where or self.folder).glob(pattern))
+
+
+def ask(port, path, body=None, wait=5):
+    """The status and the body of an answer."""
+    asks = http.client.HTTPConnection("127.0.0.1", port, timeout=wait)
+    try:
+        asks.request("POST" if body else "GET", path, json.dumps(body) if body else None)
+        said = asks.getresponse()
+        return said.status, said.read().decode()
+    finally:
+        asks.close()
+
+
+class Load:
+    """Callers without an end, one request after the other; what was answered is noted."""
+
+    def __init__(self, port):
+        self.port, self.answered, self.goes_on = port, {}, True
+        self.thread = threading.Thread(target=self.work, daemon=True)
+        self.thread.start()
+
+    def work(self):
+        number = 0
+        while self.goes_on:
+            number += 1
+            try:
+                status, said = ask(self.port, "/csta", call(number, "load"))
+            except (OSError, http.client.HTTPException):
+                time.sleep(0.01)
+                continue
+            # a refusal is kept too, as that behind the greatest number of callers is
+            if status in (200, 409):
+                self.answered[number] = status, said
+            time.sleep(0.002)
+
+    def until(self, count):
+        """Waits for so many more answers."""
+        wanted, end = len(self.answered) + count, time.monotonic() + 20
+        while len(self.answered) < wanted and time.monotonic() < end:
+            time.sleep(0.01)
+        return len(self.answered) >= wanted
+
+    def stop(self):
+        self.goes_on = False
+        self.thread.join()
+
+
+def lost(load, port):
+    """The answered requests that a desk knows nothing of: sent again, they don't bring their answer."""
+    return [number for number, said in load.answered.items() if ask(port, "/csta", call(number, "load")) != said]
+
+
+def listing(folder):
+    """All that lies in a folder, with modes, links and bytes."""
+    found = {}
+    for path in sorted(folder.rglob("*")):
+        about = os.lstat(path)
+        content = os.readlink(path) if path.is_symlink() else (hashlib.sha256(path.read_bytes()).hexdigest() if path.is_file() else "")
+        found[str(path.relative_to(folder))] = (about.st_mode, about.st_uid, content)
+    return found

@@ -1,0 +1,165 @@
+"""What the cases of an office share: its desk as a service, with an agent, a station and a group, under load, and what the journal has of it."""
+import contextlib
+import json
+import re
+import shutil
+import sqlite3
+import tempfile
+import time
+from pathlib import Path
+
+from cases import Cases
+
+HOME, STATE, FILE, SETTINGS = "/root", "/var/lib/acd", "/var/lib/acd/desk.db", "/etc/acd/acd.env"
+PLAN = "kind,number,name,ring,wrap\ngroup,100,Billing,3,2\nstation,201,,,\nagent,7,Ana,,\n"
+LOAD = "/usr/local/bin/load"
+
+# asks for ticks, one after the other, each until it is answered, and writes down those that were
+LOADING = """#!/usr/bin/python3
+import http.client, json, sys, time
+requester, path, number = sys.argv[1], sys.argv[2], 0
+with open(path, "a", buffering=1) as answered:
+    while True:
+        number += 1
+        body, status = json.dumps({"requester": requester, "invoke": number, "service": "tick"}), 0
+        while status != 200:
+            try:
+                desk = http.client.HTTPConnection("127.0.0.1", 8080, timeout=5)
+                desk.request("POST", "/csta", body)
+                status = desk.getresponse().status
+                desk.close()
+            except (OSError, http.client.HTTPException):
+                pass
+            if status != 200:
+                time.sleep(0.02)
+        answered.write(f"{number}\\n")
+"""
+
+
+def prepare(container, packages, install):
+    """The package, as apt leaves it, and a plan; what dpkg said is kept for the cases."""
+    container.said = install(container, packages)
+    container.put(LOAD, LOADING, 0o755)
+    container.put("/plan.csv", PLAN)
+
+
+class Office(Cases):
+    # the desk and its files
+
+    def inside(self, path=FILE):
+        """A path of the container, with what is mounted there."""
+        return Path("/proc", str(self.container.leader), "root", str(path).lstrip("/"))
+
+    def held(self, *paths):
+        """What these files have; nothing where there is none."""
+        return [self.inside(path).read_bytes() if self.inside(path).exists() else None for path in paths or (FILE, f"{FILE}-wal")]
+
+    def names(self, folder=STATE):
+        return sorted(path.name for path in self.inside(folder).iterdir())
+
+    def page(self, heading=None):
+        """OPERATING.md of the package, or its part of this heading."""
+        text = self.inside("/usr/share/doc/acd/OPERATING.md").read_text()
+        return text.partition(f"\n## {heading}\n")[2].partition("\n## ")[0] if heading else text
+
+    def recipe(self, heading, begin, **changed):
+        """The lines of a part that are to be typed, from the one that begins so up to a line that isn't; with what its reader has in the place of these words."""
+        found = re.search(rf"^    ({re.escape(begin)}.*\n(?:    .*\n)*)", self.page(heading), re.MULTILINE)
+        self.expect(f"{heading} has lines from '{begin}' on", bool(found))
+        lines = re.sub("^    ", "", found[1], flags=re.MULTILINE) if found else ""
+        for old, new in changed.items():
+            lines = lines.replace(old, new)
+        return lines
+
+    def typed(self, lines, user=None, at=HOME):
+        """What somebody types in a folder, up to the first line that fails."""
+        return self.container.shell(f"set -e; cd {at}\n{lines}", user=user)
+
+    def set(self, name, value):
+        """A line of acd.env."""
+        settings = self.inside(SETTINGS)
+        settings.write_text(re.sub(f"^{name}=.*", f"{name}={value}", settings.read_text(), flags=re.MULTILINE))
+
+    def plan(self):
+        self.done("systemctl", "stop", "acd")
+        self.expect("a plan is taken", self.run("acd", "import", "--file", FILE, "--plan", "/plan.csv", user="acd")[1].count("200 "), 3)
+        self.done("systemctl", "start", "acd")
+        self.serves("with a plan")
+
+    def serves(self, when, port=8080):
+        self.expect(f"{when} the desk serves", self.eventually(lambda: self.curl(f"http://127.0.0.1:{port}/snapshot"), 200, 20), 200)
+
+    def kill(self):
+        """The desk is ended by SIGKILL, and stays down."""
+        self.done("sh", "-c", 'kill -KILL "$(systemctl show --value --property=MainPID acd)" && systemctl stop acd')
+
+    def sent(self, requester, count):
+        """So many ticks, one after the other."""
+        return [self.service(requester, number, "tick").get("result") for number in range(1, count + 1)]
+
+    def kept(self, requester, folder=STATE):
+        """The invoke numbers of a requester in a folder's desk, which is looked at in a copy, by SQLite."""
+        with tempfile.TemporaryDirectory() as scratch:
+            for part in ("desk.db", "desk.db-wal"):
+                if self.inside(f"{folder}/{part}").exists():
+                    shutil.copy(self.inside(f"{folder}/{part}"), scratch)
+            with contextlib.closing(sqlite3.connect(Path(scratch) / "desk.db")) as book:
+                return [row[0] for row in book.execute("SELECT invoke FROM kept WHERE requester = ? ORDER BY invoke", (requester,))]
+
+    @contextlib.contextmanager
+    def loaded(self, requester):
+        """Under load; at its end `self.answered` has what was answered."""
+        path = f"{HOME}/{requester}"
+        self.done("systemd-run", "--quiet", "--collect", f"--unit=load-{requester}", LOAD, requester, path)
+        try:
+            self.eventually(lambda: self.inside(path).exists() and len(self.inside(path).read_text()) > 20, True)
+            yield
+        finally:
+            self.done("systemctl", "stop", f"load-{requester}")
+            self.answered = [int(line) for line in self.inside(path).read_text().splitlines()]
+
+    # what systemd says
+
+    def show(self, *what, unit="acd"):
+        said = self.done("systemctl", "show", unit, *(f"--property={name}" for name in what))
+        found = dict(line.split("=", 1) for line in said.splitlines())
+        return [found[name] for name in what]
+
+    def mark(self):
+        """A place in the journal."""
+        return json.loads(self.done("journalctl", "--no-pager", "--lines=1", "--output=json"))["__CURSOR"]
+
+    def told(self, mark, name="acd-ready"):
+        """What a program has told since; the desk's own lines go by the name of acd-ready too, which it was."""
+        # journalctl passes over what is behind a place where only some of the journal is asked for
+        said = self.done("journalctl", "--no-pager", "--quiet", "--output=cat", f"--after-cursor={mark}")
+        return [line for line in said.splitlines() if line.startswith(f"{name}: ")]
+
+    def slowness(self):
+        """How many times longer a small command takes than on a machine that does little else, where it is a twentieth of a second or two; at least 1."""
+        began = time.monotonic()
+        self.run("python3", "-c", "pass")
+        return max(1, (time.monotonic() - began) / 0.2)
+
+    def fails(self, what, *words, status="64", before=(), told=1):
+        """The desk is started again: it has failed within two seconds, by one line with these words, isn't started again, and is named; the files are as they were."""
+        were, mark, slowness = self.held(*before), self.mark(), self.slowness()
+        self.run("systemctl", "restart", "acd")
+        self.expect(f"{what}: it has failed", self.eventually(lambda: self.show("ActiveState")[0], "failed", 10), "failed")
+        began, ended = (int(moment) / 1e6 for moment in self.show("ExecMainStartTimestampMonotonic", "ExecMainExitTimestampMonotonic"))
+        slowness = max(slowness, self.slowness())
+        self.expect(f"{what}: within two seconds ({ended - began:.1f}, {slowness:.1f} times as slow as at rest)", 0 < ended - began < 2 * slowness)
+        lines = self.told(mark)
+        self.expect(f"{what}: {lines}", (len(lines), [word for word in words if not any(word in line for line in lines)]), (told, []))
+        self.expect(f"{what}: its status", self.show("ExecMainStatus"), [status])
+        self.expect_in(f"{what}: it is named", self.run("systemctl", "--failed", "--no-legend", "--plain")[1], "acd.service")
+        time.sleep(3)
+        self.expect(f"{what}: it isn't started again", (self.show("ActiveState", "NRestarts"), len(self.told(mark))), (["failed", "0"], told))
+        self.expect(f"{what}: the files are as they were", self.held(*before) == were)
+
+    def restarts(self, what, *told):
+        """It is started again, and tells these lines alone."""
+        mark = self.mark()
+        self.done("systemctl", "restart", "acd")
+        self.serves(what)
+        self.expect(f"{what}: what is told", self.told(mark), list(told))

@@ -1,0 +1,233 @@
+"""Cases of starting: a file that isn't there, a port that is taken, settings that are wrong, a full disk; done wrong first, and then right."""
+import subprocess
+import time
+
+from office import FILE, HOME, STATE, Office
+
+LOG, NOTE, ROUNDS, KILLS = f"{FILE}-wal", f"{FILE}-pair", 50, 20
+
+
+class Starting(Office):
+    def try_all(self):
+        self.try_installed()
+        self.try_killed_make()
+        self.plan()
+        self.try_moved_file()
+        self.try_lone_log()
+        self.try_mistyped_file()
+        self.try_disk_that_is_away()
+        self.try_rights()
+        self.try_taken_port()
+        self.try_wrong_port()
+        self.try_rounds()
+        self.try_full_disk()
+        self.try_opened_first()
+        self.try_upgrade()
+
+    def try_installed(self):
+        """The package makes the first file, and says so; nothing has failed."""
+        self.expect_in("what dpkg says", self.container.said, f"(?m)^made {FILE}$")
+        self.serves("as it is installed")
+        self.expect("its file is nobody else's", self.done("stat", "-c", "%U %a", FILE, NOTE), "acd 600\nacd 600\n")
+        self.expect("nothing has failed", self.run("systemctl", "--failed", "--quiet"), (0, ""))
+        self.expect("what runs is the program", self.done("cat", f"/proc/{self.show('MainPID')[0]}/comm"), "acd\n")
+        after, wants, order = self.show("After", "Wants", "StartLimitIntervalUSec")
+        self.expect("it comes behind a clock that is set, and is started again without an end", ("time-sync.target" in after.split(), "time-sync.target" in wants.split(), order), (True, True, "0"))
+
+    def try_killed_make(self):
+        """The making of a new desk is killed again and again: there is a whole one or none, and the same command makes it. Over none no start makes one."""
+        self.done("systemctl", "stop", "acd")
+        self.done("sh", "-c", f"mkdir {HOME}/first && mv {FILE}* {HOME}/first")
+        self.fails("before a desk is made", f"{FILE} isn't there", f"acd-ready --make --file {FILE}")
+        for number in range(KILLS):
+            self.run("timeout", "--signal=KILL", f"{0.02 + 0.01 * number:.2f}", "acd-ready", "--make", "--file", FILE)
+            said = self.run("acd-ready", "--make", "--file", FILE)
+            self.expect(f"made behind kill {number}", said in ((0, f"made {FILE}\n"), (0, f"{FILE} is there already\n")))
+            self.expect(f"it is whole, and alone, behind kill {number}", (self.run("acd", "audit", "--file", FILE, user="acd"), [name for name in self.names() if "new-desk" in name]), ((0, "sound\n"), []))
+            self.done("sh", "-c", f"rm {FILE}*")
+        self.done("sh", "-c", f"mv {HOME}/first/* {STATE}")
+        self.restarts("with the first one")
+
+    def try_moved_file(self):
+        """The file is moved away under load. It goes on; a restart makes no other one, and the log stays: with the file back all is there."""
+        with self.loaded("moved"):
+            self.done("mv", FILE, f"{STATE}/x")
+            time.sleep(1)
+            answered = self.inside(f"{HOME}/moved").read_text().count("\n")
+            time.sleep(1)
+            self.expect("the desk goes on over the moved file", self.inside(f"{HOME}/moved").read_text().count("\n") > answered)
+            self.done("sh", "-c", 'kill -KILL "$(systemctl show --value --property=MainPID acd)"')
+            self.eventually(lambda: self.show("ActiveState")[0], "failed", 10)
+            self.fails("a file that was moved away", f"{FILE} isn't there, but its log {LOG} is there", "put desk.db or a copy back", "don't remove it", before=(LOG, f"{STATE}/x"))
+            self.expect("no other file is made", self.inside().exists(), False)
+            self.done("mv", f"{STATE}/x", FILE)
+            self.restarts("with the file back")
+        self.done("systemctl", "stop", "acd")
+        self.expect("each answered request is there, once", set(self.answered) <= set(self.kept("moved")) and len(self.answered) > 20)
+        self.expect("and the audit says so", self.run("acd", "audit", "--file", FILE, user="acd"), (0, "sound\n"))
+
+    def try_lone_log(self):
+        """A file of no bytes beside a log that holds something, as a restore that ends half-way leaves it."""
+        self.restarts("before it")
+        self.sent("lone", 5)
+        self.kill()
+        file = self.held(FILE)[0]
+        self.inside().write_bytes(b"")
+        self.fails("a file of no bytes", f"{FILE} has no bytes, but its log", before=(FILE, LOG))
+        self.inside().write_bytes(file)
+        self.restarts("with the file back")
+        self.done("systemctl", "stop", "acd")
+        self.expect("what was answered is there", self.kept("lone"), [1, 2, 3, 4, 5])
+
+    def try_mistyped_file(self):
+        """A typing mistake in acd.env makes no new desk; nor does a folder's name."""
+        self.set("ACD_FILE", f"{STATE}/dsek.db")
+        self.fails("a mistyped file", f"{STATE}/dsek.db isn't there", f"acd-ready --make --file {STATE}/dsek.db")
+        self.set("ACD_FILE", STATE)
+        self.fails("a folder", f"{STATE} is no file")
+        self.set("ACD_FILE", "")
+        self.fails("no file", "the file has no name", status="2")
+        self.expect("nothing is made", "dsek.db" in self.names(), False)
+        self.set("ACD_FILE", FILE)
+        self.restarts("with its own file")
+
+    def try_disk_that_is_away(self):
+        """A desk on a disk of its own, which isn't mounted at a start."""
+        place = "/srv/desk"
+        self.done("systemctl", "stop", "acd")
+        self.done("install", "-d", place)
+        self.container.put("/etc/systemd/system/acd.service.d/disk.conf", f"[Service]\nReadWritePaths={place}\n")
+        self.done("systemctl", "daemon-reload")
+        self.set("ACD_FILE", f"{place}/desk.db")
+        self.fails("a disk that is away", f"{place}/desk.db isn't there")
+        status, said = self.run("acd-ready", "--make", "--file", f"{place}/desk.db", user="acd")
+        self.expect("nor is a new desk made there by its user", (status, said.count("\n"), f"may not write in {place}" in said), (64, 1, True))
+        self.done("mount", "-t", "tmpfs", "none", place)
+        self.done("chown", "acd:acd", place)
+        self.fails("a disk with no desk", f"{place}/desk.db isn't there", "acd-ready --make")
+        self.expect("made as the line says", self.run("acd-ready", "--make", "--file", f"{place}/desk.db"), (0, f"made {place}/desk.db\n"))
+        self.expect("by root, for the folder's owner", self.done("stat", "-c", "%U:%G %a", f"{place}/desk.db"), "acd:acd 600\n")
+        self.restarts("on its own disk")
+        self.done("rm", "/etc/systemd/system/acd.service.d/disk.conf")
+        self.done("systemctl", "daemon-reload")
+        self.fails("a folder that isn't named to the unit", f"{place} is read-only", f"ReadWritePaths={place}", before=(f"{place}/desk.db",))
+        self.set("ACD_FILE", FILE)
+        self.restarts("with its own file")
+        self.done("umount", place)
+
+    def try_rights(self):
+        """Whose the file is, and who may write in its folder."""
+        self.done("systemctl", "stop", "acd")
+        for what, wrong, right, *words in (
+                ("root's file", ("chown", "root", FILE), ("chown", "acd", FILE), f"{FILE} is the user root's and not acd's: chown acd {FILE}"),
+                ("root's log", ("chown", "root", LOG), ("chown", "acd", LOG), f"{LOG} is the user root's and not acd's: chown acd {LOG}"),
+                ("a file to be read only", ("chmod", "400", FILE), ("chmod", "600", FILE), f"the user acd may not read and write {FILE}: chmod 600 {FILE}"),
+                ("a second name", ("ln", FILE, f"{STATE}/second"), ("rm", f"{STATE}/second"), "has 2 names", "-samefile"),
+                ("root's folder", ("chown", "root:root", STATE), ("chown", "acd:acd", STATE), f"the user acd may not look into {STATE}"),
+                ("a folder to be read only", ("chmod", "550", STATE), ("chmod", "750", STATE), f"the user acd may not write in {STATE}")):
+            self.done(*wrong)
+            self.fails(what, *words)
+            self.done(*right)
+            self.restarts(f"without {what}")
+            self.done("systemctl", "stop", "acd")
+        self.done("mv", FILE, f"{STATE}/x")
+        self.done("rm", LOG)
+        self.expect("root makes the first file by an import", self.run("acd", "import", "--file", FILE, "--plan", "/plan.csv")[0], 0)
+        self.fails("a file that root made", f"{FILE} is the user root's")
+        self.done("rm", FILE, LOG)
+        self.done("mv", f"{STATE}/x", FILE)
+        self.restarts("with its own file")
+
+    def stranger(self, port=8080):
+        """Another program that listens."""
+        self.done("systemd-run", "--quiet", "--collect", "--unit=stranger", "--uid=www-data", "python3", "-m", "http.server", str(port), "--bind", "127.0.0.1", "--directory", "/srv")
+        self.expect("a stranger listens", self.eventually(lambda: f":{port} " in self.run("ss", "-Hltn")[1], True), True)
+
+    def try_taken_port(self):
+        """Another program has the port: told at once, and it is sent no tick."""
+        self.set("ACD_STEP", "2")
+        self.done("systemctl", "restart", "acd-tick")
+        self.done("systemctl", "stop", "acd")
+        ticks = self.mark()
+        self.stranger()
+        self.fails("a taken port", "port 8080 is taken", "ss -ltnp sport = :8080", "ACD_PORT in /etc/acd/acd.env")
+        self.expect_in("the line's own advice names who has it", self.done("ss", "-ltnp", "sport = :8080"), "python3")
+        told = self.eventually(lambda: self.told(ticks, "acd-tick"), ["acd-tick: who listens at port 8080 is no desk, and is sent nothing"])
+        self.expect("the ticks tell it too", told, ["acd-tick: who listens at port 8080 is no desk, and is sent nothing"])
+        asked = self.journal("stranger")
+        self.expect("the stranger is asked, and sent nothing", ("GET /snapshot" in asked, "POST" in asked), (True, False))
+        status, said = self.run("dpkg", "--install", *[f"{HOME}/{path.name}" for path in self.inside(HOME).glob("acd_*.deb")])
+        self.expect("an installation goes on", status, 0)
+        self.expect_in("and says it", said, r"(?m)^acd: the desk isn't served: port 8080 is taken: end who listens there")
+        self.done("systemctl", "stop", "stranger")
+        self.restarts("without the stranger")
+
+    def try_wrong_port(self):
+        for value, status, word in (("80", "64", "port 80 isn't given to the user acd"), ("abc", "2", "the port 'abc' isn't a whole number from 1 to 65535"), ("", "2", "the port '' isn't"), ("99999", "2", "the port '99999' isn't")):
+            self.set("ACD_PORT", value)
+            self.fails(f"port '{value}'", word, status=status)
+        self.set("ACD_PORT", "8080")
+        self.done("systemctl", "restart", "acd-local")
+        self.restarts("with its own port")
+
+    def try_rounds(self):
+        """Restarts under load: none fails, and nothing that was answered is lost."""
+        mark, failed = self.mark(), []
+        with self.loaded("rounds"):
+            for number in range(ROUNDS):
+                status, said = self.run("systemctl", "restart", "acd")
+                if status or self.eventually(lambda: self.curl("http://127.0.0.1:8080/snapshot"), 200) != 200:
+                    failed.append((number, said))
+        self.expect(f"of {ROUNDS} restarts under load failed", failed, [])
+        self.expect("none was started again by itself, none told anything", (self.show("NRestarts", "ActiveState"), self.told(mark)), (["0", "active"], []))
+        self.done("systemctl", "stop", "acd")
+        self.expect("each answered request is there, once", self.kept("rounds")[:len(self.answered)], self.answered)
+        self.expect(f"under load: {len(self.answered)}", len(self.answered) > 4 * ROUNDS)
+        self.restarts("later")
+
+    def try_full_disk(self):
+        """A full disk: started again until there is room, and then it serves, with all that was answered."""
+        self.done("systemctl", "stop", "acd")
+        held = self.held(FILE)[0]
+        size = (len(held) + 600000) // 4096
+        self.done("mount", "-t", "tmpfs", "-o", f"size={4 * size}k,mode=750,uid={self.done('id', '-u', 'acd').strip()},gid={self.done('id', '-g', 'acd').strip()}", "none", STATE)
+        self.inside().write_bytes(held)
+        self.done("chown", "acd:acd", FILE)
+        self.done("systemctl", "start", "acd")
+        self.serves("on a small disk")
+        with self.loaded("full"):
+            self.expect("it is full, and started again", self.eventually(lambda: int(self.show("NRestarts")[0]) >= 3, True, 90), True)
+            self.inside(f"{STATE}/filler").touch()
+            self.run("sh", "-c", f"cat /dev/zero > {STATE}/filler")
+            self.expect("it hasn't failed for good", [state for state in (self.show("ActiveState")[0] for _ in range(10) if not time.sleep(0.5)) if state == "failed"], [])
+            answered = self.inside(f"{HOME}/full").read_text().count("\n")
+            self.done("mount", "-o", f"remount,size={4 * size + 40000}k", STATE)
+            self.expect("there is room, and it answers again", self.eventually(lambda: self.inside(f"{HOME}/full").read_text().count("\n") > answered + 20, True, 30), True)
+        self.done("systemctl", "stop", "acd")
+        self.expect("each answered request is there, once", self.kept("full")[:len(self.answered)], self.answered)
+        self.done("umount", STATE)
+        self.restarts("on its own disk")
+
+    def try_opened_first(self):
+        """What is told is told before anything opens the file: by the calls of the kernel, up to the one by which it becomes the program."""
+        self.done("systemctl", "stop", "acd")
+        words = ["strace", "-f", "-qq", "-e", "trace=open,openat,execve", "-o", "/tmp/calls", "acd-ready", "--serve", "--file", FILE, "--port", "8079"]
+        process = subprocess.Popen(self.container.words(words, user="acd"), stdout=subprocess.DEVNULL, stderr=subprocess.DEVNULL)
+        self.serves("by hand", 8079)
+        before, mark, behind = self.done("cat", "/tmp/calls").partition('execve("/usr/bin/acd", ["acd", "serve", "--file"')
+        self.done("kill", before.splitlines()[-1].split()[0])
+        process.wait()
+        opened = [[line for line in part.splitlines() if "open" in line and f'"{FILE}"' in line] for part in (before, behind)]
+        self.expect(f"it opens the file as the program alone: {opened}", list(map(bool, opened)), [False, True])
+        self.restarts("by the service")
+
+    def try_upgrade(self):
+        """A package that is installed again over a desk whose file is away: nothing is made in its place."""
+        self.done("systemctl", "stop", "acd")
+        self.done("mv", FILE, f"{STATE}/x")
+        status, said = self.run("dpkg", "--install", *[f"{HOME}/{path.name}" for path in self.inside(HOME).glob("acd_*.deb")])
+        self.expect("it is installed", status, 0)
+        self.expect_in("and says it", said, f"(?m)^acd: the desk isn't served: {FILE} isn't there")
+        self.expect("nothing is made", self.inside().exists(), False)
+        self.done("mv", f"{STATE}/x", FILE)
+        self.restarts("with the file back")

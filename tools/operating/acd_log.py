@@ -1,0 +1,136 @@
+"""Whether the log of a desk's file is whole, ends early or is damaged, told by its frames alone: neither it nor the file is opened as a database.
+
+It reads the log's form as SQLite describes it (fileformat2.html, section 4), and is tested, not proved. A log has a head of 32 bytes, and frames of 24
+bytes and a page. What a command takes of it ends before the first bad frame: one that hasn't the head's salt, or whose checksum, which goes on from
+frame to frame, doesn't fit. A power cut may spoil the last commit, whose answers nobody has got. So a log is damaged where, behind its first bad
+frame, a frame with the head's salt ends a commit, and behind that one another frame has the head's salt: what is between was on the disk before the
+later one was written."""
+import os
+import struct
+import sys
+from array import array
+from dataclasses import dataclass
+
+HEAD, FRAME = 32, 24
+# by the last bit of the magic number the checksum reads words with the lowest byte first, or with the highest
+ORDERS = {0x377F0682: "little", 0x377F0683: "big"}
+VERSION, SIZES = 3007000, [1 << power for power in range(9, 17)]
+
+
+@dataclass(frozen=True)
+class Sound:
+    """All that it holds is taken, or it holds nothing."""
+
+
+@dataclass(frozen=True)
+class Torn:
+    """It ends in a commit that isn't whole, as behind a power cut: nothing that was answered is missing. The frames count from 1, offsets from 0."""
+    frame: int
+    offset: int
+
+
+@dataclass(frozen=True)
+class Damaged:
+    """Answered requests are missing: those of this frame and of all that stand behind it."""
+    frame: int
+    offset: int
+
+
+@dataclass(frozen=True)
+class Unreadable:
+    """Its head can't be read, so nothing says what stands behind it."""
+    why: str
+
+
+def summed(order, sums, data):
+    """The checksum that goes on over these bytes."""
+    words = array("I", data)
+    if order != sys.byteorder:
+        words.byteswap()
+    first, second = sums
+    pairs = iter(words)
+    for word, next_word in zip(pairs, pairs):
+        first = first + word + second & 0xFFFFFFFF
+        second = second + next_word + first & 0xFFFFFFFF
+    return first, second
+
+
+def commits(frame):
+    """Whether a frame ends a commit: it says then how many pages the file has, and else 0."""
+    return frame[4:8] != bytes(4)
+
+
+class Reader:
+    """The frames behind a head that can be read."""
+
+    def __init__(self, file, head):
+        magic, _, self.page = struct.unpack_from(">3I", head)
+        self.order, self.salt, self.begin = ORDERS[magic], head[16:24], struct.unpack_from(">2I", head, 24)
+        self.file, self.count = file, (os.fstat(file.fileno()).st_size - HEAD) // (FRAME + self.page)
+
+    def offset(self, frame):
+        return HEAD + (frame - 1) * (FRAME + self.page)
+
+    def sums_behind(self, sums, data):
+        """The checksum behind a frame, which goes on from the one before it; nothing where the frame is bad, or was cut meanwhile."""
+        if len(data) < FRAME + self.page or data[8:16] != self.salt or data[:4] == bytes(4):
+            return None
+        sums = summed(self.order, summed(self.order, sums, data[:8]), data[FRAME:])
+        return sums if sums == struct.unpack_from(">2I", data, 16) else None
+
+    def good(self):
+        """How many frames from the first on are good, and how many of these make whole commits."""
+        self.file.seek(HEAD)
+        sums, committed = self.begin, 0
+        for frame in range(1, self.count + 1):
+            data = self.file.read(FRAME + self.page)
+            sums = self.sums_behind(sums, data)
+            if sums is None:
+                return frame - 1, committed
+            committed = frame if commits(data) else committed
+        return self.count, committed
+
+    def salted(self, begin):
+        """Of each frame from this one on that has the head's salt: whether it ends a commit."""
+        for frame in range(begin, self.count + 1):
+            self.file.seek(self.offset(frame))
+            front = self.file.read(16)
+            if front[8:] == self.salt:
+                yield commits(front)
+
+    def look(self):
+        good, committed = self.good()
+        behind = self.salted(good + 2)
+        # any() leaves what stands behind the first that ends a commit
+        if any(behind) and next(behind, None) is not None:
+            return Damaged(good + 1, self.offset(good + 1))
+        if next(self.salted(committed + 1), None) is not None:
+            return Torn(committed + 1, self.offset(committed + 1))
+        return Sound()
+
+
+def fault_of(head):
+    """Why a head can't be read, if so."""
+    magic, version, page = struct.unpack_from(">3I", head)
+    if magic not in ORDERS or summed(ORDERS[magic], (0, 0), head[:24]) != struct.unpack_from(">2I", head, 24):
+        return "its head is damaged"
+    if version != VERSION:
+        return f"its head names version {version} of the form"
+    return None if page in SIZES else f"its head names pages of {page} bytes"
+
+
+def look(path):
+    """What the log at this path is: Sound, Torn, Damaged or Unreadable. One that isn't there holds nothing. OSError where it can't be read."""
+    try:
+        file = open(path, "rb")
+    except FileNotFoundError:
+        return Sound()
+    with file:
+        head = file.read(HEAD)
+        # a log that is being emptied begins with 0 until that is done
+        if os.fstat(file.fileno()).st_size < HEAD + FRAME or not head[0]:
+            return Sound()
+        why = fault_of(head)
+        if not why:
+            return Reader(file, head).look()
+        return Unreadable(why) if any(any(part) for part in iter(lambda: file.read(65536), b"")) else Sound()

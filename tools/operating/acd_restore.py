@@ -1,0 +1,403 @@
+"""Puts a copy of a desk's file back in the file's place, and takes that back. Tested, not proved.
+
+Beside the file F a restore makes a folder put-away-DATE-RANDOM. In it F and its log are put away; in its folder `new` is what comes in their place, until
+that is there; and its file `state.json` says which is which. From the moment on that F is touched until all is in place F has a second name, or is a link
+that leads nowhere, and no command opens either. So each command finds at any moment a whole pair, or can't open F. Each step is on the disk before the
+next one begins, and is one that was done or is still to do, whenever it was broken off: by the same steps it is ended, and taken back."""
+import contextlib
+import fcntl
+import json
+import os
+import pwd
+import secrets
+import shutil
+import stat
+import subprocess
+import tempfile
+import time
+from dataclasses import dataclass, field
+from pathlib import Path
+
+import acd_audit
+import acd_held
+import acd_pair
+from acd_pair import log_of
+
+NOWHERE = "/dev/null/"
+# SQLite's pending, reserved and shared locks, which the program takes too
+LOCKS_AT, LOCKS = 1 << 30, 512
+IN, BACK = "restore", "undo"
+# what goes with a file: its log, and what SQLite leaves where it was ended
+PARTS = ("", "-wal", "-journal", "-shm")
+# the folders that nobody knows of yet, or any more
+HALF = ".put-away."
+
+
+class Fault(Exception):
+    """Why it wasn't done, in one line, and the status."""
+
+    def __init__(self, text, status=1):
+        super().__init__(text)
+        self.status = status
+
+
+# Files
+
+def inode(path):
+    """That of a file; nothing where there is none. A link isn't followed."""
+    try:
+        found = os.lstat(path)
+    except FileNotFoundError:
+        return None
+    return found.st_ino if stat.S_ISREG(found.st_mode) else None
+
+
+def sync(*paths):
+    for path in paths:
+        opened = os.open(path, os.O_RDONLY)
+        os.fsync(opened)
+        os.close(opened)
+
+
+def move(source, target):
+    os.rename(source, target)
+    sync(*{source.parent, target.parent})
+
+
+def remove(path):
+    os.unlink(path)
+    sync(path.parent)
+
+
+def is_hidden(file):
+    """Whether a link that leads nowhere has the file's name."""
+    return os.path.islink(file) and os.readlink(file).startswith(NOWHERE)
+
+
+# Two pairs, of which one is in place
+
+@dataclass
+class Pair:
+    """A file with what lies beside it, by the inodes of what is there; and where it lies while it isn't in place."""
+    home: Path
+    name: str
+    parts: dict = field(default_factory=dict)
+
+    def at_home(self, part=""):
+        return self.home / f"{self.name}{part}"
+
+    def found(self, file):
+        """As it lies now, in this place."""
+        self.parts = {part: inode(f"{file}{part}") for part in PARTS}
+
+    def is_at(self, path, part=""):
+        return self.parts[part] is not None and inode(path) == self.parts[part]
+
+    def is_at_home(self, part=""):
+        return self.is_at(self.at_home(part), part)
+
+    def is_none(self):
+        return self.parts[""] is None
+
+
+def other(path, leaving):
+    return Fault(f"{path} isn't the one any more that it was when this was begun: look at it, and at {leaving.home}")
+
+
+def hide(file, leaving, link):
+    """Gives the file's name to a link that leads nowhere. By then the file has its name at home too; while it has both no command opens it."""
+    if is_hidden(file):
+        return
+    if leaving.is_none():
+        if os.path.lexists(file):
+            raise other(file, leaving)
+        os.symlink(link, file)
+        sync(file.parent)
+        return
+    if not leaving.is_at(file):
+        raise other(file, leaving)
+    if not leaving.is_at_home():
+        os.link(file, leaving.at_home())
+        sync(leaving.home)
+    new = leaving.home / "nowhere"
+    if os.path.lexists(new):
+        os.unlink(new)
+    os.symlink(link, new)
+    move(new, file)
+
+
+def exchange(file, leaving, coming, link):
+    """Takes one pair out of its place and puts the other one there. Begun anew it does what is still to do."""
+    if coming.is_at(file):
+        # the other way was broken off as the file had just got its second name
+        if coming.is_at_home():
+            remove(coming.at_home())
+        return
+    if coming.is_none() and not leaving.is_none() and not os.path.lexists(file):
+        return
+    hide(file, leaving, link)
+    beside = {part: Path(f"{file}{part}") for part in PARTS if part}
+    for part, path in beside.items():
+        if leaving.is_at(path, part):
+            move(path, leaving.at_home(part))
+        elif os.path.lexists(path) and not coming.is_at(path, part):
+            raise other(path, leaving)
+    for part, path in beside.items():
+        if coming.is_at_home(part):
+            move(coming.at_home(part), path)
+    if coming.is_none():
+        remove(file)
+    else:
+        move(coming.at_home(), file)
+
+
+def note(file):
+    """Which file and which log are together now. One that isn't true any more mustn't stay where a full disk has no room for another."""
+    try:
+        acd_pair.remember(file)
+    except OSError:
+        acd_pair.note_of(file).unlink(missing_ok=True)
+
+
+# The folder
+
+def fresh(file, name):
+    """A name beside the file that nothing has."""
+    return file.parent / f"{name}-{time.strftime('%Y-%m-%dT%H%M%SZ', time.gmtime())}-{secrets.token_hex(3)}"
+
+
+class PutAway:
+    """A folder put-away-DATE-RANDOM, and what its state says: of which file it is, the restore's number, the moment of the copy, which way is gone, whether
+    what came was ever in place, and both pairs."""
+
+    def __init__(self, folder, file):
+        self.folder, self.file = folder, file
+        self.old, self.new = Pair(folder, file.name), Pair(folder / "new", file.name)
+        self.number, self.moment, self.way, self.was_in_place = 0, "", IN, False
+
+    def state(self):
+        return self.folder / "state.json"
+
+    def load(self, said):
+        self.number, self.moment, self.way, self.was_in_place = said["number"], said["moment"], said["way"], said["was_in_place"]
+        self.old.parts, self.new.parts = said["old"], said["new"]
+        return self
+
+    def save(self):
+        """In one step, so that there is always a whole one."""
+        new = self.folder / ".state.json"
+        new.write_text(json.dumps({"file": self.file.name, "number": self.number, "moment": self.moment, "way": self.way, "was_in_place": self.was_in_place,
+                                   "old": self.old.parts, "new": self.new.parts}) + "\n")
+        sync(new)
+        move(new, self.state())
+
+    def is_ended(self):
+        return self.way == IN and not self.new.home.exists()
+
+    def is_untouched(self):
+        """Whether it was broken off before anything was moved."""
+        return self.way == IN and self.new.is_at_home() and not self.old.at_home().exists() and not is_hidden(self.file)
+
+    def told(self):
+        """How one that isn't ended is ended."""
+        back = "" if self.way == BACK else f"acd-copy --restore {self.moment} ends it, "
+        return f"the {self.way} of {self.moment} isn't ended: {back}acd-copy --undo {'ends it' if self.way == BACK else 'takes it back'}"
+
+    def turn(self):
+        """From now on the way is back, from wherever it was broken off, or from its end, since when there may be other files in place."""
+        if not self.new.is_at_home():
+            self.was_in_place = True
+            self.new.found(self.file)
+            if self.is_ended():
+                if not self.old.is_none() and inode(self.old.at_home()) is None:
+                    raise Fault(f"{self.folder} hasn't the file any more that was put away")
+                self.old.found(self.old.at_home())
+        self.way = BACK
+        self.save()
+
+    def go(self):
+        """The way to its end."""
+        if self.way == BACK:
+            self.new.home.mkdir(exist_ok=True)
+        leaving, coming = (self.old, self.new) if self.way == IN else (self.new, self.old)
+        exchange(self.file, leaving, coming, NOWHERE + self.told())
+        if self.file.exists():
+            note(self.file)
+
+    def forget(self):
+        """Under another name first, so that half a folder isn't taken for one."""
+        gone = Path(tempfile.mkdtemp(prefix=HALF, dir=self.file.parent))
+        move(self.folder, gone)
+        shutil.rmtree(gone)
+
+
+def folders_of(file):
+    """The folders of this file."""
+    for folder in file.parent.glob("put-away-*"):
+        one = PutAway(folder, file)
+        if one.state().exists():
+            said = json.loads(one.state().read_text())
+            if said["file"] == file.name:
+                yield one.load(said)
+
+
+def put_away(file):
+    """The folders of this file, by their numbers. What is half made or half removed is cleared away: nobody knows of it."""
+    for half in file.parent.glob(f"{HALF}*"):
+        shutil.rmtree(half)
+    return sorted(folders_of(file), key=lambda one: one.number)
+
+
+def unfinished(file):
+    """How a restore is ended that was broken off while the file was a link that leads nowhere, or had a second name; nothing where there is none."""
+    if is_hidden(file):
+        return os.readlink(file)[len(NOWHERE):]
+    # where it has one name alone, no folder is looked at
+    if inode(file) is None or os.stat(file).st_nlink == 1:
+        return None
+    return next((one.told() for one in folders_of(file) if inode(file) in (inode(one.old.at_home()), inode(one.new.at_home()))), None)
+
+
+# Who may, and beside whom
+
+def refuse_beside(file):
+    """A restore isn't for a file that a program has open, or that a desk was started over, whichever it has open."""
+    found = [process for process in dict.fromkeys(acd_held.holders(file) + acd_held.desks(file)) if process != os.getpid()]
+    if found:
+        programs = ", ".join(f"process {process} ({' '.join(acd_held.words(process)[:4])})" for process in found)
+        raise Fault(f"{file} is open in {programs}: {' && '.join(dict.fromkeys(map(acd_held.stopping, found)))}; nothing was touched")
+
+
+def name_of(user):
+    try:
+        return pwd.getpwuid(user).pw_name
+    except KeyError:
+        return str(user)
+
+
+def refuse_machines(file):
+    """One of several is fed from their log, from its place on, and an older file would lack what is before that."""
+    at = file.parent / "at"
+    if at.exists():
+        raise Fault(f"{at} says that this is one of several machines: copy another one's folder; nothing was touched")
+
+
+def owner_of(file):
+    """The user and the group whose file it is, or would be. Nobody else but root puts a copy back."""
+    found = os.lstat(file if os.path.lexists(file) else file.parent)
+    if os.geteuid() not in (0, found.st_uid):
+        raise Fault(f"only root and the user {name_of(found.st_uid)} put a copy of {file} back")
+    return found.st_uid, found.st_gid
+
+
+def become(user, group):
+    """All that is made is the owner's, and is made with no more rights than the owner has."""
+    if os.geteuid() != user:
+        os.setgroups([])
+        os.setgid(group)
+        os.setuid(user)
+
+
+@contextlib.contextmanager
+def alone(file):
+    """Nobody else puts files away in this folder, and no program opens the file as long as it lies there."""
+    owner = owner_of(file)
+    refuse_beside(file)
+    become(*owner)
+    refuse_machines(file)
+    with contextlib.ExitStack() as stack:
+        folder = os.open(file.parent, os.O_RDONLY)
+        stack.callback(os.close, folder)
+        try:
+            fcntl.flock(folder, fcntl.LOCK_EX | fcntl.LOCK_NB)
+            if inode(file) is not None:
+                has = stack.enter_context(open(file, "rb+", buffering=0))
+                fcntl.lockf(has, fcntl.LOCK_EX | fcntl.LOCK_NB, LOCKS, LOCKS_AT)
+        except BlockingIOError:
+            raise Fault(f"another program, which this user can't see, has {file} open, or restores it: stop it first; nothing was touched") from None
+        yield
+
+
+# Both ways
+
+def copy_of(file, copies, moment):
+    """The folder of a copy."""
+    copy = copies / moment
+    if moment in ("", ".", "..") or "/" in moment or not (copy / file.name).is_file():
+        there = sorted(path.name for path in copies.glob("*") if (path / file.name).is_file())
+        raise Fault(f"there is no copy {moment} of {file.name} in {copies}; there are: {', '.join(there) or 'none'}")
+    return copy
+
+
+def copied(file, copy, home):
+    """A copy of the copy, as the owner's alone; audited, as it will lie in its place."""
+    home.mkdir()
+    new = home / file.name
+    for part, target in ((copy / file.name, new), (log_of(copy / file.name), log_of(new))):
+        if part.exists() and subprocess.run(["cp", "--reflink=auto", "--preserve=timestamps", "--", part, target]).returncode:
+            raise Fault(f"{part} can't be copied; nothing was touched")
+    had_log = log_of(new).exists()
+    sync(*home.iterdir(), home)
+    found = acd_audit.audited(new)
+    if found.verdict != acd_audit.SOUND:
+        raise Fault(f"the copy isn't sound: the audit says '{found.said}'; nothing was touched")
+    # the audit made one, and left nothing in it
+    if not had_log and log_of(new).exists() and log_of(new).stat().st_size <= acd_pair.EMPTY:
+        log_of(new).unlink()
+    for part in home.iterdir():
+        part.chmod(0o600)
+    sync(*home.iterdir(), home)
+
+
+def prepared(file, copy, number):
+    """A folder with all that comes, beside the file; until it has its name nobody knows of it."""
+    half = PutAway(Path(tempfile.mkdtemp(prefix=HALF, dir=file.parent)), file)
+    try:
+        copied(file, copy, half.new.home)
+        half.number, half.moment = number, copy.name
+        half.old.found(file)
+        half.new.found(half.new.at_home())
+        half.save()
+        named = PutAway(fresh(file, "put-away"), file)
+        move(half.folder, named.folder)
+    except BaseException:
+        shutil.rmtree(half.folder, ignore_errors=True)
+        raise
+    return named.load(json.loads(named.state().read_text()))
+
+
+def restore(file, copies, moment, say):
+    """Puts a copy in the place of the file, or ends that where it was broken off."""
+    with alone(file):
+        copy = copy_of(file, copies, moment)
+        known = put_away(file)
+        begun = next((one for one in known if not one.is_ended()), None)
+        if begun and begun.is_untouched():
+            begun.forget()
+            begun = None
+        if begun and (begun.way == BACK or begun.moment != moment):
+            raise Fault(begun.told())
+        one = begun or prepared(file, copy, 1 + max((one.number for one in known), default=0))
+        one.go()
+        say(f"{file} is the copy of {moment}; what was in its place lies in {one.folder}, and acd-copy --undo puts it back")
+        one.new.home.rmdir()
+        sync(one.folder)
+
+
+def undo(file, say):
+    """Takes the last restore back, or the one that was broken off, or ends that."""
+    with alone(file):
+        known = put_away(file)
+        one = next((one for one in known if not one.is_ended()), known[-1] if known else None)
+        if not one:
+            raise Fault(f"there is no restore to take back: beside {file} lies no folder put-away-DATE-RANDOM of it")
+        if one.way == IN:
+            one.turn()
+        one.go()
+        was = ""
+        if one.was_in_place and any(one.new.home.iterdir()):
+            taken = fresh(file, "taken-back")
+            move(one.new.home, taken)
+            was = f"; what was in its place lies in {taken}"
+        say(f"{file} is what it was before the restore of {one.moment}{was}")
+        one.forget()
