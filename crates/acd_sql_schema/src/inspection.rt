@@ -52,10 +52,8 @@ fn is_good_meta<S: Alter>(conn: &mut Connection<S>) -> Result<bool, Error>
         (λ d good. TellsGood table.Meta d.trees good) }
     ensures looked { BlamesOver (BeginsSchema nine) [] S.Store conn.old conn.new result }
 {
-    match meta_rows(conn) {
-        Ok(rows) => Ok(are_counters(&rows)),
-        Err(error) => Err(error),
-    }
+    let rows = meta_rows(conn)?;
+    Ok(are_counters(&rows))
 }
 
 // Whether each value of the connections is in its range.
@@ -64,10 +62,8 @@ fn are_good_connections<S: Alter>(conn: &mut Connection<S>) -> Result<bool, Erro
         (λ d good. TellsGood table.Connections d.trees good) }
     ensures looked { BlamesOver (BeginsSchema nine) [] S.Store conn.old conn.new result }
 {
-    match unordered_connection_rows(conn) {
-        Ok(rows) => Ok(are_connections(&rows)),
-        Err(error) => Err(error),
-    }
+    let rows = unordered_connection_rows(conn)?;
+    Ok(are_connections(&rows))
 }
 
 #[tactic(auto, unfolding(acd_sql_columns::specs::AnyRows::are_good))]
@@ -83,10 +79,8 @@ fn are_good_further<S: Alter>(conn: &mut Connection<S>) -> Result<bool, Error>
         (λ d good. TellsGood table.AgentGroups d.trees good) }
     ensures looked { BlamesOver IsBookSchema [] S.Store conn.old conn.new result }
 {
-    match further_rows(conn) {
-        Ok(rows) => Ok(are_further(&rows)),
-        Err(error) => Err(error),
-    }
+    let rows = further_rows(conn)?;
+    Ok(are_further(&rows))
 }
 
 // The number of a row where each of its values is in its range.
@@ -161,10 +155,8 @@ fn page_behind<S: Alter>(
     ensures rises { IfOk result (λ page. IsPageAbove number page) }
     ensures looked { BlamesIn (IsPaged log) S.Store conn.old conn.new result }
 {
-    match rows_above(log, conn, number) {
-        Ok(rows) => page_of(kept, log, number, &rows),
-        Err(error) => Err(error),
-    }
+    let rows = rows_above(log, conn, number)?;
+    page_of(kept, log, number, &rows)
 }
 
 // Whether each value of a row from 1 on is in its range.
@@ -361,10 +353,8 @@ fn version_told<S: Alter>(conn: &mut Connection<S>) -> Result<Told, Error>
     ensures seen { SeesOver BeginsAsBook S.Store conn.old conn.new result IsVersionTold }
     ensures looked { BlamesOver BeginsAsBook [] S.Store conn.old conn.new result }
 {
-    match version_rows(conn) {
-        Ok(rows) => Ok(told_by(&rows)),
-        Err(error) => Err(error),
-    }
+    let rows = version_rows(conn)?;
+    Ok(told_by(&rows))
 }
 
 // The tables of a new book of the version, in memory.

@@ -13,6 +13,7 @@ use Rattle.acd_sql_columns.specs.AnyRows.{is_good, is_good_in, rows_in}
 use Rattle.acd_sql_columns.specs.Seeing.{HasDatabase, Sees}
 use Rattle.acd_sql_columns.proofs.Looked.{bad_among}
 use Rattle.acd_sql_columns.proofs.Queries.{probe_text}
+use Rattle.acd_sql_columns.proofs.Seen.{sees_fail}
 use Rattle.acd_sql_columns.proofs.Selected.{all_told}
 use Rattle.acd_sql_statements.specs.Failing.{IsMemory}
 use Rattle.acd_sql_statements.specs.Reading.{FailsToShow, FailsToDecode, RefusesToShow}
@@ -71,6 +72,10 @@ later old mid new (Ok b) counts limit h = tt
 later old mid new (Err e) counts limit (inl memory) = inl memory
 later old mid new (Err e) counts limit (inr (inl more)) = inr (inl (omega (arith, more, counts)))
 later old mid new (Err e) counts limit (inr (inr steps)) = inr (inr (subst IsSome limit steps))
+
+-- a look that failed sees nothing, also as a `?` hands it on
+pub sees_as : {A B : Type 0} (d : Database) (old new : State) (e : Error) (r : Result B Error) → r ≡ Err e → (P : A → Type 0) (Q : B → Type 0) → Sees d old new (Err e) P → Sees d old new r Q
+sees_as d old new e r is P Q seen = subst (λ r. Sees d old new r Q) (sym is) (sees_fail d old new e P Q seen)
 
 -- the second look is at what the first one saw
 module _ {A B : Type 0} (Is First Next : Database → Type 0) (IsAnswer : Database → A → Type 0) (IsLast : Database → B → Type 0) where

@@ -34,10 +34,8 @@ fn add_numbered<S: Alter>(
         (λ c done. found.new.items ≡ found.old.items ++ events_behind c.events (number - 1) 1) }
     ensures blamed { Blames (state S.Store conn.old) (state S.Store conn.new) result }
 {
-    match events_behind(alloc, conn, number.saturating_sub(1), 1) {
-        Ok(more) => add_all(found, &more),
-        Err(error) => Err(error),
-    }
+    let more = events_behind(alloc, conn, number.saturating_sub(1), 1)?;
+    add_all(found, &more)
 }
 
 /// For each of these numbers the first event that isn't below it, over a connection that serves.

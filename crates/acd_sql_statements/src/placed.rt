@@ -87,10 +87,8 @@ fn are_behind_agents<S: Alter>(
     ensures looked { BlamesOver (BeginsSchema nine) (table.Agents ∷ [])
         S.Store conn.old conn.new result }
 {
-    match select::records::<AgentRow, S>(alloc, conn) {
-        Ok(agents) => Ok(are_behind(&agents, pairs)),
-        Err(error) => Err(error),
-    }
+    let agents = select::records::<AgentRow, S>(alloc, conn)?;
+    Ok(are_behind(&agents, pairs))
 }
 
 // The pairs, in the order in which they stand.
@@ -104,10 +102,8 @@ fn further_pairs<S: Alter>(
     ensures looked { BlamesOver IsBookSchema (table.AgentGroups ∷ [])
         S.Store conn.old conn.new result }
 {
-    match further_rows(conn) {
-        Ok(rows) => records(alloc, &rows),
-        Err(error) => Err(error),
-    }
+    let rows = further_rows(conn)?;
+    records(alloc, &rows)
 }
 
 /// Whether each further group is behind the first one of its agent, who has seven at most. A value that is out of its range is a
@@ -118,10 +114,8 @@ pub fn are_further_placed<S: Alter>(alloc: Global, conn: &mut Connection<S>) -> 
     ensures looked { BlamesOver IsBookSchema (table.AgentGroups ∷ table.Agents ∷ [])
         S.Store conn.old conn.new result }
 {
-    match further_pairs(alloc, conn) {
-        Ok(pairs) => are_behind_agents(alloc, conn, &pairs),
-        Err(error) => Err(error),
-    }
+    let pairs = further_pairs(alloc, conn)?;
+    are_behind_agents(alloc, conn, &pairs)
 }
 
 fn has_group(groups: &[GroupRow], priority: &GroupPriority) -> bool
@@ -150,10 +144,8 @@ fn are_of_groups_there<S: Alter>(
     ensures looked { BlamesOver (BeginsSchema nine) (table.Groups ∷ [])
         S.Store conn.old conn.new result }
 {
-    match select::records::<GroupRow, S>(alloc, conn) {
-        Ok(groups) => Ok(are_of_groups(&groups, priorities)),
-        Err(error) => Err(error),
-    }
+    let groups = select::records::<GroupRow, S>(alloc, conn)?;
+    Ok(are_of_groups(&groups, priorities))
 }
 
 /// Whether each priority is of a group. A value that is out of its range is a failure of the store.
@@ -166,8 +158,6 @@ pub fn are_priorities_placed<S: Alter>(
     ensures looked { BlamesOver IsBookSchema (table.GroupPriority ∷ table.Groups ∷ [])
         S.Store conn.old conn.new result }
 {
-    match select::records::<GroupPriority, S>(alloc, conn) {
-        Ok(priorities) => are_of_groups_there(alloc, conn, &priorities),
-        Err(error) => Err(error),
-    }
+    let priorities = select::records::<GroupPriority, S>(alloc, conn)?;
+    are_of_groups_there(alloc, conn, &priorities)
 }

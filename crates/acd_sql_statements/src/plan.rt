@@ -60,10 +60,8 @@ fn ranked<S: Alter>(
     ensures { LooksUp S.Store conn.old conn.new result
         (λ c groups. parts.now ≡ map group_part c.rows.groups → groups.items ≡ c.rows.groups) }
 {
-    match select::records::<GroupPriority, S>(alloc, conn) {
-        Ok(priorities) => joined_groups(alloc, parts, &priorities),
-        Err(error) => Err(error),
-    }
+    let priorities = select::records::<GroupPriority, S>(alloc, conn)?;
+    joined_groups(alloc, parts, &priorities)
 }
 
 /// The groups.
@@ -73,10 +71,8 @@ pub(crate) fn groups<S: Alter>(
 ) -> Result<Vec<GroupRecord>, Error>
     ensures { LooksUp S.Store conn.old conn.new result (λ c groups. groups.items ≡ c.rows.groups) }
 {
-    match select::records::<GroupRow, S>(alloc, conn) {
-        Ok(parts) => ranked(alloc, conn, &parts),
-        Err(error) => Err(error),
-    }
+    let parts = select::records::<GroupRow, S>(alloc, conn)?;
+    ranked(alloc, conn, &parts)
 }
 
 // ---- agents
@@ -158,10 +154,8 @@ fn further<S: Alter>(
     ensures { LooksUp S.Store conn.old conn.new result
         (λ c pairs. pairs.items ≡ further_in c.rows.agents) }
 {
-    match further_rows(conn) {
-        Ok(rows) => records(alloc, &rows),
-        Err(error) => Err(error),
-    }
+    let rows = further_rows(conn)?;
+    records(alloc, &rows)
 }
 
 // The agents of these parts.
@@ -175,10 +169,8 @@ fn grouped<S: Alter>(
     ensures blamed { BlamesIf (λ c. parts.now ≡ map agent_part c.rows.agents)
         (state S.Store conn.old) (state S.Store conn.new) result }
 {
-    match further(alloc, conn) {
-        Ok(further) => joined_agents(alloc, parts, &further),
-        Err(error) => Err(error),
-    }
+    let further = further(alloc, conn)?;
+    joined_agents(alloc, parts, &further)
 }
 
 /// The agents. One whose groups are more than eight, or don't ascend, is a failure of the store.
@@ -188,8 +180,6 @@ pub(crate) fn agents<S: Alter>(
 ) -> Result<Vec<AgentRecord>, Error>
     ensures { LooksUp S.Store conn.old conn.new result (λ c agents. agents.items ≡ c.rows.agents) }
 {
-    match select::records::<AgentRow, S>(alloc, conn) {
-        Ok(parts) => grouped(alloc, conn, &parts),
-        Err(error) => Err(error),
-    }
+    let parts = select::records::<AgentRow, S>(alloc, conn)?;
+    grouped(alloc, conn, &parts)
 }

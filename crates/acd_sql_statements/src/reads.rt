@@ -144,10 +144,8 @@ fn only_meta(rows: &[Row]) -> Result<Meta, Error>
 pub fn read_meta<S: Alter>(conn: &mut Connection<S>) -> Result<Meta, Error>
     ensures { LooksUp S.Store conn.old conn.new result (λ c meta. meta ≡ meta_of c.rows) }
 {
-    match meta_rows(conn) {
-        Ok(rows) => only_meta(&rows),
-        Err(error) => Err(error),
-    }
+    let rows = meta_rows(conn)?;
+    only_meta(&rows)
 }
 
 fn connections<S: Alter>(

@@ -79,10 +79,8 @@ pub fn records<R: Stored, S: Alter>(
         → BlamesOver (BeginsSchema R.descr.base) (R.descr.table ∷ [])
         S.Store conn.old conn.new result }
 {
-    match rows::<R, S>(conn) {
-        Ok(rows) => records_of(alloc, &rows),
-        Err(error) => Err(error),
-    }
+    let rows = rows::<R, S>(conn)?;
+    records_of(alloc, &rows)
 }
 
 #[tactic(auto, unfolding(acd_sql_columns::specs::Descriptions::are_read))]
@@ -100,8 +98,6 @@ pub fn is_good<R: Stored, S: Alter>(conn: &mut Connection<S>) -> Result<bool, Er
     ensures looked { IsAnsweredOver R.descr.base (the_text R.descr.select) []
         → BlamesOver (BeginsSchema R.descr.base) [] S.Store conn.old conn.new result }
 {
-    match rows::<R, S>(conn) {
-        Ok(rows) => Ok(are_read::<R>(&rows)),
-        Err(error) => Err(error),
-    }
+    let rows = rows::<R, S>(conn)?;
+    Ok(are_read::<R>(&rows))
 }

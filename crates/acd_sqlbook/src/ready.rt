@@ -121,10 +121,8 @@ impl<S: Alter> Ready<S> {
             (λ c limits. limits ≡ c.rows.limits) }
         ensures blamed { Blames (state S.Store self.old.conn) (state S.Store self.new.conn) result }
     {
-        match self.meta(None) {
-            Ok(meta) => Ok(meta.limits),
-            Err(error) => Err(error),
-        }
+        let meta = self.meta(None)?;
+        Ok(meta.limits)
     }
 
     /// The limits, the tables and the counters.
@@ -199,10 +197,8 @@ impl<S: Alter> Ready<S> {
             (state S.Store self.old.conn) (state S.Store self.new.conn) result }
     {
         let meta = self.meta(held)?;
-        match next_meta(&meta, changes, events, kept) {
-            Ok(next) => Ok((meta.last_call, next)),
-            Err(error) => Err(error),
-        }
+        let next = next_meta(&meta, changes, events, kept)?;
+        Ok((meta.last_call, next))
     }
 
     /// Commits the changes, the events and the kept record, all or none. What it counts from is held, or is read where

@@ -56,10 +56,8 @@ fn changes_to<S: Alter>(
     ensures blamed { BlamesOr (Drops rows.now)
         (state S.Store ready.old.conn) (state S.Store ready.new.conn) result }
 {
-    match ready.rows(alloc) {
-        Ok(held) => whole_changes(alloc, &held, rows),
-        Err(error) => Err(error),
-    }
+    let held = ready.rows(alloc)?;
+    whole_changes(alloc, &held, rows)
 }
 
 // The limits and the counters of the rows, where their columns can hold them and the stamp.

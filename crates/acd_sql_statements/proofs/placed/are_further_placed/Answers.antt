@@ -1,5 +1,4 @@
 use Rattle.std.proofs.Common.{◌≡◌, ℕ, [], ◌∷◌, map, Bool, rules}
-use Rattle.acd_sql_columns.proofs.Seen.{sees_fail}
 use Rattle.acd_sql_columns.specs.AnyRows.{is_beside, rows_in}
 use Rattle.sqlite.specs.Held.{state}
 use Rattle.acd_sql_columns.proofs.Listings.{book_begins}
@@ -13,27 +12,27 @@ use Rattle.acd_sql_columns.specs.Relations.{are_behind}
 use Rattle.acd_sql_columns.specs.Schema.{nine, BeginsSchema}
 use Rattle.acd_sql_statements.specs.Between.{IsBookSchema}
 use Rattle.acd_sql_statements.specs.Looking.{HasGood}
-use Rattle.acd_sql_statements.proofs.Lookings.{looks_then, looks_fail}
+use Rattle.acd_sql_statements.proofs.Lookings.{looks_then, looks_as, sees_as}
 use Rattle.acd_sql_statements.proofs.placed.are_further_placed.Goals as goal
 
-pub returns-in-Ok-clause-looks : goal.returns-in-Ok-clause-looks
-returns-in-Ok-clause-looks g c = record {
+pub returns-clause-looks : goal.returns-clause-looks
+returns-clause-looks g c = record {
   seen = λ d is.
-      further_seen d (state g.S.Store c.args.conn.now) (state g.S.Store c.further_pairs.new.conn) (state g.S.Store c.are_behind_agents.new.conn) c.in-Ok.pairs c.deref.result.now c.are_behind_agents.result c.deref.ensures.value (c.in-Ok.ensures.looks.seen d is) (c.are_behind_agents.ensures.looks.seen d (book_begins d.schema is));
+      further_seen d (state g.S.Store c.args.conn.now) (state g.S.Store c.further_pairs.new.conn) (state g.S.Store c.are_behind_agents.new.conn) c.in_ok-pairs.pairs c.deref.result.now c.are_behind_agents.result c.deref.ensures.value (c.in_ok-pairs.ensures.looks.seen d is) (c.are_behind_agents.ensures.looks.seen d (book_begins d.schema is));
 }
 
-pub returns-in-Err-clause-looks : goal.returns-in-Err-clause-looks
-returns-in-Err-clause-looks g c = record {
-  seen = λ d is. sees_fail d (state g.S.Store c.args.conn.now) (state g.S.Store c.further_pairs.new.conn) c.in-Err.error _ (λ (placed : Bool). placed ≡ is_beside d.trees) (c.in-Err.ensures.looks.seen d is);
+pub returns-in_err-pairs-clause-looks : goal.returns-in_err-pairs-clause-looks
+returns-in_err-pairs-clause-looks g c = record {
+  seen = λ d is. sees_as d (state g.S.Store c.args.conn.now) (state g.S.Store c.further_pairs.new.conn) c.in_err-pairs.field-0.0 c.from_residual.result (search rules) _ (λ (placed : Bool). placed ≡ is_beside d.trees) (c.in_err-pairs.ensures.looks.seen d is);
 }
 
-pub returns-in-Ok-clause-looked : goal.returns-in-Ok-clause-looked
-returns-in-Ok-clause-looked g c =
+pub returns-clause-looked : goal.returns-clause-looked
+returns-clause-looked g c =
     looks_then (HasGood IsBookSchema (table.AgentGroups ∷ table.Agents ∷ [])) (HasGood IsBookSchema (table.AgentGroups ∷ [])) (HasGood (BeginsSchema nine) (table.Agents ∷ []))
     (λ (d : Database) (pairs : Vec (ℕ × ℕ) Global). IsPermutation (map as_further (rows_in table.AgentGroups d.trees)) pairs.items) (λ (d : Database) (placed : Bool). placed ≡ are_behind (map as_agent (rows_in table.Agents d.trees)) c.deref.result.now)
-    (state g.S.Store c.args.conn.now) (state g.S.Store c.further_pairs.new.conn) (state g.S.Store c.are_behind_agents.new.conn) c.in-Ok.pairs c.are_behind_agents.result (λ d h. (h.0, (h.1.0, tt))) c.in-Ok.ensures.looked
-    (λ d h. c.in-Ok.ensures.looks.seen d h.0) (λ d h p. (book_begins d.schema h.0, (h.1.1.0, tt))) (λ d h. c.are_behind_agents.ensures.looks.seen d (book_begins d.schema h.0)) c.are_behind_agents.ensures.looked
+    (state g.S.Store c.args.conn.now) (state g.S.Store c.further_pairs.new.conn) (state g.S.Store c.are_behind_agents.new.conn) c.in_ok-pairs.pairs c.are_behind_agents.result (λ d h. (h.0, (h.1.0, tt))) c.in_ok-pairs.ensures.looked
+    (λ d h. c.in_ok-pairs.ensures.looks.seen d h.0) (λ d h p. (book_begins d.schema h.0, (h.1.1.0, tt))) (λ d h. c.are_behind_agents.ensures.looks.seen d (book_begins d.schema h.0)) c.are_behind_agents.ensures.looked
 
-pub returns-in-Err-clause-looked : goal.returns-in-Err-clause-looked
-returns-in-Err-clause-looked g c =
-    looks_fail (HasGood IsBookSchema (table.AgentGroups ∷ table.Agents ∷ [])) (HasGood IsBookSchema (table.AgentGroups ∷ [])) (λ d h. (h.0, (h.1.0, tt))) (state g.S.Store c.args.conn.now) (state g.S.Store c.further_pairs.new.conn) c.in-Err.error c.in-Err.ensures.looked
+pub returns-in_err-pairs-clause-looked : goal.returns-in_err-pairs-clause-looked
+returns-in_err-pairs-clause-looked g c =
+    looks_as (HasGood IsBookSchema (table.AgentGroups ∷ table.Agents ∷ [])) (HasGood IsBookSchema (table.AgentGroups ∷ [])) (λ d h. (h.0, (h.1.0, tt))) (state g.S.Store c.args.conn.now) (state g.S.Store c.further_pairs.new.conn) c.in_err-pairs.field-0.0 c.from_residual.result (search rules) c.in_err-pairs.ensures.looked

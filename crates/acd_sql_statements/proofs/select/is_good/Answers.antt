@@ -1,29 +1,28 @@
 use Rattle.std.proofs.Common.{[], Ok, rules}
 use Rattle.sqlite.specs.Held.{state}
 use Rattle.acd_sql_columns.specs.AnyRows.{TellsGood}
-use Rattle.acd_sql_columns.proofs.Seen.{sees_fail}
 use Rattle.acd_sql_columns.proofs.Selected.{told}
 use Rattle.acd_sql_columns.specs.Schema.{BeginsSchema}
 use Rattle.acd_sql_statements.specs.Looking.{HasGood}
-use Rattle.acd_sql_statements.proofs.Lookings.{looks_done, looks_fail}
+use Rattle.acd_sql_statements.proofs.Lookings.{looks_done, looks_as, sees_as}
 use Rattle.acd_sql_statements.proofs.select.is_good.Goals as goal
 
-pub returns-in-Err-clause-looks : goal.returns-in-Err-clause-looks
-returns-in-Err-clause-looks g c = record {
+pub returns-in_err-rows-clause-looks : goal.returns-in_err-rows-clause-looks
+returns-in_err-rows-clause-looks g c = record {
   seen = λ d is.
-      sees_fail d (state g.S.Store c.args.conn.now) (state g.S.Store c.rows.new.conn) c.in-Err.error _ (λ good. TellsGood g.R.Stored.descr.table d.trees good) (c.in-Err.ensures.seen d is);
+      sees_as d (state g.S.Store c.args.conn.now) (state g.S.Store c.rows.new.conn) c.in_err-rows.field-0.0 c.from_residual.result (search rules) _ (λ good. TellsGood g.R.Stored.descr.table d.trees good) (c.in_err-rows.ensures.seen d is);
 }
 
-pub returns-in-Ok-clause-looks : goal.returns-in-Ok-clause-looks
-returns-in-Ok-clause-looks g c = record {
+pub returns-clause-looks : goal.returns-clause-looks
+returns-clause-looks g c = record {
   seen = λ d is.
-      told g.R.Stored.descr g.met.R.Stored.filed d (state g.S.Store c.args.conn.now) (state g.S.Store c.rows.new.conn) c.in-Ok.rows (Ok c.are_read.result) (rw c.deref.ensures.value at c.are_read.ensures) (c.in-Ok.ensures.seen d is);
+      told g.R.Stored.descr g.met.R.Stored.filed d (state g.S.Store c.args.conn.now) (state g.S.Store c.rows.new.conn) c.in_ok-rows.rows (Ok c.are_read.result) (rw c.deref.ensures.value at c.are_read.ensures) (c.in_ok-rows.ensures.seen d is);
 }
 
-pub returns-in-Err-clause-looked : goal.returns-in-Err-clause-looked
-returns-in-Err-clause-looked g c answers =
-    looks_fail (HasGood (BeginsSchema g.R.Stored.descr.base) []) (HasGood (BeginsSchema g.R.Stored.descr.base) []) (λ d h. h) (state g.S.Store c.args.conn.now) (state g.S.Store c.rows.new.conn) c.in-Err.error (c.in-Err.ensures.looked answers)
+pub returns-in_err-rows-clause-looked : goal.returns-in_err-rows-clause-looked
+returns-in_err-rows-clause-looked g c answers =
+    looks_as (HasGood (BeginsSchema g.R.Stored.descr.base) []) (HasGood (BeginsSchema g.R.Stored.descr.base) []) (λ d h. h) (state g.S.Store c.args.conn.now) (state g.S.Store c.rows.new.conn) c.in_err-rows.field-0.0 c.from_residual.result (search rules) (c.in_err-rows.ensures.looked answers)
 
-pub returns-in-Ok-clause-looked : goal.returns-in-Ok-clause-looked
-returns-in-Ok-clause-looked g c answers =
-    looks_done (HasGood (BeginsSchema g.R.Stored.descr.base) []) (HasGood (BeginsSchema g.R.Stored.descr.base) []) (λ d h. h) (state g.S.Store c.args.conn.now) (state g.S.Store c.rows.new.conn) c.in-Ok.rows c.are_read.result (c.in-Ok.ensures.looked answers)
+pub returns-clause-looked : goal.returns-clause-looked
+returns-clause-looked g c answers =
+    looks_done (HasGood (BeginsSchema g.R.Stored.descr.base) []) (HasGood (BeginsSchema g.R.Stored.descr.base) []) (λ d h. h) (state g.S.Store c.args.conn.now) (state g.S.Store c.rows.new.conn) c.in_ok-rows.rows c.are_read.result (c.in_ok-rows.ensures.looked answers)

@@ -8,19 +8,19 @@ use Rattle.acd_sqlbook.specs.Stopping.{IsUncounted}
 use Rattle.acd_sqlbook.proofs.Counting.{counts_not, counts_unfit, counts_done}
 use Rattle.acd_sqlbook.proofs.ready.Ready.counters.Goals as goal
 
-pub returns-in-Ok-clause-read : goal.returns-in-Ok-clause-read
-returns-in-Ok-clause-read g c =
-    reads_counters (state g.S.Store c.args.self.now.conn) (state g.S.Store c.meta.new.self.conn) c.args.held c.in_ok-meta.meta (Ok (c.in_ok-meta.meta.last_call, c.in-Ok.next)) c.args.changes.now c.args.events c.args.kept.now
-    c.in_ok-meta.ensures.read (ap (λ (next : Meta). (c.in_ok-meta.meta.last_call, next)) c.in-Ok.ensures.is)
+pub returns-clause-read : goal.returns-clause-read
+returns-clause-read g c =
+    reads_counters (state g.S.Store c.args.self.now.conn) (state g.S.Store c.meta.new.self.conn) c.args.held c.in_ok-meta.meta (Ok (c.in_ok-meta.meta.last_call, c.in_ok-next.next)) c.args.changes.now c.args.events c.args.kept.now
+    c.in_ok-meta.ensures.read (ap (λ (next : Meta). (c.in_ok-meta.meta.last_call, next)) c.in_ok-next.ensures.is)
 
 pub returns-in_err-meta-clause-blamed : goal.returns-in_err-meta-clause-blamed
 returns-in_err-meta-clause-blamed g c =
     counts_not (StopsWith c.args.held (IsUncounted c.args.changes.now c.args.events c.args.kept.now)) (state g.S.Store c.args.self.now.conn) (state g.S.Store c.meta.new.self.conn) c.in_err-meta.field-0.0 c.from_residual.result (search rules) c.in_err-meta.ensures.blamed
 
-pub returns-in-Ok-clause-blamed : goal.returns-in-Ok-clause-blamed
-returns-in-Ok-clause-blamed g c =
-    counts_done (StopsWith c.args.held (IsUncounted c.args.changes.now c.args.events c.args.kept.now)) (state g.S.Store c.args.self.now.conn) (state g.S.Store c.meta.new.self.conn) c.in_ok-meta.meta (c.in_ok-meta.meta.last_call, c.in-Ok.next) c.in_ok-meta.ensures.blamed
+pub returns-clause-blamed : goal.returns-clause-blamed
+returns-clause-blamed g c =
+    counts_done (StopsWith c.args.held (IsUncounted c.args.changes.now c.args.events c.args.kept.now)) (state g.S.Store c.args.self.now.conn) (state g.S.Store c.meta.new.self.conn) c.in_ok-meta.meta (c.in_ok-meta.meta.last_call, c.in_ok-next.next) c.in_ok-meta.ensures.blamed
 
-pub returns-in-Err-clause-blamed : goal.returns-in-Err-clause-blamed
-returns-in-Err-clause-blamed g c =
-    counts_unfit (state g.S.Store c.args.self.now.conn) (state g.S.Store c.meta.new.self.conn) c.args.held c.in_ok-meta.meta c.in-Err.error c.args.changes.now c.args.events c.args.kept.now c.in_ok-meta.ensures.read c.in-Err.ensures.unfit
+pub returns-in_err-next-clause-blamed : goal.returns-in_err-next-clause-blamed
+returns-in_err-next-clause-blamed g c =
+    counts_unfit (state g.S.Store c.args.self.now.conn) (state g.S.Store c.meta.new.self.conn) c.args.held c.in_ok-meta.meta c.in_err-next.field-0.0 c.args.changes.now c.args.events c.args.kept.now c.in_ok-meta.ensures.read c.in_err-next.ensures.unfit
