@@ -45,7 +45,7 @@ returns-clause-blamed g c =
     let old = state g.S.Store c.args.self.now.conn in
     let new = state g.S.Store c.counters.new.self.conn in
     let taken : c.take-held.result ≡ c.args.counters.now = search rules in
-    subst (λ (o : Option Meta). IsBlamedOr (StopsWith o (StopsCommit c.args.changes.now c.args.events.now c.args.kept.now)) old new (Err c.in-Err.error)) taken
+    subst (λ (o : Option Meta). IsBlamedOr {A = Unit {0}} (StopsWith o (StopsCommit c.args.changes.now c.args.events.now c.args.kept.now)) old new (Err c.in-Err.error)) taken
     (commit_uncounted c.take-held.result c.args.changes.now c.args.events.now c.args.kept.now old new c.in-Err.error c.in-Err.ensures.blamed)
 
 pub returns-in-Ok-clause-blamed : goal.returns-in-Ok-clause-blamed

@@ -1,10 +1,9 @@
-use Rattle.std.proofs.Common.{Ok, ap}
+use Rattle.std.proofs.Common.{◌≡◌, ℕ, Ok, Err, ap, subst, sym, rules}
 use Rattle.sqlite.specs.Held.{state}
 use Rattle.acd_sql_columns.specs.declared.meta.Meta.{Meta}
 use Rattle.acd_sqlbook.proofs.Standing.{reads_counters}
-use Rattle.std.proofs.Common.{rules}
 use Rattle.acd_sqlbook.specs.Counters.{StopsWith}
-use Rattle.acd_sqlbook.specs.Stopping.{IsUncounted}
+use Rattle.acd_sqlbook.specs.Stopping.{BlamesOr, IsUncounted}
 use Rattle.acd_sqlbook.proofs.Counting.{counts_not, counts_unfit, counts_done}
 use Rattle.acd_sqlbook.proofs.ready.Ready.counters.Goals as goal
 
@@ -23,4 +22,6 @@ returns-clause-blamed g c =
 
 pub returns-in_err-next-clause-blamed : goal.returns-in_err-next-clause-blamed
 returns-in_err-next-clause-blamed g c =
-    counts_unfit (state g.S.Store c.args.self.now.conn) (state g.S.Store c.meta.new.self.conn) c.args.held c.in_ok-meta.meta c.in_err-next.field-0.0 c.args.changes.now c.args.events c.args.kept.now c.in_ok-meta.ensures.read c.in_err-next.ensures.unfit
+    let is : c.from_residual-in_err-next.result ≡ Err c.in_err-next.field-0.0 = search rules in
+    subst (BlamesOr {A = ℕ × Meta} (StopsWith c.args.held (IsUncounted c.args.changes.now c.args.events c.args.kept.now)) (state g.S.Store c.args.self.now.conn) (state g.S.Store c.meta.new.self.conn)) (sym is)
+    (counts_unfit (state g.S.Store c.args.self.now.conn) (state g.S.Store c.meta.new.self.conn) c.args.held c.in_ok-meta.meta c.in_err-next.field-0.0 c.args.changes.now c.args.events c.args.kept.now c.in_ok-meta.ensures.read c.in_err-next.ensures.unfit)
