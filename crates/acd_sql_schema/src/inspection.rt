@@ -292,11 +292,11 @@ fn found_misplaced<S: Alter>(
         (λ s. s ≡ book_schema) S.Store conn.old conn.new result (IsPlaceFound Version.Second) }
     ensures looked { BlamesIn (HasGoodTables Version.Second) S.Store conn.old conn.new result }
 {
-    match are_further_placed(alloc, conn) {
-        Ok(true) => ranks_misplaced(alloc, conn),
-        Ok(false) => Ok(Some(AdoptFault::BadRow(Table::AgentGroups))),
-        Err(error) => Err(error),
+    let placed = are_further_placed(alloc, conn)?;
+    if placed {
+        return ranks_misplaced(alloc, conn);
     }
+    Ok(Some(AdoptFault::BadRow(Table::AgentGroups)))
 }
 
 // The same of priorities alone.
@@ -308,11 +308,11 @@ fn ranks_misplaced<S: Alter>(
         (λ d fault. is_beside d.trees ≡ true → IsPlaceFound Version.Second d fault) }
     ensures looked { BlamesIn (HasGoodTables Version.Second) S.Store conn.old conn.new result }
 {
-    match are_priorities_placed(alloc, conn) {
-        Ok(true) => Ok(None),
-        Ok(false) => Ok(Some(AdoptFault::BadRow(Table::GroupPriority))),
-        Err(error) => Err(error),
+    let placed = are_priorities_placed(alloc, conn)?;
+    if placed {
+        return Ok(None);
     }
+    Ok(Some(AdoptFault::BadRow(Table::GroupPriority)))
 }
 
 // What the tables tell against a book of the version.
@@ -407,10 +407,9 @@ fn found_in_first<S: Alter>(conn: &mut Connection<S>) -> Result<Found, Error>
         (λ found. IsFound d found) }
     ensures looked { BlamesOver BeginsAsBook [] S.Store conn.old conn.new result }
 {
-    match version_told(conn) {
-        Ok(Told::Faulty(fault)) => Ok(Found::Fault(fault)),
-        Ok(Told::Of(_)) => Ok(Found::Fault(AdoptFault::Store)),
-        Err(error) => Err(error),
+    match version_told(conn)? {
+        Told::Faulty(fault) => Ok(Found::Fault(fault)),
+        Told::Of(_) => Ok(Found::Fault(AdoptFault::Store)),
     }
 }
 
@@ -425,10 +424,9 @@ fn found_in_rows<S: Alter>(
     ensures looked { BlamesIn (HasFiled (λ s. s ≡ schema_of version)) S.Store conn.old conn.new
         result }
 {
-    match bad_row(alloc, conn, version) {
-        Ok(Some(fault)) => Ok(Found::Fault(fault)),
-        Ok(None) => Ok(Found::Book(version)),
-        Err(error) => Err(error),
+    match bad_row(alloc, conn, version)? {
+        Some(fault) => Ok(Found::Fault(fault)),
+        None => Ok(Found::Book(version)),
     }
 }
 
