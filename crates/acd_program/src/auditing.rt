@@ -35,15 +35,12 @@ pub(crate) fn audited<B: Book>(desk: &mut Desk<B>, counts: bool) -> Result<Findi
     ensures told { DeskTold B.Book desk.old desk.new result (λ c found. Unit {0}) }
     ensures counted { IfOk result (HasCount counts) }
 {
-    let told = match desk.audit() {
-        Ok(told) => told,
-        Err(fault) => return Err(fault),
-    };
+    let told = desk.audit()?;
     match told {
-        Audit::Sound if counts => match desk.executed() {
-            Ok(count) => Ok(Finding::Counted(count)),
-            Err(fault) => Err(fault),
-        },
+        Audit::Sound if counts => {
+            let count = desk.executed()?;
+            Ok(Finding::Counted(count))
+        }
         told => Ok(uncounted(told)),
     }
 }

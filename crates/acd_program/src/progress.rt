@@ -117,13 +117,9 @@ impl<'a, B: Book> Book for Watched<'a, B> {
     }
 
     fn rows(&mut self) -> Result<Rows, BookFault> {
-        match self.inner.rows() {
-            Ok(rows) => {
-                self.progress.all = rows.last_stamp;
-                Ok(rows)
-            }
-            Err(fault) => Err(fault),
-        }
+        let rows = self.inner.rows()?;
+        self.progress.all = rows.last_stamp;
+        Ok(rows)
     }
 
     fn kept(&mut self, requester: &Requester, invoke: Invoke) -> Result<Option<Kept>, BookFault> {
