@@ -1,6 +1,6 @@
 -- What becomes of two files before the store has them, step by step.
 use Rattle.std.proofs.Common.{◌≡◌, ◌↔◌, ℕ, ◌<◌, ◌≤◌, Bool, false, length, Result, IfOk, IsTrue, true≢false, refl, sym, ap, subst, subst₂, ◌∙◌, inl, inr, arith}
-use Rattle.std.proofs.lemmas.Bool.{and_parts, and_from}
+use Rattle.std.proofs.lemmas.Bool.{and_parts}
 use Rattle.sqlite_disk.specs.declared.Disk.{Ghosts}
 use Rattle.sqlite_disk.specs.declared.Files.{Files}
 use Rattle.sqlite_wal.specs.Reads.{IsClean, AreClean, OnlyReads, are_clean}
@@ -43,22 +43,14 @@ module _ {D : Type 0} {g : Ghosts D} where
   pub read_on : (a b c : Files D) → AreReadOnly g a b → AreReadOnly g b c → AreReadOnly g a c
   read_on a b c first second = record { log = reads_on a.log b.log c.log first.log second.log; db = reads_on a.db b.db c.db first.db second.db }
 
-  clean_before : (old new : Files D) → AreReadOnly g old new → AreClean g new.log new.db → AreClean g old.log old.db
-  clean_before old new read still =
-      let both = and_parts (g.is_clean new.log) (g.is_clean new.db) still in
-      and_from (g.is_clean old.log) (g.is_clean old.db) (read.log.clean both.0) (read.db.clean both.1)
-
   -- a database was to be made in files that were read before, of which the log isn't one without its file
-  module _ {F : Type 0} (r : Result (Files D) F) (old mid : Files D) (read : AreReadOnly g old mid) (clean : IfOk r (λ (new : Files D). AreClean g new.log new.db → AreClean g mid.log mid.db)) where
+  module _ {F : Type 0} (r : Result (Files D) F) (old mid : Files D) (read : AreReadOnly g old mid) where
     pub created_behind : IfOk r (λ (new : Files D). IsCreated g mid new) → IfOk r (λ (new : Files D). IsReadAndCreated g old new)
-    created_behind h = ok_so r _ _ (λ new made. (mid, read, made)) h
-
-    pub clean_behind : IfOk r (λ (new : Files D). AreClean g new.log new.db → AreClean g old.log old.db)
-    clean_behind = ok_so r _ _ (λ new before still. clean_before old mid read (before still)) clean
+    created_behind = ok_so r _ _ (λ new made. (mid, read, made))
 
     pub spared_behind : (lone : Bool) → lone ≡ false → (AreClean g mid.log mid.db → IsTrue lone ↔ IsLone (g.seen old.log) (g.seen old.db))
-        → IfOk r (λ (new : Files D). AreClean g new.log new.db → ¬ IsLone (g.seen old.log) (g.seen old.db))
-    spared_behind lone is h = ok_so r _ _ (λ new before still it. true≢false (sym ((h (before still)).1 it) ∙ is)) clean
+        → IfOk r (λ (new : Files D). AreClean g new.log new.db → AreClean g mid.log mid.db) → IfOk r (λ (new : Files D). AreClean g new.log new.db → ¬ IsLone (g.seen old.log) (g.seen old.db))
+    spared_behind lone is h = ok_so r _ _ (λ new before still it. true≢false (sym ((h (before still)).1 it) ∙ is))
 
   pub begun_created : (old mid new : Files D) → AreReadOnly g old mid → (IsClean g mid.db → length (g.seen old.db) ≤ new_page) → (AreClean g new.log new.db → AreClean g mid.log mid.db)
       → (AreClean g new.log new.db → ¬ IsLone (g.seen mid.log) (g.seen mid.db)) → IsReadAndCreated g mid new → IsBegun g old new

@@ -3,6 +3,7 @@
 mod broken;
 mod copying;
 mod files;
+mod logs;
 mod runs;
 mod scripts;
 mod serving;

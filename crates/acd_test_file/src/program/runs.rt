@@ -1,5 +1,6 @@
 //! Runs of the program, with all that it reads and writes.
 
+use super::logs::log_without_its_file;
 use super::scripts::unmet;
 use std::process::Abort;
 
@@ -606,95 +607,6 @@ fn copied_while_it_is_open() -> &'static str {
 < 200 {"invoke":2,"requester":"pbx","result":{}}
 < 200 {"invoke":1,"requester":"pbx","result":{"call":1}}
 < 409 {"error":{"code":3,"name":"unknownCall"},"invoke":3,"requester":"pbx"}
-"#
-}
-
-// A log whose file has no bytes, and then isn't there: no command makes anything beside it, and with the file as it was it
-// has all that was answered. A log that holds no commit is in nobody's way: what closing leaves, and a text.
-fn log_without_its_file() -> &'static str {
-    r#"copied {file} {plan} acd lines --file {file}
-> 0 {"requester":"plan","invoke":1,"service":"addGroup","device":"100","name":"Billing","ring":20,"wrap":30}
-> 10 {"requester":"pbx","invoke":1,"service":"arriveCall","caller":"0301234","called":"100"}
-< 200 {"invoke":1,"requester":"plan","result":{}}
-< 200 {"invoke":1,"requester":"pbx","result":{"call":1}}
-
-put {plan} {file}.put
-
-lines {file} 0
-> kind,number,name,ring,wrap
-> group,110,Claims,20,30
-
-zeros {plan} 0
-
-1 acd lines --file {plan}
-! acd: cannot open {plan}
-
-1 acd lines --reads --file {plan}
-! acd: cannot open {plan}
-
-1 acd serve --file {plan} --port 65535 --connections 1
-! acd: cannot open {plan}
-
-1 acd import --file {plan} --plan {file}
-! acd: cannot open {plan}
-
-1 acd report --file {plan}
-! acd: cannot open {plan}
-
-1 acd export --file {plan}
-! acd: cannot open {plan}
-
-1 acd audit --file {plan}
-! acd: cannot open {plan}
-
-is {plan} empty
-
-gone {plan}
-
-1 acd lines --file {plan}
-! acd: cannot open {plan}
-
-1 acd lines --reads --file {plan}
-! acd: cannot open {plan}
-
-1 acd serve --file {plan} --port 65535 --connections 1
-! acd: cannot open {plan}
-
-1 acd import --file {plan} --plan {file}
-! acd: cannot open {plan}
-
-1 acd report --file {plan}
-! acd: cannot open {plan}
-
-1 acd export --file {plan}
-! acd: cannot open {plan}
-
-1 acd audit --file {plan}
-! acd: cannot open {plan}
-
-is {plan} absent
-
-put {file}.put {plan}
-
-0 acd audit --file {plan} --count
-< sound
-< executed 2
-
-gone {file}.put
-
-gone {plan}
-
-0 acd import --file {plan} --plan {file}
-< 200 {"invoke":1,"requester":"plan","result":{}}
-
-gone {plan}
-
-lines {plan}-wal 100
-> no log
-
-0 acd lines --file {plan}
-
-is {plan} small
 "#
 }
 
