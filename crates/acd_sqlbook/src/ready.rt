@@ -229,8 +229,7 @@ impl<S: Alter> Ready<S> {
                 self.fresh = false;
                 let conn = &mut self.conn;
                 let last = Some(last);
-                let done =
-                    commit_all(conn, last, changes, events, kept, request.as_str(), &meta);
+                let done = commit_all(conn, last, changes, events, kept, request.as_str(), &meta);
                 *counters = held_behind(&done, meta);
                 done
             }
