@@ -56,7 +56,7 @@ class Copies(Office):
 
     def put_back(self, moment):
         """As the page has it."""
-        return self.typed(self.recipe(BACK, "systemctl stop acd", **{"2026-11-26T031500Z": moment}))
+        return self.typed(self.recipe(BACK, "systemctl stop acd", {"2026-11-26T031500Z": moment}))
 
     def try_back_twice(self):
         """A copy is put back, and a second time, and both are taken back; not beside the desk that serves."""
@@ -124,7 +124,7 @@ class Copies(Office):
             self.copied(f"{what}: a copy is good again")
 
     def try_removed_log(self):
-        """The log is removed behind a kill, with answered requests in it: the audit says `sound`; the copy says that there are fewer, each time, until somebody has looked."""
+        """The log is removed while the desk is stopped, with answered requests in it: the audit says `sound`; the copy says that there are fewer, each time, until somebody has looked."""
         self.sent("gone", 5)
         self.copied("before it")
         before = self.executed(f"{COPIES}/{self.good()[-1]}")

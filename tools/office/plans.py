@@ -8,6 +8,7 @@ HEADER = PLAN.partition("\n")[0] + "\n"
 DESK = "http://127.0.0.1:8080"
 SECOND = HEADER + "group,100,Bills,3,2\nstation,201,,,\nstation,202,,,\nagent,7,Ana,,\nagent,8,Ben,,\n"
 NOON = "The next agent, at noon"
+LINE = "acd-plan --changes plan.csv --from http://127.0.0.1:8080 --send"
 
 
 class Plans(Office):
@@ -22,8 +23,13 @@ class Plans(Office):
         self.try_roles()
 
     def plan_now(self):
-        """The plan of the desk that serves, and the first rows are its order."""
+        """The plan of the desk that serves, as a file has it."""
         return self.done("acd-plan", "--from", DESK)
+
+    def at_noon(self, plan):
+        """The status of the page's line over this plan, in root's home, and what it prints."""
+        self.container.put(f"{HOME}/plan.csv", plan)
+        return self.typed(self.recipe(NOON, LINE))
 
     def imported(self, plan, what):
         """The status of an import by the desk's user over the stopped file, and the statuses of its rows."""
@@ -61,35 +67,30 @@ class Plans(Office):
         self.restarts("with half of it")
         self.expect("Ben alone has come", self.plan_now(), PLAN + "agent,8,Ben,,\n")
         process = self.show("MainPID")
-        self.container.put(f"{HOME}/plan.csv", SECOND)
-        line = self.recipe(NOON, "acd-plan --changes plan.csv --from http://127.0.0.1:8080 --send")
-        status, said = self.typed(line)
+        status, said = self.at_noon(SECOND)
         self.expect(f"by the page's line ({said})", (status, said.count("\n"), "changeGroup" in said, "addStation" in said), (0, 2, True, True))
         self.expect("all of it is there", self.plan_now(), SECOND)
         self.expect("the desk wasn't stopped", self.show("MainPID"), process)
-        self.expect("the same once more sends nothing", self.typed(line), (0, ""))
+        self.expect("the same once more sends nothing", self.at_noon(SECOND), (0, ""))
 
     def try_later_ones(self):
         """An agent's name, a ring, and one row less, which is told and stays."""
         third = SECOND.replace("Ben", "Benjamin").replace("Bills,3,2", "Bills,4,2").replace("station,202,,,\n", "")
-        self.container.put(f"{HOME}/plan.csv", third)
-        status, said = self.typed(self.recipe(NOON, "acd-plan --changes plan.csv --from http://127.0.0.1:8080 --send"))
+        status, said = self.at_noon(third)
         self.expect(f"another name, another ring ({said})", (status, "acd-plan: the desk has more than the plan: station 202\n" in said, said.count("\n")), (0, True, 3))
         self.expect("they are there, and the station too", self.plan_now(), third.replace("station,201,,,\n", "station,201,,,\nstation,202,,,\n"))
 
     def try_names(self):
         """A name that isn't ASCII: refused, with nothing of it taken; the page says what to write."""
         before = self.plan_now()
-        self.container.put(f"{HOME}/plan.csv", SECOND + "agent,9,Jos\u00e9 M\u00fcller,,\n")
-        line = self.recipe(NOON, "acd-plan --changes plan.csv --from http://127.0.0.1:8080 --send")
-        status, said = self.typed(line)
+        status, said = self.at_noon(SECOND + "agent,9,Jos\u00e9 M\u00fcller,,\n")
         self.expect_in("it is refused", said, "^acd-plan: plan row 6: name\n")
-        shown = self.typed(f"script --quiet --return --command '{line.strip()}' /dev/null")[1]
+        shown = self.typed(f"script --quiet --return --command '{LINE}' /dev/null")[1]
         self.expect_in("a terminal is told why", shown, r"(?m)^acd-plan: that is line 7: an agent's name is to be .* of ASCII, .* \(Mueller for Müller\)\r?$")
         self.expect("nothing is taken", (status, self.plan_now()), (1, before))
         self.expect_in("the page says what to write", self.page(NOON), "a name is of ASCII, `Mueller` for Müller")
-        self.container.put(f"{HOME}/plan.csv", SECOND + "agent,9,Jose Mueller,,\n")
-        self.expect("so written it is taken", (self.typed(line)[0], "agent,9,Jose Mueller,,\n" in self.plan_now()), (0, True))
+        written = self.at_noon(SECOND + "agent,9,Jose Mueller,,\n")[0]
+        self.expect("so written it is taken", (written, "agent,9,Jose Mueller,,\n" in self.plan_now()), (0, True))
 
     def try_served_file(self):
         """A report of the file that is served is refused; what the page says in its place has it."""
@@ -106,7 +107,7 @@ class Plans(Office):
         self.inside("/etc/acd/roles").write_text("sup supervisor\n")
         refused = self.service("sup", 1, "setAgentState", "http://127.0.0.1:8081/csta", ("-H", "X-Login: sup"), agent="7", requested="loggedOff")
         self.expect("by a supervisor", refused["error"]["name"], "forbidden")
-        status, said = self.typed(self.recipe("An agent forgot to log off, a call hangs", "now=$(date +%s)", **{'"call":12': f'"call":{number}', "calls/12": f"calls/{number}"}))
+        status, said = self.typed(self.recipe("An agent forgot to log off, a call hangs", "now=$(date +%s)", {'"call":12': f'"call":{number}', "calls/12": f"calls/{number}"}))
         self.expect(f"by the page's lines ({said})", (status, said.count('"result"'), "error" in said), (0, 2, False))
         now = json.loads(self.read("/snapshot"))
         self.expect("nobody is logged on, no call is there", (now["calls"], [one for one in now["agents"] if "device" in one]), ([], []))

@@ -124,7 +124,7 @@ class Program(Office):
         header, rows = PLAN.split("\n", 1)
         for what, data, line, *patterns in (
                 ("semicolons", PLAN.replace(",", ";").encode(), "plan header", re.escape(header), re.escape(header.replace(",", ";"))),
-                ("a header in Latin-1", f"kind,n\u00fcmber,name,ring,wrap\n{rows}".encode("latin-1"), "plan header", re.escape(r"kind,n\xfcmber")),
+                ("a header in Latin-1", f"kind,n\u00fcmber,name,ring,wrap\n{rows}".encode("latin-1"), "plan header", r"(?i)kind,n\\xfcmber"),
                 ("a long header", f"{'k' * 100}\n{rows}".encode(), "plan header", "(?<!k)k{1,60}(?!k)"),
                 ("a name of UTF-8", f"{header}\ngroup,100,Billing,3,2\nagent,9,M\u00fcller,,\n".encode(), "plan row 2: name", "line 3", "40"),
                 ("behind an empty line", f"{header}\n\n\nstation,20a,,,\n".encode(), "plan row 1: number", "line 4")):

@@ -8,7 +8,7 @@ FAULTS = [
     (READY, "anything is a file", "if not stat.S_ISREG(found.st_mode):", "if False:"),
     (READY, "two names will do", "if found.st_nlink != 1:", "if found.st_nlink > 2:"),
     (READY, "the log isn't looked at", "both = [path for path in (file, log) if is_there(path)]", "both = [file]"),
-    (READY, "links aren't followed", "return Path(os.path.realpath(path))", "return Path(path)"),
+    (READY, "links aren't followed", "file = Path(os.path.realpath(path))", "file = Path(path)"),
     (READY, "a restore that isn't ended isn't seen", "    if told:\n        raise Fault(told)\n", ""),
     (READY, "nor where another link leads there", "named = acd_held.place(path)", "named = Path(path)"),
     (READY, "a new desk is made in a restore", 'its name."""\n    file = place(options.file)', 'its name."""\n    file = Path(os.path.realpath(options.file))'),

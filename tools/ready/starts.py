@@ -16,7 +16,7 @@ from pathlib import Path
 from logs import PLAN, Log, caller
 
 MEND, WORDS, ELSEWHERE, AGAIN = 64, 2, 4, 1
-LONG = 20
+LONG, TRIES = 20, 10
 
 
 def free_port():
@@ -181,8 +181,8 @@ class Starts:
                 other.bind((address, 0))
                 other.listen()
                 port, took = str(other.getsockname()[1]), []
-                # where the machine is busy with something else, the best of three counts
-                while len(took) < 3 and not any(seconds < 2 for seconds in took):
+                # a machine that is busy with something else keeps it waiting: the best one counts
+                while len(took) < TRIES and not any(seconds < 2 for seconds in took):
                     began = time.monotonic()
                     self.fails(f"a port that is taken at {address}", [f"port {port} is taken", "(ss -ltnp sport = :", "ACD_PORT"], "--file", file, "--port", port)
                     took.append(time.monotonic() - began)

@@ -69,8 +69,9 @@ READ = [
 # what a terminal is told of a plan besides: the line of the file, and what is wanted there
 WANTED = "line 1 is to be kind,number,name,ring,wrap, and not "
 FAULTY = [
-    (b"", "plan header", WANTED + "nothing"), (HEADER.replace(b",", b";"), "plan header", WANTED + "'kind;number;name;ring;wrap'"), (b"n\xfcmber\n", "plan header", WANTED + "'n\\xfcmber'"),
-    (b"k" * 61 + b"\n", "plan header", WANTED + f"'{'k' * 60}'"), (HEADER + b"\n\nstation,20a,,,\n", "plan row 1: number", "that is line 4: a station's number is to be 1 to 15 digits"),
+    (b"", "plan header", WANTED + "nothing"), (HEADER.replace(b",", b";"), "plan header", WANTED + "kind;number;name;ring;wrap"), (b"n\xfcmber\n", "plan header", WANTED + "n\\xFCmber"),
+    (b"\n\nkind\n", "plan header", WANTED.replace("1", "3") + "kind"), (HEADER + b'agent,7,"A\nb",,\n', "plan row 1: name", "that is line 2: an agent's name is to be 1 to 40 characters of ASCII, from the blank to ~ (Mueller for M\u00fcller)"),
+    (b"k" * 61 + b"\n", "plan header", WANTED + "k" * 60), (HEADER + b"\n\nstation,20a,,,\n", "plan row 1: number", "that is line 4: a station's number is to be 1 to 15 digits"),
     (HEADER + "agent,9,M\u00fcller,,\n".encode(), "plan row 1: name", "that is line 2: an agent's name is to be 1 to 40 characters of ASCII, from the blank to ~ (Mueller for M\u00fcller)"),
     (HEADER + b"agent,7,Ana,,\nagent,1234567890,A,,\n", "plan row 2: number", "that is line 3: an agent's number is to be 1 to 9 digits"),
     (HEADER + b"group,1,n,3601,0\n", "plan row 1: ring", "that is line 2: a group's ring is to be seconds from 0 to 3600"),

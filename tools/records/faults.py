@@ -33,6 +33,7 @@ PLAN = [
     ("names without quotes", 'csv.writer(sys.stdout, lineterminator="\\n").writerows([HEADER, *rows])',
      'sys.stdout.writelines(",".join(map(str, row)) + "\\n" for row in [HEADER, *rows])'),
     ("a pipe is told more than the fault", "if why and sys.stderr.isatty():", "if why:"),
+    ("a row is told by its last line", "            yield line, fields", "            yield reader.line_num, fields"),
     ("a row is taken for a line", "that is line {at}", "that is line {number}"),
     ("priorities under invoke numbers of the plan", "requester_of(options.login), len(rows))", "requester_of(options.login), 0)"),
     ("another group's priority", '"device": group["device"], "priority"', '"device": desk["groups"][0]["device"], "priority"'),
