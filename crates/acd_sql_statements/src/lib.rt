@@ -25,6 +25,7 @@ mod reads;
 mod records;
 pub mod same;
 pub mod select;
+pub mod several;
 pub mod stored;
 pub mod tables;
 pub mod write;
