@@ -38,17 +38,15 @@ pub fn migrate<S: Alter>(conn: &mut Connection<S>) -> Result<(), Error>
     ensures clean { HasCleanDisk (state S.Store conn.new) → HasCleanDisk (state S.Store conn.old) }
     ensures was { HasCleanDisk (state S.Store conn.new)
         → IsTrue (state S.Store conn.new).is_open → IsTrue (state S.Store conn.old).is_open }
-    ensures made { IfFirst (state S.Store conn.old) (state S.Store conn.new)
-        (OnOk result (IsMade (state S.Store conn.old) (state S.Store conn.new))) }
-    ensures undone { IfFirst (state S.Store conn.old) (state S.Store conn.new)
-        (OnErr result (IsTrue (state S.Store conn.new).is_open
-        → IsRestored (state S.Store conn.old) (state S.Store conn.new))) }
-    ensures stops { IfFirst (state S.Store conn.old) (state S.Store conn.new)
-        (MayAlter (state S.Store conn.old) (state S.Store conn.new)) }
+    ensures made { IfFirst S.Store conn.old conn.new
+        (λ old new. OnOk result (IsMade old new)) }
+    ensures undone { IfFirst S.Store conn.old conn.new
+        (λ old new. OnErr result (IsTrue new.is_open → IsRestored old new)) }
+    ensures stops { IfFirst S.Store conn.old conn.new MayAlter }
     ensures counts { (state S.Store conn.old).faults ≤ (state S.Store conn.new).faults }
     ensures limit { (state S.Store conn.new).step_limit ≡ (state S.Store conn.old).step_limit }
-    ensures failed { IfFirst (state S.Store conn.old) (state S.Store conn.new)
-        (IfErr result (FailsToMigrate (state S.Store conn.old) (state S.Store conn.new))) }
+    ensures failed { IfFirst S.Store conn.old conn.new
+        (λ old new. IfErr result (FailsToMigrate old new)) }
 {
     let mut tx = conn.transaction();
     alter(&mut tx)?;
