@@ -13,7 +13,7 @@ ghost use Rattle.acd_sqlbook.specs.Commit.{LeavesContent, ChangeFits, EventFits,
 ghost use Rattle.acd_sqlbook.specs.Stopping.{HasAbove, RefusesChange, StopsAtChange, StopsInChanges, StopsAtEvent, StopsInEvents, StopsInAll, FailsAt, IsUndone};
 ghost use Rattle.acd_sql_statements.specs.Refusing.{RefusesAgent, IsBlamed};
 ghost use Rattle.acd_sql_columns.specs.Relations.{relations_of};
-ghost use Rattle.acd_sql_columns.specs.Draft.{Drafts, Works, HoldsContent, AddsStop, Fits, FiguresFitColumns, MetaFits};
+ghost use Rattle.acd_sql_columns.specs.Draft.{Works, HoldsContent, AddsStop, Fits, FiguresFitColumns, MetaFits};
 
 use acd_book::Kept;
 use acd_model::Change;
