@@ -16,7 +16,7 @@ _acd() {
             serve) offered='--file --port --connections --endless --help' ;;
             import) offered='--file --plan --help' ;;
             report | export) offered='--file --help' ;;
-            audit) offered='--file --count --help' ;;
+            audit) offered='--file --count --whole --help' ;;
             help) offered='lines serve import report export audit' ;;
             *) return ;;
         esac

@@ -16,5 +16,8 @@ begins_behind a b c x y first h = record {
 pub second_err : (a b c : Option (List ℕ)) (x y z : List ℕ) → Appends a b x → Begins b c y → Begins a c (x ++ (y ++ z))
 second_err a b c x y z first h = begins_behind a b c x (y ++ z) first (begins_front b c y z h)
 
+pub last_err : {A E : Type 0} (r : Result A E) (a b c : Option (List ℕ)) (x y : List ℕ) → Appends a b x → OnErr r (Begins b c y) → OnErr r (Begins a c (x ++ y))
+last_err r a b c x y first = OnErr-weaker r (Begins b c y) (Begins a c (x ++ y)) (begins_behind a b c x y first)
+
 pub third_err : {A E : Type 0} (r : Result A E) (a b c d : Option (List ℕ)) (x y z : List ℕ) → Appends a b x → Appends b c y → OnErr r (Begins c d z) → OnErr r (Begins a d (x ++ (y ++ z)))
 third_err r a b c d x y z first second = OnErr-weaker r (Begins c d z) (Begins a d (x ++ (y ++ z))) (λ h. begins_behind a b d x (y ++ z) first (begins_behind b c d y z second h))

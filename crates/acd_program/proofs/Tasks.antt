@@ -1,5 +1,5 @@
 -- That a task was done, by the work over a connection to files.
-use Rattle.std.proofs.Common.{◌≡◌, ℕ, Bool, true, false, List, [], Option, Result, Ok, Err, IfOk, OnOk, sym, ap, subst, ◌∙◌, refl}
+use Rattle.std.proofs.Common.{◌≡◌, ℕ, Bool, true, false, List, [], Option, Result, Ok, Err, IfOk, OnOk, sym, ap, subst, ◌∙◌}
 use Rattle.std.specs.Io.KnownBytes.{Appends}
 use Rattle.sqlite_disk.specs.declared.Disk.{Ghosts}
 use Rattle.sqlite_store.specs.declared.store.FileStore.{FileStore}
@@ -8,6 +8,7 @@ use Rattle.sqlite.specs.State.{State}
 use Rattle.sqlite.specs.Files.{file_state}
 use Rattle.acd_terms.specs.declared.command.Request.{Request}
 use Rattle.acd_book.specs.State.{BookState}
+use Rattle.acd_log.specs.declared.ending.Ending.{Ending}
 use Rattle.acd_program.specs.declared.auditing.Finding.{Finding}
 use Rattle.acd_program.specs.declared.desk.Telling.{Telling}
 use Rattle.acd_program.specs.declared.desk.Work.{Work}
@@ -15,14 +16,13 @@ use Rattle.acd_program.specs.declared.desk.Work.TheVariants as book
 use Rattle.acd_program.specs.declared.desk.Done.{Done}
 use Rattle.acd_program.specs.declared.desk.Done.TheVariants.{Nothing, Told, Audited}
 use Rattle.acd_program.specs.Found.{IsFindingOf, HasCount, finding_line}
-use Rattle.acd_program.specs.Statuses.{finding_status}
 use Rattle.acd_lines.specs.Lines.{AllRequests, RequestsAnswered, Streams}
 use Rattle.acd_lines.proofs.Weaker.{out_so}
 use Rattle.acd_program.specs.Over.{IsSession, OverConnection}
 use Rattle.acd_program.specs.Work.{WasAsked, IsTextOf, ImportsOver, AuditsOver, WorkDone, IsPrinted, text_left, status_left}
 use Rattle.acd_program.specs.InFiles.{IsLaidIn, WorkedOver}
 use Rattle.acd_program.specs.Files.{IsOpenedIn}
-use Rattle.acd_program.specs.Tasks.{WorkedIn, InFile, IsOpenedFrom, InputAnswered, TaskDone}
+use Rattle.acd_program.specs.Tasks.{WorkedIn, InFile, IsOpenedFrom, InputAnswered, AuditedIn, WholeAudit, TaskDone}
 use Rattle.acd_program.specs.declared.task.Task.{Task}
 use Rattle.acd_program.specs.declared.task.Task.TheVariants as task
 use Rattle.sqlite_disk.specs.declared.Files.{Files}
@@ -36,17 +36,17 @@ nothing_left : (left : Done) (between behind : Option (List ℕ)) → left ≡ N
 nothing_left left between behind is h = subst (λ (x : Done). Appends between behind (text_left x)) is h
 
 -- what an audit left to print
-found_left : (counts : Bool) (before between : Option (List ℕ)) (makes : Bool) (s t : State) (left : Done)
-    → OverConnection (λ (old new : BookState). AuditsOver IsFindingOf counts old left new × (between ≡ before)) makes s t
-    → (found : Finding) × (left ≡ Audited found) × HasCount counts found × OverConnection (λ (old new : BookState). WasAsked old IsFindingOf found new) makes s t
-found_left counts before between makes s t Nothing h =
-    absurd (over_fact (λ (old new : BookState). AuditsOver IsFindingOf counts old Nothing new × (between ≡ before)) ⊥ makes s t (λ old new p. p.0) h)
-found_left counts before between makes s t (Told text) h =
-    absurd (over_fact (λ (old new : BookState). AuditsOver IsFindingOf counts old (Told text) new × (between ≡ before)) ⊥ makes s t (λ old new p. p.0) h)
-found_left counts before between makes s t (Audited found) h =
-    let P : BookState → BookState → Type 0 = λ old new. AuditsOver IsFindingOf counts old (Audited found) new × (between ≡ before) in (
+found_left : (counts : Bool) (ending : Ending) (before between : Option (List ℕ)) (makes : Bool) (s t : State) (left : Done)
+    → OverConnection (λ (old new : BookState). AuditsOver IsFindingOf counts ending old left new × (between ≡ before)) makes s t
+    → (found : Finding) × (left ≡ Audited found ending) × HasCount counts found × OverConnection (λ (old new : BookState). WasAsked old IsFindingOf found new) makes s t
+found_left counts ending before between makes s t Nothing h =
+    absurd (over_fact (λ (old new : BookState). AuditsOver IsFindingOf counts ending old Nothing new × (between ≡ before)) ⊥ makes s t (λ old new p. p.0) h)
+found_left counts ending before between makes s t (Told text) h =
+    absurd (over_fact (λ (old new : BookState). AuditsOver IsFindingOf counts ending old (Told text) new × (between ≡ before)) ⊥ makes s t (λ old new p. p.0) h)
+found_left counts ending before between makes s t (Audited found told) h =
+    let P : BookState → BookState → Type 0 = λ old new. AuditsOver IsFindingOf counts ending old (Audited found told) new × (between ≡ before) in (
       found,
-      refl,
+      ap (Audited found) (over_fact P (told ≡ ending) makes s t (λ old new p. p.0.2) h),
       over_fact P (HasCount counts found) makes s t (λ old new p. p.0.0) h,
       over_so P (λ old new. WasAsked old IsFindingOf found new) makes s t (λ old new p. p.0.1) h,
     )
@@ -91,19 +91,18 @@ module _ {D : Type 0} (disk : Ghosts D) (IsFresh : Bool → D → Type 0) (befor
         w.told ∙ over_fact P (status_left w.left ≡ 0) makes s t (λ old new p. p.0.status) w.done,
       )
 
-  pub audit_done : (makes counts : Bool) → WorkedIn disk IsFresh makes (book.Audit counts) before behind status
-      → (found : Finding) × HasCount counts found × InFile disk IsFresh (λ (old new : BookState). WasAsked old IsFindingOf found new) makes × Appends before behind (finding_line found) × (status ≡ finding_status found)
-  audit_done makes counts h =
+  pub audit_done : (counts : Bool) (ending : Ending) → WorkedIn disk IsFresh false (book.Audit counts ending) before behind status → AuditedIn disk IsFresh counts ending before behind status
+  audit_done counts ending h =
       let w = h.2 in
       let s = file_state h.0 in
       let t = file_state w.last in
-      let P : BookState → BookState → Type 0 = λ old new. WorkDone IsFindingOf (book.Audit counts) old before w.between w.left new in
-      let same = over_fact P (w.between ≡ before) makes s t (λ old new p. p.1) w.done in
-      let found = found_left counts before w.between makes s t w.left w.done in (
+      let P : BookState → BookState → Type 0 = λ old new. WorkDone IsFindingOf (book.Audit counts ending) old before w.between w.left new in
+      let same = over_fact P (w.between ≡ before) false s t (λ old new p. p.1) w.done in
+      let found = found_left counts ending before w.between false s t w.left w.done in (
         found.0,
         found.2,
         record { conn = h.0; last = w.last; opened = h.1; done = found.3; closed = w.closed },
-        subst (λ (a : Option (List ℕ)). Appends a behind (finding_line found.0)) same (subst (λ (x : Done). Appends w.between behind (text_left x)) found.1 w.printed),
+        subst (λ (a : Option (List ℕ)). Appends a behind (finding_line ending found.0)) same (subst (λ (x : Done). Appends w.between behind (text_left x)) found.1 w.printed),
         w.told ∙ ap status_left found.1,
       )
 
@@ -161,8 +160,13 @@ module _ {D F : Type 0} (disk : Ghosts D) (IsFresh : Bool → D → Type 0) (r :
   read_done : (file : _) (work : Work) (status : ℕ) → WorkedIn disk IsFresh false work io.before io.behind status → TaskDone disk IsFresh (task.Read file work) io mute told status
   read_done file (book.Import requests) status h = import_done disk IsFresh io.before io.behind status false requests h
   read_done file (book.Tell telling) status h = tell_done disk IsFresh io.before io.behind status false telling h
-  read_done file (book.Audit counts) status h = audit_done disk IsFresh io.before io.behind status false counts h
+  read_done file (book.Audit counts ending) status h = audit_done disk IsFresh io.before io.behind status counts ending h
 
   pub read_task : (file : _) (work : Work) → asked ≡ task.Read file work → IfOk r (λ (status : ℕ). WorkedIn disk IsFresh false work io.before io.behind status)
       → IfOk r (λ (status : ℕ). TaskDone disk IsFresh asked io mute told status)
   read_task file work is = ok_so r _ _ (λ status h. subst (λ (t : Task). TaskDone disk IsFresh t io mute told status) (sym is) (read_done file work status h))
+
+  pub whole_task : (file : _) (counts : Bool) → asked ≡ task.AuditWhole file counts → IfOk r (λ (status : ℕ). WholeAudit disk IsFresh counts io.before io.behind status)
+      → IfOk r (λ (status : ℕ). TaskDone disk IsFresh asked io mute told status)
+  whole_task file counts is =
+      ok_so r _ _ (λ status h. subst (λ (t : Task). TaskDone disk IsFresh t io mute told status) (sym is) (h.0, h.1, audit_done disk IsFresh io.before io.behind status counts h.0 h.2))

@@ -11,6 +11,7 @@ use Rattle.acd_sqlbook.specs.Noting.{followed}
 use Rattle.acd_sqlbook.specs.State.{book_state}
 use Rattle.sqlite.specs.State.{State}
 use Rattle.acd_desk.specs.declared.taken.Taken.{Taken}
+use Rattle.acd_log.specs.declared.ending.Ending.{Ending}
 use Rattle.acd_desk.specs.Standing.{Standing}
 use Rattle.acd_desk.specs.Stands.{IsSound}
 use Rattle.acd_desk.specs.Tells.{told, export_read, Rise}
@@ -41,16 +42,17 @@ pub imports_of : (old mid new : BookState) (requests : List Request) (before beh
 imports_of old mid new requests before behind of h =
     requests_so (AllRequests requests) (IsSession mid new) (IsSession old new) (Appends before behind) (λ l ts s. session_of IsFault old mid new l ts of s) h
 
-audits_of : (counts : Bool) (old mid new : BookState) (done : Done) → IsOf old mid → AuditsOver IsFindingIfOrdered counts mid done new → AuditsOver IsFindingOf counts old done new
-audits_of counts old mid new left.Nothing of h = h
-audits_of counts old mid new (left.Told text) of h = h
-audits_of counts old mid new (left.Audited found) of h = (h.0, asked_in_order old mid new found of h.1)
+audits_of : (counts : Bool) (ending : Ending) (old mid new : BookState) (done : Done) → IsOf old mid → AuditsOver IsFindingIfOrdered counts ending mid done new
+    → AuditsOver IsFindingOf counts ending old done new
+audits_of counts ending old mid new left.Nothing of h = h
+audits_of counts ending old mid new (left.Told text) of h = h
+audits_of counts ending old mid new (left.Audited found told) of h = (h.0, asked_in_order old mid new found of h.1, h.2)
 
 -- the work over a book that came of another
 pub work_of : (work : Work) (old mid new : BookState) (before behind : Option (List ℕ)) (done : Done) → IsOf old mid → WorkDone IsFindingIfOrdered work mid before behind done new → WorkDone IsFindingOf work old before behind done new
 work_of (Import requests) old mid new before behind done of h = (imports_of old mid new requests.now before behind of h.0, h.1)
 work_of (Tell telling) old mid new before behind done of h = (record { asked = asked_of old mid new _ (IsTextOf telling) of h.0.asked; status = h.0.status }, h.1)
-work_of (Audit counts) old mid new before behind done of h = (audits_of counts old mid new done of h.0, h.1)
+work_of (Audit counts ending) old mid new before behind done of h = (audits_of counts ending old mid new done of h.0, h.1)
 
 -- ---- over a book
 

@@ -7,6 +7,8 @@ use Rattle.acd_desk.specs.declared.audit.Audit.TheVariants as audit
 use Rattle.acd_desk.specs.Audit.{IsFirstDifference}
 use Rattle.acd_desk.specs.Standing.{Standing, InStep}
 use Rattle.acd_desk.specs.Stands.{IsSound}
+use Rattle.acd_log.specs.declared.ending.Ending.{Ending}
+use Rattle.acd_log.specs.declared.ending.Ending.TheVariants.{Plain, Early, Headless}
 use Rattle.acd_program.specs.declared.auditing.Finding.{Finding}
 use Rattle.acd_program.specs.declared.auditing.Finding.TheVariants.{Sound, Counted, Differs}
 
@@ -33,8 +35,14 @@ HasCount counts Sound = counts ≡ false
 HasCount counts (Counted count) = counts ≡ true
 HasCount counts (Differs place) = ⊤
 
+-- the line of a sound content, by how the log of its file ended
+abbrev pub sound_line : Ending → List ℕ
+sound_line Plain = codes "sound\n"
+sound_line Early = codes "sound, but its log ends early\n"
+sound_line Headless = codes "sound, but the head of its log can't be read\n"
+
 -- as it is printed
-abbrev pub finding_line : Finding → List ℕ
-finding_line Sound = codes "sound\n"
-finding_line (Counted count) = codes "sound\nexecuted " ++ (decimal count ++ 10 ∷ [])
-finding_line (Differs place) = codes "differs at request " ++ (decimal place ++ 10 ∷ [])
+abbrev pub finding_line : Ending → Finding → List ℕ
+finding_line ending Sound = sound_line ending
+finding_line ending (Counted count) = sound_line ending ++ (codes "executed " ++ (decimal count ++ 10 ∷ []))
+finding_line ending (Differs place) = codes "differs at request " ++ (decimal place ++ 10 ∷ [])

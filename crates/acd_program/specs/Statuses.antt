@@ -1,21 +1,29 @@
 -- Exit statuses, and what goes with them.
 use Rattle.std.specs.Prelude.{◌≡◌, ◌⊎◌, ℕ, List, Option}
 use Rattle.acd_io.specs.Sent.{Begins}
+use Rattle.acd_log.specs.declared.ending.Ending.{Ending}
+use Rattle.acd_log.specs.declared.ending.Ending.TheVariants as log
 use Rattle.acd_program.specs.declared.auditing.Finding.{Finding}
 use Rattle.acd_program.specs.declared.auditing.Finding.TheVariants.{Sound, Counted, Differs}
 use Rattle.acd_program.specs.declared.fault.Fault.{Fault}
 use Rattle.acd_program.specs.declared.fault.Fault.TheVariants.{CannotOpen, OpenElsewhere, WrongVersion, BadRow, BadRows, NoMemory, Store, Plan, Read, Write, CannotListen}
 use Rattle.acd_http.specs.Listening.{Outcome, outcome_lines}
 
--- no fault: success, or the difference that an audit told
+-- no fault: success, the difference that an audit told, or that a sound desk's log ends early
 abbrev pub IsDone : ℕ → Type 0
-IsDone status = (status ≡ 0) ⊎ (status ≡ 3)
+IsDone status = (status ≡ 0) ⊎ ((status ≡ 3) ⊎ (status ≡ 5))
+
+-- the status of a sound content, by how the log of its file ended
+abbrev pub sound_status : Ending → ℕ
+sound_status log.Plain = 0
+sound_status log.Early = 5
+sound_status log.Headless = 5
 
 -- the status that goes with what an audit found
-abbrev pub finding_status : Finding → ℕ
-finding_status Sound = 0
-finding_status (Counted count) = 0
-finding_status (Differs place) = 3
+abbrev pub finding_status : Ending → Finding → ℕ
+finding_status ending Sound = sound_status ending
+finding_status ending (Counted count) = sound_status ending
+finding_status ending (Differs place) = 3
 
 -- the status that goes with a fault
 abbrev pub fault_status : Fault → ℕ

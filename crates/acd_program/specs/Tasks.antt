@@ -10,6 +10,8 @@ use Rattle.acd_terms.specs.declared.command.Request.{Request}
 use Rattle.acd_book.specs.State.{BookState}
 use Rattle.acd_reports.specs.Plan.{plan_requests}
 use Rattle.acd_lines.specs.Lines.{Streams}
+use Rattle.acd_log.specs.declared.ending.Ending.{Ending}
+use Rattle.acd_log.specs.Ending.{IsEndingOf}
 use Rattle.acd_http.specs.ReadingLines.{ReadInTurn}
 use Rattle.acd_program.specs.Answered.{AnswersAll, in_memory}
 use Rattle.acd_program.specs.Desks.{OverNewDesk, OverDatabase, in_database}
@@ -25,13 +27,17 @@ use Rattle.acd_program.specs.declared.auditing.Finding.{Finding}
 use Rattle.acd_program.specs.declared.desk.Work.{Work}
 use Rattle.acd_program.specs.declared.desk.Work.TheVariants as kind
 use Rattle.acd_program.specs.declared.task.Task.{Task}
-use Rattle.acd_program.specs.declared.task.Task.TheVariants.{Lines, Serve, Import, Read}
+use Rattle.acd_program.specs.declared.task.Task.TheVariants.{Lines, Serve, Import, AuditWhole, Read}
 
 -- Each line of the input was answered, over a desk in memory: the answers to the requests among them are the abstract desk's or, where lines may be reads too, each line was answered by the desk that
 -- the lines before it left
 abbrev pub MemoryAnswered : Bool → Streams → Type 0
 MemoryAnswered false io = AnswersAll io.had io.before io.behind
 MemoryAnswered true io = OverNewDesk (Whole in_memory (ReadInTurn in_memory) false io)
+
+-- some log ends so
+abbrev pub IsSomeEnding : Ending → Type 0
+IsSomeEnding ending = (log : List ℕ) × IsEndingOf log ending
 
 -- `IsFresh is_log file` says that a file is a log, or a database file, that was just opened
 module _ {D : Type 0} (disk : Ghosts D) (IsFresh : Bool → D → Type 0) where
@@ -82,6 +88,15 @@ module _ {D : Type 0} (disk : Ghosts D) (IsFresh : Bool → D → Type 0) where
   InputAnswered None reads ends io status = MemoryAnswered reads io × (status ≡ 0)
   InputAnswered (Some file) reads ends io status = FileAnswered reads ends io × (status ≡ 0)
 
+  -- an audit was printed, with how the log of its file had ended
+  abbrev pub AuditedIn : Bool → Ending → Option (List ℕ) → Option (List ℕ) → ℕ → Type 0
+  AuditedIn counts ending before behind status =
+      (found : Finding) × HasCount counts found × InFile (λ (old new : BookState). WasAsked old IsFindingOf found new) false × Appends before behind (finding_line ending found) × (status ≡ finding_status ending found)
+
+  -- the work of an audit was done over a connection to files, of which the log had ended so before
+  abbrev pub WholeAudit : Bool → Option (List ℕ) → Option (List ℕ) → ℕ → Type 0
+  WholeAudit counts before behind status = (ending : Ending) × IsSomeEnding ending × WorkedIn false (kind.Audit counts ending) before behind status
+
   -- the task was done, from what was read to what was written, to what was told on the stream of errors, and to the exit status
   abbrev pub TaskDone : Task → Streams → Option (List ℕ) → Option (List ℕ) → ℕ → Type 0
   TaskDone (Lines file reads ends) io mute told status = InputAnswered file reads ends io status
@@ -90,8 +105,8 @@ module _ {D : Type 0} (disk : Ghosts D) (IsFresh : Bool → D → Type 0) where
   TaskDone (Read file (kind.Import requests)) io mute told status = InFile (λ (old new : BookState). ImportsOver requests.now old io.before io.behind new) false × (status ≡ 0)
   TaskDone (Read file (kind.Tell telling)) io mute told status =
       (text : List ℕ) × InFile (λ (old new : BookState). WasAsked old (IsTextOf telling) text new) false × Appends io.before io.behind text × (status ≡ 0)
-  TaskDone (Read file (kind.Audit counts)) io mute told status =
-      (found : Finding) × HasCount counts found × InFile (λ (old new : BookState). WasAsked old IsFindingOf found new) false × Appends io.before io.behind (finding_line found) × (status ≡ finding_status found)
+  TaskDone (Read file (kind.Audit counts ending)) io mute told status = AuditedIn counts ending io.before io.behind status
+  TaskDone (AuditWhole file counts) io mute told status = (ending : Ending) × IsSomeEnding ending × AuditedIn counts ending io.before io.behind status
 
   -- one of the tasks was done so
   abbrev pub SomeTaskDone : Streams → Option (List ℕ) → Option (List ℕ) → ℕ → Type 0

@@ -12,6 +12,7 @@ use Rattle.acd_lines.specs.Lines.{LinesAnswered, AllRequests, RequestsAnswered}
 use Rattle.acd_program.specs.Found.{IsFindingOf, HasCount, finding_line}
 use Rattle.acd_program.specs.Statuses.{finding_status}
 use Rattle.acd_program.specs.Over.{IsSession}
+use Rattle.acd_log.specs.declared.ending.Ending.{Ending}
 use Rattle.acd_program.specs.declared.auditing.Finding.{Finding}
 use Rattle.acd_program.specs.declared.desk.Telling.{Telling}
 use Rattle.acd_program.specs.declared.desk.Telling.TheVariants.{Report, Export}
@@ -30,13 +31,13 @@ telling_text Export c = events_csv c.events
 abbrev pub text_left : Done → List ℕ
 text_left Nothing = []
 text_left (Told text) = string_bytes text
-text_left (Audited found) = finding_line found
+text_left (Audited found ending) = finding_line ending found
 
 -- and the exit status that goes with it
 abbrev pub status_left : Done → ℕ
 status_left Nothing = 0
 status_left (Told text) = 0
-status_left (Audited found) = finding_status found
+status_left (Audited found ending) = finding_status ending found
 
 -- ---- over a book
 
@@ -62,11 +63,11 @@ pub record TellsOver (telling : Telling) (old : BookState) (done : Done) (new : 
   pub asked : WasAsked old (IsTextOf telling) (text_left done) new
   pub status : status_left done ≡ 0
 
--- an audit of the book found this, which is left to print
-abbrev pub AuditsOver : (Content → Finding → Type 0) → Bool → BookState → Done → BookState → Type 0
-AuditsOver IsAnswer counts old Nothing new = ⊥
-AuditsOver IsAnswer counts old (Told text) new = ⊥
-AuditsOver IsAnswer counts old (Audited found) new = HasCount counts found × WasAsked old IsAnswer found new
+-- an audit of the book found this, which is left to print with how the log of its file had ended
+abbrev pub AuditsOver : (Content → Finding → Type 0) → Bool → Ending → BookState → Done → BookState → Type 0
+AuditsOver IsAnswer counts ending old Nothing new = ⊥
+AuditsOver IsAnswer counts ending old (Told text) new = ⊥
+AuditsOver IsAnswer counts ending old (Audited found told) new = HasCount counts found × WasAsked old IsAnswer found new × (told ≡ ending)
 
 -- the requests came in at moment 0, one after the other, and one answer line was written for each; they are a session over the book
 abbrev pub ImportsOver : List Request → BookState → Option (List ℕ) → Option (List ℕ) → BookState → Type 0
@@ -76,7 +77,7 @@ ImportsOver requests old before behind new = LinesAnswered (AllRequests requests
 abbrev pub WorkDone : (Content → Finding → Type 0) → Work → BookState → Option (List ℕ) → Option (List ℕ) → Done → BookState → Type 0
 WorkDone IsAnswer (Import requests) old before behind done new = ImportsOver requests.now old before behind new × (done ≡ Nothing)
 WorkDone IsAnswer (Tell telling) old before behind done new = TellsOver telling old done new × (behind ≡ before)
-WorkDone IsAnswer (Audit counts) old before behind done new = AuditsOver IsAnswer counts old done new × (behind ≡ before)
+WorkDone IsAnswer (Audit counts ending) old before behind done new = AuditsOver IsAnswer counts ending old done new × (behind ≡ before)
 
 -- the work ended, so did the closing of its file, and what was left of it is printed
 pub record IsPrinted {F : Type 0} (done : Result Done F) (closed : Result (Unit {0}) F) (before behind : Option (List ℕ)) (status : ℕ) : Type 0 where

@@ -16,6 +16,7 @@ use crate::progress::{Progress, Watched};
 use acd_book::Book;
 use acd_desk::{Desk, DeskFault};
 use acd_lines::import;
+use acd_log::Ending;
 use acd_terms::Request;
 use sqlite::{Alter, Connection};
 use std::alloc::Global;
@@ -28,8 +29,9 @@ pub(crate) enum Work<'w> {
     Import(&'w [Request]),
     /// Tell of its desk.
     Tell(Telling),
-    /// Run the kept requests again, and compare what they give with the book.
-    Audit { counts: bool },
+    /// Run the kept requests again, and compare what they give with the book. How the log of its file had ended is told
+    /// beside that; where nobody looked, plainly.
+    Audit { counts: bool, ending: Ending },
 }
 
 /// What is told of a desk as one text.
@@ -46,7 +48,7 @@ pub(crate) enum Telling {
 pub(crate) enum Done {
     Nothing,
     Told(String),
-    Audited(Finding),
+    Audited(Finding, Ending),
 }
 
 fn imported<'a, B: Book, W: Write>(
@@ -109,9 +111,10 @@ fn audit<'a, B: Book>(
     alloc: Global,
     book: Watched<'_, B>,
     counts: bool,
+    ending: Ending,
 ) -> (Result<Done, Fault<'a>>, B)
     ensures { IfOk result.0
-        (λ done. AuditsOver IsFindingIfOrdered counts (B.state book.entry.inner) done
+        (λ done. AuditsOver IsFindingIfOrdered counts ending (B.state book.entry.inner) done
         (B.state result.1)) }
 {
     let mut desk = match Desk::open(alloc, book) {
@@ -119,7 +122,7 @@ fn audit<'a, B: Book>(
         Err((fault, book)) => return (Err(Fault::from(fault)), book.into_inner()),
     };
     match audited(&mut desk, counts) {
-        Ok(found) => (Ok(Done::Audited(found)), desk.close().into_inner()),
+        Ok(found) => (Ok(Done::Audited(found, ending)), desk.close().into_inner()),
         Err(fault) => (Err(Fault::from(fault)), desk.close().into_inner()),
     }
 }
@@ -137,8 +140,9 @@ fn over_book<'a, B: Book, W: Write>(
     match work {
         Work::Import(requests) => imported(rt.alloc(), book, requests, writer),
         Work::Tell(telling) => told(rt.alloc(), book, telling),
-        Work::Audit { counts } => {
-            audit(rt.alloc(), Watched::new(book, Progress::new(rt)), counts)
+        Work::Audit { counts, ending } => {
+            let book = Watched::new(book, Progress::new(rt));
+            audit(rt.alloc(), book, counts, ending)
         }
     }
 }

@@ -5,18 +5,20 @@ ghost use Rattle.sqlite.specs.Held.{IsNew};
 ghost use Rattle.sqlite_std_file.specs.File.{file_is_usable, IsFresh};
 ghost use Rattle.acd_program.specs.Faults.{by_memory};
 ghost use Rattle.acd_program.specs.Files.{IsOpenedIn};
-ghost use Rattle.acd_program.specs.Tasks.{IsOpenedFrom};
+ghost use Rattle.acd_program.specs.Tasks.{IsOpenedFrom, IsSomeEnding};
 ghost use Rattle.acd_program.specs.InFiles.{IsLaidIn};
 
 use crate::fault::Fault;
 use crate::lone_log::hold_commit;
 use crate::paging::{begun, disk_fault, log_fault, options};
-use crate::progress::announce;
+use crate::progress::{announce, warn};
+use acd_log::{Ending, ending_of};
 use sqlite::{Connection, Error, ErrorCode, FileStore};
 use sqlite_disk::{Disk, Files, Start};
 use sqlite_std_file::{FileFrom, OpenError};
 use std::alloc::Global;
 use std::hash::{BuildHasher, RandomState};
+use std::io::IsTerminal;
 use std::{fs, io};
 
 /// The store of a file that held what `S` says.
@@ -75,6 +77,24 @@ pub(crate) fn holds_log<'a>(rt: &HostRuntime, path: &'a str) -> Result<bool, Fau
     match hold_commit(rt.alloc(), &log_bytes(rt, path)?) {
         Ok(holds) => Ok(holds),
         Err(error) => Err(log_fault(error, path)),
+    }
+}
+
+/// How the log at a path ends, before anything is opened.
+pub(crate) fn log_ending<'a>(rt: &HostRuntime, path: &'a str) -> Result<Ending, Fault<'a>>
+    ensures { IfOk result IsSomeEnding }
+{
+    let log = log_bytes(rt, path)?;
+    Ok(ending_of(&log))
+}
+
+// Says at a terminal what is missing of the log: an opening takes what stands before, and empties it.
+fn warn_of_log(rt: &HostRuntime, path: &str) {
+    if !rt.stderr().is_terminal() {
+        return;
+    }
+    if let Ok(ending) = log_ending(rt, path) {
+        warn(rt, path, ending);
     }
 }
 
@@ -189,6 +209,7 @@ pub(crate) fn connect<'a, S: Start>(
     let found = look(rt, path)?;
     if let Found::Bytes(len) = found {
         announce(rt, path, len);
+        warn_of_log(rt, path);
     } else if holds_log(rt, path)? {
         return Err(Fault::CannotOpen(path));
     }

@@ -14,8 +14,8 @@ use std::io::{self, Read};
 // One byte more than a plan may have, so that a longer one is seen to be too long.
 const ENOUGH: u64 = 1_048_577;
 
-// All bytes of a reader, or as many as are enough.
-fn bytes_from<R: Read + Drop>(alloc: Global, reader: R) -> io::Result<Vec<u8>>
+/// All bytes of a reader, or as many as are enough.
+pub(crate) fn bytes_from<R: Read + Drop>(alloc: Global, reader: R) -> io::Result<Vec<u8>>
     ensures { IfOk result
         (λ bytes. IfSome (R.remaining reader) (λ all. bytes.items ≡ take 1048577 all)) }
 {

@@ -3,14 +3,15 @@
 ghost use Rattle.std.specs.Prelude.{◌≡◌, ◌++◌, ◌∷◌, [], decimal, OnOk, OnErr, IfOk, IfErr};
 ghost use Rattle.std.specs.Io.KnownBytes.{Appends};
 ghost use Rattle.acd_io.specs.Sent.{Begins};
-ghost use Rattle.acd_program.specs.Found.{finding_line};
-ghost use Rattle.acd_program.specs.Statuses.{IsDone, finding_status};
+ghost use Rattle.acd_program.specs.Found.{sound_line, finding_line};
+ghost use Rattle.acd_program.specs.Statuses.{IsDone, sound_status, finding_status};
 ghost use Rattle.acd_program.specs.Work.{text_left, status_left};
 
 use crate::auditing::Finding;
 use crate::desk::Done;
 use crate::fault::Fault;
 use acd_io::{Stopped, send};
+use acd_log::Ending;
 use itoa::Buffer;
 use std::io::Write;
 
@@ -18,6 +19,8 @@ use std::io::Write;
 const SUCCESS: u8 = 0;
 
 const DIFFERS: u8 = 3;
+
+const ENDS_EARLY: u8 = 5;
 
 // How often the writer is called at most.
 const CALLS: u64 = u64::MAX;
@@ -38,17 +41,42 @@ fn send_number<W: Write>(writer: &mut W, front: &[u8], number: u64) -> Result<()
     send(writer, &mut calls, b"\n")
 }
 
-// Writes what an audit found, as a line or two.
-fn send_finding<W: Write>(found: Finding, writer: &mut W) -> Result<(), Stopped>
+// What is said of a sound desk, of whose file the log ended so.
+fn sound_line(ending: Ending) -> &'static str
+    ensures { result.now ≡ sound_line ending }
+{
+    match ending {
+        Ending::Plain => "sound\n",
+        Ending::Early => "sound, but its log ends early\n",
+        Ending::Headless => "sound, but the head of its log can't be read\n",
+    }
+}
+
+// Writes that, and how many requests were executed.
+fn send_counted<W: Write>(ending: Ending, count: u64, writer: &mut W) -> Result<(), Stopped>
     ensures ok { OnOk result
-        (Appends (W.contents writer.old) (W.contents writer.new) (finding_line found)) }
+        (Appends (W.contents writer.old) (W.contents writer.new)
+        (finding_line ending (Finding.Counted count))) }
     ensures err { OnErr result
-        (Begins (W.contents writer.old) (W.contents writer.new) (finding_line found)) }
+        (Begins (W.contents writer.old) (W.contents writer.new)
+        (finding_line ending (Finding.Counted count))) }
+{
+    let mut calls = CALLS;
+    send(writer, &mut calls, sound_line(ending).as_bytes())?;
+    send_number(writer, b"executed ", count)
+}
+
+// Writes what an audit found, as a line or two.
+fn send_finding<W: Write>(found: Finding, ending: Ending, writer: &mut W) -> Result<(), Stopped>
+    ensures ok { OnOk result
+        (Appends (W.contents writer.old) (W.contents writer.new) (finding_line ending found)) }
+    ensures err { OnErr result
+        (Begins (W.contents writer.old) (W.contents writer.new) (finding_line ending found)) }
 {
     let mut calls = CALLS;
     match found {
-        Finding::Sound => send(writer, &mut calls, b"sound\n"),
-        Finding::Counted(count) => send_number(writer, b"sound\nexecuted ", count),
+        Finding::Sound => send(writer, &mut calls, sound_line(ending).as_bytes()),
+        Finding::Counted(count) => send_counted(ending, count, writer),
         Finding::Differs(place) => send_number(writer, b"differs at request ", place),
     }
 }
@@ -63,18 +91,30 @@ fn send_left<W: Write>(left: &Done, writer: &mut W) -> Result<(), Stopped>
     match left {
         Done::Nothing => Ok(()),
         Done::Told(text) => send(writer, &mut calls, text.as_bytes()),
-        Done::Audited(found) => send_finding(*found, writer),
+        Done::Audited(found, ending) => send_finding(*found, *ending, writer),
+    }
+}
+
+// The exit status of a sound desk, of whose file the log ended so.
+fn sound_status(ending: Ending) -> u8
+    ensures known { IsDone result }
+    ensures status { result ≡ sound_status ending }
+{
+    match ending {
+        Ending::Plain => SUCCESS,
+        Ending::Early => ENDS_EARLY,
+        Ending::Headless => ENDS_EARLY,
     }
 }
 
 // The exit status that goes with what an audit found. Where something differs that is no fault.
-fn status_of(found: &Finding) -> u8
+fn status_of(found: Finding, ending: Ending) -> u8
     ensures known { IsDone result }
-    ensures status { result ≡ finding_status found.now }
+    ensures status { result ≡ finding_status ending found }
 {
     match found {
-        Finding::Sound => SUCCESS,
-        Finding::Counted(_) => SUCCESS,
+        Finding::Sound => sound_status(ending),
+        Finding::Counted(_) => sound_status(ending),
         Finding::Differs(_) => DIFFERS,
     }
 }
@@ -86,7 +126,7 @@ fn status_left(left: &Done) -> u8
     match left {
         Done::Nothing => SUCCESS,
         Done::Told(_) => SUCCESS,
-        Done::Audited(found) => status_of(found),
+        Done::Audited(found, ending) => status_of(*found, *ending),
     }
 }
 

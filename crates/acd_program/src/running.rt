@@ -9,15 +9,16 @@ ghost use Rattle.acd_program.specs.LinesOver.{in_turn, Whole};
 ghost use Rattle.acd_program.specs.Statuses.{IsDone, fault_status, TellsConnections};
 ghost use Rattle.acd_program.specs.Work.{IsPrinted};
 ghost use Rattle.acd_program.specs.InFiles.{WorkedOver};
-ghost use Rattle.acd_program.specs.Tasks.{WorkedIn, FileAnswered, InputAnswered, ImportedIn, ServedIn, TaskDone, SomeTaskDone};
+ghost use Rattle.acd_program.specs.Tasks.{WorkedIn, FileAnswered, InputAnswered, ImportedIn, ServedIn, WholeAudit, TaskDone, SomeTaskDone};
 
 use crate::connection::database_lines;
 use crate::desk::{Done, Work, over_database};
 use crate::fault::Fault;
-use crate::file::{close_connection, connect};
+use crate::file::{close_connection, connect, log_ending};
 use crate::memory::lines_over_memory;
 use crate::plan::read_plan;
 use crate::printing::print;
+use crate::reasons::explain;
 use crate::serving::serve;
 use crate::task::{Task, parse};
 use acd_book::MemoryBook;
@@ -169,6 +170,30 @@ fn import_plan<'a, S: Start, W: Write>(
     work_in(rt, start, file, true, Work::Import(&requests), writer)
 }
 
+// Audits the desk in a file. An opening empties the log, so it is looked at first.
+fn audit_whole<'a, S: Start, W: Write>(
+    rt: &HostRuntime,
+    start: S,
+    file: &'a str,
+    counts: bool,
+    writer: &mut W,
+) -> Result<u8, Fault<'a>>
+    ensures known { IfOk result IsDone }
+    ensures audited { IfOk result
+        (λ status. WholeAudit ⟦<FileFrom<S> as Disk>⟧ IsFresh counts (W.contents writer.old)
+        (W.contents writer.new) status) }
+{
+    let ending = log_ending(rt, file)?;
+    work_in(
+        rt,
+        start,
+        file,
+        false,
+        Work::Audit { counts, ending },
+        writer,
+    )
+}
+
 fn serve_file<'a, S: Start, W: Write, E: Write>(
     rt: &HostRuntime,
     start: S,
@@ -236,6 +261,7 @@ fn execute<'a, S: Start, R: Read, W: Write, E: Write>(
             Ok(SUCCESS)
         }
         Task::Import { file, plan } => import_plan(rt, start, file, plan, writer),
+        Task::AuditWhole { file, counts } => audit_whole(rt, start, file, counts, writer),
         Task::Read { file, work } => work_in(rt, start, file, false, work, writer),
     }
 }
@@ -277,7 +303,7 @@ fn tell<W: Write, E: Write>(alloc: Global, error: &Error, writer: &mut W, errors
 
 /// Does what the words ask for; the first is the program's name. It answers the exit status: 0 for success, 1 for
 /// a fault, which is one line on `errors`, 2 for a command line that it refuses, 3 for an audit that tells a
-/// difference, and 4, with a fault's line, where the file is open elsewhere.
+/// difference, 4, with a fault's line, where the file is open elsewhere, and 5 where a sound desk's log is damaged.
 pub fn program<S: AsStr, R: Read, W: Write, E: Write>(
     rt: &HostRuntime,
     words: &[S],
@@ -290,9 +316,11 @@ pub fn program<S: AsStr, R: Read, W: Write, E: Write>(
         ⊎ TellsConnections (E.contents errors.old) (E.contents errors.new) }
     // a difference that an audit tells says nothing there
     ensures differs { result ≡ 3 → errors.new ≡ errors.old }
+    // nor does a log that ends early
+    ensures early { result ≡ 5 → errors.new ≡ errors.old }
     // for a command line that is refused nothing is read, and nothing is written but why
     ensures refused { result ≡ 2 → (reader.new ≡ reader.old) × (writer.new ≡ writer.old) }
-    ensures known { result ≤ 4 }
+    ensures known { result ≤ 5 }
     // such a status is that of a task which was done so, or help was asked for, and nothing was read
     ensures done { IsDone result
         → ((result ≡ 0) × (reader.new ≡ reader.old) × (errors.new ≡ errors.old))
@@ -306,6 +334,10 @@ pub fn program<S: AsStr, R: Read, W: Write, E: Write>(
     };
     match execute(rt, Unknown, task, reader, writer, errors) {
         Ok(status) => status,
-        Err(fault) => fail(fault, errors),
+        Err(fault) => {
+            let status = fail(fault, errors);
+            explain(rt, task, fault);
+            status
+        }
     }
 }

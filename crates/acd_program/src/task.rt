@@ -1,6 +1,7 @@
 //! What a command line asks for.
 
 use crate::desk::{Telling, Work};
+use acd_log::Ending;
 use clap::builder::ValueParser;
 use clap::error::ErrorKind;
 use clap::{Arg, ArgAction, ArgGroup, ArgMatches, Command, Error};
@@ -27,6 +28,11 @@ pub(crate) enum Task<'a> {
     Import {
         file: &'a str,
         plan: &'a str,
+    },
+    /// Audit the desk in a file, and say how its log ended before it was opened.
+    AuditWhole {
+        file: &'a str,
+        counts: bool,
     },
     /// Print what is told of the desk in a file: the queue report, all event reports, or what an audit finds.
     Read {
@@ -56,6 +62,8 @@ const READS: &str = "reads";
 const END_ON_STORE_FAULT: &str = "end-on-store-fault";
 
 const COUNT: &str = "count";
+
+const WHOLE: &str = "whole";
 
 /// How many connections are served at most.
 const MOST_CONNECTIONS: u64 = 1_000_000;
@@ -188,6 +196,11 @@ fn audit_command<'a>(alloc: Global) -> Result<Command<'a>, AllocError> {
             alloc,
             COUNT,
             "Behind sound, print how many requests were executed",
+        ))?
+        .arg(flag(
+            alloc,
+            WHOLE,
+            "Tell, with status 5, where the file's log is damaged in its middle",
         ))
 }
 
@@ -235,12 +248,22 @@ fn import_of<'a>(options: &ArgMatches<'a>) -> Option<Task<'a>> {
     })
 }
 
+fn whole_of<'a>(options: &ArgMatches<'a>) -> Option<Task<'a>> {
+    Some(Task::AuditWhole {
+        file: options.get_str(FILE)?,
+        counts: options.get_flag(COUNT),
+    })
+}
+
 // What is read of the desk in a file.
 fn reading_of<'a>(command: &str, counts: bool) -> Option<Work<'a>> {
     match command {
         "report" => Some(Work::Tell(Telling::Report)),
         "export" => Some(Work::Tell(Telling::Export)),
-        "audit" => Some(Work::Audit { counts }),
+        "audit" => Some(Work::Audit {
+            counts,
+            ending: Ending::Plain,
+        }),
         _ => None,
     }
 }
@@ -251,6 +274,7 @@ fn task_in<'a>(matches: &ArgMatches<'a>) -> Option<Task<'a>> {
         "lines" => Some(lines_of(options)),
         "serve" => serving_of(options),
         "import" => import_of(options),
+        "audit" if options.get_flag(WHOLE) => whole_of(options),
         _ => Some(Task::Read {
             file: options.get_str(FILE)?,
             work: reading_of(command, options.get_flag(COUNT))?,

@@ -1,6 +1,6 @@
 //! Runs of the program, with all that it reads and writes.
 
-use super::logs::log_without_its_file;
+use super::logs::{log_that_ends_early, log_without_its_file};
 use super::scripts::unmet;
 use std::process::Abort;
 
@@ -654,6 +654,7 @@ fn runs_of_the_program(rt: HostRuntime) {
         altered_file(),
         copied_while_it_is_open(),
         log_without_its_file(),
+        log_that_ends_early(),
         desk_over_http(),
     ];
     for script in scripts {

@@ -1,7 +1,7 @@
 use Rattle.std.proofs.Common.{refl, inr}
 use Rattle.sqlite_std_file.specs.File.{IsFresh}
 use Rattle.acd_lines.specs.Lines.{streams}
-use Rattle.acd_program.proofs.Tasks.{lines_task, read_task}
+use Rattle.acd_program.proofs.Tasks.{lines_task, whole_task, read_task}
 use Rattle.acd_program.proofs.Served.{file_tells, serve_task}
 use Rattle.acd_program.proofs.running.execute.Goals as goal
 
@@ -18,6 +18,11 @@ returns-in_ok-serve_file-in-Serve-clause-done g c =
 pub returns-in_ok-serve_file-in-Serve-clause-told : goal.returns-in_ok-serve_file-in-Serve-clause-told
 returns-in_ok-serve_file-in-Serve-clause-told g c =
     inr (refl, file_tells IsFresh c.in-Serve.connections (g.E.Write.contents c.args.errors.now) (g.E.Write.contents c.serve_file.new.errors) c.in_ok-serve_file-in-Serve.ensures)
+
+pub returns-in-AuditWhole-clause-done : goal.returns-in-AuditWhole-clause-done
+returns-in-AuditWhole-clause-done g c =
+    whole_task _ IsFresh c.audit_whole.result c.args.task (streams g.R.Read.remaining g.W.Write.contents (c.args.reader.now, c.args.reader.now) (c.args.writer.now, c.audit_whole.new.writer)) _ _
+    c.in-AuditWhole.file c.in-AuditWhole.counts c.in-AuditWhole.is c.audit_whole.ensures.audited
 
 pub returns-in-Read-clause-done : goal.returns-in-Read-clause-done
 returns-in-Read-clause-done g c =

@@ -1,0 +1,59 @@
+-- How a log ends. Its form, and the store's test of a frame, are those of the kit.
+use Rattle.std.specs.Prelude.{◌≡◌, ◌≢◌, ◌↔◌, ℕ, ◌+◌, ◌-◌, ◌<◌, ◌≤◌, ◌==◌, Bool, false, List, length, slice_index}
+use Rattle.std.specs.List.{list_all}
+use Rattle.sqlite_wal.specs.Format.{part, commit_size, IsHeader}
+use Rattle.sqlite_wal.specs.PageSize.{IsPageSize}
+use Rattle.sqlite_wal.specs.Recovery.{frame_at, header, frame, Passes}
+use Rattle.acd_log.specs.declared.ending.Ending.{Ending}
+use Rattle.acd_log.specs.declared.ending.Ending.TheVariants.{Early, Headless}
+
+-- the log is as long as one with a frame, and its head can be read: its pages are so long
+pub record IsReadable (page : ℕ) (log : List ℕ) : Type 0 where
+  pub long : 56 ≤ length log
+  pub head : IsHeader page (header log)
+  pub size : IsPageSize page
+
+-- frame i stands whole in the log, and has the salt of its head
+pub record IsSalted (page : ℕ) (log : List ℕ) (i : ℕ) : Type 0 where
+  pub within : frame_at page i + (24 + page) ≤ length log
+  pub salt : part (frame page log i) 8 8 ≡ part (header log) 16 8
+
+-- what the store takes of the log ends before frame n, the first that doesn't pass its test
+pub record IsFirstBad (page : ℕ) (log : List ℕ) (n : ℕ) : Type 0 where
+  pub good : (i : ℕ) → i < n → Passes page log i
+  pub bad : ¬ Passes page log n
+
+-- Behind frame n a frame ends a commit, and behind that stands another one: so the commit was on the disk before that one was written.
+pub record IsBeforeCommit (page : ℕ) (log : List ℕ) (n : ℕ) : Type 0 where
+  pub last : ℕ
+  pub later : ℕ
+  pub behind : n < last
+  pub salted : IsSalted page log last
+  pub ends : commit_size (frame page log last) ≢ 0
+  pub further : last < later
+  pub written : IsSalted page log later
+
+abbrev pub IsDamagedIn : ℕ → List ℕ → Type 0
+IsDamagedIn page log = (n : ℕ) × IsFirstBad page log n × IsBeforeCommit page log n
+
+-- Damage: the log ends before a commit that was on the disk. All else is an end that a power cut may leave.
+abbrev pub IsDamaged : List ℕ → Type 0
+IsDamaged log = (page : ℕ) × IsReadable page log × IsDamagedIn page log
+
+abbrev pub is_zero : ℕ → Bool
+is_zero byte = byte == 0
+
+-- There is something behind the head. A log that is being emptied begins with 0 until that is done.
+pub record IsFilled (log : List ℕ) : Type 0 where
+  pub long : 56 ≤ length log
+  pub begun : slice_index log 0 ≢ 0
+  pub holds : list_all is_zero (part log 32 (length log - 32)) ≡ false
+
+-- there is, and the head can't be read
+abbrev pub IsHeadless : List ℕ → Type 0
+IsHeadless log = IsFilled log × ((page : ℕ) → ¬ IsReadable page log)
+
+-- the log ends so
+pub record IsEndingOf (log : List ℕ) (told : Ending) : Type 0 where
+  pub early : (told ≡ Early) ↔ IsDamaged log
+  pub headless : (told ≡ Headless) ↔ IsHeadless log

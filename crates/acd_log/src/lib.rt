@@ -1,0 +1,13 @@
+//! How the log of a file ends, told by its bytes: nothing is opened for it, since an opening empties the log.
+//!
+//! ```ignore
+//! let told = ending_of(&fs::read(&rt, "desk.db-wal")?);
+//! ```
+#![tactic(auto)]
+
+mod ending;
+mod frames;
+mod head;
+mod words;
+
+pub use ending::{Ending, ending_of};

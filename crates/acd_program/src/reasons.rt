@@ -1,0 +1,201 @@
+//! Why a command could not do what it was asked, for whoever sits at a terminal: it is told behind the line of the fault, by
+//! what stands at a path by then. Where the program can't tell, nothing is.
+
+use crate::fault::Fault;
+use crate::file::{holds_log, log_path};
+use crate::plan::bytes_from;
+use crate::plan_lines::{first_line, form_of, line_of};
+use crate::task::Task;
+use acd_reports::PlanFault;
+use std::fs::{self, Metadata, OpenOptions};
+use std::io::{ErrorKind, IsTerminal, Read};
+use std::os::unix::fs::MetadataExt;
+
+// What each database begins with.
+const DATABASE: &[u8; 16] = b"SQLite format 3\0";
+
+// The bytes of a first page, which a stop may leave alone.
+const FIRST_PAGE: u64 = 1024;
+
+// What kept a call for a path from it.
+fn of_kind(kind: ErrorKind) -> Option<&'static str> {
+    match kind {
+        ErrorKind::NotFound => Some("it isn't there"),
+        ErrorKind::PermissionDenied => Some("this user has no permission for it"),
+        ErrorKind::ReadOnlyFilesystem => Some("its disk is read-only"),
+        ErrorKind::NotADirectory => Some("its path goes through what is no folder"),
+        _ => None,
+    }
+}
+
+fn is_lone(rt: &HostRuntime, path: &str) -> bool {
+    matches!(holds_log(rt, path), Ok(true))
+}
+
+// What there is beside a database that this user may write.
+fn of_log(rt: &HostRuntime, path: &str) -> Option<&'static str> {
+    let Ok(log) = log_path(rt, path) else {
+        return None;
+    };
+    match fs::symlink_metadata(rt, log.as_str()) {
+        Ok(found) if !found.is_file() => return Some("its log is no file"),
+        Ok(_) => {}
+        Err(_) => return None,
+    }
+    match OpenOptions::new()
+        .read(true)
+        .write(true)
+        .open(rt, log.as_str())
+    {
+        Err(error) if error.kind() == ErrorKind::PermissionDenied => {
+            Some("this user has no permission for its log")
+        }
+        _ => None,
+    }
+}
+
+// What a file is that this user may write.
+fn of_bytes<R: Read>(reader: &mut R) -> Option<&'static str> {
+    let mut head = [0; 16];
+    match reader.read_exact(&mut head) {
+        Ok(()) if head == *DATABASE => None,
+        Ok(()) => Some("it is no database"),
+        Err(error) if error.kind() == ErrorKind::UnexpectedEof => Some("it is no database"),
+        Err(_) => None,
+    }
+}
+
+fn of_found(rt: &HostRuntime, path: &str, found: &Metadata) -> Option<&'static str> {
+    if found.is_dir() {
+        return Some("it is a folder");
+    }
+    if !found.is_file() {
+        return Some("it is no file");
+    }
+    if found.len() == 0 && is_lone(rt, path) {
+        return Some("it has no bytes, and its log holds what was answered: put the file back");
+    }
+    if found.nlink() > 1 {
+        return Some("it has a second name (a hard link)");
+    }
+    match OpenOptions::new().read(true).write(true).open(rt, path) {
+        Ok(mut file) => of_bytes(&mut file).or(of_log(rt, path)),
+        Err(error) => of_kind(error.kind()),
+    }
+}
+
+// Why the file of a desk isn't opened.
+fn of_opening(rt: &HostRuntime, path: &str) -> Option<&'static str> {
+    match fs::metadata(rt, path) {
+        Ok(found) => of_found(rt, path, &found),
+        Err(error) if error.kind() == ErrorKind::NotFound && is_lone(rt, path) => {
+            Some("it isn't there, and its log holds what was answered: put the file back")
+        }
+        Err(error) => of_kind(error.kind()),
+    }
+}
+
+// Why a plan isn't read.
+fn of_reading(rt: &HostRuntime, path: &str) -> Option<&'static str> {
+    match fs::metadata(rt, path) {
+        Ok(found) if found.is_dir() => Some("it is a folder"),
+        Ok(_) => match fs::open(rt, path) {
+            Ok(_) => None,
+            Err(error) => of_kind(error.kind()),
+        },
+        Err(error) => of_kind(error.kind()),
+    }
+}
+
+// Why a file has no version.
+fn of_no_version(rt: &HostRuntime, path: &str) -> Option<&'static str> {
+    match fs::metadata(rt, path) {
+        Ok(found) if found.len() > FIRST_PAGE => Some("it is another program's database"),
+        Ok(found) if found.len() == 0 => Some("it has no bytes"),
+        Ok(_) => Some("it has no desk in it: its first start was stopped"),
+        Err(_) => None,
+    }
+}
+
+// The bytes of a plan that can be read again.
+fn plan_again(rt: &HostRuntime, path: &str) -> Option<Vec<u8>> {
+    match fs::metadata(rt, path) {
+        Ok(found) if found.is_file() => {}
+        _ => return None,
+    }
+    match fs::open(rt, path) {
+        Ok(file) => bytes_from(rt.alloc(), file).ok(),
+        Err(_) => None,
+    }
+}
+
+// Tells of a plan's header what was wanted, and what there is.
+fn tell_header(rt: &HostRuntime, path: &str) {
+    let _ = eprint!(rt; "acd: its first line has to be kind,number,name,ring,wrap");
+    if let Some(plan) = plan_again(rt, path) {
+        if let Ok(line) = first_line(rt.alloc(), &plan) {
+            let _ = eprint!(rt; ", and is {}", line.as_str());
+        }
+    }
+    let _ = eprintln!(rt;);
+}
+
+// Tells of a plan's row which line it is, and what was wanted. The header is the first record.
+fn tell_row(rt: &HostRuntime, path: &str, row: u64, form: &str) {
+    let line = match plan_again(rt, path) {
+        Some(plan) => line_of(&plan, row.saturating_add(1)),
+        None => None,
+    };
+    let _ = match line {
+        Some(line) => eprintln!(rt; "acd: in line {line}: {form}"),
+        None => eprintln!(rt; "acd: {form}"),
+    };
+}
+
+fn tell_plan(rt: &HostRuntime, task: Task<'_>, fault: PlanFault) {
+    let Task::Import { plan, .. } = task else {
+        return;
+    };
+    match fault {
+        PlanFault::Header => tell_header(rt, plan),
+        PlanFault::Row { row, member } => tell_row(rt, plan, row, form_of(member)),
+        PlanFault::TooLong => tell(rt, Some("a plan has 1,048,576 bytes at most")),
+        PlanFault::NoMemory => {}
+    }
+}
+
+fn tell(rt: &HostRuntime, reason: Option<&str>) {
+    if let Some(reason) = reason {
+        let _ = eprintln!(rt; "acd: {reason}");
+    }
+}
+
+// Whether a path is that of the plan.
+fn is_plan(task: Task<'_>, path: &str) -> bool {
+    matches!(task, Task::Import { plan, .. } if plan == path)
+}
+
+// The file of a desk that the task names.
+fn file_of(task: Task<'_>) -> Option<&str> {
+    match task {
+        Task::Lines { file, .. } => file,
+        Task::Serve { file, .. } => Some(file),
+        Task::Import { file, .. } => Some(file),
+        Task::AuditWhole { file, .. } => Some(file),
+        Task::Read { file, .. } => Some(file),
+    }
+}
+
+/// Tells why, on the process's own standard error, where that is a terminal.
+pub(crate) fn explain(rt: &HostRuntime, task: Task<'_>, fault: Fault<'_>) {
+    if !rt.stderr().is_terminal() {
+        return;
+    }
+    match (fault, file_of(task)) {
+        (Fault::CannotOpen(path), _) if is_plan(task, path) => tell(rt, of_reading(rt, path)),
+        (Fault::CannotOpen(path), _) => tell(rt, of_opening(rt, path)),
+        (Fault::WrongVersion(0), Some(file)) => tell(rt, of_no_version(rt, file)),
+        (Fault::Plan(fault), _) => tell_plan(rt, task, fault),
+        _ => {}
+    }
+}
