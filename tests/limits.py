@@ -47,12 +47,15 @@ class Ends(dict):
         super().__setitem__(device, end)
         self.switch.ends[device][self.call] = end
         self.switch.occupying[device] += end.state != "fail"
+        if end.offered is not None:
+            self.switch.ringing.add((self.call, device))
 
     def __delitem__(self, device):
         self.pop(device)
 
     def pop(self, device):
         self.switch.occupying[device] -= self[device].state != "fail"
+        self.switch.ringing.discard((self.call, device))
         del self.switch.ends[device][self.call]
         return super().pop(device)
 
@@ -62,7 +65,8 @@ class Quick(Switch):
 
     def __init__(self, limits=None):
         super().__init__(limits)
-        self.ends, self.occupying, self.seats, self.ready = defaultdict(dict), Counter(), {}, set()
+        self.ends, self.occupying, self.seats = defaultdict(dict), Counter(), {}
+        self.ringing, self.in_state = set(), defaultdict(set)  # the offers, also some that were answered; who has logged on, by state
 
     def at(self, device):
         return self.ends[device].values()
@@ -78,13 +82,23 @@ class Quick(Switch):
 
     def free(self):
         """Those who are ready at an idle station: there nobody is occupied."""
-        return [agent for agent in self.ready if self.idle(self.agents[agent].station)]
+        agents, occupying = self.agents, self.occupying
+        return [agent for agent in self.in_state["ready"] if occupying[agents[agent].station] == 0]
 
     def eligible(self, group):
         return sorted((self.agents[agent].stamp, tables.order(agent), agent) for agent in self.free() if group in self.agents[agent].groups)
 
     def open_groups(self):
         return {group for agent in self.free() for group in self.agents[agent].groups if self.ends[group]}
+
+    def offers(self):
+        found = [(call, device, self.calls[call].connections[device]) for call, device in sorted(self.ringing)]
+        found = [offer for offer in found if offer[2].state == "alerting"]
+        self.ringing = {offer[:2] for offer in found}
+        return found
+
+    def working(self):
+        return self.in_state["workingAfterCall"]
 
     def new_call(self, device, state, called):
         number = super().new_call(device, state, called)
@@ -93,14 +107,17 @@ class Quick(Switch):
 
     def become(self, agent, state):
         station = self.agents[agent].station
+        self.in_state[self.agents[agent].state].discard(agent)
         super().become(agent, state)
-        (self.ready.add if state == "ready" else self.ready.discard)(agent)
+        self.in_state[state].add(agent)
         if state == "null":
             del self.seats[station]
 
     def log_on(self, agent, device, groups):
         super().log_on(agent, device, groups)
         self.seats[device] = agent
+        self.in_state["null"].discard(agent)
+        self.in_state["notReady"].add(agent)
 
 
 class Noting(Desk):
@@ -518,8 +535,8 @@ def alter(trial, course, file):
     trial.done(f"{len(altered)} alterations, from event {event} on")
 
 
-def check(course, office):
-    """The quick switch answers the day of the other office as the plain one does, and this course has what it is for."""
+def check_quick(office):
+    """The quick switch answers the day of the other office as the plain one does."""
     quick = Noting()
     for line, wanted in zip(office.given, office.wanted):
         moment, text = line.split(" ", 1)
@@ -528,6 +545,10 @@ def check(course, office):
             raise SystemExit(f"the quick switch answers otherwise: {line}")
     if quick.switch.events != office.switch.events:
         raise SystemExit("the quick switch reports otherwise")
+
+
+def check(course):
+    """This course has what it is for."""
     rare = {what: course.seen[what] for what, least in WANTED.items() if course.seen[what] < least}
     if rare or len(course.switch.calls) != 2000:
         raise SystemExit(f"too seldom: {rare}")
@@ -537,7 +558,8 @@ def main(program, office):
     with tempfile.TemporaryDirectory() as folder:
         trial = Trial(program, folder)
         course = Course().day()
-        check(course, office)
+        check_quick(office)
+        check(course)
         wanted = tables.rows(course.desk)
         longest = max(len(row[4]) for row in wanted["kept"])
         trial.done(f"foreseen: {len(course.asked)} requests, {len(course.switch.events)} event reports, {sum(map(len, wanted.values()))} rows, "

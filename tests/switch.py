@@ -351,12 +351,15 @@ class Switch:
         refuse_if(monitor not in self.monitors, "unknownMonitor")
         del self.monitors[monitor]
 
-    def overdue(self):
-        """Number, station and connection of the offers that have rung for the ring time, by call number."""
+    def offers(self):
+        """Number, station and connection of the offers, by call number."""
         return [(number, device, connection) for number, call in sorted(self.calls.items())
                 for device, connection in call.connections.items()
-                if connection.state == "alerting" and self.distributed(device, connection)
-                and 0 < self.groups[connection.group].ring <= self.moment - connection.offered]
+                if connection.state == "alerting" and self.distributed(device, connection)]
+
+    def overdue(self):
+        """Those that have rung for the ring time."""
+        return [offer for offer in self.offers() if 0 < self.groups[offer[2].group].ring <= self.moment - offer[2].offered]
 
     def take_back(self, number, device, connection):
         """An offered call goes back to its place in its group's queue."""
@@ -373,11 +376,16 @@ class Switch:
         refuse_if(not is_offered, "wrongConnectionState")
         self.take_back(call, device, connection)
 
+    def working(self):
+        """The agents in after-call work."""
+        return [agent for agent, record in self.agents.items() if record.state == "workingAfterCall"]
+
     def tick(self):
         for number, device, connection in self.overdue():
             self.take_back(number, device, connection)
-        for agent, record in sorted(self.agents.items(), key=lambda entry: order(entry[0])):
-            if record.state == "workingAfterCall" and 0 < self.groups[record.groups[0]].wrap <= self.moment - record.since:
+        for agent in sorted(self.working(), key=order):
+            record = self.agents[agent]
+            if 0 < self.groups[record.groups[0]].wrap <= self.moment - record.since:
                 self.become(agent, "ready")
 
     def open_groups(self):

@@ -151,14 +151,37 @@ def device_told(switch, device):
     return known(agent=switch.agent_at(device), connections=ends, device=device, kind="station")
 
 
+def snapshot_told(switch):
+    """All records of one state, with what their own reads don't tell."""
+    def in_order(records):
+        return sorted(records, key=order)
+
+    def call_shown(call):
+        told = call_told(switch, call)
+        for end in told["connections"]:
+            it = switch.calls[call].connections[end["device"]]
+            end |= known(place=it.place, queued=it.queued, offered=it.offered)
+        return told
+
+    figures = ["abandoned", "answered", "entered", "moved", "waited"]
+    return {
+        "agents": [{**agent_told(switch, agent), "stamp": switch.agents[agent].stamp} for agent in in_order(switch.agents)],
+        "calls": [call_shown(call) for call in sorted(switch.calls)],
+        "groups": [{**device_told(switch, group), **{name: getattr(switch.groups[group], name) for name in figures}} for group in in_order(switch.groups)],
+        "last": len(switch.events), "moment": switch.moment,
+        "monitors": [{"after": it.after, "device": it.device, "monitor": monitor} for monitor, it in sorted(switch.monitors.items())],
+        "stations": [device_told(switch, station) for station in in_order(switch.stations)],
+    }
+
+
 def queue_told(switch, group):
     waiting = [(place, call, switch.calls[call].connections[group].queued) for place, call in switch.waiting(group)]
     return {"calls": [{"call": call, "place": place, "since": queued} for place, call, queued in waiting], "group": group,
             "ready": [agent for _, _, agent in switch.eligible(group)]}
 
 
-def events_told(switch, after):
-    return {"events": switch.events[after:after + 100], "last": len(switch.events)}
+def events_told(switch, after, most=100):
+    return {"events": switch.events[after:after + most], "last": len(switch.events)}
 
 
 def monitor_told(switch, monitor, after=0):
