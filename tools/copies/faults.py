@@ -25,12 +25,11 @@ COPY = [
     ("a restore that isn't ended isn't told", "    if acd_restore.unfinished(file):\n", "    if False:\n", "try_broken_off"),
 ]
 AUDIT = [
-    ("the log isn't put back", "os.replace(aside, log)", "os.unlink(aside)", "try_whole"),
+    ("the log isn't put back", "os.replace(aside, log)", "os.unlink(aside)", "try_early"),
     ("that of an unsound copy isn't put back", "and found.verdict == SOUND:", "and found.verdict != EARLY:", "try_no_desk"),
-    ("an older program isn't helped by the frames", "    if status != REFUSED:\n", "    if True:\n", "try_early"),
-    ("the frames decide over a program that knows better", '    status, lines = audit(file, "--whole")\n', '    status, lines = REFUSED, []\n', "try_whole"),
-    ("a head that can't be read is passed over", "if isinstance(found, acd_log.Unreadable) else None", "if False else None", "try_early"),
-    ("all is sound", "    return Finding(EARLY if status == ENDS_EARLY else UNSOUND, said)", "    return Finding(SOUND, said)", "try_unsound"),
+    ("the log isn't looked at", '"audit", "--whole", "--count"', '"audit", "--count"', "try_early"),
+    ("a log that ends early isn't another thing than an unsound file", "if status == ENDS_EARLY:", "if False:", "try_early"),
+    ("all is sound", "    return Finding(UNSOUND, said)", "    return Finding(SOUND, said)", "try_unsound"),
 ]
 HELD = [
     ("a connection that is closed just now hides the files", "with contextlib.suppress(OSError):", "with contextlib.suppress(KeyError):", "try_busy"),

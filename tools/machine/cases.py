@@ -3,25 +3,33 @@ import json
 import re
 
 
+class Found(Exception):
+    """A fault that was planted is found."""
+
+
 class Cases:
-    """Over a container in which the packages are installed. `included` are packages of Debian that it has for these cases alone."""
+    """Over a container in which the packages are installed. `included` are packages of Debian that it has for these cases alone. Where a fault is
+    planted the first thing that is otherwise ends them."""
 
     included = ()
 
     def __init__(self, container):
-        self.container, self.tried, self.wrong, self.waiting = container, 0, 0, 0
+        self.container, self.tried, self.wrong, self.is_planted = container, 0, 0, False
 
     def expect(self, what, has, wanted=True):
-        self.tried += 1
-        if has != wanted:
-            self.wrong += 1
-            print(f"{what}: {has!r} and not {wanted!r}", flush=True)
+        self.judge(has == wanted, f"{what}: {has!r} and not {wanted!r}")
 
     def expect_in(self, what, has, wanted):
+        self.judge(re.search(wanted, has), f"{what}: no '{wanted}' in {has!r}")
+
+    def judge(self, is_good, told):
         self.tried += 1
-        if not re.search(wanted, has):
-            self.wrong += 1
-            print(f"{what}: no '{wanted}' in {has!r}", flush=True)
+        if is_good:
+            return
+        if self.is_planted:
+            raise Found(told)
+        self.wrong += 1
+        print(told, flush=True)
 
     def run(self, *words, **how):
         return self.container.run(*words, **how)

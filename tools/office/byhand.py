@@ -16,7 +16,7 @@ class ByHand(Office):
             shutil.copytree(TOP / name, self.inside(f"{HOME}/acd/{name}"))
         page = self.inside(f"{HOME}/acd/docs/OPERATING.md").read_text()
         lines = re.findall(r"^    (.*\n)", page.partition("Without the package, with Debian's")[2].partition("\n## ")[0], re.MULTILINE)
-        self.expect_in("the lines of the page", "".join(lines), r"\Auseradd --system acd .*\n(.*\n)+systemctl enable --now acd-local acd .*\n\Z")
+        self.expect_in("the lines of the page", "".join(lines), r"\Auseradd --system acd .*\n(.*\n)+.*systemctl enable --now acd-local acd .*\n\Z")
         status, said = self.container.shell(f"cd {HOME}/acd && set -eux\n{''.join(lines)}")
         self.expect(f"they work ({said[-300:]})", status, 0)
         self.serves("by hand")

@@ -1,4 +1,5 @@
 """Cases of who takes this repository to a Debian without the toolchain: what is lacking is told first, in one line; done wrong first, and then right."""
+import re
 import subprocess
 import time
 from pathlib import Path
@@ -52,10 +53,10 @@ class Clone(Office):
 
     def try_package(self):
         """All that is lacking is said at once, with the command that brings it, and nothing is made; then with it."""
-        tools = ("/usr/bin/nm", "/usr/bin/strip", "/usr/bin/dpkg-shlibdeps")
+        tools = ("/usr/bin/python3", "/usr/bin/nm", "/usr/bin/strip", "/usr/bin/dpkg-shlibdeps")
         self.without(*tools)
         self.expect("without them", self.run(f"{CLONE}/tools/package"),
-                    (1, "tools/package: not found: nm, strip, dpkg-shlibdeps. As root: apt-get install --no-install-recommends binutils dpkg-dev\n"))
+                    (1, "tools/package: not found: python3, nm, strip, dpkg-shlibdeps. As root: apt-get install --no-install-recommends python3 binutils dpkg-dev\n"))
         self.expect("nothing is made", self.inside(f"{CLONE}/out").exists(), False)
         self.with_it(*tools)
         status, said = self.run(f"{CLONE}/tools/package")
@@ -76,12 +77,18 @@ class Clone(Office):
         self.expect("with it", self.container.shell(f"cd {HOME} && {CLONE}/tools/api/typescript.py > desk.d.ts && grep -q '^export type' desk.d.ts"), (0, ""))
 
     def try_board(self):
-        """The demonstration where its port is taken, as by the proxy of the desk: told at once, with the option that takes another; and by that."""
+        """The demonstration where its port is taken, as by the proxy of the desk: told at once, with the option that takes another; where nginx fails by something
+        else: its own line; and as it should be."""
         self.done("systemd-run", "--quiet", "--collect", "--unit=stranger", "--uid=www-data", "python3", "-m", "http.server", "8443", "--bind", "0.0.0.0", "--directory", "/srv")
         self.expect("a stranger listens", self.eventually(lambda: ":8443 " in self.run("ss", "-Hltn")[1], True), True)
         began = time.monotonic()
         self.expect("its port is taken", self.run(f"{CLONE}/tools/show-board"), (1, "tools/show-board: port 8443 is taken: take another one by --port P\n"))
         self.expect("it is told within some seconds", time.monotonic() - began < 5)
+        types = "/etc/nginx/mime.types"
+        self.without(types)
+        status, said = self.run(f"{CLONE}/tools/show-board", "--port", "8444", wait=300)
+        self.expect(f"nginx says why it doesn't start: {said[-300:]}", (status, bool(re.search(rf"\ntools/show-board: .*\[emerg\].*{types}.*\n\Z", said))), (1, True))
+        self.with_it(types)
         self.done("systemd-run", "--quiet", "--collect", "--unit=board", "--uid=www-data", f"{CLONE}/tools/show-board", "--port", "8444")
         self.expect("with another one it is there", self.eventually(lambda: self.curl("https://127.0.0.1:8444/board/", "-k", "-u", "sup:secret"), 200, 150), 200)
         self.done("systemctl", "stop", "board", "stranger")

@@ -2,12 +2,17 @@
 import json
 import re
 
-from office import FILE, STATE, Office
+from office import FILE, HOME, STATE, Office
 
 LOG, COPIES = f"{FILE}-wal", f"{STATE}/copies"
 MOMENT = r"\d{4}-\d\d-\d\dT\d{6}Z"
 STARTS = 9
 BACK = "Copies"
+# what a restore changes names by, and where all lies as it was before one
+CALLS = ("rename", "link", "symlink", "unlink", "unlinkat", "rmdir", "mkdir")
+BEFORE = "/srv/before"
+# how a restore is ended that was broken off
+UNENDED = r"^acd-ready: the (restore|undo) of \S+ isn't ended: (acd-copy --restore \S+ ends it, )?acd-copy --undo (takes it back|ends it)$"
 
 
 class Copies(Office):
@@ -15,8 +20,10 @@ class Copies(Office):
         self.plan()
         self.try_one_behind_the_other()
         self.try_from_anywhere()
+        self.try_plain_copy()
         self.try_back_twice()
         self.try_broken_off()
+        self.try_killed()
         self.try_moved_file()
         self.try_removed_log()
         self.try_new_year()
@@ -53,6 +60,15 @@ class Copies(Office):
         """As the desk's user, from a folder that this one may not enter."""
         status, said = self.typed("runuser -u acd -- acd-copy")
         self.expect_in(f"from root's home, {status}", said, rf"\Athe desk was halted for \d+ ms\nsound: {COPIES}/{MOMENT}\ncleared away: {COPIES}/{MOMENT}\n\Z")
+
+    def try_plain_copy(self):
+        """The file that is served is copied by `cp`, without its log: the audit says `sound` of what lacks the last answers. A copy by the unit has them."""
+        self.sent("plain", 5)
+        self.done("sh", "-c", f"mkdir {HOME}/plain && cp {FILE} {HOME}/plain")
+        self.expect("the audit says", self.run("acd", "audit", "--file", f"{HOME}/plain/desk.db"), (0, "sound\n"))
+        self.expect("the last answers aren't there", self.kept("plain", f"{HOME}/plain"), [])
+        self.expect_in("the page says so", self.page(BACK).replace("\n", " "), "`sound` .* Nor does it say that nothing is missing at the end: .* so is a file without its log")
+        self.expect("a copy by the unit has them", self.kept("plain", f"{COPIES}/{self.copied('with its log')}"), [1, 2, 3, 4, 5])
 
     def put_back(self, moment):
         """As the page has it."""
@@ -97,11 +113,73 @@ class Copies(Office):
             if words[0] == "--restore":
                 self.done("acd-copy", "--undo")
 
+    # a restore that is killed
+
+    def try_killed(self):
+        """A restore is killed before each call by which it changes a name, and so is what takes it back: a start serves one of the two, whole, or none, and says
+        what ends it. Either command then does."""
+        self.restarts("before it is killed")
+        moment = self.copied("before it")
+        self.expect("what the copy lacks is answered", self.sent("killed", 2), [{}, {}])
+        self.done("systemctl", "stop", "acd")
+        self.done("cp", "-a", STATE, BEFORE)
+        kills, seen = 0, set()
+        for words, ends in ((("--restore", moment), (("--restore", moment), ("--undo",))), (("--undo",), (("--undo",),))):
+            for call, number in self.steps(moment, words):
+                for end in ends:
+                    what = f"{words[0]} killed at {call} {number}"
+                    self.laid_out(moment, words)
+                    status, _ = self.run("strace", "-qq", "-o", "/tmp/steps", "-e", f"trace={','.join(CALLS)}", "-e", f"inject={call}:signal=KILL:when={number}", "acd-copy", *words)
+                    self.expect(f"{what}: it is killed", status not in (0, 1))
+                    seen.add(self.start_of_one(what))
+                    self.end_by(what, end)
+                    kills += 1
+        self.expect(f"{kills} kills: what a start served", (kills > 30, seen), (True, {"none", "[]", "[1, 2]"}))
+        self.laid_out(moment, ("--restore",))
+        self.restarts("as before all of it")
+
+    def laid_out(self, moment, words):
+        """All as it was, and before an --undo a restore on top of it."""
+        self.done("sh", "-c", f"find {STATE} -mindepth 1 -delete && cp -a {BEFORE}/. {STATE}")
+        if words[0] == "--undo":
+            self.done("acd-copy", "--restore", moment)
+
+    def steps(self, moment, words):
+        """Each call by which this changes a name, and which one of its kind it is."""
+        self.laid_out(moment, words)
+        self.done("strace", "-qq", "-o", "/tmp/steps", "-e", f"trace={','.join(CALLS)}", "acd-copy", *words)
+        made = re.findall(r"^(\w+)\(", self.done("cat", "/tmp/steps"), re.MULTILINE)
+        return [(call, number) for call in CALLS for number in range(1, made.count(call) + 1)]
+
+    def start_of_one(self, what):
+        """What a start serves: the rows of a requester that only one of the two has, or none."""
+        said = self.run("acd", "audit", "--file", FILE, user="acd")
+        self.expect(f"{what}: a whole one or none", said in ((0, "sound\n"), (1, f"acd: cannot open {FILE}\n")), True)
+        mark = self.mark()
+        self.run("systemctl", "start", "acd")
+        self.eventually(lambda: self.show("ActiveState")[0] == "failed" or self.curl("http://127.0.0.1:8080/snapshot") == 200, True)
+        state, status = self.show("ActiveState", "ExecMainStatus")
+        kept, told = (str(self.kept("killed")) if state == "active" else "none"), self.told(mark)
+        self.run("systemctl", "stop", "acd")
+        if kept == "none":
+            self.expect(f"{what}: none is served, and it is told why: {told}", (said[0], status, [bool(re.search(UNENDED, line)) for line in told]), (1, "64", [True]))
+        else:
+            self.expect(f"{what}: one of the two is served: {told}", (said[0], kept in ("[]", "[1, 2]"), told), (0, True, []))
+        return kept
+
+    def end_by(self, what, words):
+        """The command that ends it, or takes it back; what is there then."""
+        status, said = self.run("acd-copy", *words)
+        self.expect(f"{what}, then {words[0]}: {said}", status == 0 or words == ("--undo",) and "there is no restore to take back" in said)
+        self.expect(f"{what}, then {words[0]}: what it has", self.kept("killed"), [1, 2] if words == ("--undo",) else [])
+        self.expect(f"{what}, then {words[0]}: it is whole", self.run("acd", "audit", "--file", FILE, user="acd"), (0, "sound\n"))
+
     def try_moved_file(self):
-        """The file is moved, then removed, under load: told each minute and by the copy, and nothing that was answered is lost."""
+        """The file is moved, then removed, and then the log, under load: told each minute and by the copy, and nothing that was answered is lost."""
         self.restarts("before the file is moved")
         for what, wrong, line in (("moved", ("mv", FILE, f"{STATE}/elsewhere"), f"the file {FILE} was moved to {STATE}/elsewhere under the desk, process %s: what it answers goes there"),
-                                  ("removed", ("rm", FILE), f"the file {FILE} was removed from under the desk, process %s: what it answered is lost where it is stopped before acd-copy made a copy")):
+                                  ("removed", ("rm", FILE), f"the file {FILE} was removed from under the desk, process %s: what it answered is lost where it is stopped before acd-copy made a copy"),
+                                  ("log-removed", ("rm", LOG), f"the log {LOG} was removed from under the desk, process %s: what it answered is lost where it is stopped before acd-copy made a copy")):
             process, = self.show("MainPID")
             with self.loaded(what):
                 mark = self.mark()

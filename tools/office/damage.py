@@ -8,7 +8,7 @@ from office import FILE, HOME, STATE, Office
 
 LOG, NOTE = f"{FILE}-wal", f"{FILE}-pair"
 
-sys.path.insert(0, str(Path(__file__).resolve().parents[1] / "ready"))
+sys.path.append(str(Path(__file__).resolve().parents[1] / "ready"))
 from logs import Log  # noqa: E402
 
 

@@ -17,10 +17,12 @@ class Plans(Office):
         self.try_faulty()
         self.try_second_plan()
         self.try_later_ones()
+        self.try_stopped()
         self.try_names()
         self.try_served_file()
         self.try_forgotten()
         self.try_roles()
+        self.try_twice_and_too_many()
 
     def plan_now(self):
         """The plan of the desk that serves, as a file has it."""
@@ -52,7 +54,7 @@ class Plans(Office):
         """A plan with a fault is refused whole: no desk is begun by it, and nothing of it is taken."""
         self.done("systemctl", "stop", "acd")
         for what, plan, line in (("semicolons", PLAN.replace(",", ";"), "plan header"), ("no header", PLAN.partition("\n")[2], "plan header"), ("rows of a spreadsheet's end", PLAN + ",,,,\n", "plan row 4: kind"),
-                                 ("a name that isn't ASCII", HEADER + "group,100,Billing,3,2\nagent,9,Jos\u00e9 M\u00fcller,,\n", "plan row 2: name"), ("missing commas", HEADER + "station,201\n", "plan row 1: fields")):
+                                 ("a name that isn't ASCII", HEADER + "group,100,Billing,3,2\nagent,9,Jos\u00e9 M\u00fcller,,\n", "plan row 2: name")):
             self.container.put(f"{STATE}/plan.csv", plan)
             for file in (FILE, f"{STATE}/none.db"):
                 self.expect(f"{what}, {file}", self.run("acd", "import", "--file", file, "--plan", f"{STATE}/plan.csv", user="acd"), (1, f"acd: {line}\n"))
@@ -80,6 +82,17 @@ class Plans(Office):
         self.expect(f"another name, another ring ({said})", (status, "acd-plan: the desk has more than the plan: station 202\n" in said, said.count("\n")), (0, True, 3))
         self.expect("they are there, and the station too", self.plan_now(), third.replace("station,201,,,\n", "station,201,,,\nstation,202,,,\n"))
 
+    def try_stopped(self):
+        """The same where nothing serves the file; who waits stands in what comes between, and nobody else reads that."""
+        fourth = self.plan_now().replace("Ana", "Anna")
+        self.done("systemctl", "stop", "acd")
+        self.container.put(f"{STATE}/fourth.csv", fourth)
+        status, said = self.typed(self.recipe(NOON, "(umask 077", {"office.db": "desk.db", "second.csv": "fourth.csv"}), user="acd", at=STATE)
+        self.expect(f"by the page's lines ({said})", (status, said.count("\n"), said.startswith("200 {")), (0, 1, True))
+        self.expect("nobody else reads what comes between", self.done("stat", "-c", "%U %a", f"{STATE}/snapshot"), "acd 600\n")
+        self.restarts("with another name")
+        self.expect("it is there", self.plan_now(), fourth)
+
     def try_names(self):
         """A name that isn't ASCII: refused, with nothing of it taken; the page says what to write."""
         before = self.plan_now()
@@ -93,10 +106,16 @@ class Plans(Office):
         self.expect("so written it is taken", (written, "agent,9,Jose Mueller,,\n" in self.plan_now()), (0, True))
 
     def try_served_file(self):
-        """A report of the file that is served is refused; what the page says in its place has it."""
-        self.expect("a report of the served file", self.run("acd", "report", "--file", FILE, user="acd"), (4, f"acd: {FILE} is open elsewhere\n"))
-        self.expect_in("the page says what to ask", self.page("Fault lines, and what to do"), "is open elsewhere.*`/reports/queues` has the report")
+        """A report, an export and the records of the file that is served are refused; what the page says in their place has them."""
+        for words in (("report",), ("export",), ("import", "--plan", f"{STATE}/plan.csv")):
+            self.expect(f"{words[0]} over the served file", self.run("acd", *words, "--file", FILE, user="acd"), (4, f"acd: {FILE} is open elsewhere\n"))
+        self.expect("the records of the served file", self.run("acd-calls", "--file", FILE, user="acd"), (1, f"acd-calls: {FILE} is open elsewhere: take a copy of it, by acd-copy, or add --live\n"))
+        self.expect_in("the page says what to ask", self.page("Fault lines, and what to do"), "is open elsewhere.*`/reports/queues` has the report, and a copy .* can be exported")
         self.expect_in("which has it", self.read("/reports/queues"), r"(?m)^100 .* Bills$")
+        self.expect("the records by --live", self.run("acd-calls", "--file", FILE, "--live", user="acd")[0], 0)
+        self.expect("a copy", self.run("systemctl", "start", "acd-copy"), (0, ""))
+        copy = f"{STATE}/copies/{self.names(f'{STATE}/copies')[0]}/desk.db"
+        self.expect_in("and the export of it", self.run("acd", "export", "--file", copy, user="acd")[1], r"\Anumber,moment,event,")
 
     def try_forgotten(self):
         """An agent who forgot to log off, and a call that nobody has any more: a supervisor can't, and the page's lines do."""
@@ -113,6 +132,34 @@ class Plans(Office):
         self.expect("nobody is logged on, no call is there", (now["calls"], [one for one in now["agents"] if "device" in one]), ([], []))
 
     def try_roles(self):
-        """A file of roles that an editor of another system wrote: its first login has its role."""
-        self.inside("/etc/acd/roles").write_bytes(b"\xef\xbb\xbfpbx exchange\r\nana agent 7\r\n")
-        self.expect("the first login's tick", self.service("pbx", 1, "tick", "http://127.0.0.1:8081/csta", ("-H", "X-Login: pbx")).get("result"), {})
+        """No file of roles, and one that can't be read as such: told in the journal. One that an editor of another system wrote: its first login has its role."""
+        roles = self.inside("/etc/acd/roles")
+        for what, data, line in (("no file", None, "acd-gate: /etc/acd/roles can't be read: No such file or directory"),
+                                 ("a word that is none", b"pbx exchnge\n", "acd-gate: /etc/acd/roles, line 1: pbx gets nothing, and doesn't read: its role is exchnge")):
+            roles.unlink(missing_ok=True)
+            if data:
+                roles.write_bytes(data)
+            self.expect(f"{what}: nothing is let through", self.as_login("pbx", 2)["error"]["name"], "forbidden")
+            self.expect(f"{what}: it is told", line in self.journal("acd-gate").splitlines())
+        roles.write_bytes(b"\xef\xbb\xbfpbx exchange\r\nana agent 7\r\n")
+        self.expect("the first login's tick", self.as_login("pbx", 3).get("result"), {})
+
+    def as_login(self, login, invoke):
+        """What a tick of a login is answered, behind the proxy's check of a password."""
+        return self.service(login, invoke, "tick", "http://127.0.0.1:8081/csta", ("-H", f"X-Login: {login}"))
+
+    def try_twice_and_too_many(self):
+        """One number twice, and more groups than a desk takes: by an import rows are lost, with status 0; by the page's line the one is refused whole, the other one is told."""
+        twice, before = SECOND + "agent,8,Benjamin,,\n", self.plan_now()
+        many = HEADER + "".join(f"group,{300 + number},Group {number},3,2\n" for number in range(65))
+        self.done("systemctl", "stop", "acd")
+        for number, (what, plan, wanted) in enumerate((("twice", twice, "409"), ("too many", many, "409"))):
+            self.container.put(f"{STATE}/plan.csv", plan)
+            status, said = self.run("acd", "import", "--file", f"{STATE}/other-{number}.db", "--plan", f"{STATE}/plan.csv", user="acd")
+            self.expect(f"{what}, by an import", (status, said.splitlines()[-1][:3]), (0, wanted))
+        self.restarts("with its own plan")
+        self.expect("twice, by the page's line", self.at_noon(twice), (1, "acd-plan: plan row 6: 8 stands there twice\n"))
+        self.expect("nothing is taken", self.plan_now(), before)
+        status, said = self.at_noon(many)
+        told = [line for line in said.splitlines() if line.startswith("acd-plan: addGroup")]
+        self.expect(f"too many, by the page's line: {told}", (status, told), (1, [f"acd-plan: addGroup {300 + number}: 409 planFull" for number in (63, 64)]))

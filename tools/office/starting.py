@@ -2,7 +2,7 @@
 import subprocess
 import time
 
-from office import FILE, HOME, STATE, Office
+from office import FILE, HOME, SETTINGS, STATE, Office
 
 LOG, NOTE, ROUNDS, KILLS = f"{FILE}-wal", f"{FILE}-pair", 50, 20
 
@@ -19,6 +19,7 @@ class Starting(Office):
         self.try_rights()
         self.try_taken_port()
         self.try_wrong_port()
+        self.try_settings()
         self.try_rounds()
         self.try_full_disk()
         self.try_opened_first()
@@ -170,6 +171,24 @@ class Starting(Office):
         self.done("systemctl", "restart", "acd-local")
         self.restarts("with its own port")
 
+    def try_settings(self):
+        """A step that is too short: the ticks have failed, for good, and are named. What another system's editor or somebody's quotes make of the file is taken."""
+        settings = self.inside(SETTINGS)
+        before = settings.read_text()
+        self.set("ACD_STEP", "1")
+        self.run("systemctl", "restart", "acd-tick")
+        self.expect("a step of one second", self.eventually(lambda: self.show("ActiveState", "ExecMainStatus", "NRestarts", unit="acd-tick"), ["failed", "2", "0"], 5), ["failed", "2", "0"])
+        self.expect_in("it is named", self.run("systemctl", "--failed", "--no-legend", "--plain")[1], "acd-tick.service")
+        self.expect("and says why", "'1' isn't a whole number from 2 to 3600" in self.journal("acd-tick"))
+        settings.write_bytes(before.replace(f"ACD_FILE={FILE}", f'ACD_FILE="{FILE}"').replace("\n", "\r\n").encode())
+        self.restarts("with quotes, and lines of another system")
+        self.done("systemctl", "restart", "acd-tick")
+        self.expect("the ticks too", self.show("ActiveState", unit="acd-tick"), ["active"])
+        self.expect("a copy by the unit", self.run("systemctl", "start", "acd-copy"), (0, ""))
+        self.expect("and by hand", self.run("acd-copy", user="acd")[0], 0)
+        settings.write_text(before)
+        self.restarts("with the settings as they were")
+
     def try_rounds(self):
         """Restarts under load: none fails, and nothing that was answered is lost."""
         mark, failed = self.mark(), []
@@ -222,12 +241,12 @@ class Starting(Office):
         self.restarts("by the service")
 
     def try_upgrade(self):
-        """A package that is installed again over a desk whose file is away: nothing is made in its place."""
+        """A package that is installed again over a desk whose file and log are away: nothing is made in their place."""
         self.done("systemctl", "stop", "acd")
-        self.done("mv", FILE, f"{STATE}/x")
+        self.done("sh", "-c", f"mkdir {HOME}/away && mv {FILE} {LOG} {HOME}/away")
         status, said = self.run("dpkg", "--install", *[f"{HOME}/{path.name}" for path in self.inside(HOME).glob("acd_*.deb")])
         self.expect("it is installed", status, 0)
         self.expect_in("and says it", said, f"(?m)^acd: the desk isn't served: {FILE} isn't there")
         self.expect("nothing is made", self.inside().exists(), False)
-        self.done("mv", f"{STATE}/x", FILE)
-        self.restarts("with the file back")
+        self.done("sh", "-c", f"mv {HOME}/away/* {STATE}")
+        self.restarts("with both back")

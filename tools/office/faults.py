@@ -1,0 +1,28 @@
+"""Faults that are planted in the package: in its units, its scripts, what it does as it is installed, and its page. The cases named have to find them."""
+from planted import Fault
+
+UNITS, PAGE, POSTINST = "usr/lib/systemd/system", "usr/share/doc/acd/OPERATING.md", "DEBIAN/postinst"
+DESK, TICKS, COPY = f"{UNITS}/acd.service", f"{UNITS}/acd-tick.service", f"{UNITS}/acd-copy.service"
+AGAIN = "StartLimitIntervalSec=0\n"
+
+FAULTS = [
+    Fault("the first installation makes no desk", (POSTINST, '[ -n "$2" ] || make_desk', ":"), "starting", ("try_installed",)),
+    Fault("each installation makes one", (POSTINST, '[ -n "$2" ] || make_desk', "make_desk"), "starting", ("try_upgrade",)),
+    Fault("an installation doesn't say why the desk isn't served", (POSTINST, "|| true\n    tell_failure\n", "|| true\n"), "starting", ("try_taken_port",)),
+    Fault("what has to be mended first is started again and again", (DESK, "RestartPreventExitStatus=2 64", "RestartPreventExitStatus=2"), "starting", ("try_taken_port",)),
+    Fault("a refused command line too", (DESK, "RestartPreventExitStatus=2 64", "RestartPreventExitStatus=64"), "starting", ("try_wrong_port",)),
+    Fault("a full disk leaves the desk down", (DESK, "Restart=always", "Restart=no"), "starting", ("plan", "try_full_disk")),
+    Fault("systemd gives up", (DESK, AGAIN, ""), "starting", ("try_installed",)),
+    Fault("ticks with a step that is refused are started again and again", (TICKS, "RestartPreventExitStatus=2\n", ""), "starting", ("try_settings",)),
+    Fault("quotes are taken for a part of a file's name", ("usr/sbin/acd-copy", r"""^(["'])(.*)\1$""", r"""^(["'])(.*)\1\1$"""), "starting", ("try_settings",)),
+    Fault("a log isn't looked at", ("usr/sbin/acd-ready", "    look_at_log(file)\n    note(file)\n", "    note(file)\n"), "damage", ("plan", "try_middle")),
+    Fault("nor whether file and log are of one time", ("usr/sbin/acd-ready", "if acd_pair.is_split(file):", "if False:"), "damage", ("plan", "try_older_file")),
+    Fault("a time that is ahead isn't told", ("usr/sbin/acd-tick", "if moment > int(time.time()) + MINUTE:", "if False:"), "clock", ("plan", "try_ahead")),
+    Fault("the desk doesn't wait for the clock", (DESK, "After=local-fs.target time-sync.target", "After=local-fs.target"), "clock", ("plan", "try_late_clock")),
+    Fault("copies by hand are too many", (COPY, AGAIN, ""), "copies", ("plan", "try_one_behind_the_other")),
+    Fault("the ticks' user doesn't see what the desk has open", (TICKS, "User=acd\n", "User=acd-gate\n"), "copies", ("plan", "try_moved_file")),
+    Fault("a restore that is killed leaves no link", ("usr/share/acd/acd_restore.py", "    if is_hidden(file):\n        return\n    if leaving", "    return\n    if leaving"), "copies", ("plan", "try_killed")),
+    Fault("a recipe's files are for all to read", (PAGE, "        umask 077\n", ""), "copies", ("plan", "try_new_year")),
+    Fault("a recipe that logs nobody off", (PAGE, '"requested":"loggedOff"}', '"requested":"notReady"}'), "plans", ("plan", "try_forgotten")),
+    Fault("a mark of another system's editor is a part of the first login", ("usr/sbin/acd-gate", '.removeprefix(b"\\xef\\xbb\\xbf")', ""), "plans", ("plan", "try_roles")),
+]
