@@ -176,7 +176,7 @@ class Restores(Part):
         for part in (office.file, log_of(office.file)):
             shutil.copy(part, early)
         spoil(early / "desk.db-wal", frames(early / "desk.db-wal")[0] + 100)
-        self.refused("a copy whose log ends early", office, "isn't sound: the audit says 'its log is damaged from frame 1 on, at byte 32'; nothing was touched\n", "--restore", early.name)
+        self.refused("a copy whose log ends early", office, "isn't sound: the audit says 'sound, but its log ends early'; nothing was touched\n", "--restore", early.name)
 
     def try_names(self):
         office = self.copied()
