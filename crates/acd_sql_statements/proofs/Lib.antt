@@ -16,3 +16,5 @@ mod Picked
 mod Compared
 mod Unconnected
 mod TheTexts
+mod SeveralPut
+mod SeveralValues

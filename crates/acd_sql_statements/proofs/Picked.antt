@@ -3,6 +3,7 @@ use Rattle.std.proofs.Common.{◌≡◌, ℕ, ◌+◌, ◌-◌, ◌<◌, ◌≤�
 use Rattle.std.specs.Prelude.{Vec}
 use Rattle.std.specs.declared.alloc.Global.{Global}
 use Rattle.std.proofs.lemmas.Grind.{common_steps}
+use Rattle.std.proofs.lemmas.List.{take_more}
 use Rattle.sqlite.specs.declared.error.Error.{Error}
 use Rattle.sqlite.specs.State.{State}
 use Rattle.acd_terms.specs.declared.event.Event.{Event}
@@ -10,9 +11,6 @@ use Rattle.acd_book.specs.Content.{Content, events_behind}
 use Rattle.acd_sql_columns.specs.Finding.{Finds}
 use Rattle.acd_sql_statements.specs.Picking.{picked, Serves}
 use Rattle.acd_sql_statements.proofs.Chained.{quiet_still, chained, broken}
-
-take_push : (i : ℕ) (xs : List ℕ) (d : ℕ) → i < length xs → take (i + 1) xs ≡ take i xs ++ get_or xs i d ∷ []
-take_push i xs d h = grind (arith, common_steps)
 
 picked_append : (events : List Event) (ns ms : List ℕ) → picked events (ns ++ ms) ≡ picked events ns ++ picked events ms
 picked_append events [] ms = refl
@@ -22,7 +20,7 @@ picked_append events (n ∷ ns) ms =
 
 picked_next : (events : List Event) (ns : List ℕ) (i n d : ℕ) → n ≡ get_or ns i d → i < length ns → picked events (take (i + 1) ns) ≡ picked events (take i ns) ++ events_behind events (n - 1) 1
 picked_next events ns i n d is low =
-    ap (picked events) (take_push i ns d low ∙ ap (λ m. take i ns ++ m ∷ []) (sym is))
+    ap (picked events) (take_more ns i d low ∙ ap (λ m. take i ns ++ m ∷ []) (sym is))
     ∙ picked_append events (take i ns) (n ∷ [])
     ∙ ap (λ l. picked events (take i ns) ++ l) (append-nil (events_behind events (n - 1) 1))
 

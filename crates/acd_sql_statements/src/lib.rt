@@ -3,7 +3,7 @@
 //! A query of `query` shows the values of the rows of a content, in the order of its key; what they stand for `acd_sql_columns` says.
 //! What a database holds that is no book's yet, the queries of `look` and of `tables` tell too.
 //!
-//! Each function of `put` and of `write` works inside a transaction, and adds no stop.
+//! Each function of `put`, of `several` and of `write` works inside a transaction, and adds no stop.
 //!
 //! ```ignore
 //! insert(&mut tx, &station)?;
@@ -25,6 +25,7 @@ mod reads;
 mod records;
 pub mod same;
 pub mod select;
+pub mod several;
 pub mod stored;
 pub mod tables;
 pub mod write;

@@ -3,13 +3,13 @@
 use crate::stored::Stored;
 use crate::write::changed_rows;
 use acd_sql_columns::texts::{
-    DELETE_CALL, DELETE_GROUP_PRIORITY, DELETE_MONITOR, INSERT_AGENT, INSERT_CALL, INSERT_EVENT,
-    INSERT_GROUP, INSERT_GROUP_PRIORITY, INSERT_MONITOR, INSERT_STATION, SELECT_AGENTS,
-    SELECT_CALLS, SELECT_GROUP_PRIORITY, SELECT_GROUPS, SELECT_MONITORS, SELECT_STATIONS, Texts,
-    UPDATE_AGENT, UPDATE_CALL, UPDATE_GROUP, UPDATE_GROUP_PRIORITY, UPDATE_MONITOR,
+    DELETE_CALL, DELETE_GROUP_PRIORITY, DELETE_MONITOR, INSERT_AGENT, INSERT_CALL, INSERT_GROUP,
+    INSERT_GROUP_PRIORITY, INSERT_MONITOR, INSERT_STATION, SELECT_AGENTS, SELECT_CALLS,
+    SELECT_GROUP_PRIORITY, SELECT_GROUPS, SELECT_MONITORS, SELECT_STATIONS, Texts, UPDATE_AGENT,
+    UPDATE_CALL, UPDATE_GROUP, UPDATE_GROUP_PRIORITY, UPDATE_MONITOR,
 };
 use acd_sql_columns::{AgentRow, GroupPriority, GroupRow, decode, encode};
-use acd_terms::{CallRecord, Event, MonitorRecord, StationRecord};
+use acd_terms::{CallRecord, MonitorRecord, StationRecord};
 use sqlite::{Alter, Error, Row, Transaction};
 
 impl Stored for GroupRow {
@@ -182,35 +182,6 @@ impl Stored for MonitorRecord {
     ghost use Rattle.acd_sql_columns.proofs.TablesFiled.{monitors_filed};
 
     ghost filed = { monitors_filed };
-
-    ghost reads = { λ r. tt };
-}
-
-impl Stored for Event {
-    ghost use Rattle.acd_sql_columns.specs.Tables.{events};
-
-    ghost descr = { events };
-
-    fn texts() -> Texts {
-        Texts {
-            insert: INSERT_EVENT,
-            update: None,
-            delete: None,
-            select: None,
-        }
-    }
-
-    fn run<S: Alter>(&self, tx: &mut Transaction<'_, S>, sql: &str) -> Result<usize, Error> {
-        changed_rows(tx, sql, &encode::event_values(self))
-    }
-
-    fn decode(row: &Row) -> Option<Event> {
-        decode::event_in(row)
-    }
-
-    ghost use Rattle.acd_sql_columns.proofs.TablesFiled.{events_filed};
-
-    ghost filed = { events_filed };
 
     ghost reads = { λ r. tt };
 }

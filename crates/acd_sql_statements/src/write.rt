@@ -1,5 +1,5 @@
 //! The statements of the limits and the counters, of kept records and of connections, one a function. Each works inside a
-//! transaction: what it writes is there, and no stop is added. Those of every other table are in `put`.
+//! transaction: what it writes is there, and no stop is added. Those of events are in `several`, those of every other table in `put`.
 
 ghost use Rattle.std.specs.Prelude.{◌≡◌, ◌∷◌, [], IfSome, IfErr, IsTrue, OnOk};
 ghost use Rattle.sqlite.specs.State.{HasCleanDisk};

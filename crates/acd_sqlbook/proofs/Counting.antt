@@ -20,7 +20,7 @@ use Rattle.acd_sql_statements.specs.Reading.{Blames, FailsToRead}
 use Rattle.acd_sqlbook.specs.Calls.{HasRead}
 use Rattle.acd_sqlbook.specs.Choosing.{written}
 use Rattle.acd_sqlbook.specs.Counters.{AreCounters, StopsWith}
-use Rattle.acd_sqlbook.specs.Commit.{ChangeFits, EventFits, counted, filed, all_filed, with_event}
+use Rattle.acd_sqlbook.specs.Commit.{ChangeFits, EventFits, counted, filed, all_filed, with_events}
 use Rattle.acd_sqlbook.specs.Stopping.{AllNumbersFit, AreCounted, BlamesOr, Drops, HasAbove, IsBlamedOr, FailsToFile, IsUndone, IsUncounted, RefusesInAll, RefusesInChanges, RefusesInEvents, StopsInAll, StopsInChanges, StopsInEvents, StopsCommit, StopsReplace}
 use Rattle.acd_sqlbook.proofs.Replacing.{Leading}
 use Rattle.acd_sqlbook.proofs.Standing.{Counts}
@@ -129,9 +129,13 @@ module _ (Meets : Type 0) where
 
   parted_events : (es : List Event) (c : Content) → StopsInEvents es c → (¬ (Every EventFits es)) ⊎ RefusesInEvents es c
   parted_events [] c h = absurd h
-  parted_events (e ∷ es) c (inl (inl large)) = inl (λ fit. large fit.0)
-  parted_events (e ∷ es) c (inl (inr refuses)) = inr (inl refuses)
-  parted_events (e ∷ es) c (inr h) = elim (parted_events es (with_event c e) h) [ inl large ↦ inl (λ fit. large fit.1) | inr refuses ↦ inr (inr refuses) ]
+  parted_events (e ∷ []) c h = h
+  parted_events (e ∷ f ∷ []) c h = h
+  parted_events (e ∷ f ∷ g ∷ []) c h = h
+  parted_events (e ∷ f ∷ g ∷ k ∷ es) c (inl (inl large)) = inl (λ fit. large (fit.0, (fit.1.0, (fit.1.1.0, (fit.1.1.1.0, tt)))))
+  parted_events (e ∷ f ∷ g ∷ k ∷ es) c (inl (inr refuses)) = inr (inl refuses)
+  parted_events (e ∷ f ∷ g ∷ k ∷ es) c (inr h) =
+      elim (parted_events es (with_events c (e ∷ f ∷ g ∷ k ∷ [])) h) [ inl large ↦ inl (λ fit. large fit.1.1.1.1) | inr refuses ↦ inr (inr refuses) ]
 
   pub parted : (changes : List Change) (events : List Event) (kept : Kept) (meta : Meta) (c : Content) → StopsInAll Meets changes events kept meta c → (¬ (AllNumbersFit changes events)) ⊎ RefusesInAll Meets changes events kept meta c
   parted changes events kept meta c (inl h) = elim (parted_changes (written changes) c h) [ inl large ↦ inl (λ fit. large fit.0) | inr refuses ↦ inr (inl refuses) ]

@@ -1,8 +1,8 @@
 -- Lists of changes and events, written one after the other.
-use Rattle.std.proofs.Common.{◌≡◌, ℕ, true, ◌+◌, ◌<◌, List, [], ◌∷◌, ◌++◌, length, take, get_or, Result, Ok, Err, OnOk, refl, sym, ap, ap₂, subst, ◌∙◌, arith}
+use Rattle.std.proofs.Common.{◌≡◌, ℕ, true, ◌+◌, ◌<◌, List, [], ◌∷◌, ◌++◌, length, take, get_or, Result, Ok, Err, OnOk, refl, sym, ap, ap₂, subst, ◌∙◌}
 use Rattle.std.specs.Ordering.{nat_cmp}
 use Rattle.std.proofs.lemmas.Cmp.{nat_cmp_total}
-use Rattle.std.proofs.lemmas.Grind.{common_steps}
+use Rattle.std.proofs.lemmas.List.{take_more}
 use Rattle.sqlite.specs.declared.error.Error.{Error}
 use Rattle.sqlite.specs.State.{State}
 use Rattle.acd_terms.specs.Groups.{further_groups}
@@ -23,11 +23,13 @@ use Rattle.acd_sql_columns.specs.declared.tables.Table.TheVariants as table
 use Rattle.acd_sql_columns.specs.Relations.{Relations, relations_of, with_group_parts, with_agent_parts}
 use Rattle.acd_sql_columns.specs.Content.{with_part}
 use Rattle.acd_sql_columns.specs.Tables.{stations, calls, monitors}
+use Rattle.acd_sql_statements.specs.Several.{with_all}
 use Rattle.acd_sql_statements.specs.Writing.{with_put, without}
 use Rattle.acd_sql_columns.specs.Draft.{Drafts}
 use Rattle.acd_sql_columns.proofs.Decoded.{groups_rise, agents_rise}
 use Rattle.acd_sql_columns.proofs.Joined.{further_put, agents_put, priority_put, groups_put}
 use Rattle.acd_lemmas.proofs.Decided.{ascending_from}
+use Rattle.acd_sqlbook.specs.Choosing.{IsNextPart}
 use Rattle.acd_sqlbook.specs.Commit.{filed, with_event, with_events}
 
 -- a fold that takes the first of the list first takes the last one last
@@ -36,14 +38,21 @@ module _ {X C : Type 0} (all : C → List X → C) (one : C → X → C) (none :
   push c [] x = more c x [] ∙ none (one c x) ∙ ap (λ k. one k x) (sym (none c))
   push c (y ∷ xs) x = more c y (xs ++ x ∷ []) ∙ push (one c y) xs x ∙ ap (λ k. one k x) (sym (more c y xs))
 
-  take_push : (i : ℕ) (xs : List X) (d : X) → i < length xs → take (i + 1) xs ≡ take i xs ++ get_or xs i d ∷ []
-  take_push i xs d h = grind (arith, common_steps)
-
   pub next : (c : C) (i : ℕ) (xs : List X) (x d : X) → x ≡ get_or xs i d → i < length xs → all c (take (i + 1) xs) ≡ one (all c (take i xs)) x
-  next c i xs x d e h = ap (all c) (take_push i xs d h) ∙ push c (take i xs) (get_or xs i d) ∙ ap (one (all c (take i xs))) (sym e)
+  next c i xs x d e h = ap (all c) (take_more xs i d h) ∙ push c (take i xs) (get_or xs i d) ∙ ap (one (all c (take i xs))) (sym e)
 
-pub events_next : (c : Content) (i : ℕ) (events : List Event) (x d : Event) → x ≡ get_or events i d → i < length events → with_events c (take (i + 1) events) ≡ with_event (with_events c (take i events)) x
-events_next = next with_events with_event (λ c. refl) (λ c x xs. refl)
+-- those of the next statement first, then those behind them
+several_filed : (c : Content) (some behind : List Event) → with_events (with_events c some) behind ≡ with_events c (some ++ behind)
+several_filed c [] behind = refl
+several_filed c (e ∷ es) behind = several_filed (with_event c e) es behind
+
+pub part_filed : (c all : Content) (es some behind : List Event) → IsNextPart es some behind → with_events c es ≡ all → with_events (with_events c some) behind ≡ all
+part_filed c all es some behind is goes = several_filed c some behind ∙ ap (with_events c) (sym is.all) ∙ goes
+
+-- what one statement puts
+pub all_filed_at_once : (c : Content) (es : List Event) → with_all es (relations_of c) ≡ relations_of (with_events c es)
+all_filed_at_once c [] = refl
+all_filed_at_once c (e ∷ es) = all_filed_at_once (with_event c e) es
 
 -- ---- one change, as its statement makes it
 

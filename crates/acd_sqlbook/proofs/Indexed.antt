@@ -3,6 +3,7 @@ use Rattle.std.proofs.Common.{◌≡◌, inl, inr, ℕ, ◌+◌, ◌-◌, ◌<�
 use Rattle.std.specs.Ordering.{nat_cmp}
 use Rattle.std.proofs.lemmas.Bool.Decides.{nat_tests}
 use Rattle.std.proofs.lemmas.Grind.{common_steps}
+use Rattle.std.proofs.lemmas.List.{take_more}
 use Rattle.sqlite.specs.State.{State}
 use Rattle.acd_terms.specs.Lists.{Among, Every, AllAfter, IsAscending}
 use Rattle.acd_terms.specs.declared.event.Event.{Event}
@@ -83,9 +84,6 @@ page_picked device n limit events numbers up is =
 
 -- ---- events that go on
 
-pub take_push : (i : ℕ) (xs : List Event) (d : Event) → i < length xs → take (i + 1) xs ≡ take i xs ++ get_or xs i d ∷ []
-take_push i xs d h = grind (arith, common_steps)
-
 pub drop_next : (i : ℕ) (xs : List Event) (d : Event) → i < length xs → drop i xs ≡ get_or xs i d ∷ drop (i + 1) xs
 drop_next i xs d h = grind (arith, common_steps)
 
@@ -105,5 +103,5 @@ ends_on top i events e low is = ap (last_of top) (drop_next i events e low ∙ a
 pub below_on : (top i : ℕ) (events : List Event) (e : Event) → i < length events → e ≡ get_or events i e → top < e.number → Every (λ (x : Event). x.number ≤ top) (take i events)
     → Every (λ (x : Event). x.number ≤ e.number) (take (i + 1) events)
 below_on top i events e low is up all =
-    subst (Every (λ (x : Event). x.number ≤ e.number)) (sym (take_push i events e low ∙ ap (λ (x : Event). take i events ++ x ∷ []) (sym is)))
+    subst (Every (λ (x : Event). x.number ≤ e.number)) (sym (take_more events i e low ∙ ap (λ (x : Event). take i events ++ x ∷ []) (sym is)))
     (every-append (λ (x : Event). x.number ≤ e.number) (take i events) (e ∷ []) (events_raised top e.number (take i events) (omega (arith, up)) all) (omega arith, tt))

@@ -1,5 +1,5 @@
 -- Why a part of a commit isn't written.
-use Rattle.std.proofs.Common.{◌≡◌, inl, inr, ℕ, zero, suc, ◌<◌, ◌≤◌, IsTrue, length, take, get_or, List, [], ◌∷◌, Option, None, Result, Ok, Err, IfErr, sym, subst, arith}
+use Rattle.std.proofs.Common.{◌≡◌, ◌≢◌, ◌⊎◌, inl, inr, ℕ, ◌<◌, ◌≤◌, IsTrue, length, List, [], ◌∷◌, ◌++◌, Option, None, Result, Ok, Err, IfErr, refl, sym, subst, arith}
 use Rattle.sqlite.specs.declared.error.Error.{Error}
 use Rattle.sqlite.specs.State.{State, HasCleanDisk}
 use Rattle.sqlite.specs.Steps.{FailsToCommit}
@@ -10,8 +10,9 @@ use Rattle.acd_sql_columns.specs.Draft.{Drafts, Works}
 use Rattle.acd_sql_columns.specs.Relations.{Relations, relations_of}
 use Rattle.acd_sql_statements.specs.Refusing.{IsBlamed, FailsToLeave}
 use Rattle.acd_sql_statements.proofs.Failures.{failed_before, failed_after, commit_failed}
-use Rattle.acd_sqlbook.specs.Commit.{with_events, with_event}
-use Rattle.acd_sqlbook.specs.Stopping.{RefusesChange, StopsAtEvent, StopsInEvents, FailsToFile, IsStopped}
+use Rattle.acd_sqlbook.specs.Choosing.{IsNextPart}
+use Rattle.acd_sqlbook.specs.Commit.{with_events}
+use Rattle.acd_sqlbook.specs.Stopping.{RefusesChange, InEvents, FailsToFile, IsStopped}
 
 module _ (old new : State) where
   -- of a content's relations, where there is no limit of steps
@@ -76,9 +77,21 @@ module _ (R : Content → Type 0) (c : Content) where
     | inr failed ↦ inr (inl (failed_after old mid new w.survives k counts failed))
   ]
 
--- ---- events, one behind the other
+-- ---- events, some a statement
 
-pub in_events : (es : List Event) (i : ℕ) (x d : Event) (c : Content) → x ≡ get_or es i d → i < length es → StopsAtEvent x (with_events c (take i es)) → StopsInEvents es c
-in_events [] i x d c at low h = absurd (omega (arith, low))
-in_events (e ∷ es) zero x d c at low h = inl (subst (λ (y : Event). StopsAtEvent y c) at h)
-in_events (e ∷ es) (suc i) x d c at low h = inr (in_events es i x d (with_event c e) at (omega (arith, low)) h)
+in_part : (At : List Event → Content → Type 0) (some behind : List Event) → some ≢ [] → length some ≤ 4 → (0 < length behind → length some ≡ 4) → (c : Content) → At some c ⊎ InEvents At behind (with_events c some) → InEvents At (some ++ behind) c
+in_part At [] behind any few full c h = absurd (any refl)
+in_part At (e ∷ []) [] any few full c (inl h) = h
+in_part At (e ∷ []) [] any few full c (inr h) = absurd h
+in_part At (e ∷ []) (x ∷ xs) any few full c h = absurd (let four = full (omega arith) in omega (arith, four))
+in_part At (e ∷ f ∷ []) [] any few full c (inl h) = h
+in_part At (e ∷ f ∷ []) [] any few full c (inr h) = absurd h
+in_part At (e ∷ f ∷ []) (x ∷ xs) any few full c h = absurd (let four = full (omega arith) in omega (arith, four))
+in_part At (e ∷ f ∷ g ∷ []) [] any few full c (inl h) = h
+in_part At (e ∷ f ∷ g ∷ []) [] any few full c (inr h) = absurd h
+in_part At (e ∷ f ∷ g ∷ []) (x ∷ xs) any few full c h = absurd (let four = full (omega arith) in omega (arith, four))
+in_part At (e ∷ f ∷ g ∷ h ∷ []) behind any few full c stops = stops
+in_part At (e ∷ f ∷ g ∷ h ∷ k ∷ es) behind any few full c stops = absurd (omega (arith, few))
+
+pub next_stops : (At : List Event → Content → Type 0) (es some behind : List Event) → IsNextPart es some behind → (c : Content) → At some c ⊎ InEvents At behind (with_events c some) → InEvents At es c
+next_stops At es some behind is c h = subst (λ l. InEvents At l c) (sym is.all) (in_part At some behind is.any is.few is.full c h)

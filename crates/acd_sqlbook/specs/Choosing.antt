@@ -1,6 +1,7 @@
 -- Which changes are written, and by which statement a call or a connection is: an insertion where it has no row, else an upsert.
-use Rattle.std.specs.Prelude.{◌≡◌, ℕ, ◌==◌, ◌&&◌, List, [], ◌∷◌, ◌++◌, Bool, false, cond, length, filter, nat_lt, Option, None, Some}
+use Rattle.std.specs.Prelude.{◌≡◌, ◌≢◌, ℕ, ◌≤◌, ◌<◌, ◌==◌, ◌&&◌, List, [], ◌∷◌, ◌++◌, Bool, false, cond, length, filter, nat_lt, Option, None, Some}
 use Rattle.acd_terms.specs.Lists.{IsAscending}
+use Rattle.acd_terms.specs.declared.event.Event.{Event}
 use Rattle.acd_model.specs.Rules.Plan.{connection_order}
 use Rattle.acd_model.specs.declared.moves.Change.{Change}
 use Rattle.acd_model.specs.declared.moves.Change.TheVariants.{PutCall, PutConnection, RemoveConnection}
@@ -27,6 +28,15 @@ pub record IsWrittenNext (changes : List Change) (change : Change) (behind : Lis
   pub first : written changes ≡ change ∷ written behind
   -- what is skipped makes no difference
   pub filing : (c : Content) → IsAscending connection_order c.rows.connections → all_filed c changes ≡ all_filed (filed c change) behind
+
+-- ---- events
+
+-- the events of the next statement, and those behind them
+pub record IsNextPart (es some behind : List Event) : Type 0 where
+  pub all : es ≡ some ++ behind
+  pub any : some ≢ []
+  pub few : length some ≤ 4
+  pub full : 0 < length behind → length some ≡ 4
 
 -- ---- what is new
 

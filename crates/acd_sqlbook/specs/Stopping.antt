@@ -14,7 +14,7 @@ use Rattle.acd_book.specs.declared.kept.Kept.{Kept}
 use Rattle.acd_sql_columns.specs.Draft.{Drafts, Fits, HoldsContent, MetaFits}
 use Rattle.acd_sql_columns.specs.Relations.{Relations, meta_of, relations_of}
 use Rattle.acd_sql_columns.specs.Rows.{connection_values, kept_values, meta_shown}
-use Rattle.acd_sql_columns.specs.Tables.{stations, calls, monitors, events}
+use Rattle.acd_sql_columns.specs.Tables.{stations, calls, monitors}
 use Rattle.acd_sql_columns.specs.Values.{id_value}
 use Rattle.acd_sql_columns.specs.declared.meta.Meta.{Meta}
 use Rattle.acd_sql_columns.specs.declared.texts.TheConstants.{DELETE_CALL, DELETE_CONNECTION, DELETE_MONITOR, INSERT_CONNECTION, INSERT_KEPT, UPDATE_CALL, UPDATE_META, UPDATE_MONITOR}
@@ -23,8 +23,9 @@ use Rattle.acd_sql_differences.specs.Transition.{AreWhole}
 use Rattle.acd_sql_statements.specs.Failing.{IsMemory, StoreHasFailed}
 use Rattle.acd_sql_statements.specs.Reading.{FailsToRead}
 use Rattle.acd_sql_statements.specs.Refusing.{RefusesOn, RefusesPut, RefusesPutConnection, RefusesGroup, RefusesAgent}
+use Rattle.acd_sql_statements.specs.Several.{RefusesEvents}
 use Rattle.acd_sqlbook.specs.Choosing.{written}
-use Rattle.acd_sqlbook.specs.Commit.{ChangeFits, EventFits, counted, filed, all_filed, with_event, with_events, with_kept}
+use Rattle.acd_sqlbook.specs.Commit.{ChangeFits, EventFits, counted, filed, all_filed, with_events, with_kept}
 
 -- no call that it has, and no call of its connections, is above this one
 pub record AreUpTo (last : ℕ) (c : Content) : Type 0 where
@@ -58,13 +59,20 @@ abbrev pub StopsInChanges : Type 0 → List Change → Content → Type 0
 StopsInChanges Meets [] c = ⊥
 StopsInChanges Meets (change ∷ changes) c = StopsAtChange Meets change c ⊎ StopsInChanges Meets changes (filed c change)
 
-abbrev pub StopsAtEvent : Event → Content → Type 0
-StopsAtEvent e c = (¬ (EventFits e)) ⊎ RefusesOn events.insert (events.values e) None (relations_of c)
+-- at the events of one statement, four at most, behind those before them
+abbrev pub InEvents : (List Event → Content → Type 0) → List Event → Content → Type 0
+InEvents At [] c = ⊥
+InEvents At (e ∷ []) c = At (e ∷ []) c
+InEvents At (e ∷ f ∷ []) c = At (e ∷ f ∷ []) c
+InEvents At (e ∷ f ∷ g ∷ []) c = At (e ∷ f ∷ g ∷ []) c
+InEvents At (e ∷ f ∷ g ∷ h ∷ es) c = At (e ∷ f ∷ g ∷ h ∷ []) c ⊎ InEvents At es (with_events c (e ∷ f ∷ g ∷ h ∷ []))
 
--- one of them, behind those before it
+-- a number of theirs doesn't fit its column, or the store refuses the statement that puts them
+abbrev pub StopsAtEvents : List Event → Content → Type 0
+StopsAtEvents es c = (¬ (Every EventFits es)) ⊎ RefusesEvents es None (relations_of c)
+
 abbrev pub StopsInEvents : List Event → Content → Type 0
-StopsInEvents [] c = ⊥
-StopsInEvents (e ∷ es) c = StopsAtEvent e c ⊎ StopsInEvents es (with_event c e)
+StopsInEvents = InEvents StopsAtEvents
 
 -- the kept record, or behind it the counters
 abbrev pub StopsAtLast : Kept → Meta → Content → Type 0
@@ -88,10 +96,8 @@ abbrev pub RefusesInChanges : Type 0 → List Change → Content → Type 0
 RefusesInChanges Meets [] c = ⊥
 RefusesInChanges Meets (change ∷ changes) c = RefusesChange Meets change (relations_of c) ⊎ RefusesInChanges Meets changes (filed c change)
 
--- one of them, behind those before it
 abbrev pub RefusesInEvents : List Event → Content → Type 0
-RefusesInEvents [] c = ⊥
-RefusesInEvents (e ∷ es) c = RefusesOn events.insert (events.values e) None (relations_of c) ⊎ RefusesInEvents es (with_event c e)
+RefusesInEvents = InEvents (λ es c. RefusesEvents es None (relations_of c))
 
 -- a statement of a change that is written, of an event behind them, or of what is last
 abbrev pub RefusesInAll : Type 0 → List Change → List Event → Kept → Meta → Content → Type 0

@@ -1,15 +1,15 @@
 //! All writes of a commit, in one transaction.
 
-ghost use Rattle.std.specs.Prelude.{◌≡◌, ◌↔◌, ◌<◌, [], length, filter, false, None, IfSome, OnOk, OnErr, IsTrue};
+ghost use Rattle.std.specs.Prelude.{◌≡◌, ◌≢◌, ◌↔◌, ◌<◌, ◌≤◌, [], length, filter, false, None, IfSome, OnOk, OnErr, IsTrue};
 ghost use Rattle.sqlite.specs.State.{HasCleanDisk};
 ghost use Rattle.sqlite.specs.Held.{state};
 ghost use Rattle.acd_codec.specs.RequestTexts.{request_text};
-ghost use Rattle.acd_terms.specs.Lists.{IsAscending};
+ghost use Rattle.acd_terms.specs.Lists.{Every, IsAscending};
 ghost use Rattle.acd_model.specs.Rules.Plan.{connection_order};
 ghost use Rattle.acd_book.specs.Content.{Content};
-ghost use Rattle.acd_sqlbook.specs.Choosing.{written, is_taken_away, IsWrittenNext, puts_the_same, is_put_once, is_above, is_new};
-ghost use Rattle.acd_sqlbook.specs.Commit.{ChangeFits, EventFits, filed, all_filed, with_event, with_events, made_by, top_call, top_monitor, last_call, last_monitor, counted};
-ghost use Rattle.acd_sqlbook.specs.Stopping.{HasAbove, RefusesChange, StopsAtChange, StopsInChanges, StopsAtEvent, StopsInEvents, StopsInAll, IsStopped, IsUndone};
+ghost use Rattle.acd_sqlbook.specs.Choosing.{written, is_taken_away, IsWrittenNext, IsNextPart, puts_the_same, is_put_once, is_above, is_new};
+ghost use Rattle.acd_sqlbook.specs.Commit.{ChangeFits, EventFits, filed, all_filed, with_events, made_by, top_call, top_monitor, last_call, last_monitor, counted};
+ghost use Rattle.acd_sqlbook.specs.Stopping.{HasAbove, RefusesChange, StopsAtChange, StopsInChanges, StopsAtEvents, StopsInEvents, StopsInAll, IsStopped, IsUndone};
 ghost use Rattle.acd_sql_statements.specs.Refusing.{RefusesAgent, IsBlamed};
 ghost use Rattle.acd_sql_columns.specs.Relations.{relations_of};
 ghost use Rattle.acd_sql_columns.specs.Draft.{Drafts, Works, HoldsContent, AddsStop, Fits, FiguresFitColumns, MetaFits};
@@ -20,6 +20,7 @@ use acd_sql_columns::Meta;
 use acd_sql_statements::fitting::{fits, too_large};
 use acd_sql_statements::parts::{put_agent, put_group};
 use acd_sql_statements::put::{insert, put, remove};
+use acd_sql_statements::several::{MOST, insert_events};
 use acd_sql_statements::write::{
     drop_connection, insert_connection, insert_kept, put_connection, set_meta,
 };
@@ -255,21 +256,47 @@ fn write_changes<S: Alter>(
     Ok(())
 }
 
-fn write_event<S: Alter>(tx: &mut Transaction<'_, S>, event: &Event) -> Result<(), Error>
-    requires { (state S.Store tx.old.conn.now).step_limit ≡ None }
+fn events_fit(events: &[Event]) -> bool
+    ensures { IsTrue result ↔ Every EventFits events.now }
+{
+    for event in events {
+        if !event_fits(event) {
+            return false;
+        }
+    }
+    true
+}
+
+// The events of the next statement, and those behind them.
+fn next_events(events: &[Event]) -> Option<(&[Event], &[Event])>
+    ensures some { IfSome result (λ p. IsNextPart events.now p.0.now p.1.now) }
+    ensures shorter { IfSome result (λ p. length p.1.now < length events.now) }
+    ensures none { result ≡ None → events.now ≡ [] }
+{
+    if events.is_empty() {
+        return None;
+    }
+    Some(events.split_at(events.len().min(MOST)))
+}
+
+// Writes events by one statement.
+fn write_some<S: Alter>(tx: &mut Transaction<'_, S>, events: &[Event]) -> Result<(), Error>
+    requires limit { (state S.Store tx.old.conn.now).step_limit ≡ None }
+    requires any { events.now ≢ [] }
+    requires few { length events.now ≤ 4 }
     ensures same { tx.new.conn.ghost_name ≡ tx.old.conn.ghost_name }
     ensures works { Works (state S.Store tx.old.conn.now) (state S.Store tx.new.conn.now) }
     ensures put { HasCleanDisk (state S.Store tx.new.conn.now) → OnOk result ((c : Content)
         → Drafts (state S.Store tx.old.conn.now) (relations_of c)
         → Drafts (state S.Store tx.new.conn.now)
-        (relations_of (with_event c event.now))) }
-    ensures failed { IsStopped (StopsAtEvent event.now)
+        (relations_of (with_events c events.now))) }
+    ensures failed { IsStopped (StopsAtEvents events.now)
         (state S.Store tx.old.conn.now) (state S.Store tx.new.conn.now) result }
 {
-    if !event_fits(event) {
+    if !events_fit(events) {
         return Err(too_large());
     }
-    insert(tx, event)
+    insert_events(tx, events)
 }
 
 fn write_events<S: Alter>(tx: &mut Transaction<'_, S>, events: &[Event]) -> Result<(), Error>
@@ -283,8 +310,10 @@ fn write_events<S: Alter>(tx: &mut Transaction<'_, S>, events: &[Event]) -> Resu
     ensures failed { IsStopped (StopsInEvents events.now)
         (state S.Store tx.old.conn.now) (state S.Store tx.new.conn.now) result }
 {
-    for event in events {
-        write_event(tx, event)?;
+    let mut rest = events;
+    while let Some((some, behind)) = next_events(rest) {
+        write_some(tx, some)?;
+        rest = behind;
     }
     Ok(())
 }

@@ -1,0 +1,7 @@
+use Rattle.std.proofs.Common.{take}
+use Rattle.acd_terms.specs.Lists.{Every}
+use Rattle.acd_sqlbook.specs.Commit.{EventFits}
+use Rattle.acd_sqlbook.proofs.commit.events_fit.Given as goal
+
+abbrev pub invariant-loop-event : goal.invariant-loop-event
+invariant-loop-event l = Every EventFits (take l.event-index l.events)
