@@ -3,9 +3,12 @@ pub mod Keys
 pub mod Runs
 pub mod Counting
 pub mod Longer
+pub mod Leading
 pub mod Commits
 pub mod Sound
 pub mod ContentLaws
+pub mod Carrying
+pub mod WithArchive
 pub mod SameRequests
 pub mod ByPlace
 pub mod DeskSteps

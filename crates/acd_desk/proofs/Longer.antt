@@ -1,5 +1,5 @@
 -- A longer list: the replies stay, and what one more answer adds to a run of the desk.
-use Rattle.std.proofs.Common.{◌≡◌, ℕ, ◌+◌, ◌<◌, List, [], ◌∷◌, ◌++◌, length, map, refl, sym, ap, subst, ◌∙◌, arith, append_assoc, append-nil, Bool, true, false, cond, not, ◌||◌, nat_lt, Option, Some, None, is_some, inl, inr, ◌⊎◌, ltb-true, true≢false}
+use Rattle.std.proofs.Common.{◌≡◌, ℕ, ◌+◌, ◌<◌, List, [], ◌∷◌, ◌++◌, length, map, refl, sym, ap, subst, ◌∙◌, arith, append_assoc, append-nil, Bool, true, false, cond, not, ◌||◌, nat_lt, Option, Some, None, is_some, inl, inr, ltb-true, true≢false}
 use Rattle.std.specs.Option.{option_or}
 use Rattle.std.proofs.lemmas.List.{map-append}
 use Rattle.std.proofs.lemmas.List.Folds.{list_any-append, find-append}
@@ -15,7 +15,7 @@ use Rattle.acd_desk.specs.Firsts.{has_key, firsts, record_of, executed, run}
 use Rattle.acd_desk.specs.Replies.{answer_of, answer_in, reply_to, after}
 use Rattle.acd_desk.specs.declared.taken.Taken.TheVariants.{Reply, InvokeReused, DeskFull, NoMemory, StoreFault}
 use Rattle.acd_desk.specs.Served.{is_fault, served, sent, has_served, maybe_last}
-use Rattle.acd_desk.specs.Stands.{arrivals_of, IsSound, ran_after, replies, StopsAt}
+use Rattle.acd_desk.specs.Stands.{arrivals_of, IsSound, ran_after, replies}
 use Rattle.acd_desk.proofs.Runs.{run-stamp, run-limits, run-found, firsts-room, has-distinct, after_firsts}
 use Rattle.acd_book.proofs.Keys.{key_own}
 use Rattle.acd_lemmas.proofs.Bools.{or_yes}
@@ -156,44 +156,3 @@ sent-push (u ∷ ts) t = elim (not (is_fault u)) as (λ b. cond b (u ∷ sent (t
   | true ↦ ap (λ (s : List Taken). u ∷ s) (sent-push ts t)
   | false ↦ sent-push ts t
 ]
-
-pub one_said : (start : Content) (l : List Arrival) (ts : List Taken) (a : Arrival) (t : Taken) → sent ts ≡ replies start l
-    → (is_fault t ≡ false → t ≡ answer_in (after (ran_after start l) a) a.request) → sent (ts ++ t ∷ []) ≡ replies start (l ++ cond (is_fault t) [] (a ∷ []))
-one_said start l ts a t so_far says =
-    let P : Bool → Type 0 = λ b. replies start l ++ cond b [] (t ∷ []) ≡ replies start (l ++ cond b [] (a ∷ [])) in
-    let cases : (b : Bool) → is_fault t ≡ b → P b
-    = λ b. elim b as (λ b. is_fault t ≡ b → P b) [
-      | true ↦ λ e. append-nil (replies start l) ∙ ap (replies start) (sym (append-nil l))
-      | false ↦ λ e. ap (λ (u : Taken). replies start l ++ u ∷ []) (says e) ∙ replies_push start l a
-    ] in
-    sent-push ts t ∙ ap (λ (s : List Taken). s ++ cond (is_fault t) [] (t ∷ [])) so_far ∙ cases (is_fault t) refl
-
-pub one_content : (start : Content) (l : List Arrival) (a : Arrival) (t : Taken) (new : Content)
-    → (is_fault t ≡ false → new ≡ after (ran_after start l) a) → (is_fault t ≡ true → new ≡ ran_after start l) → new ≡ ran_after start (l ++ cond (is_fault t) [] (a ∷ []))
-one_content start l a t new good bad =
-    let P : Bool → Type 0 = λ b. new ≡ ran_after start (l ++ cond b [] (a ∷ [])) in
-    let cases : (b : Bool) → is_fault t ≡ b → P b
-    = λ b. elim b as (λ b. is_fault t ≡ b → P b) [
-      | true ↦ λ e. bad e ∙ ap (ran_after start) (sym (append-nil l))
-      | false ↦ λ e. good e ∙ ran_push start l a
-    ] in
-    cases (is_fault t) refl
-
-pub one_stop : (start : Content) (l u v : List Arrival) (a : Arrival) (t : Taken) (c : Content) → (is_fault t ≡ true → (x : Arrival) → Contains u x → Contains v x)
-    → (is_fault t ≡ false → c ≡ after (ran_after start l) a) → (is_fault t ≡ true → StopsAt start l u c ⊎ (Contains v a × (c ≡ after (ran_after start l) a)))
-    → StopsAt start (l ++ cond (is_fault t) [] (a ∷ [])) v c
-one_stop start l u v a t c stay good bad =
-    let P : Bool → Type 0 = λ b. StopsAt start (l ++ cond b [] (a ∷ [])) v c in
-    let cases : (b : Bool) → is_fault t ≡ b → P b
-    = λ b. elim b as (λ b. is_fault t ≡ b → P b) [
-      | true ↦ λ e. subst (λ (s : List Arrival). StopsAt start s v c) (sym (append-nil l))
-          (elim (bad e) [
-            | inl old ↦ elim old [
-              | inl same ↦ inl same
-              | inr more ↦ inr (more.0, stay e more.0 more.1, more.2)
-            ]
-            | inr made ↦ inr (a, made.0, made.1 ∙ ran_push start l a)
-          ])
-      | false ↦ λ e. inl (good e ∙ ran_push start l a)
-    ] in
-    cases (is_fault t) refl

@@ -1,5 +1,5 @@
 -- Many calls of a desk, one after the other.
-use Rattle.std.proofs.Common.{◌≡◌, ℕ, ◌+◌, List, [], ◌∷◌, ◌++◌, true, false, cond, refl, sym, ap, subst, ◌∙◌, arith, inl, inr, ◌⊎◌, Bool, length-append, true≢false, Result}
+use Rattle.std.proofs.Common.{◌≡◌, ℕ, ◌+◌, List, [], ◌∷◌, ◌++◌, length, true, false, cond, refl, sym, ap, subst, ◌∙◌, arith, inl, inr, ◌⊎◌, Bool, length-append, true≢false, Result}
 use Rattle.std.proofs.lemmas.List.Elements.{Contains-push_cases, Contains-push, Contains-append_left, Contains-append_right}
 use Rattle.std.specs.List.{Contains}
 use Rattle.acd_terms.specs.Lists.{Every}
@@ -10,7 +10,8 @@ use Rattle.acd_desk.specs.declared.taken.Taken.{Taken}
 use Rattle.acd_desk.specs.declared.taken.Taken.TheVariants.{Reply, InvokeReused, DeskFull, NoMemory, StoreFault}
 use Rattle.acd_desk.specs.Replies.{answer_in, after}
 use Rattle.acd_desk.specs.Served.{is_fault, is_rejection, is_reply, served, maybe_last}
-use Rattle.acd_desk.specs.Stands.{IsSound, ran_after, replies, StopsAt}
+use Rattle.acd_desk.specs.Stands.{IsSound, ran_after}
+use Rattle.acd_desk.specs.Leads.{led, answers_to, StopsFrom, Leads}
 use Rattle.acd_desk.specs.Standing.{Standing, InStep, Starts}
 use Rattle.acd_desk.specs.Ran.{WasUnloaded, EndsIn, IsFault, EndsUp, Took, Ran}
 use Rattle.acd_desk.specs.Attended.{Attended}
@@ -18,7 +19,8 @@ use Rattle.acd_desk.specs.Told.{Told}
 use Rattle.acd_desk.specs.AnswerTexts.{Said, IsSaid, SaysOf}
 use Rattle.acd_desk.specs.declared.fault.DeskFault.{DeskFault}
 use Rattle.acd_desk.proofs.DeskSteps.{desk_so, desk_then}
-use Rattle.acd_desk.proofs.Longer.{ran_none, one_said, one_content, one_stop, served-push, maybe_stays, maybe_this}
+use Rattle.acd_desk.proofs.Longer.{ran_none, served-push, maybe_stays, maybe_this}
+use Rattle.acd_desk.proofs.Leading.{one_said, one_content, one_stop, sound_led, sound_answers, sound_stop}
 use Rattle.acd_desk.proofs.Sound.{ran_sound, stop_sound}
 use Rattle.acd_desk.proofs.ContentLaws.{sound_keeps_laws}
 
@@ -35,6 +37,7 @@ ran_nothing s settles =
       even = refl;
       step = no_step s.book;
       desk = record { in_step = λ clean sound step. step; shuts = λ h. absurd (omega (arith, h.1)); tells = λ h. inl h; lasts = λ h. h; cause = λ h. inl (inl h) };
+      leads = λ clean sound opened step. record { replies = refl; content = λ up. refl; stops = λ c at. inl (settles c clean sound opened at) };
       replies = λ clean start. refl;
       holds = λ clean start opened. record {
         content = ran_none s.book.content start.3;
@@ -137,53 +140,63 @@ attended_ran old new l ts ran = record {
   clean = ran.step.clean;
   sound = ran.step.sound;
   in_step = ran.desk.in_step;
+  leads = ran.leads;
   replies = ran.replies;
   content = λ clean starts opened. (ran.holds clean starts opened).content;
   stops = ran.stops;
   shuts = ran.desk.shuts;
 }
 
+-- one more call of a desk that is in step
+leads_more : (start : Content) (m n : Standing) (l : List Arrival) (ts : List Taken) (a : Arrival) (t : Taken) → Settles n → length l ≡ length ts → (Contains ts StoreFault → m.failed ≡ true)
+    → n.book.is_clean → m.book.is_sound → InStep m → Leads start l ts m.book → Took m a t n → Leads start (l ++ a ∷ []) (ts ++ t ∷ []) n.book
+leads_more start m n l ts a t settles even shuts clean sound step before took =
+    let yes : served (l ++ a ∷ []) (ts ++ t ∷ []) ≡ served l ts ++ cond (is_fault t) [] (a ∷ []) = served-push l ts a t even in
+    let maybe : List Arrival = maybe_last (l ++ a ∷ []) (ts ++ t ∷ []) in
+    record {
+      replies =
+          one_said start (served l ts) ts a t before.replies (λ (fine : is_fault t ≡ false).
+          (took.sent fine clean sound step).0 ∙ ap (λ (x : Content). answer_in (after x a) a.request) (before.content (took.up fine clean sound).0))
+          ∙ ap (answers_to start) (sym yes);
+      content = λ opened.
+          one_content start (served l ts) a t n.book.content
+          (λ (fine : is_fault t ≡ false). (took.sent fine clean sound step).1 ∙ ap (λ (x : Content). after x a) (before.content (took.up fine clean sound).0))
+          (λ (bad : is_fault t ≡ true). (took.unmoved (fault_no_reply t bad) clean sound opened).1 ∙ before.content (took.unmoved (fault_no_reply t bad) clean sound opened).0)
+          ∙ ap (led start) (sym yes);
+      stops = λ c stop.
+          subst (λ (y : List Arrival). StopsFrom start y maybe c) (sym yes)
+          (one_stop start (served l ts) (maybe_last l ts) maybe a t c (maybe_stays l ts a t)
+          (λ (fine : is_fault t ≡ false).
+          settles c clean (took.step.sound clean sound) (took.up fine clean sound).1 stop
+          ∙ (took.sent fine clean sound step).1 ∙ ap (λ (x : Content). after x a) (before.content (took.up fine clean sound).0))
+          (λ (bad : is_fault t ≡ true). elim (took.stops clean sound step c stop) [
+            | inl old ↦ inl (before.stops c old)
+            | inr made ↦ inr (
+              maybe_this l ts a t even (λ found. true≢false (sym (shuts found) ∙ made.0)) bad,
+              made.2 ∙ ap (λ (x : Content). after x a) (before.content made.1),
+            )
+          ]));
+    }
+
 -- one more call
 pub attended_more : (s m n : Standing) (l : List Arrival) (ts : List Taken) (a : Arrival) (t : Taken) → Settles n → Attended s l ts m → Took m a t n → Attended s (l ++ a ∷ []) (ts ++ t ∷ []) n
 attended_more s m n l ts a t settles ran took =
     let start : Content = s.book.content in
-    let yes : served (l ++ a ∷ []) (ts ++ t ∷ []) ≡ served l ts ++ cond (is_fault t) [] (a ∷ []) = served-push l ts a t ran.even in
-    let maybe : List Arrival = maybe_last (l ++ a ∷ []) (ts ++ t ∷ []) in
+    let yes : List Arrival = served (l ++ a ∷ []) (ts ++ t ∷ []) in
+    let leads : n.book.is_clean → s.book.is_sound → s.book.is_open → InStep s → Leads start (l ++ a ∷ []) (ts ++ t ∷ []) n.book
+    = λ clean sound opened step.
+    let before = took.step.clean clean in
+    leads_more start m n l ts a t settles ran.even ran.shuts clean (ran.sound before sound) (ran.in_step before sound step) (ran.leads before sound opened step) took in
     record {
       even = length-append l (a ∷ []) ∙ ap (λ (k : ℕ). k + 1) ran.even ∙ sym (length-append ts (t ∷ []));
       clean = λ clean. ran.clean (took.step.clean clean);
       sound = λ clean sound. took.step.sound clean (ran.sound (took.step.clean clean) sound);
       in_step = λ clean sound step. took.desk.in_step clean (ran.sound (took.step.clean clean) sound) (ran.in_step (took.step.clean clean) sound step);
-      replies = λ clean starts.
-          let before = took.step.clean clean in
-          let sound = ran.sound before starts.0 in
-          one_said start (served l ts) ts a t (ran.replies before starts) (λ (fine : is_fault t ≡ false).
-          (took.sent fine clean sound (ran.in_step before starts.0 starts.2)).0 ∙ ap (λ (x : Content). answer_in (after x a) a.request) (ran.content before starts (took.up fine clean sound).0))
-          ∙ ap (replies start) (sym yes);
-      content = λ clean starts opened.
-          let before = took.step.clean clean in
-          let sound = ran.sound before starts.0 in
-          let step = ran.in_step before starts.0 starts.2 in
-          one_content start (served l ts) a t n.book.content
-          (λ (fine : is_fault t ≡ false). (took.sent fine clean sound step).1 ∙ ap (λ (x : Content). after x a) (ran.content before starts (took.up fine clean sound).0))
-          (λ (bad : is_fault t ≡ true). (took.unmoved (fault_no_reply t bad) clean sound opened).1 ∙ ran.content before starts (took.unmoved (fault_no_reply t bad) clean sound opened).0)
-          ∙ ap (ran_after start) (sym yes);
+      leads = leads;
+      replies = λ clean starts. (leads clean starts.0 starts.1 starts.2).replies ∙ sound_answers start yes starts.3;
+      content = λ clean starts opened. (leads clean starts.0 starts.1 starts.2).content opened ∙ sound_led start yes starts.3;
       stops = λ clean starts c stop.
-          let before = took.step.clean clean in
-          let sound = ran.sound before starts.0 in
-          let step = ran.in_step before starts.0 starts.2 in
-          subst (λ (y : List Arrival). StopsAt start y maybe c) (sym yes)
-          (one_stop start (served l ts) (maybe_last l ts) maybe a t c (maybe_stays l ts a t)
-          (λ (fine : is_fault t ≡ false).
-          settles c clean (took.step.sound clean sound) (took.up fine clean sound).1 stop
-          ∙ (took.sent fine clean sound step).1 ∙ ap (λ (x : Content). after x a) (ran.content before starts (took.up fine clean sound).0))
-          (λ (bad : is_fault t ≡ true). elim (took.stops clean sound step c stop) [
-            | inl old ↦ inl (ran.stops before starts c old)
-            | inr made ↦ inr (
-              maybe_this l ts a t ran.even (λ found. true≢false (sym (ran.shuts found) ∙ made.0)) bad,
-              made.2 ∙ ap (λ (x : Content). after x a) (ran.content before starts made.1),
-            )
-          ]));
+          sound_stop start yes (maybe_last (l ++ a ∷ []) (ts ++ t ∷ [])) c starts.3 ((leads clean starts.0 starts.1 starts.2).stops c stop);
       shuts = λ h. elim (Contains-push_cases ts t StoreFault h) [
         | inl old ↦ took.desk.lasts (ran.shuts old)
         | inr now ↦ took.desk.shuts now
@@ -200,6 +213,7 @@ ran_more s m n l ts a t settles ran took =
       step = step_then ran.step took.step (Contains-append_left ts (t ∷ []) StoreFault) (at_end ts t StoreFault);
       desk = desk_then s m n ran.step took.step ran.desk took.desk (Contains-append_left ts (t ∷ []) StoreFault) (at_end ts t StoreFault) (Contains-push_cases ts t StoreFault)
           (earlier s ts t) (λ working gone. earlier s ts t (ran.unloads working gone));
+      leads = more.leads;
       replies = more.replies;
       holds = λ clean starts opened.
           let content = more.content clean starts opened in
@@ -230,6 +244,14 @@ attended_told s m n l ts r P ran told = record {
   clean = λ clean. ran.clean (told.step.clean clean);
   sound = λ clean sound. told.step.sound clean (ran.sound (told.step.clean clean) sound);
   in_step = λ clean sound step. told.desk.in_step clean (ran.sound (told.step.clean clean) sound) (ran.in_step (told.step.clean clean) sound step);
+  leads = λ clean sound opened step.
+      let before = told.step.clean clean in
+      let so_far = ran.leads before sound opened step in
+      record {
+        replies = so_far.replies;
+        content = λ up. let same = told.unchanged.same clean (ran.sound before sound) up in same.1 ∙ so_far.content same.0;
+        stops = λ c stop. so_far.stops c (told.unchanged.stops clean (ran.sound before sound) c stop);
+      };
   replies = λ clean starts. ran.replies (told.step.clean clean) starts;
   content = λ clean starts opened.
       let before = told.step.clean clean in

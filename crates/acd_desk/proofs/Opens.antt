@@ -12,10 +12,13 @@ use Rattle.acd_switch.specs.declared.row_fault.RowFault.TheVariants as row
 use Rattle.acd_desk.specs.declared.open_fault.OpenFault.{OpenFault}
 use Rattle.acd_desk.specs.declared.open_fault.OpenFault.TheVariants as fault
 use Rattle.acd_desk.specs.Stands.{IsSound}
+use Rattle.acd_desk.specs.Carried.{together}
+use Rattle.acd_desk.specs.Standing.{InStep}
 use Rattle.acd_desk.specs.Opening.{by_rows, Opened, Refused}
 use Rattle.acd_terms.proofs.Results.{ok_err}
 use Rattle.acd_desk.proofs.Commits.{some_none}
-use Rattle.acd_desk.proofs.ContentLaws.{sound_rules, sound_counted}
+use Rattle.acd_desk.proofs.ContentLaws.{sound_rules}
+use Rattle.acd_desk.proofs.Carrying.{counted_alone}
 
 rows_store : (rule : Rule) → fault.Rows rule ≡ fault.Store → ⊥
 rows_store rule h = cc
@@ -28,6 +31,8 @@ pub opens : (b d : BookState) (rows switch : Rows) → Reads b d (Ok rows) (λ (
 opens b d rows switch reads is rules =
     let same : d.is_clean → b.is_sound → d.content ≡ b.content = λ clean sound. (reads.unchanged.same clean sound (reads.stays clean sound)).1 in
     let loaded : d.is_clean → b.is_sound → b.content.rows ≡ switch = λ clean sound. sym (reads.value clean sound).1 ∙ sym is in
+    let in_step : d.is_clean → b.is_sound → IsCounted b.content → InStep (record { book = d; switch = Some switch; failed = false })
+    = λ clean sound counted opened working. (ap (λ (x : Content). x.rows) (same clean sound) ∙ loaded clean sound, subst IsCounted (sym (same clean sound)) counted) in
     record {
       step = step_so reads.step (λ is. absurd (ok_err is));
       opened = λ clean sound. ((reads.value clean sound).0, reads.stays clean sound, same clean sound, ap Some (sym (loaded clean sound)));
@@ -35,13 +40,13 @@ opens b d rows switch reads is rules =
       stops = reads.unchanged.stops;
       keeps = λ clean sound. reads.keeps clean sound (reads.stays clean sound);
       accepts = λ clean sound. subst BreaksNoRule (reads.value clean sound).1 rules;
-      starts = λ clean sound whole.
-          let is_same = same clean sound in (
-            reads.step.sound clean sound,
-            reads.stays clean sound,
-            λ opened working. (ap (λ (x : Content). x.rows) is_same ∙ loaded clean sound, subst IsCounted (sym is_same) (sound_counted b.content whole)),
-            subst IsSound (sym is_same) whole,
-          );
+      in_step = in_step;
+      starts = λ p clean sound whole. (
+        reads.step.sound clean sound,
+        reads.stays clean sound,
+        in_step clean sound (counted_alone p b.content whole),
+        subst (λ (c : Content). IsSound (together p c)) (sym (same clean sound)) whole,
+      );
     }
 
 -- the rows were read, and make no switch
@@ -53,7 +58,7 @@ refuses b d rows (row.Broken rule) reads broken = record {
   refuses = λ clean sound.
       let told = reads.value clean sound in
       (told.0, reads.stays clean sound, (reads.unchanged.same clean sound (reads.stays clean sound)).1, subst (λ (s : Rows). first_broken s ≡ Some rule) told.1 broken);
-  well = λ clean sound whole. some_none rule (sym (subst (λ (s : Rows). first_broken s ≡ Some rule) (reads.value clean sound).1 broken) ∙ sound_rules b.content whole);
+  well = λ p clean sound whole. some_none rule (sym (subst (λ (s : Rows). first_broken s ≡ Some rule) (reads.value clean sound).1 broken) ∙ sound_rules (together p b.content) whole);
   cause = λ h. absurd (rows_store rule h);
 }
 refuses b d rows row.NoMemory reads broken = record {
@@ -61,7 +66,7 @@ refuses b d rows row.NoMemory reads broken = record {
   unchanged = reads.unchanged;
   keeps = reads.keeps;
   refuses = λ clean sound. tt;
-  well = λ clean sound whole. tt;
+  well = λ p clean sound whole. tt;
   cause = λ h. absurd (memory_store h);
 }
 

@@ -6,6 +6,7 @@ use Rattle.acd_terms.specs.declared.command.Arrival.{Arrival}
 use Rattle.acd_book.specs.Content.{Content, empty_content, GoOn, IsCounted}
 use Rattle.acd_desk.specs.Firsts.{stepped, executed, run_from, firsts}
 use Rattle.acd_desk.specs.Stands.{IsSound, arrivals_of}
+use Rattle.acd_desk.specs.Carried.{Archive, together}
 use Rattle.acd_desk.specs.Tells.{Rise}
 use Rattle.acd_desk.proofs.Steps.{step_numbers}
 use Rattle.acd_desk.proofs.Counting.{counted_executed}
@@ -30,3 +31,11 @@ pub sound_rises : (c : Content) → IsSound c → Rise 0 c.events
 sound_rises c sound =
     subst (λ (d : Content). Rise 0 d.events) (sym sound.replays)
     (run-rises (firsts c.rows.limits.requests (arrivals_of c.kept)) (empty_content c.rows.limits) (record { events = tt; kept = tt }) tt)
+
+rise_right : (n : ℕ) (xs ys : List Event) → Rise n (xs ++ ys) → Rise 0 ys
+rise_right n [] ys h = rise_lower 0 n ys (omega arith) h
+rise_right n (x ∷ xs) ys h = rise_right x.number xs ys h.1
+
+-- so do those of one that is sound with an archive
+pub carried_rises : (p : Archive) (c : Content) → IsSound (together p c) → Rise 0 c.events
+carried_rises p c sound = rise_right 0 p.events c.events (sound_rises (together p c) sound)

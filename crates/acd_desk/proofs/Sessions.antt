@@ -7,6 +7,8 @@ use Rattle.acd_book.proofs.BookSteps.{step_then}
 use Rattle.acd_desk.specs.declared.taken.Taken.{Taken}
 use Rattle.acd_desk.specs.Served.{served, maybe_last, sent}
 use Rattle.acd_desk.specs.Stands.{IsSound, replies, StopsAt}
+use Rattle.acd_desk.specs.Leads.{Leads}
+use Rattle.acd_desk.specs.Carried.{no_archive}
 use Rattle.acd_desk.specs.Standing.{Standing, Starts}
 use Rattle.acd_desk.specs.Opening.{Opened}
 use Rattle.acd_desk.specs.Ran.{Ran, EndsIn, EndsUp, Holds}
@@ -19,7 +21,7 @@ ends_up s (_ ∷ t ∷ ts) opened last = ends_up s (t ∷ ts) opened last
 
 pub session_ran : (Behind : Taken → Type 0) (old : BookState) (d e : Standing) (l : List Arrival) (ts : List Taken) → Opened old d → Ran d l ts e → EndsIn Behind ts → Session Behind old l ts e.book
 session_ran Behind old d e l ts o ran later =
-    let starts : e.book.is_clean → old.is_sound → IsSound old.content → Starts d = λ clean sound whole. o.starts (ran.step.clean clean) sound whole in
+    let starts : e.book.is_clean → old.is_sound → IsSound old.content → Starts d = λ clean sound whole. o.starts no_archive (ran.step.clean clean) sound whole in
     let same : e.book.is_clean → old.is_sound → d.book.content ≡ old.content = λ clean sound. (o.opened (ran.step.clean clean) sound).2 in
     let up : e.book.is_clean → old.is_sound → IsLastServed ts → EndsUp d ts
     = λ clean sound last. ends_up d ts (o.opened (ran.step.clean clean) sound).1 last in
@@ -28,6 +30,10 @@ session_ran Behind old d e l ts o ran later =
       step = step_then o.step ran.step (λ none. absurd none) (λ found. found);
       opened = λ clean sound. (o.opened (ran.step.clean clean) sound).0;
       accepts = λ clean sound. o.accepts (ran.step.clean clean) sound;
+      leads = λ clean sound counted.
+          let before = ran.step.clean clean in
+          subst (λ (c : Content). Leads c l ts e.book) (same clean sound)
+          (ran.leads clean (o.step.sound before sound) (o.opened before sound).1 (o.in_step before sound counted));
       replies = λ clean sound whole. subst (λ (c : Content). sent ts ≡ replies c (served l ts)) (same clean sound) (ran.replies clean (starts clean sound whole));
       holds = λ clean sound whole opened. subst (λ (c : Content). Holds c (served l ts) e.book) (same clean sound) (ran.holds clean (starts clean sound whole) opened);
       up = λ clean sound last. ran.up clean (o.step.sound (ran.step.clean clean) sound) (up clean sound last);

@@ -10,6 +10,7 @@ use Rattle.acd_desk.specs.Served.{served, maybe_last, sent}
 use Rattle.acd_desk.specs.Stands.{ran_after, replies, StopsAt}
 use Rattle.acd_desk.specs.Standing.{Standing, InStep}
 use Rattle.acd_desk.specs.Ran.{IfStarted}
+use Rattle.acd_desk.specs.Leads.{Leads}
 
 -- some arrivals, in turn, and their answers; what was read between them isn't listed
 pub record Attended (old : Standing) (arrivals : List Arrival) (answers : List Taken) (new : Standing) : Type 0 where
@@ -17,6 +18,8 @@ pub record Attended (old : Standing) (arrivals : List Arrival) (answers : List T
   pub clean : new.book.is_clean → old.book.is_clean
   pub sound : IfHonest old.book new.book new.book.is_sound
   pub in_step : IfHonest old.book new.book (InStep old → InStep new)
+  -- from any content that the desk is in step with they were taken in turn
+  pub leads : IfHonest old.book new.book (old.book.is_open → InStep old → Leads old.book.content arrivals answers new.book)
   -- each answer but the faults is that of the abstract desk, at its place in the list of what was kept and served
   pub replies : IfStarted old new (sent answers ≡ replies old.book.content (served arrivals answers))
   -- an open book holds the run over the first arrivals of that list

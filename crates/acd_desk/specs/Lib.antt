@@ -2,6 +2,8 @@ pub mod Firsts
 pub mod Replies
 pub mod Served
 pub mod Stands
+pub mod Leads
+pub mod Carried
 pub mod Standing
 pub mod Prepared
 pub mod Reread
@@ -28,3 +30,5 @@ pub mod GroupStates
 pub mod Pages
 pub mod Noting
 pub mod NameLaws
+pub mod CarriedLaws
+pub mod WithArchive

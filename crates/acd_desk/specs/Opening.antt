@@ -5,12 +5,13 @@ use Rattle.acd_switch.specs.declared.row_fault.RowFault.{RowFault}
 use Rattle.acd_switch.specs.declared.row_fault.RowFault.TheVariants as row
 use Rattle.acd_book.specs.declared.fault.BookFault.{BookFault}
 use Rattle.acd_book.specs.declared.fault.BookFault.TheVariants as book
-use Rattle.acd_book.specs.Content.{Within, HasRisen}
+use Rattle.acd_book.specs.Content.{IsCounted, Within, HasRisen}
 use Rattle.acd_book.specs.State.{BookState, IfHonest, BookStep, Unchanged}
 use Rattle.acd_desk.specs.declared.open_fault.OpenFault.{OpenFault}
 use Rattle.acd_desk.specs.declared.open_fault.OpenFault.TheVariants as fault
 use Rattle.acd_desk.specs.Stands.{IsSound}
-use Rattle.acd_desk.specs.Standing.{Standing, Starts}
+use Rattle.acd_desk.specs.Carried.{Archive, together}
+use Rattle.acd_desk.specs.Standing.{Standing, InStep, StartsWith}
 
 -- a desk with the rows of its book, which break no rule
 pub record Opened (old : BookState) (new : Standing) : Type 0 where
@@ -21,7 +22,10 @@ pub record Opened (old : BookState) (new : Standing) : Type 0 where
   pub stops : IfHonest old new.book (Within new.book.stops old.stops)
   pub keeps : IfHonest old new.book (Within old.stops new.book.stops)
   pub accepts : IfHonest old new.book (BreaksNoRule old.content.rows)
-  pub starts : IfHonest old new.book (IsSound old.content → Starts new)
+  -- it is in step with any content whose counters are up to its records
+  pub in_step : IfHonest old new.book (IsCounted old.content → InStep new)
+  -- so with one that is sound, by itself or with its archive
+  pub starts : (p : Archive) → IfHonest old new.book (IsSound (together p old.content) → StartsWith p new)
 
 -- the book answered its rows: it is open, and they break this rule first
 abbrev pub RefusesBy : BookState → OpenFault → BookState → Type 0
@@ -51,7 +55,7 @@ pub record Refused (old : BookState) (why : OpenFault) (new : BookState) : Type 
   pub unchanged : Unchanged old new
   pub keeps : IfHonest old new (new.is_open → Within old.stops new.stops)
   pub refuses : IfHonest old new (RefusesBy old why new)
-  -- a sound content is never refused
-  pub well : IfHonest old new (IsSound old.content → IsNoRule why)
+  -- a content that is sound, by itself or with its archive, is never refused
+  pub well : (p : Archive) → IfHonest old new (IsSound (together p old.content) → IsNoRule why)
   -- a failure was counted where the store has failed
   pub cause : why ≡ fault.Store → HasRisen old.failures new.failures

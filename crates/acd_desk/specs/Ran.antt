@@ -15,6 +15,7 @@ use Rattle.acd_desk.specs.Stands.{IsSound, ran_after, replies, StopsAt}
 pub use Rattle.acd_desk.specs.Standing.{Standing, standing}
 use Rattle.acd_desk.specs.Standing.{InStep, Starts}
 use Rattle.acd_desk.specs.Laws.{KeepsLaws}
+use Rattle.acd_desk.specs.Leads.{Leads}
 
 -- the desk had failed before, or its store has failed since
 abbrev pub IsCause : Standing → Standing → Type 0
@@ -87,6 +88,8 @@ pub record Ran (old : Standing) (arrivals : List Arrival) (answers : List Taken)
   pub even : length arrivals ≡ length answers
   pub step : BookStep (Contains answers StoreFault) old.book new.book
   pub desk : DeskStep (Contains answers StoreFault) (WasUnloaded old answers) old new
+  -- from any content that the desk is in step with they were taken in turn
+  pub leads : IfHonest old.book new.book (old.book.is_open → InStep old → Leads old.book.content arrivals answers new.book)
   -- each answer but the faults is that of the abstract desk, at its place in the list of what was kept and served
   pub replies : IfStarted old new (sent answers ≡ replies old.book.content (served arrivals answers))
   -- an open book holds the run over the first arrivals of that list, and a reopening finds nothing else

@@ -3,7 +3,7 @@ use Rattle.std.specs.Prelude.{◌≡◌, false, List, [], ◌∷◌, length}
 use Rattle.std.specs.List.{Contains}
 use Rattle.acd_terms.specs.declared.command.Arrival.{Arrival}
 use Rattle.acd_model.specs.Rules.First.{BreaksNoRule}
-use Rattle.acd_book.specs.Content.{Content, HasRisen}
+use Rattle.acd_book.specs.Content.{Content, IsCounted, HasRisen}
 use Rattle.acd_book.specs.State.{BookState, IfHonest, BookStep}
 use Rattle.acd_desk.specs.declared.taken.Taken.{Taken}
 use Rattle.acd_desk.specs.declared.taken.Taken.TheVariants.{StoreFault}
@@ -14,6 +14,7 @@ use Rattle.acd_desk.specs.declared.session.SessionFault.TheVariants as session
 use Rattle.acd_desk.specs.Served.{is_fault, served, maybe_last, sent}
 use Rattle.acd_desk.specs.Stands.{IsSound, replies, StopsAt}
 use Rattle.acd_desk.specs.Ran.{EndsIn, Holds}
+use Rattle.acd_desk.specs.Leads.{Leads}
 
 -- what is said where the book was honest and its content sound
 abbrev pub IfWhole : BookState → BookState → Type 0 → Type 0
@@ -33,6 +34,8 @@ pub record Session (Behind : Taken → Type 0) (old : BookState) (arrivals : Lis
   -- the book was open, with rows that break no rule
   pub opened : IfHonest old new old.is_open
   pub accepts : IfHonest old new (BreaksNoRule old.content.rows)
+  -- from any content whose counters are up to its records they were taken in turn
+  pub leads : IfHonest old new (IsCounted old.content → Leads old.content arrivals answers new)
   -- each answer but the faults is that of the abstract desk, at its place in the list of what was kept and served
   pub replies : IfWhole old new (sent answers ≡ replies old.content (served arrivals answers))
   -- an open book holds the run over the first arrivals of that list, and a reopening finds nothing else

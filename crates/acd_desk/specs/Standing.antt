@@ -10,6 +10,7 @@ use Rattle.acd_desk.specs.declared.desk.Desk.{Desk}
 use Rattle.acd_desk.specs.declared.working.Working.{Working}
 use Rattle.acd_desk.specs.declared.working.Working.TheVariants.{Loaded, Unloaded, Failed}
 use Rattle.acd_desk.specs.Stands.{IsNew, IsSound}
+use Rattle.acd_desk.specs.Carried.{Archive, no_archive, together}
 
 pub record Standing : Type 1 where
   pub book : BookState
@@ -48,9 +49,13 @@ Mirrors None s = BreaksNoRule s
 abbrev pub InStep : Standing → Type 0
 InStep s = s.book.is_open → s.failed ≡ false → Mirrors s.switch s.book.content.rows × IsCounted s.book.content
 
--- a sound book that is open, a desk in step with it, and a sound content
+-- a sound book that is open, a desk in step with it, and a content that is sound with this archive before it
+abbrev pub StartsWith : Archive → Standing → Type 0
+StartsWith p s = s.book.is_sound × s.book.is_open × InStep s × IsSound (together p s.book.content)
+
+-- or by itself
 abbrev pub Starts : Standing → Type 0
-Starts s = s.book.is_sound × s.book.is_open × InStep s × IsSound s.book.content
+Starts s = StartsWith no_archive s
 
 -- the same desk, where a sound book is open too, and holds no record with the key of the request
 abbrev pub with_new_key : Standing → Request → Standing

@@ -7,6 +7,10 @@ ghost use Rattle.acd_desk.specs.AuditLaws.{HasOneAudit, SoundIsOrdered, SoundAgr
 ghost use Rattle.acd_desk.specs.OldSound.{OldSoundIsSound};
 ghost use Rattle.acd_desk.specs.Following.{SnapshotLeadsOn};
 ghost use Rattle.acd_desk.specs.NameLaws.{ContentIgnoresNames, AnswersIgnoreNames};
+ghost use Rattle.acd_desk.specs.CarriedLaws.{CarriedGoesOn, CarriedIsRunOfAll, CarriedAgain, CarriedOpens, CarriedRuns};
+ghost use Rattle.acd_desk.specs.WithArchive.{AuditsWithArchive, AuditsLinkByLink};
+
+use acd_book::Book;
 
 /// One more arrival leads from the run of a list to the run of the longer list.
 pub fn one_more_arrival()
@@ -74,4 +78,26 @@ pub fn snapshot_leads_on()
 pub fn names_are_inert()
     ensures content { ContentIgnoresNames }
     ensures answers { AnswersIgnoreNames }
+{}
+
+/// Over a content whose older records lie in an archive, no request that these have being sent again, answers, rows, events and
+/// kept replies are those over both together; where both together are sound, they are the run of all that was ever kept, and what
+/// is left is sound with the archive. It may be carried over again, and a desk opens over it.
+pub fn carried_goes_on()
+    ensures on { CarriedGoesOn }
+    ensures all { CarriedIsRunOfAll }
+    ensures again { CarriedAgain }
+    ensures opens { CarriedOpens }
+{}
+
+/// Whatever leads a book from such a content by a run keeps the headline, of archive and book together.
+pub fn carried_runs<B: Book>()
+    ensures { CarriedRuns B.Book }
+{}
+
+/// A content that goes on from a sound archive, with the archive's last records and what its newer requests make of the archive's
+/// state, is sound with it; of a chain of archives each goes on from the one before.
+pub fn audits_with_archive()
+    ensures one { AuditsWithArchive }
+    ensures links { AuditsLinkByLink }
 {}

@@ -6,8 +6,9 @@ use Rattle.acd_book.specs.Content.{Content}
 use Rattle.acd_desk.specs.declared.taken.Taken.{Taken}
 use Rattle.acd_desk.specs.Arrived.{at}
 use Rattle.acd_desk.specs.Served.{served}
-use Rattle.acd_desk.specs.Stands.{ran_after}
+use Rattle.acd_desk.specs.Leads.{led}
 use Rattle.acd_desk.specs.Ran.{Standing}
+use Rattle.acd_desk.proofs.Leading.{sound_led}
 use Rattle.acd_desk.specs.Attended.{Attended}
 use Rattle.acd_desk.proofs.Many.{Settles, ran_nothing, attended_ran, attended_more, attended_told}
 use Rattle.acd_desk.specs.Told.{Told}
@@ -20,7 +21,7 @@ use Rattle.acd_desk.proofs.Telling.{told_seen, told_no_memory}
 use Rattle.acd_codec.specs.declared.fault.FixedAnswer.TheVariants as fixed
 use Rattle.acd_lines.specs.Answers.{fixed_line}
 use Rattle.acd_lines.specs.Input.{no_moment, too_long, faulty, arrival, text_of}
-use Rattle.acd_http.specs.ReadingLines.{ReadingLine, plain, get, reading_line_of, told_line, Tells, IsTold, ReadingAnswers, asked_by, all_asked, ServesReads, arrivals_of, answers_of, LinesLeadToTheRun, ReadsTellOfTheRun}
+use Rattle.acd_http.specs.ReadingLines.{ReadingLine, plain, get, reading_line_of, told_line, Tells, IsTold, ReadingAnswers, asked_by, all_asked, ServesReads, arrivals_of, answers_of, LinesLeadToTheRun, ReadsTellOfTheContent, ReadsTellOfTheRun}
 
 -- what the desk told, or noMemory in its place
 pub tells_look : {D Z : Type 0} (stands : D → Standing) (d e : D) (moment : ℕ) (question : Question) (as_text : Bool) (found : Result (Option (String Z)) DeskFault) (out : List ℕ) → as_text ≡ is_plain question
@@ -86,12 +87,18 @@ module _ {D : Type 0} (stands : D → Standing) (settles : (d : D) → Settles (
   found_told c moment question out (Err fault.NoMemory) is h = inr (inl is)
   found_told c moment question out (Err fault.StoreFault) is h = inr (inr is)
 
-  pub reads_tell_of_the_run : ReadsTellOfTheRun stands
-  reads_tell_of_the_run d e f pieces outs h moment question out (inl a) = λ clean starts opened. inr (inl a.0)
-  reads_tell_of_the_run d e f pieces outs h moment question out (inr a) =
+  pub reads_tell_of_the_content : ReadsTellOfTheContent stands
+  reads_tell_of_the_content d e f pieces outs h moment question out (inl a) = λ clean sound first step opened. inr (inl a.0)
+  reads_tell_of_the_content d e f pieces outs h moment question out (inr a) =
       let run = lines_lead_to_the_run d e pieces outs h in
-      λ clean starts opened.
+      λ clean sound first step opened.
       let before = a.2.step.clean clean in
-      found_told (ran_after (stands d).book.content (served (arrivals_of stands d pieces outs e h) (answers_of stands d pieces outs e h))) moment question out a.0 a.1
-      (subst (λ (c : Content). IfOk a.0 (λ (text : Option (List ℕ)). text ≡ told_of c moment question)) (run.content before starts opened)
-      (a.2.value clean (run.sound before starts.0) (run.in_step before starts.0 starts.2) opened))
+      found_told (led (stands d).book.content (served (arrivals_of stands d pieces outs e h) (answers_of stands d pieces outs e h))) moment question out a.0 a.1
+      (subst (λ (c : Content). IfOk a.0 (λ (text : Option (List ℕ)). text ≡ told_of c moment question)) ((run.leads before sound first step).content opened)
+      (a.2.value clean (run.sound before sound) (run.in_step before sound step) opened))
+
+  pub reads_tell_of_the_run : ReadsTellOfTheRun stands
+  reads_tell_of_the_run d e f pieces outs h moment question out answer = λ clean starts opened.
+      subst (λ (c : Content). IsTold c moment question out)
+      (sound_led (stands d).book.content (served (arrivals_of stands d pieces outs e h) (answers_of stands d pieces outs e h)) starts.3)
+      (reads_tell_of_the_content d e f pieces outs h moment question out answer clean starts.0 starts.1 starts.2 opened)

@@ -6,12 +6,15 @@ use Rattle.acd_codec.specs.declared.fault.FixedAnswer.TheVariants as fixed
 use Rattle.acd_codec.specs.ReadTexts.{quoted}
 use Rattle.acd_book.specs.declared.book.Book.{Ghosts}
 use Rattle.acd_book.specs.Content.{Content}
+use Rattle.acd_book.specs.State.{IfHonest}
 use Rattle.acd_desk.specs.declared.desk.Desk.{Desk}
 use Rattle.acd_desk.specs.declared.fault.DeskFault.{DeskFault}
 use Rattle.acd_desk.specs.declared.taken.Taken.{Taken}
 use Rattle.acd_desk.specs.Arrived.{at}
 use Rattle.acd_desk.specs.Served.{served}
 use Rattle.acd_desk.specs.Stands.{ran_after}
+use Rattle.acd_desk.specs.Leads.{led}
+use Rattle.acd_desk.specs.Standing.{InStep}
 use Rattle.acd_desk.specs.Ran.{Standing, standing, IfStarted}
 use Rattle.acd_desk.specs.Attended.{Attended}
 use Rattle.acd_desk.specs.Told.{Told}
@@ -103,7 +106,13 @@ module _ {D : Type 0} (stands : D → Standing) where
   LinesLeadToTheRun = (d e : D) (pieces outs : List (List ℕ)) (h : ServesReads d pieces outs e)
       → Attended (stands d) (arrivals_of d pieces outs e h) (answers_of d pieces outs e h) (stands e)
 
-  -- a read behind lines is told of the run of the requests among them, where the book is open, or answers a fault
+  -- a read behind lines is told of what the requests among them made of the content, where the book is open, or answers a fault
+  abbrev pub ReadsTellOfTheContent : Type 0
+  ReadsTellOfTheContent = (d e f : D) (pieces outs : List (List ℕ)) (h : ServesReads d pieces outs e) (moment : ℕ) (question : Question) (out : List ℕ) → ReadingAnswers e (get moment (Ok question)) out f
+      → IfHonest (stands d).book (stands f).book ((stands d).book.is_open → InStep (stands d) → (stands e).book.is_open
+      → IsTold (led (stands d).book.content (served (arrivals_of d pieces outs e h) (answers_of d pieces outs e h))) moment question out)
+
+  -- which is their run, where it was sound
   abbrev pub ReadsTellOfTheRun : Type 0
   ReadsTellOfTheRun = (d e f : D) (pieces outs : List (List ℕ)) (h : ServesReads d pieces outs e) (moment : ℕ) (question : Question) (out : List ℕ) → ReadingAnswers e (get moment (Ok question)) out f
       → IfStarted (stands d) (stands f) ((stands e).book.is_open → IsTold (ran_after (stands d).book.content (served (arrivals_of d pieces outs e h) (answers_of d pieces outs e h))) moment question out)

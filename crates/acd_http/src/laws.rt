@@ -3,7 +3,7 @@
 ghost use Rattle.acd_desk.specs.Standing.{standing};
 ghost use Rattle.acd_http.specs.Laws.{AsksOneThing, AsksByABeginning, PhrasesAreCanonical};
 ghost use Rattle.acd_http.specs.Attending.{LeadsToTheRun};
-ghost use Rattle.acd_http.specs.ReadingLines.{LinesLeadToTheRun, ReadsTellOfTheRun};
+ghost use Rattle.acd_http.specs.ReadingLines.{LinesLeadToTheRun, ReadsTellOfTheContent, ReadsTellOfTheRun};
 
 use acd_book::Book;
 
@@ -32,5 +32,6 @@ pub fn connections_lead_to_the_run<B: Book>()
 /// of the requests before it, by the definitions that a GET of its target is answered by.
 pub fn reads_tell_of_the_run<B: Book>()
     ensures run { LinesLeadToTheRun (standing B.Book) }
+    ensures content { ReadsTellOfTheContent (standing B.Book) }
     ensures told { ReadsTellOfTheRun (standing B.Book) }
 {}

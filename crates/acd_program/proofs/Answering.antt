@@ -8,6 +8,7 @@ use Rattle.acd_book.specs.State.{BookState}
 use Rattle.acd_desk.specs.declared.taken.Taken.{Taken}
 use Rattle.acd_desk.specs.Served.{served, sent}
 use Rattle.acd_desk.specs.Stands.{IsSound, replies}
+use Rattle.acd_desk.specs.Carried.{no_archive}
 use Rattle.acd_desk.specs.Standing.{Standing, standing}
 use Rattle.acd_desk.specs.declared.desk.Desk.{Desk}
 use Rattle.acd_desk.specs.Opening.{Opened, Refused}
@@ -24,7 +25,7 @@ use Rattle.acd_lines.proofs.Weaker.{arrivals_so}
 pub new_over : (old : BookState) (new : Standing) → new.book.is_clean → old.is_sound → old.content ≡ nothing → Opened old new → IsNewDesk new
 unfolding limits_fit
 new_over old new clean sound e o = record {
-  starts = o.starts clean sound (subst IsSound (sym e) (empty_sound greatest_limits refl));
+  starts = o.starts no_archive clean sound (subst IsSound (sym e) (empty_sound greatest_limits refl));
   works = o.working;
   empty = (o.opened clean sound).2 ∙ e;
 }
@@ -32,7 +33,7 @@ new_over old new clean sound e o = record {
 -- no rule is broken by a new book's rows
 pub new_refused : (old new : BookState) (rule : Rule) → new.is_clean → old.is_sound → old.content ≡ nothing → Refused old (Rows rule) new → ⊥
 unfolding limits_fit
-new_refused old new rule clean sound e r = r.well clean sound (subst IsSound (sym e) (empty_sound greatest_limits refl))
+new_refused old new rule clean sound e r = r.well no_archive clean sound (subst IsSound (sym e) (empty_sound greatest_limits refl))
 
 -- the book of the desk is clean behind the run, and has counted no failure
 pub record IsQuiet (old new : Standing) : Type 0 where

@@ -7,7 +7,8 @@ use Rattle.acd_book.proofs.BookSteps.{step_then}
 use Rattle.acd_desk.specs.declared.audit.Audit.{Audit}
 use Rattle.acd_desk.specs.declared.audit.Audit.TheVariants as audit
 use Rattle.acd_desk.specs.Audit.{IsFirstDifference}
-use Rattle.acd_desk.specs.Standing.{Standing, Starts}
+use Rattle.acd_desk.specs.Carried.{Archive, no_archive, together}
+use Rattle.acd_desk.specs.Standing.{Standing, Starts, StartsWith}
 use Rattle.acd_desk.specs.Stands.{IsSound}
 use Rattle.acd_desk.specs.Opening.{Opened}
 use Rattle.acd_desk.specs.Told.{Told}
@@ -19,8 +20,8 @@ use Rattle.acd_program.specs.Work.{WasAsked, IsFindingIfOrdered}
 use Rattle.acd_program.specs.Taking.{IsOf}
 use Rattle.acd_terms.proofs.Results.{ok_err}
 
--- a desk that was opened was asked; of a sound content the answer is that of the read
-pub asked_by : {A : Type 0} (old : BookState) (d e : Standing) (x : A) (P : Content → A → Type 0) → Opened old d → Told d e (Ok x) P → WasAsked old (λ (c : Content) (y : A). IsSound c → P c y) x e.book
+-- a desk that was opened was asked; of a content that is sound, by itself or with an archive, the answer is that of the read
+pub asked_by : {A : Type 0} (old : BookState) (d e : Standing) (x : A) (P : Content → A → Type 0) → Opened old d → Told d e (Ok x) P → WasAsked old (λ (c : Content) (y : A). (p : Archive) → IsSound (together p c) → P c y) x e.book
 asked_by old d e x P o t =
     let same : e.book.is_clean → old.is_sound → d.book.content ≡ old.content = λ clean sound. (o.opened (t.step.clean clean) sound).2 in
     let up : e.book.is_clean → old.is_sound → e.book.is_open
@@ -29,8 +30,8 @@ asked_by old d e x P o t =
       step = step_then o.step t.step (λ none. none) (λ h. ok_err h);
       opened = λ clean sound. ((o.opened (t.step.clean clean) sound).0, up clean sound);
       same = λ clean sound. (t.unchanged.same clean (o.step.sound (t.step.clean clean) sound) (up clean sound)).1 ∙ same clean sound;
-      answer = λ clean sound whole.
-          let starts : Starts d = o.starts (t.step.clean clean) sound whole in
+      answer = λ clean sound p whole.
+          let starts : StartsWith p d = o.starts p (t.step.clean clean) sound whole in
           subst (λ (c : Content). P c x) (same clean sound) (t.value clean starts.0 starts.2 starts.1);
       stops = λ clean sound c at. o.stops (t.step.clean clean) sound c (t.unchanged.stops clean (o.step.sound (t.step.clean clean) sound) c at);
     }
@@ -86,7 +87,7 @@ audited_by old d e x o t found =
       opened = told.opened;
       same = told.same;
       answer = λ clean sound. subst (λ (c : Content). IsFindingIfOrdered c x) (o.opened (t.step.clean clean) sound).2
-          (of_desk x (λ whole. o.starts (t.step.clean clean) sound (subst IsSound (o.opened (t.step.clean clean) sound).2 whole)) (found clean (o.step.sound (t.step.clean clean) sound)));
+          (of_desk x (λ whole. o.starts no_archive (t.step.clean clean) sound (subst IsSound (o.opened (t.step.clean clean) sound).2 whole)) (found clean (o.step.sound (t.step.clean clean) sound)));
       stops = told.stops;
     }
   where

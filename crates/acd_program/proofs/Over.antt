@@ -4,7 +4,7 @@ use Rattle.std.specs.List.{Contains}
 use Rattle.sqlite.specs.State.{State}
 use Rattle.acd_terms.specs.declared.command.Arrival.{Arrival}
 use Rattle.acd_model.specs.Rules.First.{BreaksNoRule}
-use Rattle.acd_book.specs.Content.{Content, HasRisen}
+use Rattle.acd_book.specs.Content.{Content, IsCounted, HasRisen}
 use Rattle.acd_book.specs.State.{BookState}
 use Rattle.acd_book.proofs.BookSteps.{step_then}
 use Rattle.acd_sqlbook.specs.declared.notes.Notes.{Notes}
@@ -18,6 +18,7 @@ use Rattle.acd_desk.specs.Stands.{IsSound, replies, StopsAt}
 use Rattle.acd_desk.specs.Opening.{Opened}
 use Rattle.acd_desk.specs.Ran.{Ran, IsFault, Holds}
 use Rattle.acd_desk.specs.Session.{Session}
+use Rattle.acd_desk.specs.Leads.{Leads}
 use Rattle.acd_desk.proofs.Sessions.{session_ran}
 use Rattle.acd_lines.specs.Lines.{LinesAnswered, ArrivalsAnswered}
 use Rattle.acd_lines.proofs.Weaker.{arrivals_so}
@@ -60,6 +61,7 @@ session_of P old mid new l ts of s =
       step = step_then of.step s.step (λ none. absurd none) (λ found. found);
       opened = λ clean is. of.opened (s.step.clean clean) is;
       accepts = λ clean is. subst (λ (c : Content). BreaksNoRule c.rows) (same clean is) (s.accepts clean (sound clean is));
+      leads = λ clean is counted. subst (λ (c : Content). Leads c l ts new) (same clean is) (s.leads clean (sound clean is) (subst IsCounted (sym (same clean is)) counted));
       replies = λ clean is whole. subst (λ (c : Content). sent ts ≡ replies c (served l ts)) (same clean is) (s.replies clean (sound clean is) (well clean is whole));
       holds = λ clean is whole opened. subst (λ (c : Content). Holds c (served l ts) new) (same clean is) (s.holds clean (sound clean is) (well clean is whole) opened);
       up = λ clean is last. s.up clean (sound clean is) last;

@@ -14,8 +14,9 @@ use Rattle.acd_desk.specs.declared.taken.Taken.{Taken}
 use Rattle.acd_log.specs.declared.ending.Ending.{Ending}
 use Rattle.acd_desk.specs.Standing.{Standing}
 use Rattle.acd_desk.specs.Stands.{IsSound}
+use Rattle.acd_desk.specs.Carried.{Archive, together}
 use Rattle.acd_desk.specs.Tells.{told, export_read, Rise}
-use Rattle.acd_desk.proofs.Rising.{sound_rises}
+use Rattle.acd_desk.proofs.Rising.{carried_rises}
 use Rattle.acd_desk.specs.Opening.{Opened}
 use Rattle.acd_desk.specs.Ran.{Ran, IsFault}
 use Rattle.acd_desk.proofs.Sessions.{session_ran}
@@ -57,8 +58,8 @@ work_of (Audit counts ending) old mid new before behind done of h = (audits_of c
 -- ---- over a book
 
 -- and all events, which stand in order
-pub export_text : {Z : Type 0} (c : Content) (text : Option (String Z)) → (Rise 0 c.events → told text ≡ export_read c) → IsSound c → told text ≡ Some (telling_text Export c)
-export_text c text h whole = h (sound_rises c whole)
+pub export_text : {Z : Type 0} (c : Content) (text : Option (String Z)) → (Rise 0 c.events → told text ≡ export_read c) → (p : Archive) → IsSound (together p c) → told text ≡ Some (telling_text Export c)
+export_text c text h p whole = h (carried_rises p c whole)
 
 -- ---- over a connection
 

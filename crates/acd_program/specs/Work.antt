@@ -8,6 +8,7 @@ use Rattle.acd_book.specs.State.{BookState, IfHonest, BookStep}
 use Rattle.acd_reports.specs.QueueReport.{queue_report}
 use Rattle.acd_reports.specs.Export.{events_csv}
 use Rattle.acd_desk.specs.Stands.{IsSound}
+use Rattle.acd_desk.specs.Carried.{Archive, together}
 use Rattle.acd_lines.specs.Lines.{LinesAnswered, AllRequests, RequestsAnswered}
 use Rattle.acd_program.specs.Found.{IsFindingOf, HasCount, finding_line}
 use Rattle.acd_program.specs.Statuses.{finding_status}
@@ -50,9 +51,9 @@ pub record WasAsked {A : Type 0} (old : BookState) (IsAnswer : Content → A →
   -- a reopening finds nothing new
   pub stops : IfHonest old new (Within new.stops old.stops)
 
--- of a sound content this is told
+-- of a content that is sound, by itself or with an archive, this is told
 abbrev pub IsTextOf : Telling → Content → List ℕ → Type 0
-IsTextOf telling c text = IsSound c → text ≡ telling_text telling c
+IsTextOf telling c text = (p : Archive) → IsSound (together p c) → text ≡ telling_text telling c
 
 -- of a content whose records stand in order, as those of tables do, this is found
 abbrev pub IsFindingIfOrdered : Content → Finding → Type 0

@@ -3,6 +3,7 @@
 ghost use Rattle.std.specs.Prelude.{◌≡◌, false, [], Some, IfOk, OnOk, unwrap_or};
 ghost use Rattle.sqlite.specs.Held.{state};
 ghost use Rattle.acd_desk.specs.Stands.{IsSound};
+ghost use Rattle.acd_desk.specs.Carried.{Archive, together};
 ghost use Rattle.acd_desk.specs.Told.{DeskTold};
 ghost use Rattle.acd_desk.specs.Tells.{told};
 ghost use Rattle.acd_program.specs.Found.{IsFindingOf};
@@ -75,7 +76,7 @@ fn imported<'a, B: Book, W: Write>(
 // What the desk tells. There always is a text.
 fn text_of<B: Book>(desk: &mut Desk<B>, telling: Telling) -> Result<Option<String>, DeskFault>
     ensures { DeskTold B.Book desk.old desk.new result (λ c text.
-        IsSound c → told text ≡ Some (telling_text telling c)) }
+        (p : Archive) → IsSound (together p c) → told text ≡ Some (telling_text telling c)) }
 {
     match telling {
         Telling::Report => desk.report(0),

@@ -1,0 +1,5 @@
+use Rattle.acd_desk.proofs.WithArchive.{audits_with_archive, audits_link_by_link}
+use Rattle.acd_desk.proofs.laws.audits_with_archive.Goals as goal
+
+pub returns : goal.returns
+returns c = record { one = audits_with_archive; links = audits_link_by_link }
