@@ -11,6 +11,7 @@ use acd_terms::{Cause, ConnectionRecord, Turn};
 
 /// The call goes back to the group that offered it, and the agent is released. A connection without a
 /// group has no moves.
+#[inline(always)]
 pub fn return_moves(tables: &Tables, at: Turn, connection: &ConnectionRecord) -> Moves
     ensures { result ≡ return_moves tables.now at connection.now }
 {

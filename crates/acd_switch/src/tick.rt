@@ -66,6 +66,7 @@ fn is_rested(tables: &Tables, moment: u32, agent: &AgentRecord) -> bool
 }
 
 // The offers that rang too long, in ascending call number.
+#[inline(never)]
 #[tactic(auto, unfolding(acd_model::specs::Tick::overdue_in))]
 fn overdue_in(
     alloc: Global,
@@ -85,6 +86,7 @@ fn overdue_in(
 }
 
 // The agents whose after-call work lasted long enough, in ascending number.
+#[inline(never)]
 #[tactic(auto, unfolding(acd_model::specs::Tick::rested_in))]
 fn rested_in(alloc: Global, tables: &Tables, moment: u32) -> Result<Vec<AgentRecord>, AllocError>
     ensures { IfOk result (λ v. v.items ≡ rested_in tables.now moment) }
