@@ -1,15 +1,13 @@
 -- One connection after another.
-use Rattle.std.proofs.Common.{◌≡◌, false, ℕ, ◌+◌, suc, List, [], ◌∷◌, ◌++◌, length, Option, Result, Ok, Err, OnOk, OnErr, refl, sym, ap, ◌∙◌, subst, arith, append_assoc, append-nil, length-append}
-use Rattle.std.specs.Io.KnownBytes.{Appends}
+use Rattle.std.proofs.Common.{◌≡◌, false, ℕ, ◌+◌, suc, List, [], ◌∷◌, ◌++◌, length, Option, Result, Ok, Err, refl, sym, ap, ◌∙◌, subst, arith, append_assoc, append-nil, length-append}
 use Rattle.std.proofs.KnownBytes.{Appends-nil}
 use Rattle.acd_desk.specs.Ran.{Standing}
 use Rattle.acd_io.specs.declared.sending.Stopped.{Stopped}
-use Rattle.acd_io.specs.Sent.{Breaks}
-use Rattle.acd_http.specs.Listening.{Outcome, ServedOne, ServesEach, ServedAll, EachWell, ServedWell, WasSent, outcome_line, outcome_lines}
-
-pub noted_by : (r : Result (Unit {0}) Stopped) (a b : Option (List ℕ)) (slice text : List ℕ) → slice ≡ text → OnOk r (Appends a b slice) → OnErr r (Breaks a b slice) → WasSent r a b text
-noted_by (Ok u) a b slice text same ok err = subst (Appends a b) same ok
-noted_by (Err s) a b slice text same ok err = subst (Breaks a b) same err
+use Rattle.acd_io.specs.Sent.{WasSent}
+use Rattle.acd_lines.specs.Lines.{Streams}
+use Rattle.acd_http.specs.declared.serving.ExchangeFault.TheVariants.{Truncated, Read, Write, NoMemory}
+use Rattle.acd_http.specs.Exchanging.{ExchangeDone}
+use Rattle.acd_http.specs.Listening.{Outcome, ServedOne, ServesEach, ServedAll, EachWell, ServedWell, outcome_line, outcome_lines}
 
 zero_more : (n : ℕ) → n ≡ n + 0
 zero_more n = omega arith
@@ -22,6 +20,14 @@ lines_more n (y ∷ ys) x =
     ap (λ (l : List ℕ). outcome_line n y ++ l) (lines_more (suc n) ys x ∙ ap (λ (k : ℕ). outcome_lines (suc n) ys ++ outcome_line k x) e) ∙ sym (append_assoc (outcome_line n y) (outcome_lines (suc n) ys) (outcome_line (n + length (y ∷ ys)) x))
 
 module _ {D : Type 0} (stands : D → Standing) where
+  -- an exchange is a connection's
+  pub served_by : (moment : ℕ) (io : Streams) (d e : D) (r : Outcome) → ExchangeDone stands moment io d e r → ServedOne stands d r e
+  served_by moment io d e (Ok u) h = record { moment = moment; input = h.input; asked = h.asked; reply = h.reply; asks = h.asks; answers = h.answers }
+  served_by moment io d e (Err Write) h = record { moment = moment; input = h.input; asked = h.asked; reply = h.reply; asks = h.asks; answers = h.answers }
+  served_by moment io d e (Err Truncated) h = h.2
+  served_by moment io d e (Err Read) h = h.2
+  served_by moment io d e (Err NoMemory) h = h.1
+
   serves_more : (d e f : D) (xs : List Outcome) (x : Outcome) → ServesEach stands d xs e → ServedOne stands e x f → ServesEach stands d (xs ++ x ∷ []) f
   serves_more d e f [] x h k = (f, subst (λ (a : D). ServedOne stands a x f) h k, refl)
   serves_more d e f (y ∷ ys) x h k = (h.0, h.1, serves_more h.0 e f ys x h.2 k)

@@ -12,16 +12,21 @@ use Rattle.acd_desk.specs.Arrived.{at}
 use Rattle.acd_desk.specs.Ran.{Standing, Took, Ran}
 use Rattle.acd_desk.specs.Told.{Told}
 use Rattle.acd_desk.specs.Tells.{told_of, is_plain}
+use Rattle.std.specs.Io.KnownBytes.{Appends}
 use Rattle.acd_io.specs.Read.{IsInput}
+use Rattle.acd_io.specs.Sent.{Breaks}
+use Rattle.acd_lines.specs.Lines.{Streams, Untouched}
 use Rattle.acd_http.specs.declared.refused.Refused.{Refused}
 use Rattle.acd_http.specs.declared.reply.Kind.{Kind}
 use Rattle.acd_http.specs.declared.reply.Kind.TheVariants.{Json, Plain}
 use Rattle.acd_http.specs.declared.asked.Asked.{Asked}
 use Rattle.acd_http.specs.declared.asked.Asked.TheVariants as ask
 use Rattle.acd_http.specs.declared.answer.Reply.{Reply}
+use Rattle.acd_http.specs.declared.serving.ExchangeFault.{ExchangeFault}
+use Rattle.acd_http.specs.declared.serving.ExchangeFault.TheVariants as fault
 use Rattle.acd_http.specs.Refusing.{refused_said, refused_allow}
 use Rattle.acd_http.specs.Replying.{reply_bytes}
-use Rattle.acd_http.specs.Asking.{Asks, is_bodiless}
+use Rattle.acd_http.specs.Asking.{Asks, IsAsked, IsUnasked, is_bodiless}
 
 -- an answer in JSON
 abbrev pub json_reply : Bool → Said → List ℕ
@@ -80,6 +85,19 @@ module _ {D : Type 0} (stands : D → Standing) (moment : ℕ) where
     pub asks : Asks input asked
     pub answers : AnswersAsked d asked reply e
     pub out : WentOut reply
+
+  -- how an exchange ended
+  abbrev pub ExchangeDone : Streams → D → D → Result (Unit {0}) ExchangeFault → Type 0
+  -- the reply was written
+  ExchangeDone io d e (Ok u) = Exchanged io.had d e (Appends io.before io.behind)
+  -- a beginning of it was, and not all
+  ExchangeDone io d e (Err fault.Write) = Exchanged io.had d e (Breaks io.before io.behind)
+  -- the input ends before the request does
+  ExchangeDone io d e (Err fault.Truncated) = IsAsked io.had ask.Truncated × io.unwritten × (e ≡ d)
+  -- what was read of the request is not all of it
+  ExchangeDone io d e (Err fault.Read) = IsUnasked io.had io.left × io.unwritten × (e ≡ d)
+  -- nothing was read
+  ExchangeDone io d e (Err fault.NoMemory) = Untouched io × (e ≡ d)
 
   -- for private clauses
   abbrev pub Answered : D → Asked → Option Reply → D → Type 0
