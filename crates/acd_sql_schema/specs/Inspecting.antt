@@ -50,9 +50,13 @@ abbrev pub IsBadOf : List Table → Database → Option Table → Type 0
 IsBadOf tables d None = IsFiledAs version.First d.trees → Every (λ t. is_good_in t d.trees ≡ true) tables
 IsBadOf tables d (Some t) = Covers d.schema t × (is_good_in t d.trees ≡ false)
 
--- whether each value of the table is in its range, of each database of such a schema
+-- what a look sees of the rows of each database of such a schema
+abbrev pub SeesRows : {S A : Type 0} → (Schema → Type 0) → Ghosts S → Held S → Held S → Result A Error → (Trees → A → Type 0) → Type 0
+SeesRows Has g old new result IsAnswer = SeesOver Has g old new result (λ (d : Database). IsAnswer d.trees)
+
+-- whether each value of the table is in its range
 abbrev pub SeesGood : {S : Type 0} → Table → (Schema → Type 0) → Ghosts S → Held S → Held S → Result Bool Error → Type 0
-SeesGood t Has g old new result = SeesOver Has g old new result (λ (d : Database) (good : Bool). TellsGood t d.trees good)
+SeesGood t Has g old new result = SeesRows Has g old new result (TellsGood t)
 
 unfoldable pub is_good_behind : Log → ℕ → List Numbered → Bool
 is_good_behind l n xs = are_good (table_of_log l) (values_behind l n xs)
@@ -196,6 +200,10 @@ IsRowFound v d (Some f) = IsFoundFaultOf d f
 abbrev pub IsPlaceFound : Version → Database → Option AdoptFault → Type 0
 IsPlaceFound v d None = ArePlaced v d.trees
 IsPlaceFound v d (Some f) = IsFoundFaultOf d f
+
+-- the same of each database of this version
+abbrev pub SeesPlaces : {S : Type 0} → Version → Ghosts S → Held S → Held S → Result (Option AdoptFault) Error → Type 0
+SeesPlaces v g old new result = SeesOver (IsSchemaOf v) g old new result (IsPlaceFound v)
 
 abbrev pub IsFound : Database → Found → Type 0
 IsFound d (Book v) = IsOfBook v d

@@ -5,7 +5,7 @@ ghost use Rattle.sqlite.specs.Held.{state};
 ghost use Rattle.acd_sql_columns.specs.declared.tables.Table.TheVariants as table;
 ghost use Rattle.acd_sql_columns.specs.AnyRows.{is_beside, table_of_log, are_good, schema_of, BeginsAsBook, Covers, IsFiled};
 ghost use Rattle.acd_sql_columns.specs.Content.{number_of};
-ghost use Rattle.acd_sql_schema.specs.Inspecting.{CoversAll, IsSchemaOf, SeesGood, HasNoRise, IsPageAbove, HasFiled, IsPaged, HasGoodTables, number_if_good, last_good, tables_of, told_by, IsLike, TellsBehind, IsBadOf, IsPageOfLog, IsLogPage, PageFits, IsFound, IsRowFound, IsPlaceFound, IsVersionTold, IsToldIn, IsAdoptStoreFault, adopt_fault_of, BlamesIn};
+ghost use Rattle.acd_sql_schema.specs.Inspecting.{CoversAll, IsSchemaOf, SeesRows, SeesGood, SeesPlaces, HasNoRise, IsPageAbove, HasFiled, IsPaged, HasGoodTables, number_if_good, last_good, tables_of, told_by, IsLike, TellsBehind, IsBadOf, IsPageOfLog, IsLogPage, PageFits, IsFound, IsRowFound, IsPlaceFound, IsVersionTold, IsToldIn, IsAdoptStoreFault, adopt_fault_of, BlamesIn};
 ghost use Rattle.acd_sql_columns.specs.Draft.{Fits};
 ghost use Rattle.acd_sql_columns.specs.Schema.{nine, book_schema, BeginsSchema};
 ghost use Rattle.acd_sql_columns.specs.Seeing.{Sees, HasLooked};
@@ -144,8 +144,8 @@ fn page_behind<S: Alter>(
     number: u64,
 ) -> Result<Page, Error>
     requires number { Fits number }
-    ensures seen { SeesOver (BeginsSchema nine) S.Store conn.old conn.new result
-        (λ d page. IsPageOfLog log number d.trees page) }
+    ensures seen { SeesRows (BeginsSchema nine) S.Store conn.old conn.new result
+        (IsPageOfLog log number) }
     ensures fits { IfOk result (λ page. PageFits page) }
     ensures rises { IfOk result (λ page. IsPageAbove number page) }
     ensures looked { BlamesIn (IsPaged log) S.Store conn.old conn.new result }
@@ -160,8 +160,8 @@ fn are_pages_good<S: Alter>(
     conn: &mut Connection<S>,
     log: Log,
 ) -> Result<bool, Error>
-    ensures seen { SeesOver (BeginsSchema nine) S.Store conn.old conn.new result
-        (λ d good. TellsBehind log d.trees good) }
+    ensures seen { SeesRows (BeginsSchema nine) S.Store conn.old conn.new result
+        (TellsBehind log) }
     ensures looked { BlamesIn (IsPaged log) S.Store conn.old conn.new result }
 {
     let mut number = 0;
@@ -267,8 +267,7 @@ fn misplaced<S: Alter>(
     conn: &mut Connection<S>,
     version: Version,
 ) -> Result<Option<AdoptFault>, Error>
-    ensures seen { SeesOver (IsSchemaOf version) S.Store conn.old conn.new result
-        (IsPlaceFound version) }
+    ensures seen { SeesPlaces version S.Store conn.old conn.new result }
     ensures looked { BlamesIn (HasGoodTables version) S.Store conn.old conn.new result }
 {
     match version {
@@ -281,8 +280,7 @@ fn found_misplaced<S: Alter>(
     alloc: Global,
     conn: &mut Connection<S>,
 ) -> Result<Option<AdoptFault>, Error>
-    ensures seen { SeesOver IsBookSchema S.Store conn.old conn.new result
-        (IsPlaceFound Version.Second) }
+    ensures seen { SeesPlaces Version.Second S.Store conn.old conn.new result }
     ensures looked { BlamesIn (HasGoodTables Version.Second) S.Store conn.old conn.new result }
 {
     let placed = are_further_placed(alloc, conn)?;
