@@ -58,7 +58,8 @@ fn make_state<S: Alter>(tx: &mut Transaction<'_, S>) -> Result<(), Error>
 
 // The events and the kept replies.
 fn make_log<S: Alter>(tx: &mut Transaction<'_, S>) -> Result<(), Error>
-    ensures { MakesTables S.Store tx.old.conn tx.new.conn result state_made (made_of Version.First) }
+    ensures { MakesTables S.Store tx.old.conn tx.new.conn result
+        state_made (made_of Version.First) }
 {
     make(tx, CREATE_EVENTS)?;
     make(tx, CREATE_KEPT)
@@ -84,7 +85,8 @@ pub(crate) fn make_two<S: Alter>(tx: &mut Transaction<'_, S>) -> Result<(), Erro
 
 // Makes the eleven tables.
 fn make_tables<S: Alter>(tx: &mut Transaction<'_, S>) -> Result<(), Error>
-    ensures { MakesTables S.Store tx.old.conn tx.new.conn result none_made (made_of Version.Second) }
+    ensures { MakesTables S.Store tx.old.conn tx.new.conn result
+        none_made (made_of Version.Second) }
 {
     make_nine(tx)?;
     make_two(tx)
