@@ -33,8 +33,11 @@ returns g c =
     let rest = feed_rest (asked g.A.Answering.unmarked g.A.Answering.long g.A.Answering.read) (by_front g.A.Answering.unmarked g.A.Answering.long g.A.Answering.read) g.A.Answering.answers c.args.desk.now c.loop-end.desk c.args.partial.now c.loop-end.partial c.extend.new.self c.args.chunk.now loop.0 c.loop-end.rest.now
     (g.W.Write.contents c.args.writer.now) (g.W.Write.contents c.loop-end.writer) c.args.outbox.now.waiting.items c.loop-end.outbox.waiting.items loop.2 c.in_default.ensures c.extend.ensures loop.1 in
     so_of c.flush.result _ _ _ _
-    (λ out. (out.0, feed_out (asked g.A.Answering.unmarked g.A.Answering.long g.A.Answering.read) (by_front g.A.Answering.unmarked g.A.Answering.long g.A.Answering.read) g.A.Answering.answers c.args.desk.now c.loop-end.desk c.args.partial.now c.extend.new.self c.args.chunk.now
-    (g.W.Write.contents c.args.writer.now) (g.W.Write.contents c.loop-end.writer) (g.W.Write.contents c.flush.new.writer) c.args.outbox.now.waiting.items c.loop-end.outbox.waiting.items c.flush.new.self.waiting.items rest out.1 out.0))
+    (λ out. (
+      out.0,
+      feed_out (asked g.A.Answering.unmarked g.A.Answering.long g.A.Answering.read) (by_front g.A.Answering.unmarked g.A.Answering.long g.A.Answering.read) g.A.Answering.answers c.args.desk.now c.loop-end.desk c.args.partial.now c.extend.new.self c.args.chunk.now
+          (g.W.Write.contents c.args.writer.now) (g.W.Write.contents c.loop-end.writer) (g.W.Write.contents c.flush.new.writer) c.args.outbox.now.waiting.items c.loop-end.outbox.waiting.items c.flush.new.self.waiting.items rest out.1 out.0,
+    ))
     (λ begun. feed_out_stops (asked g.A.Answering.unmarked g.A.Answering.long g.A.Answering.read) (by_front g.A.Answering.unmarked g.A.Answering.long g.A.Answering.read) g.A.Answering.answers c.args.desk.now c.loop-end.desk c.args.partial.now c.extend.new.self c.args.chunk.now
     (g.W.Write.contents c.args.writer.now) (g.W.Write.contents c.loop-end.writer) (g.W.Write.contents c.flush.new.writer) c.args.outbox.now.waiting.items c.loop-end.outbox.waiting.items rest begun)
     c.flush.ensures
