@@ -14,7 +14,7 @@ use Rattle.acd_http.specs.declared.asked.Unknown.TheVariants as unknown
 use Rattle.acd_http.specs.declared.serving.ExchangeFault.{ExchangeFault}
 use Rattle.acd_http.specs.declared.serving.ExchangeFault.TheVariants.{Write}
 use Rattle.acd_http.specs.Asking.{IsAsked, IsUnknown, is_bodiless}
-use Rattle.acd_http.specs.Exchanging.{Answered, Exchanged, ExchangeDone, Replies, fixed_reply, reply_out}
+use Rattle.acd_http.specs.Exchanging.{Answered, Exchanged, ExchangeDone, StoppedBy, Replies, fixed_reply, reply_out}
 
 -- the bytes of a reply are its head and its body
 pub in_two : (bodiless : Bool) (r : Reply) (head sent body : List ℕ) (status : ℕ) → head ≡ head_text status r.kind (length body) r.allow → status ≡ (said r.answer).status → body ≡ (said r.answer).body → sent ≡ cond bodiless [] body
@@ -29,8 +29,8 @@ in_two bodiless r head sent body status is a e f =
 module _ {D : Type 0} (stands : D → Standing) (moment : ℕ) where
   sent : (io : Streams) (d e : D) (r : Result (Unit {0}) ExchangeFault) (text : List ℕ) → ((WentOut : List ℕ → Type 0) → WentOut text → Exchanged stands moment io.had d e WentOut) → WasSent r io.before io.behind text → IfErr r (λ fault. fault ≡ Write)
       → ExchangeDone stands moment io d e r
-  sent io d e (Ok u) text all out is = all (Appends io.before io.behind) out
-  sent io d e (Err fault) text all out is = subst (λ (x : ExchangeFault). ExchangeDone stands moment io d e (Err x)) (sym is) (all (Breaks io.before io.behind) out)
+  sent io d e (Ok u) text all out is = record { whole = all (Appends io.before io.behind) out; cause = tt }
+  sent io d e (Err fault) text all out is = record { whole = tt; cause = subst (StoppedBy stands moment io d e) (sym is) (all (Breaks io.before io.behind) out) }
 
   -- what was asked was answered
   pub reply_sent : (io : Streams) (d e : D) (asked : Asked) (answered : Option Reply) (reply : Reply) (bodiless : Bool) (r : Result (Unit {0}) ExchangeFault) → IsAsked io.had asked → Answered stands moment d asked answered e → answered ≡ Some reply → bodiless ≡ is_bodiless asked

@@ -22,17 +22,17 @@ lines_more n (y ∷ ys) x =
 module _ {D : Type 0} (stands : D → Standing) where
   -- an exchange is a connection's
   pub served_by : (moment : ℕ) (io : Streams) (d e : D) (r : Outcome) → ExchangeDone stands moment io d e r → ServedOne stands d r e
-  served_by moment io d e (Ok u) h = record { moment = moment; input = h.input; asked = h.asked; reply = h.reply; asks = h.asks; answers = h.answers }
-  served_by moment io d e (Err Write) h = record { moment = moment; input = h.input; asked = h.asked; reply = h.reply; asks = h.asks; answers = h.answers }
-  served_by moment io d e (Err Truncated) h = h.2
-  served_by moment io d e (Err Read) h = h.2
-  served_by moment io d e (Err NoMemory) h = h.1
+  served_by moment io d e (Ok u) h = let x = h.whole in record { moment = moment; input = x.input; asked = x.asked; reply = x.reply; asks = x.asks; answers = x.answers }
+  served_by moment io d e (Err Write) h = let x = h.cause in record { moment = moment; input = x.input; asked = x.asked; reply = x.reply; asks = x.asks; answers = x.answers }
+  served_by moment io d e (Err Truncated) h = h.cause.2
+  served_by moment io d e (Err Read) h = h.cause.2
+  served_by moment io d e (Err NoMemory) h = h.cause.1
 
   serves_more : (d e f : D) (xs : List Outcome) (x : Outcome) → ServesEach stands d xs e → ServedOne stands e x f → ServesEach stands d (xs ++ x ∷ []) f
   serves_more d e f [] x h k = (f, subst (λ (a : D). ServedOne stands a x f) h k, refl)
   serves_more d e f (y ∷ ys) x h k = (h.0, h.1, serves_more h.0 e f ys x h.2 k)
 
-  pub served_none : (d : D) (a : Option (List ℕ)) → ServedAll stands 0 d d (WasSent (Ok tt) a a)
+  pub served_none : (d : D) (a : Option (List ℕ)) → ServedAll stands 0 d d (WasSent {E = Stopped} (Ok tt) a a)
   unfolding outcome_lines
   served_none d a = record { outcomes = []; count = refl; serves = refl; out = Appends-nil a }
 
@@ -59,7 +59,7 @@ module _ {D : Type 0} (stands : D → Standing) where
       let rest = well_behind h.0.0 e f ys x (h.0.2, h.1.1) well k in
       ((h.0.0, h.0.1, rest.0), (h.1.0, rest.1))
 
-  pub well_none : (d : D) (a : Option (List ℕ)) → ServedWell stands 0 d d (WasSent (Ok tt) a a)
+  pub well_none : (d : D) (a : Option (List ℕ)) → ServedWell stands 0 d d (WasSent {E = Stopped} (Ok tt) a a)
   unfolding outcome_lines
   well_none d a = record { outcomes = []; count = refl; serves = refl; well = tt; out = Appends-nil a }
 

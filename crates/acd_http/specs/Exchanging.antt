@@ -1,5 +1,5 @@
 -- What is written for what was asked, and what the desk is after it.
-use Rattle.std.specs.Prelude.{◌≡◌, ◌≢◌, ◌⊎◌, ℕ, List, [], ◌∷◌, Bool, false, if◌then◌else◌, Option, Some, None, Result, Ok, Err}
+use Rattle.std.specs.Prelude.{◌≡◌, ◌≢◌, ◌⊎◌, ℕ, List, [], ◌∷◌, Bool, false, if◌then◌else◌, Option, Some, None, Result, Ok, Err, IfErr, OnOk}
 use Rattle.acd_terms.specs.declared.command.Request.{Request}
 use Rattle.acd_codec.specs.declared.fault.FixedAnswer.{FixedAnswer}
 use Rattle.acd_codec.specs.declared.fault.FixedAnswer.TheVariants as fixed
@@ -86,18 +86,21 @@ module _ {D : Type 0} (stands : D → Standing) (moment : ℕ) where
     pub answers : AnswersAsked d asked reply e
     pub out : WentOut reply
 
-  -- how an exchange ended
-  abbrev pub ExchangeDone : Streams → D → D → Result (Unit {0}) ExchangeFault → Type 0
-  -- the reply was written
-  ExchangeDone io d e (Ok u) = Exchanged io.had d e (Appends io.before io.behind)
-  -- a beginning of it was, and not all
-  ExchangeDone io d e (Err fault.Write) = Exchanged io.had d e (Breaks io.before io.behind)
+  -- what is so behind a fault
+  abbrev pub StoppedBy : Streams → D → D → ExchangeFault → Type 0
+  -- a beginning of the reply was written, and not all
+  StoppedBy io d e fault.Write = Exchanged io.had d e (Breaks io.before io.behind)
   -- the input ends before the request does
-  ExchangeDone io d e (Err fault.Truncated) = IsAsked io.had ask.Truncated × io.unwritten × (e ≡ d)
+  StoppedBy io d e fault.Truncated = IsAsked io.had ask.Truncated × io.unwritten × (e ≡ d)
   -- what was read of the request is not all of it
-  ExchangeDone io d e (Err fault.Read) = IsUnasked io.had io.left × io.unwritten × (e ≡ d)
+  StoppedBy io d e fault.Read = IsUnasked io.had io.left × io.unwritten × (e ≡ d)
   -- nothing was read
-  ExchangeDone io d e (Err fault.NoMemory) = Untouched io × (e ≡ d)
+  StoppedBy io d e fault.NoMemory = Untouched io × (e ≡ d)
+
+  -- how an exchange ended: without a fault the whole reply was written
+  pub record ExchangeDone (io : Streams) (d e : D) (result : Result (Unit {0}) ExchangeFault) : Type 0 where
+    pub whole : OnOk result (Exchanged io.had d e (Appends io.before io.behind))
+    pub cause : IfErr result (StoppedBy io d e)
 
   -- for private clauses
   abbrev pub Answered : D → Asked → Option Reply → D → Type 0

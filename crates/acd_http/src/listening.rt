@@ -176,7 +176,7 @@ pub fn serve_on<B: Book, C: Clock, E: Write>(
         → ServedAll (standing B.Book) connections desk.old desk.new
         (WasSent result (E.contents errors.old) (E.contents errors.new)) }
     ensures memory { result ≡ Err ServeFault.NoMemory
-        → (desk.new, errors.new) ≡ (desk.old, errors.old) }
+        → (desk.new ≡ desk.old) × (errors.new ≡ errors.old) }
 {
     let Ok(routes) = Routes::new(alloc) else {
         return Err(ServeFault::NoMemory);
@@ -229,7 +229,7 @@ pub fn serve_until_failed<B: Book, C: Clock, E: Write>(
         → ServedUntilFailed (standing B.Book) desk.old desk.new
         (WasSent result (E.contents errors.old) (E.contents errors.new)) }
     ensures memory { result ≡ Err ServeFault.NoMemory
-        → (desk.new, errors.new) ≡ (desk.old, errors.old) }
+        → (desk.new ≡ desk.old) × (errors.new ≡ errors.old) }
 {
     let Ok(routes) = Routes::new(alloc) else {
         return Err(ServeFault::NoMemory);

@@ -3,15 +3,15 @@ use Rattle.acd_io.specs.Sent.{WasSent}
 use Rattle.acd_io.proofs.Sends.{sent_behind, sent_first}
 use Rattle.acd_http.proofs.serving.send_both.Goals as goal
 
-pub returns-in_err-send-2 : goal.returns-in_err-send-2
-returns-in_err-send-2 g c =
+pub returns-in_err-send : goal.returns-in_err-send
+returns-in_err-send g c =
     let before = g.W.Write.contents c.args.writer.now in
     let behind = g.W.Write.contents c.send-2.new.writer in
-    subst (λ (head : List ℕ). WasSent c.from_residual.result before behind (head ++ c.args.body.now)) c.as_slice-2.ensures (sent_first c.from_residual.result _ before behind c.as_slice-2.result.now c.args.body.now c.from_residual.ensures.1 c.in_err-send-2.ensures)
+    subst (λ (head : List ℕ). WasSent c.from_residual.result before behind (head ++ c.args.body.now)) c.as_slice-2.ensures (sent_first c.from_residual.result _ before behind c.as_slice-2.result.now c.args.body.now c.from_residual.ensures.1 c.in_err-send.ensures)
 
 pub returns : goal.returns
 returns g c =
     let before = g.W.Write.contents c.args.writer.now in
     let between = g.W.Write.contents c.send-2.new.writer in
     let behind = g.W.Write.contents c.send-3.new.writer in
-    subst (λ (head : List ℕ). WasSent c.send-3.result before behind (head ++ c.args.body.now)) c.as_slice-2.ensures (sent_behind c.send-3.result before between behind c.as_slice-2.result.now c.args.body.now c.in_ok-send-2.ensures c.send-3.ensures)
+    subst (λ (head : List ℕ). WasSent c.send-3.result before behind (head ++ c.args.body.now)) c.as_slice-2.ensures (sent_behind c.send-3.result before between behind c.as_slice-2.result.now c.args.body.now c.in_ok-send.ensures c.send-3.ensures)
