@@ -1,7 +1,6 @@
 -- What was read of the input, and the head in it.
-use Rattle.std.proofs.Common.{◌≡◌, ℕ, zero, suc, ◌+◌, ◌<◌, ◌≤◌, ◌==◌, Bool, true, false, List, [], ◌∷◌, ◌++◌, length, take, Option, Some, None, option_map, Result, Ok, Err, MatchResult, refl, sym, ap, ◌∙◌, arith, subst, length-append}
+use Rattle.std.proofs.Common.{◌≡◌, ℕ, zero, suc, ◌+◌, ◌<◌, ◌≤◌, ◌==◌, Bool, true, false, List, [], ◌∷◌, ◌++◌, length, take, Option, Some, None, option_map, refl, sym, ap, ◌∙◌, arith, subst, length-append}
 use Rattle.std.specs.Option.{MatchOption}
-use Rattle.std.specs.Result.{IsErrAnd}
 use Rattle.std.proofs.lemmas.List.{length-take, take-append-le}
 use Rattle.std.specs.Bool.{if◌then◌else◌}
 use Rattle.std.specs.Io.KnownBytes.{Consumes, Keeps}
@@ -87,11 +86,6 @@ head_bounds n now e =
 pub found_whole : (found : Option ℕ) (now : List ℕ) (old new : Option (List ℕ)) → Consumes old new now → found ≡ head_len (take 8192 now) → 8192 ≤ length now → Found found now old new
 found_whole None now old new read is full = record { read = read; head = (sym is, λ short. absurd (omega (arith, short, full))) }
 found_whole (Some n) now old new read is full = let bounds = head_bounds n now (sym is) in record { read = read; head = (sym is, bounds.0, bounds.1) }
-
--- reading stopped, so that it found nothing
-pub stopped : {T E : Type 0} (r : Result T E) (x : E) (P : T → Type 0) (Q : Type 0) → IsErrAnd r (λ e. e ≡ x) → Q → MatchResult r P (λ _. Q)
-stopped (Ok v) x P Q is q = absurd is
-stopped (Err e) x P Q is q = q
 
 -- reading stopped within a head
 pub stops_in_head : (a b c : Option (List ℕ)) (seen now : List ℕ) → Consumes a b seen → head_len (take 8192 seen) ≡ None → length seen < 8192 → (now ≡ seen) × Keeps b c → StopsInHead now a c

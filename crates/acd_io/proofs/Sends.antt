@@ -107,7 +107,7 @@ passes_whole a c text h = subst (Appends a c) (sym (h.whole ∙ append-nil h.sen
 
 -- ---- by how a call ended
 
-pub stopped : {T E : Type 0} (r : Result T E) (x : E) (P Q : Type 0) → IsErrAnd r (λ e. e ≡ x) → Q → MatchResult r (λ _. P) (λ _. Q)
+pub stopped : {T E : Type 0} (r : Result T E) (x : E) (P : T → Type 0) (Q : Type 0) → IsErrAnd r (λ e. e ≡ x) → Q → MatchResult r P (λ _. Q)
 stopped (Ok v) x P Q is q = absurd is
 stopped (Err e) x P Q is q = q
 
@@ -128,4 +128,4 @@ sent_behind (Err e) a b c xs ys h k = record {
 
 -- the writer stopped at a text, and none was written behind it
 pub sent_first : {E : Type 0} (r : Result (Unit {0}) E) (x : E) (a c : Option (List ℕ)) (xs ys : List ℕ) → IsErrAnd r (λ e. e ≡ x) → Breaks a c xs → WasSent r a c (xs ++ ys)
-sent_first r x a c xs ys is h = stopped r x (Appends a c (xs ++ ys)) (Breaks a c (xs ++ ys)) is (breaks_front a c xs ys h)
+sent_first r x a c xs ys is h = stopped r x (λ _. Appends a c (xs ++ ys)) (Breaks a c (xs ++ ys)) is (breaks_front a c xs ys h)

@@ -2,7 +2,8 @@ use Rattle.std.proofs.Common.{ℕ, ◌≤◌, List, length, take, sym, ap, ◌�
 use Rattle.std.specs.Io.KnownBytes.{Consumes}
 use Rattle.std.proofs.KnownBytes.{Consumes-trans}
 use Rattle.acd_http.specs.Head.{head_len}
-use Rattle.acd_http.proofs.Readings.{stopped, found_whole, head_bounds, stops_in_head}
+use Rattle.acd_io.proofs.Sends.{stopped}
+use Rattle.acd_http.proofs.Readings.{found_whole, head_bounds, stops_in_head}
 use Rattle.acd_http.proofs.receive.read_head.Goals as goal
 
 pub returns-in-Some : goal.returns-in-Some

@@ -1,5 +1,6 @@
 use Rattle.std.proofs.Common.{length, ap, arith}
-use Rattle.acd_http.proofs.Readings.{stopped, stops_in_body}
+use Rattle.acd_io.proofs.Sends.{stopped}
+use Rattle.acd_http.proofs.Readings.{stops_in_body}
 use Rattle.acd_http.proofs.receive.read_up_to.Goals as goal
 
 pub returns-in_err-fill : goal.returns-in_err-fill
