@@ -1,7 +1,8 @@
 //! What is left of the work, as it is printed.
 
-ghost use Rattle.std.specs.Prelude.{◌≡◌, ◌++◌, ◌∷◌, [], decimal, IfOk, IfErr};
-ghost use Rattle.acd_io.specs.Sent.{WasSent};
+ghost use Rattle.std.specs.Prelude.{◌≡◌, ◌++◌, ◌∷◌, [], decimal, OnOk, OnErr, IfOk, IfErr};
+ghost use Rattle.std.specs.Io.KnownBytes.{Appends};
+ghost use Rattle.acd_io.specs.Sent.{Breaks, WasSent};
 ghost use Rattle.acd_program.specs.Found.{sound_line, finding_line};
 ghost use Rattle.acd_program.specs.Statuses.{IsDone, sound_status, finding_status};
 ghost use Rattle.acd_program.specs.Work.{text_left, status_left};
@@ -120,8 +121,11 @@ fn status_left(left: &Done) -> u8
 pub(crate) fn print<'a, W: Write>(left: &Done, writer: &mut W) -> Result<u8, Fault<'a>>
     ensures known { IfOk result IsDone }
     ensures status { IfOk result (λ status. status ≡ status_left left.now) }
-    ensures sent { WasSent result (W.contents writer.old) (W.contents writer.new)
-        (text_left left.now) }
+    ensures ok { OnOk result
+        (Appends (W.contents writer.old) (W.contents writer.new) (text_left left.now)) }
+    // where the writer failed, a beginning of it and not all
+    ensures short { OnErr result
+        (Breaks (W.contents writer.old) (W.contents writer.new) (text_left left.now)) }
     ensures fault { IfErr result (λ fault. fault ≡ Fault.Write) }
 {
     match send_left(left, writer) {
