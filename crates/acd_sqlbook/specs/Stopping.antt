@@ -118,6 +118,7 @@ FailsToFile Stops c old new e = IsMemory e ⊎ (StoreHasFailed old new ⊎ Stops
 abbrev pub IsStopped : {A : Type 0} → (Content → Type 0) → State → State → Result A Error → Type 0
 IsStopped Stops old new result = HasCleanDisk new → (c : Content) → Drafts old (relations_of c) → IfErr result (FailsToFile Stops c old new)
 
+-- so it is with the connection of a transaction
 abbrev pub FailsAt : {S A : Type 0} → Ghosts S → MutBor (Held S) → MutBor (Held S) → Result A Error → (Content → Type 0) → Type 0
 FailsAt g old new result Stops = IsStopped Stops (state g old.now) (state g new.now) result
 
