@@ -12,6 +12,7 @@ pub mod Opening
 pub mod DeskLaws
 pub mod Ran
 pub mod Attended
+pub mod RequestPages
 pub mod Tells
 pub mod Told
 pub mod AnswerTexts

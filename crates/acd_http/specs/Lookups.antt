@@ -14,7 +14,7 @@ use Rattle.acd_http.specs.declared.refused.Allow.TheVariants as allow
 use Rattle.acd_http.specs.Target.{path_of, query_of}
 use Rattle.acd_http.specs.Routing.{route_of}
 use Rattle.acd_http.specs.declared.routes.Route.{Route}
-use Rattle.acd_http.specs.declared.routes.Route.TheVariants.{Services, Agent, Call, Device, Queue, Events, History, MonitorEvents, Report, Snapshot}
+use Rattle.acd_http.specs.declared.routes.Route.TheVariants.{Services, Agent, Call, Device, Queue, Events, History, MonitorEvents, Report, Snapshot, Requests}
 
 -- what stands behind the front of a route, and what stands before its end
 abbrev pub behind : List ℕ → List ℕ → List ℕ
@@ -61,6 +61,7 @@ look_up (Some Device) path query = found_or (option_map ask.Device (device_in (c
 look_up (Some Queue) path query = found_or (option_map ask.Queue (device_in (codes "/queues/") path))
 look_up (Some Events) path query = with_after (after_of query) (λ (after : ℕ). Some (ask.Events after))
 look_up (Some History) path query = with_after (after_of query) (λ (after : ℕ). Some (ask.History after))
+look_up (Some Requests) path query = with_after (after_of query) (λ (after : ℕ). Some (ask.Requests after))
 look_up (Some MonitorEvents) path query = with_after (after_of query) (λ (after : ℕ). option_map (λ (monitor : ℕ). ask.MonitorEvents monitor after) (monitor_in path))
 look_up (Some Report) path query = Ok ask.Report
 look_up (Some Snapshot) path query = Ok ask.Snapshot

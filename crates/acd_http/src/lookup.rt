@@ -112,6 +112,10 @@ fn look_up(
             Some(after) => Ok(Ok(Question::History(after))),
             None => Ok(Err(Refused::Malformed(Part::After))),
         },
+        Some(Route::Requests) => match after_of(alloc, query)? {
+            Some(after) => Ok(Ok(Question::Requests(after))),
+            None => Ok(Err(Refused::Malformed(Part::After))),
+        },
         Some(Route::MonitorEvents) => match after_of(alloc, query)? {
             Some(after) => match monitor_in(path) {
                 Some(monitor) => Ok(Ok(Question::MonitorEvents(monitor, after))),
