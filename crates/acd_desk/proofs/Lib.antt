@@ -30,6 +30,7 @@ pub mod OldOffers
 pub mod OldRuns
 pub mod Recast
 pub mod Following
+pub mod Rebuilding
 pub mod GroupLines
 pub mod Ahead
 pub mod ReadsAhead

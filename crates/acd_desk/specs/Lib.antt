@@ -25,6 +25,7 @@ pub mod OldChoice
 pub mod OldStep
 pub mod OldSound
 pub mod Following
+pub mod Rebuilding
 pub mod GroupStates
 pub mod Pages
 pub mod Noting

@@ -24,6 +24,7 @@ use Rattle.acd_codec.specs.declared.snapshots.LiveCall.{LiveCall}
 use Rattle.acd_codec.specs.declared.snapshots.Snapshot.{Snapshot}
 use Rattle.acd_reports.specs.QueueReport.{queue_report}
 use Rattle.acd_reports.specs.Export.{events_csv, records_text}
+use Rattle.acd_book.specs.declared.kept.Kept.{Kept}
 use Rattle.acd_book.specs.Content.{Content, events_behind, kept_behind, events_of_monitor}
 use Rattle.acd_desk.specs.RequestPages.{requests_text}
 use Rattle.acd_desk.specs.declared.question.Question.{Question}
@@ -129,9 +130,13 @@ monitor_read c monitor after =
 abbrev pub requests_size : ℕ
 requests_size = 1000
 
--- the first executed requests above a stamp, beside the stamp of the last one
+-- the first executed requests above a stamp
+abbrev pub requests_page : Content → ℕ → List Kept
+requests_page c after = kept_behind c.kept after requests_size
+
+-- these, beside the stamp of the last one of all
 abbrev pub requests_read : Content → ℕ → Option (List ℕ)
-requests_read c after = Some (requests_text (kept_behind c.kept after requests_size) c.rows.last_stamp)
+requests_read c after = Some (requests_text (requests_page c after) c.rows.last_stamp)
 
 -- what is told of a content to a question at a moment, if there is such a thing
 abbrev pub told_of : Content → ℕ → Question → Option (List ℕ)

@@ -5,11 +5,11 @@ ghost use Rattle.std.specs.Fn.{FnOnceTakesAt, FnOnceReturnsAt};
 ghost use Rattle.acd_terms.specs.declared.rows.Rows.{Rows};
 ghost use Rattle.acd_model.specs.Rules.First.{BreaksNoRule};
 ghost use Rattle.acd_model.specs.Scans.{monitor_of};
-ghost use Rattle.acd_book.specs.Content.{events_behind, kept_behind, events_of_monitor};
+ghost use Rattle.acd_book.specs.Content.{events_behind, events_of_monitor};
 ghost use Rattle.acd_desk.specs.Stands.{IsSound};
 ghost use Rattle.acd_desk.specs.Standing.{standing};
 ghost use Rattle.acd_desk.specs.Told.{DeskTold, DeskTells};
-ghost use Rattle.acd_desk.specs.Tells.{told, agent_read, call_read, device_read, queue_read, report_read, snapshot_read, page_read, events_read, history_read, monitor_read, page_size, requests_size, requests_read, told_of};
+ghost use Rattle.acd_desk.specs.Tells.{told, agent_read, call_read, device_read, queue_read, report_read, snapshot_read, page_read, events_read, history_read, monitor_read, page_size, requests_page, requests_read, told_of};
 
 use crate::desk::Desk;
 use crate::fault::DeskFault;
@@ -182,7 +182,7 @@ impl<B: Book> Desk<B> {
     // The first executed requests above a stamp.
     fn first_requests(&mut self, after: u64) -> Result<Vec<Kept>, DeskFault>
         ensures { DeskTold B.Book self.old self.new result (λ c found.
-            found.items ≡ kept_behind c.kept after requests_size) }
+            found.items ≡ requests_page c after) }
     {
         if let Working::Failed = self.working {
             return Err(DeskFault::StoreFault);

@@ -1,7 +1,8 @@
 //! Executed requests as JSON.
 
-ghost use Rattle.std.specs.Prelude.{◌≡◌, ◌++◌, IfOk, OnOk, string_bytes};
-ghost use Rattle.acd_desk.specs.RequestPages.{executed_text, further_texts, executed_texts, requests_text};
+ghost use Rattle.std.specs.Prelude.{◌≡◌, ◌++◌, codes, IfOk, OnOk, string_bytes};
+ghost use Rattle.std.specs.List.{join_by};
+ghost use Rattle.acd_desk.specs.RequestPages.{executed_text, further_texts, requests_text};
 
 use acd_book::Kept;
 use acd_codec::request_text;
@@ -25,7 +26,7 @@ fn put_executed(alloc: Global, page: &mut String, kept: &Kept) -> Result<(), All
     )
 }
 
-// Writes requests that stand behind another.
+// Writes requests behind another.
 fn put_further(alloc: Global, page: &mut String, kept: &[Kept]) -> Result<(), AllocError>
     ensures { OnOk result (string_bytes page.new ≡ string_bytes page.old ++ further_texts kept.now) }
 {
@@ -37,7 +38,8 @@ fn put_further(alloc: Global, page: &mut String, kept: &[Kept]) -> Result<(), Al
 }
 
 fn put_all(alloc: Global, page: &mut String, kept: &[Kept]) -> Result<(), AllocError>
-    ensures { OnOk result (string_bytes page.new ≡ string_bytes page.old ++ executed_texts kept.now) }
+    ensures { OnOk result (string_bytes page.new
+        ≡ string_bytes page.old ++ join_by executed_text (codes ",") kept.now) }
 {
     match kept {
         [] => Ok(()),
@@ -48,7 +50,7 @@ fn put_all(alloc: Global, page: &mut String, kept: &[Kept]) -> Result<(), AllocE
     }
 }
 
-/// The text of these requests, beside the stamp of the last one.
+/// The text of these requests, beside the stamp of the last one of all.
 #[tactic(auto, unfolding(crate::specs::RequestPages::requests_text))]
 pub(crate) fn requests_text(alloc: Global, kept: &[Kept], last: u64) -> Result<String, AllocError>
     ensures { IfOk result (λ s. string_bytes s ≡ requests_text kept.now last) }
