@@ -31,6 +31,9 @@ pub mod OldRuns
 pub mod Recast
 pub mod Following
 pub mod Rebuilding
+pub mod TextSizes
+pub mod Outcomes
+pub mod PageSizes
 pub mod GroupLines
 pub mod Ahead
 pub mod ReadsAhead

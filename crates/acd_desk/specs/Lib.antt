@@ -26,6 +26,7 @@ pub mod OldStep
 pub mod OldSound
 pub mod Following
 pub mod Rebuilding
+pub mod PageSizes
 pub mod GroupStates
 pub mod Pages
 pub mod Noting

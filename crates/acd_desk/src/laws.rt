@@ -7,6 +7,7 @@ ghost use Rattle.acd_desk.specs.AuditLaws.{HasOneAudit, SoundIsOrdered, SoundAgr
 ghost use Rattle.acd_desk.specs.OldSound.{OldSoundIsSound};
 ghost use Rattle.acd_desk.specs.Following.{SnapshotLeadsOn};
 ghost use Rattle.acd_desk.specs.Rebuilding.{PagesRebuild};
+ghost use Rattle.acd_desk.specs.PageSizes.{PagesAreShort, SoundIsReplied};
 ghost use Rattle.acd_desk.specs.NameLaws.{ContentIgnoresNames, AnswersIgnoreNames};
 
 /// One more arrival leads from the run of a list to the run of the longer list.
@@ -75,6 +76,12 @@ pub fn snapshot_leads_on()
 /// last one, it makes the whole content.
 pub fn pages_rebuild()
     ensures { PagesRebuild }
+{}
+
+/// A page of executed requests has at most 600,000 bytes, where what is kept are replies of the desk. So they are in a sound content.
+pub fn pages_are_short()
+    ensures short { PagesAreShort }
+    ensures sound { SoundIsReplied }
 {}
 
 /// Lists of arrivals that differ in names alone leave the same events and replies, and rows that differ in names alone;

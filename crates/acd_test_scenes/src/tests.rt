@@ -1,6 +1,7 @@
 //! All scenes.
 
 use crate::many_events;
+use crate::many_requests;
 use crate::scenes::{
     self, agents, calls, corrections, limits, morning, office, priorities, refusals, told,
 };
@@ -27,6 +28,7 @@ fn offices(rt: HostRuntime) {
     script.play(&rt, morning::last_lines());
     same_text(&rt, script.told(), "office\nmorning\n");
     many_events::export_of_many_events(&rt, rt.alloc());
+    many_requests::pages_of_many_requests(&rt, rt.alloc());
 }
 
 #[test]
