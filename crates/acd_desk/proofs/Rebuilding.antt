@@ -99,7 +99,7 @@ begins_page : (c : Content) (read : List Kept) → IsSound c → Begins c read �
 begins_page c read sound b = (
   drop requests_size b.0,
   b.1 ∙ ap (λ (l : List Kept). read ++ l) (sym (take-append-drop requests_size b.0)) ∙ sym (append_assoc read (take requests_size b.0) (drop requests_size b.0))
-  ∙ ap (λ (l : List Kept). (read ++ l) ++ drop requests_size b.0) (sym (page_is c read sound b)),
+      ∙ ap (λ (l : List Kept). (read ++ l) ++ drop requests_size b.0) (sym (page_is c read sound b)),
 )
 
 abbrev Follows : Content → List Kept → Type 0

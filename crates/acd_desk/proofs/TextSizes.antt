@@ -47,8 +47,16 @@ use Rattle.acd_desk.specs.PageSizes.{IsOutcome}
 same_byte : (x : ℕ) → 45 ≤ x → (x ≡ 92 → ⊥) → escape_byte x ≡ x ∷ []
 unfolding escape_byte
 same_byte x low other =
-    rw (ne_eqb x 34 (λ e. omega (arith, low, e)), ne_eqb x 92 other, ne_eqb x 8 (λ e. omega (arith, low, e)), ne_eqb x 12 (λ e. omega (arith, low, e)), ne_eqb x 10 (λ e. omega (arith, low, e)),
-    ne_eqb x 13 (λ e. omega (arith, low, e)), ne_eqb x 9 (λ e. omega (arith, low, e)), le-ltb x 32 (omega (arith, low))) refl
+    rw (
+      ne_eqb x 34 (λ e. omega (arith, low, e)),
+      ne_eqb x 92 other,
+      ne_eqb x 8 (λ e. omega (arith, low, e)),
+      ne_eqb x 12 (λ e. omega (arith, low, e)),
+      ne_eqb x 10 (λ e. omega (arith, low, e)),
+      ne_eqb x 13 (λ e. omega (arith, low, e)),
+      ne_eqb x 9 (λ e. omega (arith, low, e)),
+      le-ltb x 32 (omega (arith, low)),
+    ) refl
 
 two_bytes : (a b : Bool) (x y : ℕ) (six : List ℕ) → b ≡ false → length (cond a (92 ∷ y ∷ []) (cond b six (x ∷ []))) ≤ 2
 two_bytes true b x y six h = omega arith
