@@ -106,7 +106,7 @@ abbrev Follows : Content → List Kept → Type 0
 Follows c read = IsSound c × Begins c read
 
 follows : (c : Content) (read : List Kept) → IsRead c read → Follows c read
-follows _ _ (nothing c sound) = (sound, c.kept, refl)
+follows _ _ (nothing c sound) = (sound, (c.kept, refl))
 follows _ _ (page c read more h) =
     let before = follows c read h in
     let later : IsSound (ran_after c more) = ran_sound c more before.0 in

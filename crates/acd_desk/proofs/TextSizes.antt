@@ -77,7 +77,7 @@ requester_byte x h = by (nat_le 97 x && nat_le x 122) (is_ascii_digit x) refl re
     one : 45 ≤ x → (x ≡ 92 → ⊥) → length (escape_byte x) ≤ 1
     one low other = subst (λ (l : List ℕ). length l ≤ 1) (sym (same_byte x low other)) (omega arith)
 
-    by : (letter digit : Bool) → (nat_le 97 x && nat_le x 122) ≡ letter → is_ascii_digit x ≡ digit → (letter || (digit || (x == 45))) ≡ true → length (escape_byte x) ≤ 1
+    by : (letter digit : Bool) → (nat_le 97 x && nat_le x 122) ≡ letter → is_ascii_digit x ≡ digit → ((letter || digit) || (x == 45)) ≡ true → length (escape_byte x) ≤ 1
     by true digit l d h = let low = leb-true 97 x (and_parts (nat_le 97 x) (nat_le x 122) l).0 in one (omega (arith, low)) (λ e. omega (arith, low, e))
     by false true l d h = let parts = and_parts (nat_le 48 x) (nat_le x 57) d in let low = leb-true 48 x parts.0 in let high = leb-true x 57 parts.1 in one (omega (arith, low)) (λ e. omega (arith, high, e))
     by false false l d h = let is = eqb-true x 45 h in one (omega (arith, is)) (λ e. omega (arith, is, e))
@@ -483,30 +483,31 @@ request_short r h = object_short (request_members r.requester r.invoke r.command
 module _ (q : List ℕ) (i : ℕ) (hq : IsRequester q) (hi : IsBetween 1 999999999 i) where
   takes_whom : (more : Members) (b : ℕ) → Takes b more → Takes (69 + b) (to_whom q i more)
   takes_whom more b rest =
-      takes _ _ _ 9 (47 + b) (69 + b) invoke_key (invoke_short i hi)
-      (takes _ _ more 34 b (47 + b) requester_key (requester_short q hq) rest (omega arith)) (omega arith)
+      takes (codes "invoke") (number (unsigned i)) _ 9 (47 + b) (69 + b) invoke_key (invoke_short i hi)
+      (takes (codes "requester") (string q) more 34 b (47 + b) requester_key (requester_short q hq) rest (omega arith)) (omega arith)
 
-  takes_result : (o : Outcome) → IsOutcome o → length (compact_text (reply_data q i o)) ≤ 148
-  takes_result (Done answer.Nothing) h =
-      object_short _ 147 (takes_whom _ 78 (takes _ _ no_members 2 1 78 result_key (object_short no_members 1 none_takes) none_takes (omega arith)))
-  takes_result (Done (answer.Call c)) h =
-      object_short _ 147 (takes_whom _ 78 (takes _ _ no_members 25 1 78 result_key
-      (object_short _ 24 (takes _ _ no_members 10 1 24 call_key (serial_short c h) none_takes (omega arith))) none_takes (omega arith)))
-  takes_result (Done (answer.Monitor w)) h =
-      object_short _ 147 (takes_whom _ 78 (takes _ _ no_members 25 1 78 result_key
-      (object_short _ 24 (takes _ _ no_members 10 1 24 monitor_key (serial_short w h) none_takes (omega arith))) none_takes (omega arith)))
-  takes_result (Done (answer.State s)) h =
-      object_short _ 147 (takes_whom _ 78 (takes _ _ no_members 33 1 78 result_key
-      (object_short _ 32 (takes _ _ no_members 18 1 32 state_key (state_short s) none_takes (omega arith))) none_takes (omega arith)))
-  takes_result (Done (answer.Pending s p)) h =
-      object_short _ 147 (takes_whom _ 78 (takes _ _ no_members 64 1 78 result_key
-      (object_short _ 63 (takes _ _ _ 18 32 63 pending_key (pending_short p)
-      (takes _ _ no_members 18 1 32 state_key (state_short s) none_takes (omega arith)) (omega arith))) none_takes (omega arith)))
-  takes_result (Refused r) h =
-      object_short _ 147 (takes _ _ _ 52 70 147 error_key
-      (object_short _ 51 (takes _ _ _ 2 36 51 code_key (code_short r) (takes _ _ no_members 22 1 36 name_key (refusal_short r) none_takes (omega arith)) (omega arith)))
-      (takes_whom no_members 1 none_takes) (omega arith))
+  result_short : (ms : Members) (n : ℕ) → Takes n ms → n ≤ 63 → length (compact_text (object (to_whom q i (member (codes "result") (object ms) no_members)))) ≤ 148
+  result_short ms n h fits =
+      object_short _ 147 (takes_whom _ 78 (takes (codes "result") (object ms) no_members (n + 1) 1 78 result_key (object_short ms n h) none_takes (omega (arith, fits))))
+
+  outcome_short : (o : Outcome) → IsOutcome o → length (compact_text (reply_data q i o)) ≤ 148
+  outcome_short (Done answer.Nothing) h = result_short no_members 1 none_takes (omega arith)
+  outcome_short (Done (answer.Call c)) h =
+      result_short _ 24 (takes (codes "call") (number (unsigned c)) no_members 10 1 24 call_key (serial_short c h) none_takes (omega arith)) (omega arith)
+  outcome_short (Done (answer.Monitor w)) h =
+      result_short _ 24 (takes (codes "monitor") (number (unsigned w)) no_members 10 1 24 monitor_key (serial_short w h) none_takes (omega arith)) (omega arith)
+  outcome_short (Done (answer.State s)) h =
+      result_short _ 32 (takes (codes "state") (string (agent_state_name s)) no_members 18 1 32 state_key (state_short s) none_takes (omega arith)) (omega arith)
+  outcome_short (Done (answer.Pending s p)) h =
+      result_short _ 63 (takes (codes "pending") (string (pending_name p)) _ 18 32 63 pending_key (pending_short p)
+      (takes (codes "state") (string (agent_state_name s)) no_members 18 1 32 state_key (state_short s) none_takes (omega arith)) (omega arith)) (omega arith)
+  outcome_short (Refused r) h =
+      let name : Members = member (codes "name") (string (refusal_name r)) no_members in
+      let both : Members = member (codes "code") (number (unsigned (refusal_code r))) name in
+      let short : Takes 36 name = takes (codes "name") (string (refusal_name r)) no_members 22 1 36 name_key (refusal_short r) none_takes (omega arith) in
+      let error : Takes 51 both = takes (codes "code") (number (unsigned (refusal_code r))) name 2 36 51 code_key (code_short r) short (omega arith) in
+      object_short _ 147 (takes (codes "error") (object both) (to_whom q i no_members) 52 70 147 error_key (object_short both 51 error) (takes_whom no_members 1 none_takes) (omega arith))
 
 pub reply_short : (q : List ℕ) (i : ℕ) (o : Outcome) → IsRequester q → IsBetween 1 999999999 i → IsOutcome o → length (reply_text q i o) ≤ 148
 unfolding reply_text
-reply_short q i o hq hi h = takes_result q i hq hi o h
+reply_short q i o hq hi h = outcome_short q i hq hi o h
