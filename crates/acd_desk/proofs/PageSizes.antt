@@ -43,25 +43,25 @@ executed_short k f r =
     let moment : length (decimal k.moment) ≤ 10 = length-decimal-le 10 k.moment (omega arith) (omega (arith, early)) (omega (arith, early)) in
     let stamp : length (decimal k.stamp) ≤ 20 = length-decimal-le 20 k.stamp (omega arith) (omega (arith, low)) low in
     let status : length (decimal k.status) ≤ 3 = subst (λ (n : ℕ). length (decimal n) ≤ 3) (sym r.status) (status_short r.outcome) in
-    let t1 : List ℕ = codes "{\"moment\":" ++ decimal k.moment in
-    let t2 : List ℕ = t1 ++ codes ",\"reply\":" in
-    let t3 : List ℕ = t2 ++ k.body in
-    let t4 : List ℕ = t3 ++ codes ",\"request\":" in
-    let t5 : List ℕ = t4 ++ request_text k.request in
-    let t6 : List ℕ = t5 ++ codes ",\"stamp\":" in
-    let t7 : List ℕ = t6 ++ decimal k.stamp in
-    let t8 : List ℕ = t7 ++ codes ",\"status\":" in
-    let t9 : List ℕ = t8 ++ decimal k.status in
-    let h1 : length t1 ≤ 20 = joined (codes "{\"moment\":") (decimal k.moment) 10 10 20 (leb-true _ 10 refl) moment (omega arith) in
-    let h2 : length t2 ≤ 29 = joined t1 (codes ",\"reply\":") 20 9 29 h1 (leb-true _ 9 refl) (omega arith) in
-    let h3 : length t3 ≤ 177 = joined t2 k.body 29 148 177 h2 body (omega arith) in
-    let h4 : length t4 ≤ 188 = joined t3 (codes ",\"request\":") 177 11 188 h3 (leb-true _ 11 refl) (omega arith) in
-    let h5 : length t5 ≤ 536 = joined t4 (request_text k.request) 188 348 536 h4 (request_short k.request f.request) (omega arith) in
-    let h6 : length t6 ≤ 545 = joined t5 (codes ",\"stamp\":") 536 9 545 h5 (leb-true _ 9 refl) (omega arith) in
-    let h7 : length t7 ≤ 565 = joined t6 (decimal k.stamp) 545 20 565 h6 stamp (omega arith) in
-    let h8 : length t8 ≤ 575 = joined t7 (codes ",\"status\":") 565 10 575 h7 (leb-true _ 10 refl) (omega arith) in
-    let h9 : length t9 ≤ 578 = joined t8 (decimal k.status) 575 3 578 h8 status (omega arith) in
-    joined t9 (codes "}") 578 1 579 h9 (leb-true _ 1 refl) (omega arith)
+    let t1 : List ℕ = decimal k.status ++ codes "}" in
+    let t2 : List ℕ = codes ",\"status\":" ++ t1 in
+    let t3 : List ℕ = decimal k.stamp ++ t2 in
+    let t4 : List ℕ = codes ",\"stamp\":" ++ t3 in
+    let t5 : List ℕ = request_text k.request ++ t4 in
+    let t6 : List ℕ = codes ",\"request\":" ++ t5 in
+    let t7 : List ℕ = k.body ++ t6 in
+    let t8 : List ℕ = codes ",\"reply\":" ++ t7 in
+    let t9 : List ℕ = decimal k.moment ++ t8 in
+    let h1 : length t1 ≤ 4 = joined (decimal k.status) (codes "}") 3 1 4 status (leb-true _ 1 refl) (omega arith) in
+    let h2 : length t2 ≤ 14 = joined (codes ",\"status\":") t1 10 4 14 (leb-true _ 10 refl) h1 (omega arith) in
+    let h3 : length t3 ≤ 34 = joined (decimal k.stamp) t2 20 14 34 stamp h2 (omega arith) in
+    let h4 : length t4 ≤ 43 = joined (codes ",\"stamp\":") t3 9 34 43 (leb-true _ 9 refl) h3 (omega arith) in
+    let h5 : length t5 ≤ 391 = joined (request_text k.request) t4 348 43 391 (request_short k.request f.request) h4 (omega arith) in
+    let h6 : length t6 ≤ 402 = joined (codes ",\"request\":") t5 11 391 402 (leb-true _ 11 refl) h5 (omega arith) in
+    let h7 : length t7 ≤ 550 = joined k.body t6 148 402 550 body h6 (omega arith) in
+    let h8 : length t8 ≤ 559 = joined (codes ",\"reply\":") t7 9 550 559 (leb-true _ 9 refl) h7 (omega arith) in
+    let h9 : length t9 ≤ 569 = joined (decimal k.moment) t8 10 559 569 moment h8 (omega arith) in
+    joined (codes "{\"moment\":") t9 10 569 579 (leb-true _ 10 refl) h9 (omega arith)
 
 further_short : (kept : List Kept) → Every IsFormed kept → Every IsReplied kept → length (further_texts kept) ≤ 580 * length kept
 further_short [] f r = omega arith

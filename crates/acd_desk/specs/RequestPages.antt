@@ -7,8 +7,11 @@ use Rattle.acd_book.specs.declared.kept.Kept.{Kept}
 -- a request: its executed moment, its reply as it is kept, the request itself, its stamp and its status
 unfoldable pub executed_text : Kept → List ℕ
 executed_text k =
-    codes "{\"moment\":" ++ decimal k.moment ++ codes ",\"reply\":" ++ k.body ++ codes ",\"request\":" ++ request_text k.request
-    ++ codes ",\"stamp\":" ++ decimal k.stamp ++ codes ",\"status\":" ++ decimal k.status ++ codes "}"
+    codes "{\"moment\":" ++ (decimal k.moment
+    ++ (codes ",\"reply\":" ++ (k.body
+    ++ (codes ",\"request\":" ++ (request_text k.request
+    ++ (codes ",\"stamp\":" ++ (decimal k.stamp
+    ++ (codes ",\"status\":" ++ (decimal k.status ++ codes "}")))))))))
 
 -- requests behind another
 abbrev pub further_texts : List Kept → List ℕ
