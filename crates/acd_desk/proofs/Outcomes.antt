@@ -1,5 +1,5 @@
 -- What a service answers, numbers the next call or the next monitor alone.
-use Rattle.std.proofs.Common.{◌≡◌, ℕ, ◌+◌, ◌<◌, ◌≤◌, Bool, true, false, not, cond, min, Option, Some, None, is_some, List, [], ◌∷◌, Result, Ok, Err, arith, ◌&&◌, ◌||◌}
+use Rattle.std.proofs.Common.{ℕ, ◌<◌, Bool, true, false, cond, min, Option, Some, None, List, [], ◌∷◌, Result, Ok, Err, arith}
 use Rattle.std.specs.Option.{ok_or}
 use Rattle.acd_terms.specs.Results.{◌>>=◌, ◌>>◌}
 use Rattle.acd_terms.specs.declared.rows.Rows.{Rows}
@@ -14,7 +14,6 @@ use Rattle.acd_terms.specs.declared.answer.Outcome.{Outcome}
 use Rattle.acd_terms.specs.declared.answer.Outcome.TheVariants.{Done, Refused}
 use Rattle.acd_terms.specs.declared.answer.Refusal.{Refusal}
 use Rattle.acd_terms.specs.declared.command.Turn.{Turn}
-use Rattle.acd_terms.specs.declared.command.Requested.{Requested}
 use Rattle.acd_terms.specs.declared.command.Requested.TheVariants as requested
 use Rattle.acd_terms.specs.declared.command.Command.{Command}
 use Rattle.acd_terms.specs.declared.command.Command.TheVariants.{AddGroup, AddStation, AddAgent, ArriveCall, MakeCall, PhoneOffHook, AnswerCall, HoldCall, RetrieveCall, ClearConnection, DeflectCall, SingleStepTransfer, SetAgentState, MonitorStart, MonitorStop, Tick, SetGroupPriority, RejectCall, ChangeGroup, ChangeAgent}
@@ -26,7 +25,7 @@ use Rattle.acd_model.specs.declared.moves.Change.TheVariants.{PutGroup, PutAgent
 use Rattle.acd_model.specs.declared.moves.Move.{Move}
 use Rattle.acd_model.specs.AgentMoves.{go_from, wait_for}
 use Rattle.acd_model.specs.Served.{Served, refuse_if, gives, outcome_of}
-use Rattle.acd_model.specs.Services.{add_group, add_station, add_agent, arrive_call, next_call, make_call, phone_off_hook, answer_call, hold_call, retrieve_call, clear_connection, deflect_call, single_step_transfer, all_groups, log_on, go_or_wait, change_state, set_agent_state, next_monitor, monitor_start, monitor_stop, set_group_priority, reject_call, change_group, change_agent}
+use Rattle.acd_model.specs.Services.{add_group, add_station, add_agent, arrive_call, next_call, make_call, phone_off_hook, answer_call, hold_call, retrieve_call, clear_connection, deflect_call, single_step_transfer, all_groups, log_on, go_or_wait, change_state, next_monitor, monitor_start, monitor_stop, set_group_priority, reject_call, change_group, change_agent}
 use Rattle.acd_model.specs.Services.Serve.{serve}
 use Rattle.acd_model.specs.Step.{step, next_turn}
 use Rattle.acd_laws.specs.RuleLaws.{IsWithinBounds}

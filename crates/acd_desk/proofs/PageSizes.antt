@@ -1,10 +1,9 @@
 -- A page of executed requests is short, and what a sound content keeps are replies.
-use Rattle.std.proofs.Common.{◌≡◌, ℕ, zero, suc, ◌+◌, ◌*◌, ◌^◌, ◌<◌, ◌≤◌, List, [], ◌∷◌, ◌++◌, length, take, filter, nat_lt, codes, decimal, refl, sym, ap, subst, ◌∙◌, arith, length-append, leb-true, true}
+use Rattle.std.proofs.Common.{ℕ, zero, suc, ◌+◌, ◌*◌, ◌^◌, ◌<◌, ◌≤◌, List, [], ◌∷◌, ◌++◌, length, take, filter, nat_lt, codes, decimal, refl, sym, ap, subst, arith, length-append, leb-true}
 use Rattle.std.proofs.lemmas.Fmt.{length-decimal-le}
 use Rattle.std.specs.List.{join_by}
 use Rattle.acd_terms.specs.Lists.{Every}
 use Rattle.acd_terms.specs.Rows.{empty_rows}
-use Rattle.acd_terms.specs.Limits.{limits_fit}
 use Rattle.acd_terms.specs.declared.rows.Limits.{Limits}
 use Rattle.acd_terms.specs.declared.answer.Outcome.{Outcome}
 use Rattle.acd_terms.specs.declared.answer.Outcome.TheVariants.{Done, Refused}
@@ -18,10 +17,10 @@ use Rattle.acd_laws.proofs.Rules.RulesAll.{step_keeps_rules, run_keeps_rules, ru
 use Rattle.acd_book.specs.declared.kept.Kept.{Kept}
 use Rattle.acd_book.specs.Content.{Content, empty_content}
 use Rattle.acd_desk.specs.Firsts.{stepped, record_of, executed, run_from}
-use Rattle.acd_desk.specs.Stands.{arrivals_of, IsSound}
+use Rattle.acd_desk.specs.Stands.{arrivals_of}
 use Rattle.acd_desk.specs.RequestPages.{executed_text, further_texts, requests_text}
 use Rattle.acd_desk.specs.Tells.{requests_size, requests_page}
-use Rattle.acd_desk.specs.PageSizes.{IsOutcome, IsReplied, IsFormed, longest_page, PagesAreShort, SoundIsReplied}
+use Rattle.acd_desk.specs.PageSizes.{IsReplied, IsFormed, longest_page, PagesAreShort, SoundIsReplied}
 use Rattle.acd_desk.proofs.Outcomes.{step_outcome}
 use Rattle.acd_desk.proofs.Sound.{sound_list, length-arrivals}
 use Rattle.acd_desk.proofs.Steps.{step_limits, step_stamp}

@@ -1,5 +1,5 @@
 -- What is read of a sound content, page by page, rebuilds it.
-use Rattle.std.proofs.Common.{◌≡◌, ℕ, zero, suc, ◌+◌, ◌<◌, ◌≤◌, List, [], ◌∷◌, ◌++◌, length, take, drop, filter, nat_lt, refl, sym, ap, subst, ◌∙◌, arith, append_assoc, append-nil, length-append, Bool, true, false, cond, ◌==◌, ◌&&◌, is_some, inl, inr, take-append-drop}
+use Rattle.std.proofs.Common.{◌≡◌, ℕ, zero, suc, ◌+◌, ◌<◌, ◌≤◌, List, [], ◌∷◌, ◌++◌, length, take, drop, nat_lt, refl, sym, ap, subst, ◌∙◌, arith, append_assoc, append-nil, length-append, Bool, true, false, cond, ◌==◌, is_some, inl, inr, take-append-drop}
 use Rattle.std.proofs.lemmas.Bool.{and_parts, and_from}
 use Rattle.std.proofs.lemmas.List.{map-append, nil_from_length}
 use Rattle.acd_terms.specs.declared.rows.Limits.{Limits}
@@ -12,7 +12,7 @@ use Rattle.acd_desk.specs.Firsts.{record_of, executed, firsts, run_from, run}
 use Rattle.acd_desk.specs.Replies.{after}
 use Rattle.acd_desk.specs.Stands.{arrivals_of, IsSound, ran_after}
 use Rattle.acd_desk.specs.Tells.{requests_size, requests_page}
-use Rattle.acd_desk.specs.Rebuilding.{last_read, IsRead, nothing, page, IsAllRead, made_of, Rebuilds, PagesRebuild}
+use Rattle.acd_desk.specs.Rebuilding.{last_read, IsRead, nothing, page, IsAllRead, made_of, PagesRebuild}
 use Rattle.acd_desk.proofs.AuditLaws.{sound_agrees}
 use Rattle.acd_desk.proofs.Longer.{ran_none, ran_push}
 use Rattle.acd_desk.proofs.Runs.{run-limits}

@@ -1,15 +1,15 @@
 -- How long the texts of requests and replies are at most.
-use Rattle.std.proofs.Common.{◌≡◌, ℕ, zero, suc, ◌+◌, ◌*◌, ◌-◌, ◌^◌, ◌<◌, ◌≤◌, List, [], ◌∷◌, ◌++◌, length, drop, nat_lt, nat_le, refl, sym, ap, subst, ◌∙◌, arith, length-append, length-drop, codes, Bool, true, false, cond, ◌&&◌, ◌||◌, ◌==◌, decimal, leb-true, ltb-true, ltb-false, lt-ltb, le-ltb, ne_eqb, eqb-true, inl, inr, ◌⊎◌}
+use Rattle.std.proofs.Common.{◌≡◌, ℕ, ◌+◌, ◌*◌, ◌-◌, ◌<◌, ◌≤◌, List, [], ◌∷◌, ◌++◌, length, drop, nat_lt, nat_le, refl, sym, subst, arith, length-append, length-drop, codes, Bool, true, false, cond, ◌&&◌, ◌||◌, ◌==◌, decimal, leb-true, ltb-true, ltb-false, le-ltb, ne_eqb, eqb-true}
 use Rattle.std.proofs.lemmas.Bool.{and_parts}
 use Rattle.std.proofs.lemmas.Fmt.{decimal_is_IsNumeral, length-decimal-le}
 use Rattle.std.specs.Char.{digit_value, is_ascii_digit}
 use Rattle.std.specs.List.{list_all}
 use Rattle.std.specs.Str.Parse.{AllDigits}
 use Rattle.json.specs.Print.{escape, escape_byte, quoted}
-use Rattle.serde_json.specs.Data.{Data, string, number, array, object, unsigned, Items, no_items, item, Members, member, no_members}
+use Rattle.serde_json.specs.Data.{Data, string, number, object, unsigned, Members, member, no_members}
 use Rattle.serde_json.specs.Written.{compact_text, items_text, members_text, comma_if}
 use Rattle.acd_terms.specs.Lists.{Every}
-use Rattle.acd_terms.specs.Forms.{digits_of, device_digits, agent_digits, is_name_byte, is_requester_byte, IsNumberOf, IsText, IsName, IsRequester, IsBetween}
+use Rattle.acd_terms.specs.Forms.{digits_of, is_name_byte, is_requester_byte, IsNumberOf, IsName, IsRequester, IsBetween}
 use Rattle.acd_terms.specs.Groups.{is_choice, are_groups, most_groups}
 use Rattle.acd_terms.specs.States.{agent_state_name, pending_name}
 use Rattle.acd_terms.specs.Refusals.{refusal_code, refusal_name}
@@ -38,7 +38,7 @@ use Rattle.acd_codec.specs.Members.{member_name}
 use Rattle.acd_codec.specs.Parts.{items_of, digits_data, groups_parts, written_before}
 use Rattle.acd_codec.specs.Services.{service_name, requested_state_name}
 use Rattle.acd_codec.specs.RequestTexts.{text, whole, digits, sent, named, at_group, at_agent, at_device, at_connection, to_device, asked, set_agent_state, request_members, request_data, request_text}
-use Rattle.acd_codec.specs.ReplyTexts.{result_of, to_whom, error_of, reply_data, reply_text}
+use Rattle.acd_codec.specs.ReplyTexts.{to_whom, reply_data, reply_text}
 use Rattle.acd_desk.specs.PageSizes.{IsOutcome}
 
 -- ---- characters ----
