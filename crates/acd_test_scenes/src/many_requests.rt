@@ -16,8 +16,7 @@ const COUNT: u64 = 1001;
 // The members of a request and of its reply that say whose it is, with so much between them.
 fn whose(rt: &impl Abort, alloc: Global, number: u64, between: &str) -> String {
     let invoke = number.saturating_add(999_990_000);
-    let text = format!(
-        in alloc;
+    let text = format!(in alloc;
         "\"invoke\":{invoke},{between}\"requester\":\"desk-0123456789abcdef0123456789a\""
     );
     text.expect(rt, "memory")
@@ -55,7 +54,11 @@ fn lines(rt: &impl Abort, alloc: Global) -> String {
 
 fn add_executed(rt: &impl Abort, alloc: Global, page: &mut String, number: u64) {
     let (request, reply) = (request(rt, alloc, number), reply(rt, alloc, number));
-    push(rt, page, &["{\"moment\":4294967295,\"reply\":", reply.as_str()]);
+    push(
+        rt,
+        page,
+        &["{\"moment\":4294967295,\"reply\":", reply.as_str()],
+    );
     push(rt, page, &[",\"request\":", request.as_str()]);
     let end = format!(in alloc; ",\"stamp\":{number},\"status\":409}}").expect(rt, "memory");
     push(rt, page, &[end.as_str()]);

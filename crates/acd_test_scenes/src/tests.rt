@@ -1,12 +1,11 @@
 //! All scenes.
 
-use crate::many_events;
-use crate::many_requests;
 use crate::scenes::{
     self, agents, calls, corrections, limits, morning, office, priorities, refusals, told,
 };
 use crate::script::Script;
 use crate::texts::same_text;
+use crate::{many_events, many_requests};
 
 #[test]
 fn all_scenes(rt: HostRuntime) {
