@@ -37,3 +37,5 @@ pub mod Selected
 pub mod Recorded
 pub mod Further
 pub mod Bounds
+pub mod Stepping
+pub mod Listed

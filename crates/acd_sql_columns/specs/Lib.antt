@@ -17,3 +17,5 @@ pub mod Seeing
 pub mod AnyRows
 pub mod Descriptions
 pub mod Tables
+pub mod Versions
+pub mod VersionContents
