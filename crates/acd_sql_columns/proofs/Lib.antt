@@ -39,3 +39,4 @@ pub mod Further
 pub mod Bounds
 pub mod Stepping
 pub mod Listed
+pub mod ThirdVersion
