@@ -29,7 +29,7 @@ other_true false b p h = h
 pub each_table : (P : ℕ → Type 0) (ls : List Layout) → AllByRecursion (λ (l : Layout). P l.tree) ls → (tree : ℕ) → has_table ls tree ≡ true → P tree
 each_table P [] all tree h = absurd (cc h)
 each_table P (l ∷ ls) all tree h = elim (cases_Bool (l.tree == tree)) [
-  | inl same ↦ subst P (same_number l.tree tree same) all.0
+  | inl same ↦ subst P (sym (same_number l.tree tree same)) all.0
   | inr other ↦ each_table P ls all.1 tree (other_true (l.tree == tree) (has_table ls tree) other h)
 ]
 
