@@ -1,20 +1,24 @@
 -- The versions of a book are those of the list.
-use Rattle.std.proofs.Common.{◌≡◌, ◌==◌, ℕ, suc, Bool, true, false, cond, List, [], ◌∷◌, map, drop, refl, sym, ap, ap₂, ◌∙◌}
+use Rattle.std.proofs.Common.{◌≡◌, ◌==◌, ℕ, Bool, true, false, cond, List, [], ◌∷◌, map, drop, refl, sym, ap, subst, ◌∙◌}
 use Rattle.std.specs.Fmt.{digits}
 use Rattle.sqlite_value.specs.Order.{Row}
 use Rattle.sqlite_trees.specs.Tree.{Trees}
+use Rattle.acd_book.specs.Content.{Content}
 use Rattle.acd_sql_columns.specs.declared.meta.Meta.{Meta}
 use Rattle.acd_sql_columns.specs.declared.relations.GroupPriority.{GroupPriority}
+use Rattle.acd_sql_columns.specs.declared.tables.Table.{Table}
 use Rattle.acd_sql_columns.specs.declared.tables.Table.TheVariants as table
 use Rattle.acd_sql_columns.specs.declared.tables.Version.{Version}
 use Rattle.acd_sql_columns.specs.declared.tables.Version.TheVariants as version
 use Rattle.acd_sql_columns.specs.AnyRows.{schema_of}
-use Rattle.acd_sql_columns.specs.Content.{tree_of, number_of}
+use Rattle.acd_sql_columns.specs.Content.{Encodes, EncodesAs, Stores, part, tree_of, number_of}
 use Rattle.acd_sql_columns.specs.Decoding.{as_priority, as_further}
 use Rattle.acd_sql_columns.specs.InTables.{in_order, records_in, meta_stored, version_in, pairs_in, ranks_in, content_of}
-use Rattle.acd_sql_columns.specs.Relations.{pair_order}
-use Rattle.acd_sql_columns.specs.Versions.{telling, book_versions, Migrates, newest_of, schema_at}
+use Rattle.acd_sql_columns.specs.Relations.{pair_order, relations_of}
+use Rattle.acd_sql_columns.specs.Rows.{further_row}
+use Rattle.acd_sql_columns.specs.Versions.{telling, book_versions, newest_of, Migrates, schema_at}
 use Rattle.acd_sql_columns.specs.VersionContents.{content_with, content_from, content_at, place_of}
+use Rattle.acd_sql_columns.proofs.Frames.{none_heaped}
 use Rattle.acd_sql_columns.proofs.Stepping.{step_keeps}
 
 pub schemas_listed : (v : Version) → schema_at book_versions (place_of v) ≡ schema_of v
@@ -60,3 +64,22 @@ pub content_kept : (old new : Trees) → version_in (old (tree_of table.Meta)) �
 content_kept old new told is =
     let next = ap version_in (is.rows (tree_of table.Meta) refl) ∙ version_told 2 (old (tree_of table.Meta)) told in
     content_listed version.Second new next ∙ ap content_from (step_keeps 1 0 book_versions.steps book_versions.first old new is) ∙ sym (content_listed version.First old told)
+
+-- ---- contents that tables encode
+
+-- of version 1, which has no further groups and no priorities
+first_encodes : (db : Trees) (c : Content) → EncodesAs version.First db c → Encodes (newest_of book_versions 0 db) c
+first_encodes db c h table.Meta = ap (map (telling 2)) (h.tables table.Meta tt)
+first_encodes db c h table.AgentGroups = subst (Stores table.AgentGroups []) (sym h.fits.0) (none_heaped pair_order further_row [] refl)
+first_encodes db c h table.GroupPriority = subst (Stores table.GroupPriority []) (sym h.fits.1) (record { rows_are = refl; ascending = tt })
+first_encodes db c h t = h.tables t tt
+
+-- of the newest one the tables are as they stand
+as_it_stands : (t : Table) (db : Trees) → newest_of book_versions 1 db (tree_of t) ≡ db (tree_of t)
+as_it_stands table.Meta db = refl
+as_it_stands _ db = refl
+
+pub migration_encodes : (old new : Trees) (c : Content) → EncodesAs version.First old c → Migrates book_versions 0 old new → Encodes new c
+migration_encodes old new c h is t =
+    let all : Encodes (newest_of book_versions 1 new) c = subst (λ db. Encodes db c) (sym (step_keeps 1 0 book_versions.steps book_versions.first old new is)) (first_encodes old c h) in
+    subst (λ rows. Stores t rows (part t (relations_of c))) (as_it_stands t new) (all t)

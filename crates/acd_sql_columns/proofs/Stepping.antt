@@ -9,7 +9,7 @@ use Rattle.sqlite_schema.specs.declared.schema.Column.{Column}
 use Rattle.acd_lemmas.proofs.Numbers.{same_number}
 use Rattle.acd_sql_columns.specs.Schema.{Layout}
 use Rattle.acd_sql_columns.specs.Schema as schema
-use Rattle.acd_sql_columns.specs.Versions.{Addition, new_table, new_column, Contents, widened, with_layout, with_layouts, has_table, contents_in, with_value, with_addition, with_additions, telling, told, stepped, brought_up, newest, IsStep, Steps}
+use Rattle.acd_sql_columns.specs.Versions.{Addition, new_table, new_column, Contents, widened, with_layouts, has_table, contents_in, with_value, with_addition, with_additions, telling, told, stepped, brought_up, newest, IsStep, Steps}
 
 -- ---- tables
 

@@ -1,5 +1,5 @@
 -- A trial: a version 3 that adds a column to the groups and a table of holidays is an entry of the list, and its migration needs no proof of its own.
-use Rattle.std.proofs.Common.{◌≡◌, ℕ, Bool, false, List, [], ◌∷◌, ◌++◌, map, codes, refl, ◌∙◌}
+use Rattle.std.proofs.Common.{◌≡◌, false, [], ◌∷◌, ◌++◌, map, codes, refl, ◌∙◌}
 use Rattle.sqlite_value.specs.declared.value.Value.TheVariants.{Null}
 use Rattle.sqlite_trees.specs.Tree.{Trees}
 use Rattle.sqlite_schema.specs.declared.schema.Kind.TheVariants.{Text}

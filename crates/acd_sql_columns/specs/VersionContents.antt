@@ -1,5 +1,5 @@
 -- What a file of any version stands for: its tables are brought up to those of the newest version, and these are read.
-use Rattle.std.specs.Prelude.{◌≡◌, ℕ, suc, List, [], ◌∷◌, drop, map}
+use Rattle.std.specs.Prelude.{◌≡◌, ℕ, suc, List, drop, map}
 use Rattle.sqlite_trees.specs.Tree.{Trees}
 use Rattle.acd_book.specs.Content.{Content}
 use Rattle.acd_sql_columns.specs.declared.meta.Meta.{Meta}
@@ -8,7 +8,7 @@ use Rattle.acd_sql_columns.specs.declared.tables.Table.TheVariants as table
 use Rattle.acd_sql_columns.specs.declared.tables.Version.{Version}
 use Rattle.acd_sql_columns.specs.declared.tables.Version.TheVariants as version
 use Rattle.acd_sql_columns.specs.AnyRows.{schema_of}
-use Rattle.acd_sql_columns.specs.Content.{tree_of, number_of}
+use Rattle.acd_sql_columns.specs.Content.{Encodes, EncodesAs, tree_of, number_of}
 use Rattle.acd_sql_columns.specs.Decoding.{as_priority, as_further, as_group, as_station, as_agent, as_call, as_monitor, as_event, as_kept}
 use Rattle.acd_sql_columns.specs.InTables.{in_order, records_in, connections_in, meta_stored, version_in, content_of}
 use Rattle.acd_sql_columns.specs.Relations.{pair_order, joined_group, joined_agent}
@@ -63,3 +63,7 @@ VersionsAreListed = (v : Version) → (schema_at book_versions (place_of v) ≡ 
 -- a book that became the next version stands for the content that it stood for
 abbrev pub MigrationKeepsContent : Type 0
 MigrationKeepsContent = (old new : Trees) → version_in (old (tree_of table.Meta)) ≡ 1 → Migrates book_versions 0 old new → content_of new ≡ content_of old
+
+-- and its tables encode the content that they encoded
+abbrev pub MigrationEncodes : Type 0
+MigrationEncodes = (old new : Trees) (c : Content) → EncodesAs version.First old c → Migrates book_versions 0 old new → Encodes new c

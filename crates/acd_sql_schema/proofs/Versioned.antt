@@ -1,5 +1,5 @@
 -- The migration of version 1 is the step to version 2 of the list.
-use Rattle.std.proofs.Common.{◌≡◌, ℕ, [], ◌∷◌, map, sym, ap, ◌∙◌}
+use Rattle.std.proofs.Common.{◌≡◌, [], ◌∷◌, map, sym, ap, ◌∙◌}
 use Rattle.sqlite_trees.specs.Tree.{Trees}
 use Rattle.acd_sql_columns.specs.declared.meta.Meta.{Meta}
 use Rattle.acd_sql_columns.specs.declared.tables.Table.TheVariants as table
@@ -14,8 +14,29 @@ pub migrates : (old new : Trees) (m : Meta) → old (tree_of table.Meta) ≡ met
 migrates old new m is h =
     let adds = new_table schema.agent_groups ∷ new_table schema.group_priority ∷ [] in
     record {
-      rows = each_table (λ tree. new tree ≡ stepped 2 adds (contents_in book_versions.first old) tree) (with_layouts adds book_versions.first)
-          (h.told m is ∙ ap (map (telling 2)) (sym is), (h.kept table.Groups tt (λ e. cc e), (h.kept table.Stations tt (λ e. cc e), (h.kept table.Agents tt (λ e. cc e),
-          (h.kept table.Calls tt (λ e. cc e), (h.kept table.Connections tt (λ e. cc e), (h.kept table.Monitors tt (λ e. cc e), (h.kept table.Events tt (λ e. cc e),
-          (h.kept table.Kept tt (λ e. cc e), (h.further, (h.priorities, tt)))))))))));
+      rows = each_table (λ tree. new tree ≡ stepped 2 adds (contents_in book_versions.first old) tree) (with_layouts adds book_versions.first) (
+        h.told m is ∙ ap (map (telling 2)) (sym is),
+        (
+          h.kept table.Groups tt (λ e. cc e),
+          (
+            h.kept table.Stations tt (λ e. cc e),
+            (
+              h.kept table.Agents tt (λ e. cc e),
+              (
+                h.kept table.Calls tt (λ e. cc e),
+                (
+                  h.kept table.Connections tt (λ e. cc e),
+                  (
+                    h.kept table.Monitors tt (λ e. cc e),
+                    (
+                      h.kept table.Events tt (λ e. cc e),
+                      (h.kept table.Kept tt (λ e. cc e), (h.further, (h.priorities, tt))),
+                    ),
+                  ),
+                ),
+              ),
+            ),
+          ),
+        ),
+      );
     }
