@@ -1,13 +1,9 @@
 // What a lead asks for, of the own groups alone: an agent's state, a call's end or another place for it, a group's priority. Each behind a question; the gate and the desk say whether it may be.
-// @ts-check
-import {byId, put} from './draw.js';
+import {byId, put, withNumber} from './draw.js';
+import {post, requesterOf, sleep} from './net.js';
 import {named, refusal, word} from './words.js';
 
-
-const PATIENCE = 10000, AGAIN = 1000, TRIES = 6, TOLD = 8000;
-
-/** @param {string} login a name that no other page has: its count begins at 1 */
-const requesterOf = login => `${login}-${[...crypto.getRandomValues(new Uint8Array(16))].map(number => 'abcdefghijklmnopqrstuvwxyz012345'[number % 32]).join('')}`;
+const AGAIN = 1000, TRIES = 6, TOLD = 8000;
 
 export class Lead {
   constructor() {
@@ -46,9 +42,9 @@ export class Lead {
       if (await ask(word('act.end.sure', {call: text})) !== null) await this.send('clearConnection', {call, device}, word('act.done.end', {call: text}));
       return;
     }
-    const groups = [...this.groups].filter(group => group !== device && state.groups.has(group)).map(group => [group, `${state.groups.get(group)?.name || group} (${group})`]);
-    const stations = [...state.agents.values()].filter(agent => agent.station && this.leads(agent)).map(agent => [/** @type {string} */ (agent.station), `${agent.name || agent.id} (${agent.station})`]);
-    const to = await ask(word('act.move.sure', {call: text}), word('act.to'), /** @type {[string,string][]} */ ([...groups, ...stations]));
+    const groups = [...this.groups].flatMap(id => { const group = state.groups.get(id); return group && id !== device ? [[id, withNumber(group)]] : []; });
+    const stations = [...state.agents.values()].filter(agent => agent.station && this.leads(agent)).map(agent => [agent.station ?? '', withNumber({id: agent.station ?? '', name: agent.name || agent.id})]);
+    const to = await ask(word('act.move.sure', {call: text}), word('act.to'), [...groups, ...stations]);
     if (to) await this.send('deflectCall', {call, device, to}, word('act.done.move', {call: text, to}));
   }
 
@@ -65,12 +61,9 @@ export class Lead {
     const body = JSON.stringify({requester: this.requester, invoke: ++this.invoke, service, ...members});
     tell('…');
     for (let tried = 0; tried < TRIES; tried++) {
-      const giving = new AbortController(), timer = setTimeout(() => giving.abort(), PATIENCE);
-      try {
-        const reply = await fetch(`${location.origin}/csta`, {method: 'POST', body, headers: {'content-type': 'application/json'}, signal: giving.signal});
-        if (![429, 500, 502, 503, 504].includes(reply.status)) return tell(reply.ok ? `✓ ${done}` : `■ ${refusal(reply.status, await reply.text())}`);
-      } catch { /* no answer: again */ } finally { clearTimeout(timer); }
-      await new Promise(go => setTimeout(go, AGAIN));
+      const reply = await post(body);
+      if (reply) return tell(reply.status === 200 ? `✓ ${done}` : `■ ${refusal(reply.status, reply.text)}`);
+      await sleep(AGAIN);
     }
     tell(`■ ${word('act.unknown')}`);
   }

@@ -1,5 +1,4 @@
 // What a supervisor has to know at once: who waits too long, goals that are missed by far, callers and nobody there, a desk whose ticks or clock fail. No document, no network.
-// @ts-check
 
 
 // a tick comes each ten seconds, so what is this much overdue nobody ends
@@ -29,8 +28,8 @@ export function overdue(state, now) {
 }
 
 // All alarms, the desk's own before those of groups.
-/** @param {State} state @param {GroupLine[]} lines @param {boolean} counted whether the day's figures are there @param {number} now @param {number} clock the server's @returns {Alarm[]} */
-export function alarms(state, lines, counted, now, clock) {
+/** @param {Drawn} drawn @param {number} clock the server's @returns {Alarm[]} */
+export function alarms({state, lines, counted, now}, clock) {
   /** @type {Alarm[]} */ const found = [], early = ahead(state, clock), late = early ? null : overdue(state, now);
   if (early) found.push({key: 'clock', kind: 'clock', group: null, since: null, values: {seconds: early}});
   if (late) found.push({key: 'ticks', kind: 'ticks', group: null, since: late.since, values: {...late}});

@@ -1,5 +1,4 @@
 // A table as a file for a spreadsheet.
-// @ts-check
 import {language} from './words.js';
 
 // where a number has a comma, a spreadsheet parts its fields by semicolons

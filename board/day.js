@@ -1,5 +1,4 @@
 // The figures of a day, by steps of a quarter of an hour, and of each agent, counted from event reports. No document, no network.
-// @ts-check
 
 export const STEP = 900;
 

@@ -1,23 +1,16 @@
 // Follows a desk: a snapshot to begin with, then each second the events behind it; goes on by itself after a loss, and begins anew where another file is in its place.
-// @ts-check
+import {ask, sleep} from './net.js';
 import {refusal, word} from './words.js';
 
-
-const EVERY = 1000, PATIENCE = 10000, FULL = 1000, SEVERAL = 6;
+const EVERY = 1000, LONGEST = 5000, FULL = 1000, SEVERAL = 6;
 
 // A request of a desk. The server's clock less this one's, in milliseconds, is told on the way.
 /** @param {string} address @param {(offset:number) => void} [clock] */
 export async function read(address, clock) {
-  const giving = new AbortController(), timer = setTimeout(() => giving.abort(), PATIENCE);
-  try {
-    const reply = await fetch(address, {signal: giving.signal, cache: 'no-store'});
-    const date = reply.headers.get('date');
-    if (date && clock) clock(Date.parse(date) + 500 - Date.now());
-    if (!reply.ok) throw Object.assign(new Error(refusal(reply.status, await reply.text())), {status: reply.status});
-    return await reply.json();
-  } catch (error) {
-    throw giving.signal.aborted ? new Error(word('lost.silent')) : error;
-  } finally { clearTimeout(timer); }
+  const {status, date, received, text} = await ask(address).catch(({message}) => { throw new Error(word(`lost.${message}`)); });
+  if (date) clock?.(date + 500 - received);
+  if (status !== 200) throw Object.assign(new Error(refusal(status, text)), {status});
+  return JSON.parse(text);
 }
 
 export class Feed {
@@ -49,9 +42,9 @@ export class Feed {
         }
         if (!more) await this.wait(this.begun ? EVERY : 0);
       } catch (error) {
-        this.losses++;
-        this.owner.tell({kind: 'lost', status: /** @type {any} */ (error).status, why: error instanceof TypeError ? word('lost.server') : error instanceof Error ? error.message : String(error)});
-        await this.wait(Math.min(PATIENCE / 2, EVERY * 2 ** (this.losses - 1)) * (0.75 + Math.random() / 2));
+        const {status, message} = /** @type {any} */ (error);
+        this.owner.tell({kind: 'lost', status, why: message});
+        await this.wait(Math.min(LONGEST, EVERY * 2 ** this.losses++) * (0.75 + Math.random() / 2));
       }
     }
   }
@@ -108,17 +101,19 @@ export class Feed {
   }
 }
 
-// The number of the last event before a moment, found by halving.
+// The number of the last event before a moment, looked for at several places at once.
 /** @param {string} base @param {number} last @param {number} moment */
 export async function lastBefore(base, last, moment) {
   let low = 0, high = last;
   while (low < high) {
-    const middle = Math.floor((low + high) / 2);
-    const {events} = /** @type {Page} */ (await read(`${base}/events?after=${middle}`));
-    const first = events.findIndex(event => event.moment >= moment);
-    if (first < 0 && events.length) low = events[events.length - 1].number;
-    else if (first === 0 || !events.length) high = middle;
-    else return middle + first;
+    const places = new Set(Array.from({length: SEVERAL}, (_, part) => low + Math.floor((high - low) * part / SEVERAL)));
+    const pages = await Promise.all([...places].map(async after => ({after, page: /** @type {Page} */ (await read(`${base}/events?after=${after}`))})));
+    for (const {after, page: {events}} of pages) {
+      const first = events.findIndex(event => event.moment >= moment);
+      if (first > 0) return after + first;
+      if (first === 0 || !events.length) { high = after; break; }
+      low = events[events.length - 1].number;
+    }
   }
   return low;
 }

@@ -17,6 +17,7 @@ declare global {
   type Group = types.Group;
   type GroupLine = types.GroupLine;
   type Limits = types.Limits;
+  type Looked = types.Looked;
   type Line = types.Line;
   type Report = types.Report;
   type Series = types.Series;
@@ -26,7 +27,6 @@ declare global {
   type State = import('./state.js').State;
   type Step = types.Step;
   type Sums = types.Sums;
-  type Tile = types.Tile;
   type Agents = types.Agents;
   type Share = types.Share;
   type Follower = types.Follower;

@@ -1,30 +1,29 @@
 // The board: follows a desk, counts its day, and draws the view that is looked at.
-// @ts-check
 import {Lead} from './act.js';
 import {alarms} from './alarms.js';
 import {save} from './csv.js';
-import {byId, make, mark, put, toggle} from './draw.js';
+import {byId, choose, drawStatus, make, mark, put, toggle} from './draw.js';
 import {Day} from './day.js';
 import {Feed, history, lastBefore, read} from './feed.js';
 import {fault, office} from './office.js';
 import {callLines, groupLines, totals} from './reckon.js';
 import {logIn, logOut, openSession} from './session.js';
-import {dayBegin, FIELDS, FILTERS, greatestLimit, limitsOf, ownOf, searchOf, settingsOf, valueOf} from './settings.js';
+import {dayBegin, FIELDS, FILTERS, greatestLimit, ownOf, searchOf, settingsOf, valueOf} from './settings.js';
+import {soundWhere} from './sound.js';
 import {State} from './state.js';
-import {clock, timeOfDay, translate, word, zoneOf} from './words.js';
+import {clock, translate, word} from './words.js';
 import * as agents from './views/agents.js';
 import * as alarmsView from './views/alarms.js';
 import * as calls from './views/calls.js';
 import * as day from './views/day.js';
 import * as events from './views/events.js';
-import {choose} from './views/groups.js';
 import * as queues from './views/queues.js';
 import * as totalsView from './views/totals.js';
 import * as wall from './views/wall.js';
 
 /** @type {Record<string, View>} */
 const VIEWS = {wall, queues, agents, calls, day, events};
-const OLD = 5000, GREY = 10000, RENEW = 30000, RECENT = 4000, ASKING = 8;
+const OLD = 5000, RENEW = 30000, RECENT = 4000, ASKING = 8;
 
 const usual = settingsOf(Object.entries(office.limits)), settings = settingsOf(new URLSearchParams(location.search), usual), lead = new Lead();
 // an address may have a name and password in it, and what is asked for relative to that is refused
@@ -84,7 +83,7 @@ const feed = new Feed(base, RENEW, {
     }
     if (what.kind === 'lost' && what.status === 401) logIn();   // a session that has ended
     told = what;
-    drawStatus();
+    drawTop();
     schedule();
   },
   clock(milliseconds) { offset = Math.abs(milliseconds - offset) > 2000 ? milliseconds : offset + (milliseconds - offset) / 8; },
@@ -93,7 +92,7 @@ const feed = new Feed(base, RENEW, {
 });
 
 /** @param {number} begin */
-const newDay = begin => new Day(begin, group => limitsOf(settings, group).limit, ownOf(settings));
+const newDay = begin => new Day(begin, group => settings[`limit.${group}`] ?? settings.limit, ownOf(settings));
 
 // Behind which event a day begins, with those before it that tell since when calls wait.
 /** @param {Day} of */
@@ -172,30 +171,23 @@ function empty(text) {
 /** @param {boolean} anew whether all may have changed */
 function draw(anew) {
   if (state.last === 0 && state.groups.size === 0) return told.kind === 'live' ? empty(word('empty.plan')) : undefined;
-  const moment = now(), lines = groupLines(state, counting, settings, moment);
+  const looked = {state, day: counting, settings, now: now()}, lines = groupLines(looked);
   if (lines.length && !lines.some(line => line.id === settings.group)) settings.group = '';   // it is none of the own ones any more
-  drawn = {state, day: counting, counted, settings, now: moment, recent, lines, all: totals(state, counting, lines, settings, moment), past, learn, empty, lead};
+  drawn = {...looked, counted, recent, lines, all: totals(looked, lines), past, learn, empty, lead};
   empty(!state.groups.size ? word('empty.plan') : !lines.length ? word('empty.groups') : '');
   choose(field('group'), lines, settings.group);
-  if (told.kind === 'live') unseen = alarmsView.draw(state, alarms(state, lines, counted, moment, serverClock()), settings, moment, view === 'wall');
+  if (told.kind === 'live') unseen = alarmsView.draw(drawn, alarms(drawn, serverClock()), view === 'wall');
   totalsView.draw(drawn);
   VIEWS[view].draw(drawn, anew);
-  if (counted && dayBegin(settings.since, moment, office.zone) !== counting.begin && told.kind === 'live') count();   // another day has begun
+  if (counted && dayBegin(settings.since, looked.now, office.zone) !== counting.begin && told.kind === 'live') count();   // another day has begun
 }
 
-function drawStatus() {
-  const age = Date.now() - answered, late = told.kind === 'live' && age > OLD, lost = told.kind === 'lost', old = word('status.age', {clock: clock(age / 1000)}), why = 'why' in told ? told.why : '';
-  // what changes each second stands beside what a screen reader is told
-  put(byId('status-text'), lost ? word(answered ? 'status.old' : 'status.none', {why}) : late ? word('status.late') : told.kind === 'live' ? word(counted ? 'status.live' : 'status.counting') : word(`status.${told.kind}`));
-  put(byId('status-age'), late || (lost && answered) ? old : told.kind === 'live' && !counted ? `${Math.floor(100 * share)} %` : '');
-  mark(byId('status'), 'data-kind', late ? 'late' : told.kind);
-  toggle(document.body, 'data-old', lost && age > GREY);
+function drawTop() {
+  const age = Date.now() - answered, lost = told.kind === 'lost', why = 'why' in told ? told.why : '';
+  drawStatus(told.kind === 'live' && age > OLD ? 'late' : told.kind, answered, why, serverClock(), counted ? '' : `${Math.floor(100 * share)} %`);
   put(byId('band'), lost ? `■ ${answered ? word('band.old', {clock: clock(age / 1000)}) : word('status.none', {why})}` : '');
   toggle(byId('band'), 'hidden', !lost);
-  const [time, zone] = byId('clock').children;
-  put(time, timeOfDay(serverClock()));
-  put(zone, zoneOf(serverClock()));
-  document.title = `${lost ? `■ ${word('title.lost')} – ` : unseen ? `■ ${word('title.alarms', {n: unseen})} – ` : ''}${settings.title || office.title || word('title')}: ${word(`view.${view}`)}`;
+  document.title = `${lost ? `■ ${word('title.lost')} – ` : unseen ? `■ ${word('title.alarms', {n: unseen})} – ` : ''}${settings.title || office.title || word('title.usual')}: ${word(`view.${view}`)}`;
 }
 
 function show() {
@@ -204,7 +196,7 @@ function show() {
   mark(document.body, 'data-view', view);
   for (const part of document.querySelectorAll('[data-for]')) toggle(part, 'hidden', !part.getAttribute('data-for')?.split(' ').includes(view));
   for (const link of document.querySelectorAll('nav a')) if (link.getAttribute('href') === `#${view}`) mark(link, 'aria-current', 'page'); else link.removeAttribute('aria-current');
-  drawStatus();
+  drawTop();
   draw(true);
 }
 
@@ -215,11 +207,12 @@ const field = name => form.elements.namedItem(name) ?? filters.querySelector(`[n
 // What has been set is written into the fields and the address.
 function useSettings() {
   mark(document.documentElement, 'data-theme', settings.theme);
-  put(byId('title'), settings.title || office.title || word('title'));
+  put(byId('title'), settings.title || office.title || word('title.usual'));
   for (const [name, value] of Object.entries(settings)) {
     const one = field(name);
     if (one?.type === 'checkbox') one.checked = Boolean(value);
-    else if (one && document.activeElement !== one) one.value = value;
+    // a field of times takes no day that begins at a moment
+    else if (one && document.activeElement !== one) one.value = one.type !== 'time' ? value : String(value).includes(':') ? String(value).padStart(5, '0') : '';
   }
   window.history.replaceState(null, '', location.pathname + searchOf(settings, usual) + location.hash);
 }
@@ -233,10 +226,20 @@ function filter({toggle: one, ...wanted}, hash) {
   if (hash && hash !== view) location.hash = hash; else draw(true);
 }
 
-form.prepend(...FIELDS.map(([name, kind = 'text', ...choices]) => {
-  const one = choices.length ? make('select', {name}, ...[kind, ...choices].map(choice => new Option(word(`set.${name}.${choice}`), choice))) : make('input', {name, type: ['s', 'percent'].includes(kind) ? 'number' : kind, min: '1'});
-  return make('label', {}, make('span', {}, word(`set.${name}`)), make('span', {}, one, ['s', 'percent'].includes(kind) ? ` ${word(`unit.${kind}`)}` : ''));
+/** @param {string[]} setting */
+function labelled([name, kind = 'text', ...choices]) {
+  const isNumber = ['s', 'percent'].includes(kind), options = ['', ...choices].map(choice => new Option(word(`set.${name}.${choice}`), choice));
+  const one = kind ? make('input', {name, type: isNumber ? 'number' : kind, min: '1', autocomplete: 'off'}) : make('select', {name}, ...options);
+  return make('label', {}, make('span', {}, word(`set.${name}`)), make('span', {}, one, isNumber ? ` ${word(`unit.${kind}`)}` : ''));
+}
+form.prepend(...FIELDS.map(labelled));
+filters.prepend(...FILTERS.map(([views, ...setting]) => {
+  const label = labelled(setting);
+  label.dataset.for = views;
+  label.addEventListener('input', () => filter({[setting[0]]: field(setting[0]).value}));
+  return label;
 }));
+document.querySelector('nav ul')?.append(...Object.keys(VIEWS).map(name => make('li', {}, make('a', {href: `#${name}`}, word(`view.${name}`)))));
 form.addEventListener('change', event => {
   const one = /** @type {any} */ (event.target), before = JSON.stringify(settings), given = one.type === 'checkbox' ? (one.checked ? '1' : '') : one.value;
   one.setCustomValidity(valueOf(one.name, given) === undefined ? word('set.wrong') : '');
@@ -251,15 +254,14 @@ form.addEventListener('change', event => {
   show();
 });
 form.addEventListener('submit', event => event.preventDefault());
-for (const name of FILTERS) field(name)?.addEventListener('input', () => filter({[name]: field(name).value}));
 
 // What a button in a row or a tile asks for.
 /** @param {HTMLElement} button @param {string} key of the row */
 function press(button, key) {
-  const what = button.dataset.press, line = drawn && callLines(state, settings).find(one => String(one.number) === key);
+  const what = button.dataset.press, line = drawn && callLines(drawn).find(one => String(one.number) === key);
   if (what === 'agents') filter({group: key, find: ''}, 'agents');
   if (what === 'calls') filter({group: '', find: button.dataset.call ?? ''}, 'calls');
-  if (what === 'agent') filter({group: '', find: line ? state.agentAt(line.device)?.id ?? line.device : ''}, 'agents');
+  if (what === 'agent') filter({group: '', states: '', find: line ? state.agentAt(line.device)?.id ?? line.device : ''}, 'agents');
   if (what === 'call' && line) lead.ofCall(state, line);
   if (what === 'state') lead.ofAgent(state, key);
   if (what === 'priority') lead.ofGroup(state, key);
@@ -280,11 +282,12 @@ if (fault) {
 }
 agents.begin(() => draw(true), filter);
 alarmsView.begin(() => draw(true));
+soundWhere(() => Boolean(settings.tone));
 calls.begin(() => draw(true));
 addEventListener('hashchange', show);
 addEventListener('resize', () => draw(true));
 document.addEventListener('visibilitychange', () => feed.wake());
-setInterval(() => { drawStatus(); schedule(); }, 1000);
+setInterval(() => { drawTop(); schedule(); }, 1000);
 useSettings();
 show();
 feed.run();

@@ -1,9 +1,7 @@
 // What people ask of the state: who does what, how each group does. No document, no network.
-// @ts-check
-import {order, turn} from './state.js';
+import {doingAt, order, turn} from './state.js';
 import {abandonment, level, occupancy} from './day.js';
 import {limitsOf, ownOf} from './settings.js';
-
 
 // so many percent below its goal a service level is bad; abandonment is at twice its goal
 const FAR = 15;
@@ -11,19 +9,9 @@ const FAR = 15;
 /** @returns {Record<Doing,number>} */
 export const noCounts = () => ({ready: 0, ringing: 0, busy: 0, hold: 0, own: 0, workingAfterCall: 0, notReady: 0, null: 0});
 
-// What an agent does, since when, and for which group.
-/** @param {State} state @param {Agent} agent @returns {{doing:Doing, since:number, group:string|null}} */
-export function doing(state, agent) {
-  let own = null;
-  for (const connection of state.at(agent.station)) {
-    const {since, group} = connection;
-    if (group && connection.state === 'alerting') return {doing: 'ringing', since, group};
-    if (group && connection.state === 'hold') return {doing: 'hold', since, group};
-    if (group) return {doing: 'busy', since: agent.since, group};
-    if (connection.state !== 'fail') own = connection;
-  }
-  return own && agent.state === 'ready' ? {doing: 'own', since: own.since, group: null} : {doing: agent.state, since: agent.since, group: null};
-}
+// What an agent does.
+/** @param {State} state @param {Agent} agent */
+export const doing = (state, agent) => doingAt(agent, state.at(agent.station));
 
 // Since when the call waits that has waited longest in a group, or null.
 /** @param {Group} group */
@@ -31,13 +19,6 @@ function firstQueued(group) {
   let queued = null;
   for (const call of group.waiting) queued = Math.min(queued ?? Infinity, call.queued);
   return queued;
-}
-
-// How long that call has waited, or null.
-/** @param {Group} group @param {number} now */
-export function longestWait(group, now) {
-  const queued = firstQueued(group);
-  return queued === null ? null : Math.max(0, now - queued);
 }
 
 /** @param {number|null} wait @param {{long:number, bad:number}} limits @returns {Severity} */
@@ -59,8 +40,8 @@ function shares(sum, limits, settings) {
 const worst = severities => /** @type {Severity[]} */ (['bad', 'long', 'calm']).find(one => severities.includes(one)) ?? 'none';
 
 // A line for each of the own groups, in their order.
-/** @param {State} state @param {Day} day @param {Settings} settings @param {number} now @returns {GroupLine[]} */
-export function groupLines(state, day, settings, now) {
+/** @param {Looked} looked @returns {GroupLine[]} */
+export function groupLines({state, day, settings, now}) {
   /** @type {Map<string,{counts:Record<Doing,number>, next:Agent|null}>} */ const staff = new Map();
   const own = ownOf(settings), groups = [...state.groups.values()].filter(group => own(group.id)).sort((one, other) => order(one.id, other.id));
   for (const group of groups) staff.set(group.id, {counts: noCounts(), next: null});
@@ -75,7 +56,7 @@ export function groupLines(state, day, settings, now) {
     }
   }
   return groups.map(group => {
-    const queued = firstQueued(group), wait = longestWait(group, now), limits = limitsOf(settings, group.id), {sum} = day.line(group.id);
+    const queued = firstQueued(group), wait = queued === null ? null : Math.max(0, now - queued), limits = limitsOf(settings, group.id), {sum} = day.line(group.id);
     const {counts, next} = /** @type {{counts:Record<Doing,number>, next:Agent|null}} */ (staff.get(group.id));
     return {
       id: group.id, name: group.name || group.id, priority: group.priority, waiting: group.waiting.size, ringing: group.ringing.size, queued, wait, severity: severity(wait, limits), limits,
@@ -85,16 +66,16 @@ export function groupLines(state, day, settings, now) {
 }
 
 // The agents who serve one of the own groups, or did so today; all are where none was chosen.
-/** @param {State} state @param {Day} day @param {Settings} settings */
-export function ownAgents(state, day, settings) {
+/** @param {Looked} looked */
+export function ownAgents({state, day, settings}) {
   const own = ownOf(settings), all = [...state.agents.values()];
   return settings.groups ? all.filter(agent => agent.groups.some(own) || (!agent.groups.length && [...day.agents.get(agent.id)?.groups ?? []].some(own))) : all;
 }
 
 // The same for the own groups together; an agent of several counts once.
-/** @param {State} state @param {Day} day @param {GroupLine[]} lines @param {Settings} settings @param {number} now */
-export function totals(state, day, lines, settings, now) {
-  const counts = noCounts(), agents = ownAgents(state, day, settings), {sum} = day.all;
+/** @param {Looked} looked @param {GroupLine[]} lines */
+export function totals(looked, lines) {
+  const {state, day, settings, now} = looked, counts = noCounts(), agents = ownAgents(looked), {sum} = day.all;
   for (const agent of agents) counts[doing(state, agent).doing]++;
   const waits = lines.flatMap(line => line.wait === null ? [] : [line.wait]);
   return {
@@ -105,8 +86,8 @@ export function totals(state, day, lines, settings, now) {
 }
 
 // The live calls of the own groups, or all where none was chosen: those that wait first, the longest first.
-/** @param {State} state @param {Settings} settings @returns {CallLine[]} */
-export function callLines(state, settings) {
+/** @param {Looked} looked @returns {CallLine[]} */
+export function callLines({state, settings}) {
   const own = ownOf(settings), found = [...state.calls.values()].map(call => {
     /** @type {CallLine} */ let line = {number: call.number, state: 'none', since: call.since, group: null, device: '', caller: call.caller, begun: call.since, rank: 9};
     for (const connection of call.connections.values()) {
@@ -117,6 +98,13 @@ export function callLines(state, settings) {
     return line;
   });
   return found.filter(line => !settings.groups || own(line.group ?? '')).sort((one, other) => one.rank - other.rank || one.since - other.since || one.number - other.number);
+}
+
+// What is looked for: the line whose number that is, the first of its texts, or else all that have it in their texts.
+/** @template T @param {T[]} lines @param {string} find @param {(line:T) => string[]} texts */
+export function search(lines, find, texts) {
+  const text = find.trim().toLowerCase(), exact = text ? lines.filter(line => texts(line)[0] === text) : lines;
+  return exact.length ? exact : lines.filter(line => texts(line).join(' ').toLowerCase().includes(text));
 }
 
 /** @type {Record<ConnectionState, number>} */

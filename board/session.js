@@ -1,7 +1,7 @@
 // Who is logged in, and the session of a browser: that it is used, and that it ends.
-// @ts-check
 import {byId, toggle} from './draw.js';
 import {read} from './feed.js';
+import {sleep} from './net.js';
 
 const USED_EVERY = 60000, AGAIN = 5000, base = location.origin;
 
@@ -22,7 +22,7 @@ export async function openSession(leave, late) {
     const {status, message} = /** @type {any} */ (error);
     if ([401, 403, 404].includes(status)) return {};
     late?.(message);
-    await new Promise(done => setTimeout(done, AGAIN));
+    await sleep(AGAIN);
   }
   if (!who.begun) return who;
   let used = 0;

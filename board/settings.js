@@ -1,5 +1,4 @@
 // The settings of a board stand in its address, so that a board is a bookmark; what isn't there is as the office says, or as here. No document, no network.
-// @ts-check
 
 // limit, goal: of the service level, in seconds and percent; lost: the goal of abandonment, in percent; long, bad: from how many seconds on a wait is long, and too long.
 // Each of these may be a group's own: `long.100`.
@@ -9,12 +8,13 @@ const LIMITS = {limit: 20, goal: 80, lost: 5, long: 60, bad: 120};
 const AGENTS = {ringing: 15, busy: 900, hold: 120, own: 600, workingAfterCall: 180, notReady: 900};
 // groups: one's own; level: `answered` leaves those who gave up out of the service level; tone, notify: how alarms make themselves noticed; group, find, states, sort: filters; day: what stands beside today
 const TEXTS = {title: '', lang: '', since: '00:00', theme: '', groups: '', level: '', tone: '', notify: '', group: '', find: '', states: '', sort: '', beside: ''};
-// what a form has: each setting, and its kind, unit or choices
+// what a form has: each setting, and its kind or unit, or '' and the other choices
 /** @type {[string, ...string[]][]} */
 export const FIELDS = [
   ['title'], ['groups'], ['limit', 's'], ['goal', 'percent'], ['level', '', 'answered'], ['lost', 'percent'], ['long', 's'], ['bad', 's'], ['notReady', 's'], ['since', 'time'], ['lang', '', 'en', 'de'], ['theme', '', 'dark', 'light'], ['tone', 'checkbox'], ['notify', 'checkbox'],
 ];
-export const FILTERS = ['group', 'find', 'states', 'sort', 'beside'];
+// the filters of views: which ones have it, and the same
+export const FILTERS = [['agents calls day events', 'group', ''], ['agents calls', 'find', 'search'], ['agents', 'sort', '', 'name', 'state', 'time'], ['day', 'beside', '', '1', '7']];
 
 /** @typedef {typeof LIMITS & typeof AGENTS & typeof TEXTS & {[ofGroup:`${string}.${string}`]: number}} Settings */
 

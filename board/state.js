@@ -1,6 +1,5 @@
 // What the desk's switch holds: begun by a snapshot, or by nothing before the first event, and carried on by event reports.
 // It has no document and no network, so that node runs the same file as a browser.
-// @ts-check
 
 
 // A snapshot ranks by stamps, of at most 1000000000. Less this they come before all numbers of events, which rank what follows.
@@ -18,6 +17,14 @@ export function order(one, other) { return one.length - other.length || (one < o
 // The order in which two ready agents get calls.
 /** @param {Agent} one @param {Agent} other */
 export function turn(one, other) { return one.rank - other.rank || order(one.id, other.id); }
+
+// What an agent does, since when, and for which group: by the own state, and the connections at the station.
+/** @param {{state:AgentState, since:number}} agent @param {{state:ConnectionState, since:number, group?:string|null}[]} here @returns {{doing:Doing, since:number, group:string|null}} */
+export function doingAt({state, since}, here) {
+  const given = here.find(({group}) => group), own = here.find(one => one.state !== 'fail'), group = given?.group ?? null;
+  if (given) return given.state === 'alerting' ? {doing: 'ringing', since: given.since, group} : given.state === 'hold' ? {doing: 'hold', since: given.since, group} : {doing: 'busy', since, group};
+  return own && state === 'ready' ? {doing: 'own', since: own.since, group} : {doing: state, since, group};
+}
 
 export class State {
   /** @param {Snapshot} [snapshot] @param {State} [before] what was known until now: since when connections are as they are, which no snapshot tells */
@@ -68,6 +75,10 @@ export class State {
     }
     return group;
   }
+
+  // What a group is called, or else another device.
+  /** @param {string} id @param {string} [other] */
+  nameOf(id, other) { return this.groups.get(id)?.name || other || id; }
 
   /** @param {string} id */
   station(id) {

@@ -67,8 +67,6 @@ export type Column = {head: string, about?: string, text: (line: any) => string 
   kind?: 'words' | 'state' | 'name' | 'mid' | 'name mid' | 'filed', wide?: boolean, least?: boolean};
 /** look: first, second or third, by which the style tells them apart, with colour and without */
 export type Series = {name: string, look: string, bar?: (step: any) => number, line?: (step: any) => number | null};
-/** What is shown of an agent. */
-export type Tile = {tile: HTMLElement, name: Element, sign: Element, words: Element, time: Element, place: Element, calls: Element, act: Element, seen: boolean};
 
 // who follows a desk: how it goes, a snapshot to begin with, what happens then, and the agents that have to be asked for
 
@@ -77,6 +75,8 @@ export type Follower = {tell: (course: Course) => void, begin: (snapshot: Snapsh
   unknown: () => Iterable<string>, learn: (agent: any) => void, clock: (offset: number) => void};
 
 // what a view draws
+/** what all is reckoned from */
+export type Looked = {state: import('./state.js').State, day: import('./day.js').Day, settings: import('./settings.js').Settings, now: number};
 /** counted: whether the day's events have been read; all: the own groups together; lines: one for each; past: another day, so many days before; learn: reads who calls; empty: says why nothing is shown */
-export type Drawn = {state: import('./state.js').State, day: import('./day.js').Day, counted: boolean, settings: import('./settings.js').Settings, now: number, recent: Report[], lines: GroupLine[],
+export type Drawn = Looked & {counted: boolean, recent: Report[], lines: GroupLine[],
   all: ReturnType<typeof import('./reckon.js').totals>, past: (back: number) => import('./day.js').Day | undefined, learn: (calls: number[]) => void, empty: (text: string) => void, lead: import('./act.js').Lead};

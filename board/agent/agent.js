@@ -1,18 +1,17 @@
 // An agent's own page: what the agent is and may do now, the calls at the station, what rings, and the day.
-/// <reference path="types.d.ts" />
-// @ts-check
-import {byId, make, mark, put, Table, toggle} from '../draw.js';
+import {byId, drawStatus, make, mark, plain, put, Table, toggle, withNumber} from '../draw.js';
 import {office} from '../office.js';
 import {logIn, logOut, openSession} from '../session.js';
-import {clock, DOING, named, number, PENDING, refusal, timeOfDay, translate, word, zoneOf} from '../words.js';
+import {isHeard, soundWhere, tone} from '../sound.js';
+import {clock, DOING, named, PENDING, refusal, timeOfDay, translate, word} from '../words.js';
 import {callsBy, drawCalls, joined, KEYS, say} from './calls.js';
 import * as logOn from './log-on.js';
 import {doing, isFree, isOverdue, meant, placesOf, sideOf, STATES, states, wrapLeft} from './mine.js';
 import {Requests} from './requests.js';
-import {beat, isHeard, ring, tone} from './ring.js';
+import {beat, ring} from './ring.js';
 
-// milliseconds: until what is seen is late, is old, what was done goes, what was refused goes, a click is no second one
-const OLD = 6000, GREY = 10000, FLEETING = 5000, REFUSED = 30000, SECOND = 400;
+// milliseconds: until what is seen is late, what was done goes, what was refused goes, a click is no second one
+const OLD = 6000, FLEETING = 5000, REFUSED = 30000, SECOND = 400;
 
 const base = location.origin;
 let id = new URLSearchParams(location.search).get('agent') ?? '', acts = false, leaves = false, begun = false;
@@ -33,7 +32,7 @@ const now = () => (Math.min(Date.now(), known + OLD) + offset) / 1000;
 /** @type {Namer} */
 const groupName = device => named(office.names.groups[device] ?? names.groups.find(group => group.device === device)?.name ?? device);
 /** @param {Place} place */
-const placeName = ({to, name}) => name ? `${named(name)} (${to})` : to;
+const placeName = ({to, name}) => withNumber({id: to, name});
 /** @type {Namer} */
 const callerName = device => placeName(places.places.find(({to}) => to === device) ?? {to: device, name: ''});
 
@@ -159,23 +158,13 @@ function takeNames(told) {
   byId('destinations').replaceChildren(...places.places.map(({to, name}) => new Option(name || say('station'), to)));
 }
 
-function drawStatus() {
-  const kind = !known ? 'begins' : lost || !mine?.live ? 'lost' : age() > OLD ? 'late' : 'live';
-  const why = lost?.status ? refusal(lost.status, lost.text) : word(lost ? `lost.${lost.text}` : 'error.gatewayTimeout');
-  mark(byId('status'), 'data-kind', kind);
-  write('status-text', kind === 'lost' || (lost && !known) ? word(known ? 'status.old' : 'status.none', {why}) : word(`status.${kind}`));
-  // beside the live region, which would else be read each second
-  write('status-age', kind === 'lost' || kind === 'late' ? word('status.age', {clock: clock(age() / 1000)}) : '');
-  toggle(document.body, 'data-old', known > 0 && age() > GREY);
-  if (known) write('clock', `${timeOfDay((Date.now() + offset) / 1000)} ${zoneOf(Date.now() / 1000)}`);
-}
-
 function draw() {
-  drawStatus();
+  const why = lost?.status ? refusal(lost.status, lost.text) : word(lost ? `lost.${lost.text}` : 'error.gatewayTimeout');
+  drawStatus(lost || (mine && !mine.live) ? 'lost' : !known ? 'begins' : age() > OLD ? 'late' : 'live', known, why, (Date.now() + offset) / 1000);
   if (!mine) return;
   const {agent} = mine, moment = now(), isLiving = isLive(), may = acts && isLiving ? states(mine) : new Set(), isOn = Boolean(agent.device);
-  const offer = isLiving ? offerOf(mine, moment) : undefined, {does, since} = doing(mine), left = wrapLeft(mine, moment);
-  write('name', `${named(office.names.agents[id] ?? agent.name ?? '')} (${id})`);
+  const offer = isLiving ? offerOf(mine, moment) : undefined, {doing: does, since} = doing(mine), left = wrapLeft(mine, moment);
+  write('name', withNumber({id, name: office.names.agents[id] ?? agent.name ?? ''}));
   for (const button of byId('states').children) button.disabled = !may.has(button.dataset.requested) || requests.out.has(button.dataset.requested);
   for (const part of ['at-station', 'own-queues']) hide(part, !isOn);
   hide('states', !isOn || !acts);
@@ -191,7 +180,7 @@ function draw() {
   document.title = offer ? `◆ ${offer.title}` : `${isLiving ? DOING[does].sign : '▲'} ${agent.name ?? id}`;
   drawCalls({mine, now: moment, acts: acts && isLiving, off: requests.out, who: callerName, group: groupName});
   hide('no-calls', mine.calls.length > 0);
-  queues.draw(mine.groups.map(queue => ({key: queue.device, queue, moment})), true);
+  queues.draw(mine.groups.map(queue => ({key: queue.device, queue, moment})));
   drawDay(mine, moment);
   drawNotices(mine, moment);
   if (leaves && isLiving && !isOn) end();
@@ -201,15 +190,14 @@ function draw() {
 const offerOf = (mine, moment) => {
   for (const call of mine.calls) {
     const side = sideOf(mine, call);
-    // a title has no isolates
-    if (side?.state === 'alerting') return {key: `${call.call} ${side.since}`, title: `${call.caller ? callerName(call.caller) : '…'} ${side.group ? groupName(side.group) : ''}`.replace(/[\u2068\u2069]/g, '').trim(),
+    if (side?.state === 'alerting') return {key: `${call.call} ${side.since}`, title: plain(`${call.caller ? callerName(call.caller) : '…'} ${side.group ? groupName(side.group) : ''}`).trim(),
       words: side.group && call.queued ? say('hasWaited', {clock: clock(moment - call.queued)}) : ''};
   }
 };
 
 const queues = new Table(byId('queues'), [
   {head: 'head.group', kind: 'words', text: ({queue}) => `${groupName(queue.device)} (${queue.device})`},
-  {head: 'head.waiting', text: ({queue}) => number(queue.calls.length)},
+  {head: 'head.waiting', text: ({queue}) => queue.calls.length},
   {head: 'head.longest', text: ({queue, moment}) => queue.calls.length ? clock(moment - Math.min(.../** @type {OwnQueue} */ (queue).calls.map(({queued = moment}) => queued))) : '–'},
   {head: 'head.ready', text: ({queue}) => say('of', {n: queue.ready, all: queue.loggedOn})},
 ]);
@@ -227,7 +215,7 @@ const drawDay = ({agent: {state, since = 0}, day}, moment) => {
   const talking = day.talking + (state === 'busy' ? Math.max(0, moment - Math.max(since, day.begins)) : 0);
   write('day-sums', joined(say('day.calls', {n: day.answered}), day.answered && say('day.average', {clock: clock(talking / day.answered)}), day.missed && say('day.missed', {n: day.missed})));
   hide('day', !day.calls.length);
-  lastCalls.draw(day.calls.map(call => ({key: `${call.call} ${call.moment}`, call})).reverse(), true);
+  lastCalls.draw(day.calls.map(call => ({key: `${call.call} ${call.moment}`, call})).reverse());
 };
 
 const missedKey = () => `${mine?.missed?.call} ${mine?.missed?.since}`;
@@ -280,6 +268,7 @@ function listen() {
     if (!event.repeat) [...byId('calls').querySelectorAll(`[data-service=${KEYS[event.key]}]`)].find(button => !button.hidden)?.click();
   });
   byId('tone').checked = localStorage['acd-tone'] !== 'off';
+  soundWhere(() => byId('tone').checked);
   byId('tone').addEventListener('change', () => {
     localStorage['acd-tone'] = byId('tone').checked ? 'on' : 'off';
     if (byId('tone').checked) tone();
@@ -310,7 +299,7 @@ async function begin() {
   if (who.why) return refuse(`${login}: ${who.why}`);
   if (!id) return notice('nobody', say('noNumber', {login})).append(make('a', {href: '../'}, say('board')));
   if (!acts) notice('looks', say('looks', {login, number: id}));
-  requests = new Requests(`${base}/csta`, id, who.login ?? '', {isLive, logOn: () => mine?.agent.logOn ?? null, tell, ask: askAbout});
+  requests = new Requests(id, who.login ?? '', {isLive, logOn: () => mine?.agent.logOn ?? null, tell, ask: askAbout});
   const worker = new Worker(new URL('listening.js', import.meta.url), {type: 'module'});
   worker.onmessage = ({data}) => hear(data);
   worker.postMessage(`${base}/mine?agent=${id}`);

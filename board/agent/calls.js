@@ -1,6 +1,5 @@
 // The calls at the own station: who calls, and what can be done now.
-// @ts-check
-import {byId, make, mark, put, toggle} from '../draw.js';
+import {byId, Keyed, make, mark, put, toggle} from '../draw.js';
 import {clock, CONNECTION, word} from '../words.js';
 import {ringLeft, services, sideOf} from './mine.js';
 
@@ -16,8 +15,7 @@ export const say = (key, values) => word(`agent.${key}`, values);
 /** @param {...unknown} parts */
 export const joined = (...parts) => parts.filter(Boolean).join(' · ');
 
-/** @type {Map<number, Card>} */ const cards = new Map();
-const list = byId('calls');
+const list = byId('calls'), cards = new Keyed(list, card);
 /** @type {Act} */ let ask = () => {};
 
 // What a button asks for.
@@ -26,19 +24,18 @@ export function callsBy(act) { ask = act; }
 
 /** @param {DrawnCalls} drawn */
 export function drawCalls(drawn) {
-  const had = list.contains(document.activeElement);
-  for (const [number, {card}] of cards) if (!drawn.mine.calls.some(({call}) => call === number)) { card.remove(); cards.delete(number); }
-  for (const call of drawn.mine.calls) drawCall(call, cards.get(call.call) ?? add(call.call), drawn);
+  const had = list.contains(document.activeElement), {calls} = drawn.mine;
+  cards.show(calls.map(({call}) => `${call}`), false).forEach((card, place) => drawCall(calls[place], card, drawn));
   // a button that goes doesn't send the focus to the page's begin
   if (had && !/** @type {any} */ (document.activeElement)?.offsetParent) (list.querySelector('li') ?? list).focus();
 }
 
 /** @param {OwnCall} call @param {Card} card @param {DrawnCalls} drawn */
-function drawCall(call, {card, line, number, about, to, buttons}, {mine, now, acts, off, who, group}) {
+function drawCall(call, {element, line, number, about, to, buttons}, {mine, now, acts, off, who, group}) {
   const here = sideOf(mine, call);
   if (!here) return;
   const may = acts ? services(mine, call) : new Set(), own = call.caller === here.device, other = own ? call.called : call.caller, left = ringLeft(mine, here, now) ?? 0;
-  mark(card, 'data-state', here.state);
+  mark(element, 'data-state', here.state);
   put(line, `${CONNECTION[here.state].sign} ${CONNECTION[here.state].words} ${clock(now - here.since)} · ${here.group ? group(here.group) : say(own ? 'byYou' : 'direct')}`);
   put(number, other ? who(other) : '…');
   put(about, joined(call.queued && here.state === 'alerting' && say('hasWaited', {clock: clock(now - call.queued)}), left > 0 && say('ringsFor', {clock: clock(left)}), say('call', {number: `${call.call}`})));
@@ -50,21 +47,18 @@ function drawCall(call, {card, line, number, about, to, buttons}, {mine, now, ac
   toggle(to, 'hidden', !may.has('singleStepTransfer') && !may.has('deflectCall'));
 }
 
-/** @param {number} call */
-function add(call) {
+/** @param {string} call @returns {Card} */
+function card(call) {
   const [line, number, about] = ['line', 'number', 'soft'].map(kind => make('p', {class: kind}));
   const to = /** @type {HTMLInputElement} */ (make('input', {list: 'destinations', 'aria-label': say('to'), placeholder: say('to'), autocomplete: 'off', spellcheck: 'false'}));
   const all = SERVICES.map(service => {
     const key = Object.keys(KEYS).find(key => KEYS[key] === service), button = /** @type {HTMLButtonElement} */ (make('button', {type: 'button', 'data-service': service}, say(service)));
     if (key) button.append(' ', make('kbd', {}, key));
     if (service === 'rejectCall') button.title = say('rejectCall.about');
-    button.addEventListener('click', () => ask(service, call, to));
+    button.addEventListener('click', () => ask(service, Number(call), to));
     return button;
   });
   to.addEventListener('keydown', event => { if (event.key === 'Enter') all.slice(5, 7).find(button => !button.hidden)?.click(); });
-  const card = make('li', {tabindex: '-1'}, line, number, about, make('div', {class: 'buttons'}, ...all.slice(0, 5), to, ...all.slice(5)));
-  list.append(card);
-  const made = {card, line, number, about, to, buttons: new Map(SERVICES.map((service, place) => [service, all[place]]))};
-  cards.set(call, made);
-  return made;
+  const element = make('li', {tabindex: '-1'}, line, number, about, make('div', {class: 'buttons'}, ...all.slice(0, 5), to, ...all.slice(5)));
+  return {element, line, number, about, to, buttons: new Map(SERVICES.map((service, place) => [service, all[place]]))};
 }

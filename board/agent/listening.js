@@ -1,5 +1,5 @@
 // Asks the gate what is new of an agent's own. It is a worker, since a browser slows down the clock of a page that isn't seen.
-// @ts-check
+import {ask, sleep} from '../net.js';
 
 // seconds: for which the gate may hold a question, so that a lost connection is seen soon; without an answer; between two beats, beyond which the machine slept
 const HOLD = 4, PATIENCE = 9, SLEPT = 5, LONGEST_PAUSE = 5;
@@ -7,27 +7,25 @@ let after = 0, names = 0, losses = 0, beaten = Date.now(), giving = new AbortCon
 
 /** @param {Heard} heard */
 const tell = heard => postMessage(heard);
-const sleep = (/** @type {number} */ seconds) => new Promise(done => setTimeout(done, 1000 * seconds));
 
 /** @param {string} address */
-async function ask(address) {
+async function listen(address) {
   giving = new AbortController();
-  const timer = setTimeout(() => giving.abort(), 1000 * PATIENCE);
   try {
-    const reply = await fetch(`${address}&after=${after}&names=${names}&hold=${HOLD}`, {signal: giving.signal, cache: 'no-store'});
-    if (!reply.ok) return lose(reply.status, await reply.text());
-    const mine = await reply.json();
+    const {status, text, date, received} = await ask(`${address}&after=${after}&names=${names}&hold=${HOLD}`, {}, 1000 * PATIENCE, giving);
+    if (status !== 200) return lose(status, text);
+    const mine = JSON.parse(text);
     after = mine.number;
     names = mine.names?.number ?? names;
     losses = 0;
-    tell({kind: 'told', mine, date: Date.parse(reply.headers.get('date') ?? ''), received: Date.now()});
-  } catch { return lose(0, giving.signal.aborted ? 'silent' : 'server'); } finally { clearTimeout(timer); }
+    tell({kind: 'told', mine, date, received});
+  } catch (error) { return lose(0, /** @type {Error} */ (error).message); }
 }
 
 /** @param {number} status @param {string} text */
 function lose(status, text) {
   tell({kind: 'lost', status, text});
-  return sleep(Math.min(LONGEST_PAUSE, 2 ** losses++) * (0.75 + Math.random() / 2));
+  return sleep(1000 * Math.min(LONGEST_PAUSE, 2 ** losses++) * (0.75 + Math.random() / 2));
 }
 
 setInterval(() => {
@@ -36,4 +34,4 @@ setInterval(() => {
   tell({kind: 'beat'});
 }, 1000);
 
-onmessage = async ({data}) => { for (;;) await ask(data); };
+onmessage = async ({data}) => { for (;;) await listen(data); };

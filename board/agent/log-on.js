@@ -1,6 +1,5 @@
 // Where and for which groups an agent logs on: chosen, or as the last time, which the browser keeps.
-// @ts-check
-import {byId, make, put, toggle} from '../draw.js';
+import {byId, make, put, toggle, withNumber} from '../draw.js';
 import {office} from '../office.js';
 import {order} from '../state.js';
 import {named} from '../words.js';
@@ -40,7 +39,7 @@ export function offer(names, who, agent) {
   if (!before) form.elements.station.value = query.get('station') ?? last()?.device ?? '';
   byId('groups').replaceChildren(...[...groups].map(([device, name]) => {
     const words = make('span');
-    put(words, `${named(name)} (${device})`);
+    put(words, withNumber({id: device, name}));
     return make('label', {}, make('input', {type: 'checkbox', value: device, ...(wanted.includes(device) && {checked: ''})}), words);
   }));
 }

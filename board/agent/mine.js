@@ -1,5 +1,5 @@
 // What an agent's own tells and allows: states, calls, where calls can go. No document, no network.
-// @ts-check
+import {doingAt} from '../state.js';
 
 // a tick comes each ten seconds, so what is this many seconds overdue nobody ends
 const GRACE = 25, MOST = 8;
@@ -35,13 +35,8 @@ export const services = (mine, call) => {
   return new Set(/** @type {Service[]} */ ([...own, state === 'alerting' && here.group ? 'rejectCall' : 'clearConnection']));
 };
 
-// What an agent does, and since when.
-/** @type {OfMine<{does:import('../types').Doing, since:number}>} */
-export const doing = mine => {
-  const {state = 'null', since = 0} = mine.agent, here = sides(mine), given = here.find(({group}) => group), own = here.find(side => side.state !== 'fail');
-  if (given) return given.state === 'alerting' ? {does: 'ringing', since: given.since} : given.state === 'hold' ? {does: 'hold', since: given.since} : {does: 'busy', since};
-  return own && state === 'ready' ? {does: 'own', since: own.since} : {does: state, since};
-};
+/** @type {OfMine<ReturnType<typeof doingAt>>} */
+export const doing = mine => doingAt({state: 'null', since: 0, ...mine.agent}, sides(mine));
 
 // The seconds for which a call rings yet, or null where no tick ends it.
 /** @param {Mine} mine @param {Side} side @param {number} now */

@@ -1,14 +1,12 @@
 // Sends requests one after the other, each until it is answered. One that isn't is kept in the browser and sent again, the same bytes, so that it acts once: for a minute, in
 // the same log-on. Behind that it is asked about, since nobody may want any more what was clicked then.
-// @ts-check
+import {post, requesterOf, sleep} from '../net.js';
 import {refusal, word} from '../words.js';
 
-// milliseconds: until a try is given up, between two at most, of all tries, by which a clock may go back, until what was done is told, in which a click is a second one
-const PATIENCE = 10000, LONGEST_PAUSE = 5000, FRESH = 60000, BACK = 5000, SETTLES = 300, TWICE = 3000;
+// milliseconds: between two tries at most, of all tries, by which a clock may go back, until what was done is told, in which a click is a second one
+const LONGEST_PAUSE = 5000, FRESH = 60000, BACK = 5000, SETTLES = 300, TWICE = 3000;
 // what a second click is refused by, behind a first one that was granted
 const SECOND = ['wrongConnectionState', 'unknownConnection', 'unknownCall', 'wrongAgentState'];
-
-const sleep = (/** @type {number} */ milliseconds) => new Promise(done => setTimeout(done, milliseconds));
 
 export class Requests {
   invoke = 0;
@@ -17,13 +15,11 @@ export class Requests {
   /** @type {Set<string>} */ out = new Set();
   /** @type {Map<string, number>} */ granted = new Map();
 
-  /** @param {string} address @param {string} agent @param {string} owner whom the gate knows by the requester @param {Asking} page */
-  constructor(address, agent, owner, page) {
-    this.address = address;
+  /** @param {string} agent @param {string} login whom the gate knows by the requester @param {Asking} page */
+  constructor(agent, login, page) {
     this.place = `acd-unanswered-${agent} `;
     this.page = page;
-    // no other page has it: with an old page's, a count from 1 would get kept replies and do nothing
-    this.requester = `${owner}-${crypto.randomUUID().replaceAll('-', '').slice(-16)}`;
+    this.requester = requesterOf(login);
   }
 
   // What an earlier load of the page kept, in its order.
@@ -60,7 +56,7 @@ export class Requests {
   async deliver(place, one) {
     for (let times = 0; this.isFresh(one); times++) {
       if (!times) this.page.tell({kind: 'sent', words: one.words});
-      const reply = await this.post(one.body);
+      const reply = await post(one.body);
       if (reply) {
         localStorage.removeItem(place);
         return this.answered(one, reply.status, reply.text);
@@ -85,15 +81,5 @@ export class Requests {
       return this.page.tell({kind: 'done', words, key, result: JSON.parse(text).result});
     }
     if (Date.now() - (this.granted.get(key) ?? 0) > TWICE || !SECOND.some(name => text.includes(`"${name}"`))) this.page.tell({kind: 'refused', key, words: `${words}: ${refusal(status, text)}`});
-  }
-
-  // The reply, or nothing where it says no more than that none came: the proxy's, or that memory or the store failed.
-  /** @param {string} body */
-  async post(body) {
-    const giving = new AbortController(), timer = setTimeout(() => giving.abort(), PATIENCE);
-    try {
-      const reply = await fetch(this.address, {method: 'POST', body, headers: {'content-type': 'application/json'}, signal: giving.signal}), {status} = reply, text = await reply.text();
-      return [429, 500, 502, 503, 504].includes(status) ? null : {status, text};
-    } catch { return null; } finally { clearTimeout(timer); }
   }
 }

@@ -55,7 +55,7 @@ declare global {
   type Keep = (place: string, one: Kept) => void;
   type Offer = {key: string, title: string, words: string};
   /** What is shown of a call at the station. */
-  type Card = {card: HTMLElement, line: Element, number: Element, about: Element, to: HTMLInputElement, buttons: Map<Service, HTMLButtonElement>};
+  type Card = {element: HTMLElement, line: Element, number: Element, about: Element, to: HTMLInputElement, buttons: Map<Service, HTMLButtonElement>};
   /** off: what was clicked and isn't answered */
   type DrawnCalls = {mine: Mine, now: number, acts: boolean, off: Set<string>, who: Namer, group: Namer};
   type Button = [string, () => void];

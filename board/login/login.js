@@ -1,5 +1,4 @@
 // The page of log-in: it goes on to where one wanted to go, at once where there is a session already.
-// @ts-check
 import {translate, word} from '../words.js';
 
 /** @type {Record<number, string>} */

@@ -1,8 +1,7 @@
 // The live calls of the own groups, those that wait first; as many as were asked for.
-// @ts-check
 import {byId, put, Table, toggle} from '../draw.js';
 import {office} from '../office.js';
-import {callLines, severity} from '../reckon.js';
+import {callLines, search, severity} from '../reckon.js';
 import {limitsOf} from '../settings.js';
 import {clock, CONNECTION, named, SIGN, word} from '../words.js';
 
@@ -26,12 +25,12 @@ const table = new Table(byId('calls-table'), [
 export function begin(redraw) { byId('calls-more').addEventListener('click', () => { most += PAGE; redraw(); }); }
 
 /** @param {Drawn} drawn */
-export function draw({state, settings, now, learn, lead}) {
-  const find = settings.find.trim().toLowerCase(), {group} = settings;
-  const found = callLines(state, settings).filter(line => !group || line.group === group).map(line => {
-    const agent = state.agentAt(line.device), groupName = line.group ? state.groups.get(line.group)?.name || line.group : '';
+export function draw(drawn) {
+  const {state, settings, now, learn, lead} = drawn, {group} = settings;
+  const found = search(callLines(drawn).filter(line => !group || line.group === group).map(line => {
+    const agent = state.agentAt(line.device), groupName = line.group ? state.nameOf(line.group) : '';
     return {...line, agent: agent?.id, who: agent?.name || office.names.stations[line.device] || line.device, groupName};
-  }).filter(line => !find || `${line.number} ${line.caller} ${line.who} ${line.groupName}`.toLowerCase().includes(find));
+  }), settings.find, line => [String(line.number), line.caller, line.who, line.groupName]);
   const shown = found.slice(0, most);
   learn(shown.filter(line => !line.caller).map(line => line.number));
   table.draw(shown.map(line => ({

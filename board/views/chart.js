@@ -1,10 +1,10 @@
 // A chart of bars that stand on each other, or of lines, over the steps of a day.
-// @ts-check
 import {make} from '../draw.js';
 import {office} from '../office.js';
 import {shown} from '../settings.js';
 import {number, timeOfDay, word} from '../words.js';
 
+/** @typedef {{steps:any[], series:Series[], each:number, y:(value:number) => number}} Scale each: how wide a step is */
 
 // WIDE: what the time of an hour takes
 const HEIGHT = 220, LEFT = 44, BELOW = 24, ABOVE = 12, WIDE = 46;
@@ -28,20 +28,21 @@ export function chart(title, steps, series, top, goal) {
   const picture = drawn('svg', {viewBox: `0 0 ${width} ${HEIGHT}`, role: 'img', 'aria-label': word('chart.about', {title})});
   for (let value = 0; value <= high + 1e-9; value += tick) picture.append(
     drawn('line', {class: 'grid', x1: LEFT, x2: width - 8, y1: y(value), y2: y(value)}), drawn('text', {x: LEFT - 8, y: y(value) + 4, 'text-anchor': 'end'}, number(Number(value.toFixed(2)))));
-  picture.append(...hours(steps, each), ...bars(steps, series, each, y), ...lines(steps, series, each, y), ...values(steps, series, each));
+  const scale = {steps, series, each, y};
+  picture.append(...hours(scale), ...bars(scale), ...lines(scale), ...values(scale));
   if (goal !== undefined) picture.append(drawn('line', {class: 'goal', x1: LEFT, x2: width - 8, y1: y(goal), y2: y(goal)}), drawn('text', {class: 'halo', x: LEFT + 6, y: y(goal) - 5}, word('tile.goal', {goal})));
   const keys = series.map(one => make('li', {class: `${one.look} ${one.line ? 'line' : 'bar'}`}, one.name));
   return make('figure', {}, make('figcaption', {}, title), picture, make('ul', {class: 'key'}, ...keys));
 }
 
-/** @param {{at:number}[]} steps @param {number} each */
-function hours(steps, each) {
+/** @param {Scale} scale */
+function hours({steps, each}) {
   const apart = 3600 * ([1, 2, 3, 4, 6, 8, 12].find(hours => hours * 4 * each >= WIDE) ?? 24);
   return steps.flatMap((step, number) => shown(step.at, office.zone) % apart ? [] : [drawn('text', {x: LEFT + number * each, y: HEIGHT - 6, 'text-anchor': number ? 'middle' : 'start'}, timeOfDay(step.at, true))]);
 }
 
-/** @param {any[]} steps @param {Series[]} series @param {number} each @param {(value:number) => number} y */
-function bars(steps, series, each, y) {
+/** @param {Scale} scale */
+function bars({steps, series, each, y}) {
   return steps.flatMap((step, number) => {
     let below = 0;
     return series.flatMap(one => {
@@ -53,8 +54,8 @@ function bars(steps, series, each, y) {
 }
 
 // What a step's values are, under the pointer.
-/** @param {any[]} steps @param {Series[]} series @param {number} each */
-function values(steps, series, each) {
+/** @param {Scale} scale */
+function values({steps, series, each}) {
   return steps.map((step, place) => {
     const told = series.flatMap(one => { const value = one.bar?.(step) ?? one.line?.(step); return value === null || value === undefined ? [] : [`${one.name} ${number(Number(value.toFixed(1)))}`]; });
     const area = drawn('rect', {class: 'area', x: LEFT + place * each, width: each, y: ABOVE, height: HEIGHT - ABOVE - BELOW});
@@ -63,8 +64,8 @@ function values(steps, series, each) {
   });
 }
 
-/** @param {any[]} steps @param {Series[]} series @param {number} each @param {(value:number) => number} y */
-function lines(steps, series, each, y) {
+/** @param {Scale} scale */
+function lines({steps, series, each, y}) {
   return series.flatMap(one => {
     const {line} = one;
     if (!line) return [];

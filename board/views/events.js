@@ -1,8 +1,7 @@
 // The last events of the own groups as sentences, the newest first.
-// @ts-check
 import {byId, make, plain, put} from '../draw.js';
 import {ownOf} from '../settings.js';
-import {clock, named, timeOfDay, word} from '../words.js';
+import {clock, isWord, named, timeOfDay, word} from '../words.js';
 import {office} from '../office.js';
 
 const MOST = 200;
@@ -37,7 +36,7 @@ export function draw({state, recent, settings}, anew) {
 
 // Whether an event is of one of these groups: of a call that was in one, or of an agent who serves one.
 /** @param {State} state @param {Report} report @param {(group:string) => boolean} own */
-export function concerns(state, report, own) {
+function concerns(state, report, own) {
   const serves = (/** @type {Agent|undefined} */ agent) => agent?.groups.some(own) ?? false;
   if ('agent' in report) return ('group' in report && own(report.group ?? '')) || serves(state.agents.get(report.agent));
   const places = ['group', 'device', 'to'].flatMap(name => name in report ? [String(/** @type {any} */ (report)[name])] : []);
@@ -48,22 +47,12 @@ export function concerns(state, report, own) {
 
 // What an event says; nothing for those that only go along with another.
 /** @param {State} state @param {Report} report */
-export function sentence(state, report) {
-  const at = (/** @type {string} */ device) => named(state.agentAt(device)?.name || state.groups.get(device)?.name || office.names.stations[device] || device);
-  if ('agent' in report) {
-    if (report.event === 'agentBusy') return '';
-    const who = named(state.agents.get(report.agent)?.name || word('agent', {id: report.agent})), group = 'group' in report && report.group;
-    return word(report.event === 'agentLoggedOn' && !group ? 'event.agentLoggedOn.several' : `event.${report.event}`, {who, device: report.device, group: group ? at(group) : ''});
-  }
-  const call = String(report.call), who = 'device' in report ? at(report.device) : '', group = 'group' in report && report.group ? at(report.group) : '', to = 'to' in report ? at(report.to) : '';
-  switch (report.event) {
-    case 'connectionCleared': return '';
-    case 'queued': return word(`event.queued.${report.cause}`, {call, who});
-    case 'diverted': return report.cause === 'deflected' ? word('event.diverted', {call, who, to}) : '';
-    case 'established': return word(report.waited === undefined ? 'event.established' : 'event.established.waited', {call, who, clock: clock(report.waited ?? 0)});
-    case 'delivered': case 'callCleared': return word(`event.${report.event}${group && '.group'}`, {call, who, group});
-    default: return word(`event.${report.event}`, {call, who, to});
-  }
+function sentence(state, report) {
+  const at = (/** @type {string} */ device) => named(state.agentAt(device)?.name || state.nameOf(device, office.names.stations[device]));
+  const {event, cause, agent, call, device, group, to, waited} = /** @type {Record<string, any>} */ (report);
+  const kind = /** @type {Record<string, any>} */ ({queued: cause, diverted: cause, established: waited !== undefined && 'waited', agentLoggedOn: !group && 'several'})[event] ?? (group && 'group'), key = `event.${event}${kind ? `.${kind}` : ''}`;
+  const who = agent ? named(state.agents.get(agent)?.name || word('agents.one', {id: agent})) : at(device ?? '');
+  return isWord(key) ? word(key, {who, call: String(call), device, group: at(group ?? ''), to: at(to ?? ''), clock: clock(waited ?? 0)}) : '';
 }
 
 export const file = () => [[word('head.time'), word('head.number'), word('head.event')], ...told.map(({moment, number, words}) => [timeOfDay(moment), number, plain(words)])];

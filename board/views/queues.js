@@ -1,9 +1,7 @@
 // The own groups, in their order, with all that is known of each.
-// @ts-check
-import {byId, Table, toggle} from '../draw.js';
+import {byId, Table, toggle, withNumber} from '../draw.js';
 import {clock, named, percent, SIGN, waits, word} from '../words.js';
 import {averageHandling, averageWait} from '../day.js';
-import {withNumber} from './groups.js';
 
 /** @typedef {Pick<Column, 'text'|'file'|'severity'>} Told */
 // what is known once the day has been counted
@@ -14,11 +12,16 @@ export const seconds = value => ({
   text: figure(line => { const found = value(line); return found === null ? '–' : clock(found); }),
   file: line => { const found = line.counted ? value(line) : null; return found === null ? null : Math.round(found); },
 });
+/** @type {(value:(line:any) => number|null, sign?:(line:any) => string) => Told} */
+export const share = (value, sign = () => '') => ({
+  text: figure(line => sign(line) + percent(value(line))),
+  file: line => { const found = line.counted ? value(line) : null; return found === null ? null : Math.round(1e4 * found) / 1e4; },
+});
 // A share with the sign of what it means, where that is nothing good.
 /** @type {(name:'level'|'lost') => Told} */
-const share = name => {
+const judged = name => {
   const severity = (/** @type {any} */ line) => line.counted ? line[`${name}Severity`] : '';
-  return {text: figure(line => (['long', 'bad'].includes(severity(line)) ? `${SIGN[/** @type {Severity} */ (severity(line))]} ` : '') + percent(line[name])), file: line => line.counted && line[name] !== null ? Math.round(1e4 * line[name]) / 1e4 : null, severity};
+  return {...share(line => line[name], line => ['long', 'bad'].includes(severity(line)) ? `${SIGN[/** @type {Severity} */ (severity(line))]} ` : ''), severity};
 };
 
 /** @type {Column[]} */
@@ -30,7 +33,7 @@ const FIRST = [
 /** @type {Column} */
 const READY = {head: 'head.ready', about: 'about.ready', text: line => `${line.counts.ready} / ${line.loggedOn}`, file: line => line.counts.ready, severity: line => line.waiting && !line.loggedOn ? 'bad' : ''};
 /** @type {Column} */
-const IN_TIME = {head: 'head.inTime', about: 'about.inTime', ...share('level')};
+const IN_TIME = {head: 'head.inTime', about: 'about.inTime', ...judged('level')};
 // what the wall shows of a group
 /** @type {Column[]} */
 export const WALL = [{head: 'head.group', kind: 'name', text: line => named(line.name)}, ...FIRST, READY, {head: 'head.onCalls', wide: true, text: line => line.counts.busy + line.counts.hold}, {...IN_TIME, wide: true}];
@@ -49,18 +52,18 @@ const table = new Table(byId('queues-table'), [
   {head: 'head.entered', wide: true, text: figure(line => line.entered)},
   {head: 'head.answered', wide: true, text: figure(line => line.answered)},
   {head: 'head.abandoned', about: 'about.abandoned', wide: true, text: figure(line => line.abandoned)},
-  {head: 'head.lost', about: 'about.lost', wide: true, ...share('lost')},
+  {head: 'head.lost', about: 'about.lost', wide: true, ...judged('lost')},
   {head: 'head.moved', about: 'about.moved', wide: true, text: figure(line => line.moved)},
-  {head: 'head.average', about: 'about.average', wide: true, ...seconds(averageWait)},
+  {head: 'head.average', about: 'about.average', least: true, ...seconds(averageWait)},
   {head: 'head.handling', about: 'about.handling', wide: true, ...seconds(averageHandling)},
-  {head: 'head.priority', about: 'about.priority', wide: true, text: line => line.priority},
+  {head: 'head.priority', about: 'about.priority', least: true, text: line => line.priority},
   {head: 'head.act', kind: 'words', press: 'priority', text: line => line.acts},
 ]);
 
 /** @param {Drawn} drawn */
 export function draw({lines, lead, counted}) {
   toggle(byId('queues-table'), 'data-acts', lead.acts());
-  table.draw(lines.map(line => ({...line, counted, key: line.id, acts: lead.groups.has(line.id) ? word('head.priority') : ''})), true);
+  table.draw(lines.map(line => ({...line, counted, key: line.id, acts: lead.groups.has(line.id) ? word('head.priority') : ''})));
 }
 
 export const file = () => table.file();

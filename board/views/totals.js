@@ -1,12 +1,13 @@
 // The own groups together, as a few large numbers.
-// @ts-check
-import {byId, make, mark, put} from '../draw.js';
-import {clock, number, percent, SIGN, waits, word} from '../words.js';
+import {byId, Keyed, make, mark, put, within} from '../draw.js';
+import {clock, percent, SIGN, waits, word} from '../words.js';
 import {averageHandling, averageWait} from '../day.js';
 
 /** @typedef {{name:string, value:string|number, note?:string, severity?:string, formula?:string, about?:string}} Told */
-/** @type {{tile:Element, name:Element, value:Element, note:Element, formula:Element}[]} */
-const tiles = [];
+const tiles = new Keyed(byId('totals').firstElementChild, () => {
+  const [name, value, note, formula] = [make('dt'), make('b'), make('small'), make('small', {class: 'formula'})];
+  return {element: make('div', {}, name, make('dd', {}, value, note, formula)), name, value, note, formula};
+});
 
 /** @param {number|null} seconds */
 const time = seconds => seconds === null ? '–' : clock(seconds);
@@ -15,7 +16,7 @@ const sign = severity => severity === 'none' ? '' : `${SIGN[severity]} `;
 
 /** @param {Drawn} drawn @returns {Told[]} */
 function told({all, settings, counted}) {
-  const {counts} = all, none = all.waiting && !counts.ready, several = Object.keys(settings).some(name => name.startsWith('limit.')), limit = several ? word('tile.limits') : word('tile.limit', {n: settings.limit});
+  const {counts} = all, none = all.waiting && !counts.ready, limit = within(settings);
   const day = (/** @type {string|number} */ value) => counted ? value : '…', severity = (/** @type {Severity} */ of) => counted ? of : 'none';
   return [
     {name: word('head.waiting'), value: all.waiting, note: all.ringing ? word('tile.ringing', {n: all.ringing}) : ''},
@@ -37,20 +38,14 @@ function told({all, settings, counted}) {
 
 /** @param {Drawn} drawn */
 export function draw(drawn) {
-  told(drawn).forEach(({name, value, note = '', severity = 'none', formula = '', about = ''}, place) => {
-    const tile = tiles[place] ?? add();
+  const all = told(drawn);
+  tiles.show(Object.keys(all)).forEach((tile, place) => {
+    const {name, value, note = '', severity = 'none', formula = '', about = ''} = all[place];
     put(tile.name, name);
-    put(tile.value, typeof value === 'number' ? number(value) : value);
+    put(tile.value, value);
     put(tile.note, note);
     put(tile.formula, formula);
-    mark(tile.tile, 'data-severity', severity);
-    mark(tile.tile, 'title', about);
+    mark(tile.element, 'data-severity', severity);
+    mark(tile.element, 'title', about);
   });
-}
-
-function add() {
-  const name = make('dt'), value = make('b'), note = make('small'), formula = make('small', {class: 'formula'}), tile = make('div', {}, name, make('dd', {}, value, note, formula));
-  byId('totals').firstElementChild.append(tile);
-  tiles.push({tile, name, value, note, formula});
-  return tiles[tiles.length - 1];
 }

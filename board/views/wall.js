@@ -1,5 +1,4 @@
 // The wall: the groups whose callers wait longest, as many as fit, to be read from five metres.
-// @ts-check
 import {byId, put, Table, toggle} from '../draw.js';
 import {clock, word} from '../words.js';
 import {order} from '../state.js';

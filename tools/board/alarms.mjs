@@ -23,7 +23,7 @@ export function troubles(now) {
 const NOTICED = `
   window.noticed = {tones: 0, notes: []};
   window.AudioContext = class { constructor() { this.state = 'running'; this.currentTime = 0; this.destination = {}; } resume() {}
-    createOscillator() { window.noticed.tones++; return {frequency: {}, connect: to => to, start() {}, stop() {}}; } createGain() { return {gain: {}, connect() {}}; } };
+    createOscillator() { window.noticed.tones++; return {frequency: {}, connect: to => to, start() {}, stop() {}}; } createGain() { return {gain: {linearRampToValueAtTime() {}}, connect() {}}; } };
   window.Notification = class { static permission = 'granted'; static requestPermission() {} constructor(title, {body}) { window.noticed.notes.push(body); } };`;
 
 const list = browser => browser.run(`return [...document.querySelectorAll('#alarm li')].map(item => [item.dataset.key, item.querySelector('b').textContent, item.querySelector('.since').textContent, item.hasAttribute('data-seen')])`);
@@ -89,7 +89,11 @@ async function limits(see, browser, address) {
 }
 
 /** Without a plan, and without anybody, a line says so. */
-export async function nothing(see, browser, front) {
-  await browser.fresh(front.page('sup', '/board/#queues'));
-  see('no plan is said', await until(async () => await browser.text('#empty') === 'No group is planned yet.', 20), await browser.text('#empty'));
+export async function nothing(see, browser, none, planned) {
+  for (const [front, view, words] of [[none, 'queues', 'No group is planned yet.'], [planned, 'agents', 'Nobody is logged on.'], [planned, 'calls', '']]) {
+    await browser.fresh(front.page('sup', `/board/#${view}`));
+    await until(() => browser.run('return document.querySelector("#status").dataset.kind === "live"'), 20);
+    see(`${view} of nothing`, await until(async () => await browser.text('#empty') === words, 20), await browser.text('#empty'));
+  }
+  see('no call is said', await until(async () => await browser.text('#calls-rest') === 'No calls.', 5), await browser.text('#calls-rest'));
 }

@@ -193,6 +193,43 @@ export async function settings(see, browser, address) {
   see('and in their fields', String(chosen) === '100,a,ready,time', String(chosen));
 }
 
+/** What the filters count, how agents are ordered, where rows and tiles lead, and what is said where nobody is found. */
+export async function ways(see, browser, desk, address) {
+  const go = async (words, view) => { await browser.fresh(`${address}?since=0&${words}#${view}`); await live(browser); await sleep(900); };
+  const tiles = part => browser.run('return [...document.querySelectorAll("#agents-list li:not([hidden])")].map(tile => tile.querySelector(arguments[0]).textContent)', part);
+  const serves = async group => (await desk.get('/snapshot')).agents.filter(one => one.state !== 'null' && (one.groups ?? [one.group]).includes(group)).length, [{device: group}] = (await desk.get('/snapshot')).groups;
+  await go(`group=${group}&sort=time`, 'agents');
+  const counts = await browser.run('return [...document.querySelectorAll("#states button:not([data-doing=null])")].map(button => Number(button.textContent.match(/\\d+$/)[0]))'), staff = await serves(group);
+  see('the buttons count the agents of the group', staff > 0 && counts.reduce((sum, one) => sum + one) === staff && (await tiles('strong')).length === staff, `${counts} ${staff}`);
+  const times = (await tiles('time')).map(text => seconds(text.replace('! ', '')));
+  see('who does something longest stands first', times.length > 2 && times.every((time, place) => !place || time <= times[place - 1] + 1), String(times));
+  await go('notReady=1&states=notReady', 'agents');
+  const long = await tiles('time');
+  see('from how long on it is long is a setting', long.length > 0 && long.every(text => text.startsWith('! ')), String(long));
+  await go('find=nobody+here', 'agents');
+  see('nobody found is said', await browser.text('#empty') === 'No agent is as you look for.', await browser.text('#empty'));
+  await go('long=1&bad=2', 'calls');
+  const states = await browser.run('return [...document.querySelectorAll("#calls-table tbody tr")].map(row => row.querySelector(".state").textContent)');
+  see('a call that waits has the sign of its wait', states.some(text => text === '■ waiting') && !states.some(text => /^[●▲] waiting/.test(text)), states.slice(0, 5).join('; '));
+  await browser.click('#calls-table [data-press=agent]');
+  await sleep(600);
+  see('a call leads to its agent', await browser.run('return location.hash') === '#agents' && (await tiles('strong')).length === 1, String(await tiles('strong')));
+  await browser.click('#agents-list li:not([hidden]) [data-press=calls]');
+  await sleep(600);
+  see('and back', await browser.run('return location.hash === "#calls" && document.querySelectorAll("#calls-table tbody tr").length') === 1);
+  await go('', 'queues');
+  await browser.click(`#queues-table [data-key="${group}"] [data-press=agents]`);
+  await sleep(600);
+  see('a group leads to its agents', await browser.run('return location.hash + window.board.settings.group') === `#agents${group}`, await browser.run('return location.href'));
+  for (const [width, height] of [SCREEN, [1366, 768], [768, 1024]]) {
+    await browser.size(width, height);
+    await sleep(300);
+    const rows = await browser.run('const ends = {}; for (const tile of document.querySelectorAll("#totals div")) { const {top, right} = tile.getBoundingClientRect(); ends[top] = Math.round(right); } return Object.values(ends)');
+    see(`no tile stands alone at ${width}`, rows.length <= 2 && new Set(rows).size === 1, String(rows));
+  }
+  await browser.size(...SCREEN);
+}
+
 /** An offer that nobody takes back, since nobody sends ticks. */
 export async function alarm(see, browser, desk, address) {
   await browser.open(`${address}#wall`);

@@ -6,6 +6,7 @@ import {freePort, sleep, until} from './browser.mjs';
 import {TOP} from './desk.mjs';
 import {contrast} from './looks.mjs';
 import {AGENT, STATION} from './shift.mjs';
+import {tableOf} from './words.mjs';
 
 const TYPES = {'.html': 'text/html', '.js': 'text/javascript', '.css': 'text/css', '.json': 'application/json'};
 const text = body => typeof body === 'string' ? body : JSON.stringify(body);
@@ -96,12 +97,6 @@ async function shown(desk, state, more = {}) {
   return Object.assign(server, await plain(desk, {'/session': () => told({agent: AGENT, begun: 1, login: 'ana', role: 'agent'}), '/mine': mine, ...more}));
 }
 
-/** The table of English words; the module itself wants a browser. */
-async function english() {
-  const file = await readFile(join(TOP, 'board/words.js'), 'utf8');
-  return new Function(`return {${file.match(/export const ENGLISH = \{([^]*?)\n\};/)[1]}}`)();
-}
-
 /** All that a page says, in each text, title and label; runs in the page. */
 const SAID = `const walk = document.createTreeWalker(document.body, NodeFilter.SHOW_TEXT), found = [document.title];
   while (walk.nextNode()) if (!walk.currentNode.parentElement.closest('noscript')) found.push(walk.currentNode.textContent.trim());
@@ -110,9 +105,8 @@ const SAID = `const walk = document.createTreeWalker(document.body, NodeFilter.S
 
 /** With a table whose values are their keys each word of the page is in brackets, or comes from the desk; and German has each key. */
 export async function words({see, browser, desk}) {
-  const table = await english(), keys = Object.keys(table), bracketed = Object.fromEntries(keys.map(key => [key, `[${key}]`]));
-  const german = new Function(`return {${(await readFile(join(TOP, 'board/words/de.js'), 'utf8')).match(/export default \{([^]*?)\n\};/)[1]}}`)(), forms = said => typeof said === 'string' ? [said] : Object.values(said);
-  const own = keys.filter(key => /^(agent|login)\./.test(key)), holes = said => [...new Set(forms(said).flatMap(form => form.match(/\{\w+\}/g) ?? []))].sort().join();
+  const [table, german] = await Promise.all(['words.js', 'words/de.js'].map(file => tableOf(join(TOP, 'board', file)))), keys = Object.keys(table), bracketed = Object.fromEntries(keys.map(key => [key, `[${key}]`]));
+  const own = keys.filter(key => /^(agent|login)\./.test(key)), holes = said => [...new Set(JSON.stringify(said).match(/\{\w+\}/g))].sort().join();
   const differ = own.filter(key => !german[key] || holes(german[key]) !== holes(table[key]));
   see(`German has each of ${own.length} words, with the same values`, own.length > 60 && !differ.length, differ[0]);
   const server = await shown(desk, {}, {'/board/words/zz.js': () => told(`export default ${JSON.stringify(bracketed)};`)}), said = new Set();

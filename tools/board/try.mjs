@@ -14,7 +14,7 @@ import {inLoad, record, replay, unseenFaults} from './model.mjs';
 import {alarms, nothing, troubles} from './alarms.mjs';
 import {days, overMidnight, zones} from './days.mjs';
 import {lead, office, session} from './lead.mjs';
-import {alarm, clockAhead, looks, losses, numbers, ownEvents, people, settings, still} from './page.mjs';
+import {alarm, clockAhead, looks, losses, numbers, ownEvents, people, settings, still, ways} from './page.mjs';
 import {shape} from './shape.mjs';
 import {callers, sheets} from './sheets.mjs';
 import {words} from './words.mjs';
@@ -65,9 +65,8 @@ class Trial {
   async files() {
     const files = readdirSync(join(TOP, 'board'), {recursive: true}).map(String).filter(name => /\.(js|css|html)$/.test(name)), bytes = files.filter(name => !/^words\/(?!en)/.test(name)).reduce((sum, name) => sum + statSync(join(TOP, 'board', name)).size, 0);
     this.see(`board/ has less than ${MOST_BYTES} bytes`, bytes < MOST_BYTES, bytes);
-    const words = ['--allowJs', '--checkJs', '--strict', '--noEmit', '--target', 'es2022', '--module', 'es2022', '--moduleResolution', 'node', '--lib', 'es2022,dom,dom.iterable', ...['globals.d.ts', 'main.js', 'agent/agent.js', 'agent/listening.js', 'login/login.js', 'words/de.js'].map(name => join(TOP, 'board', name))];
-    const said = await run('tsc', words);
-    this.see('tsc --checkJs --strict', said === '', said.slice(0, 400));
+    const said = await run('tsc', ['-p', join(TOP, 'board/jsconfig.json')]);
+    this.see('tsc, as jsconfig.json says', said === '', said.slice(0, 400));
   }
 
   async gate() {
@@ -139,6 +138,9 @@ class Trial {
     await numbers(this.see, browser, desk, folks, 3, {groups: own, limits: {100: 45, 103: 5}});
     await ownEvents(this.see, browser, desk, address, own);
     await settings(this.see, browser, address);
+    folks.stop();
+    await ways(this.see, browser, desk, address);
+    folks.goOn();
     await still(this.see, browser, address, 10);
     await looks(this.see, browser, address, this.pictures);
     await callers(this.see, browser, desk, address);
@@ -156,7 +158,7 @@ class Trial {
     const desk = await this.desk('alarms.db', troubles(Math.floor(Date.now() / 1000))), front = await this.front(desk);
     const browser = await this.browser();
     await alarms(this.see, browser, desk, front.page('sup', '/board/'));
-    await nothing(this.see, browser, await this.front(await this.desk('nothing.db', PLAN.slice(3, 4))));
+    await nothing(this.see, browser, await this.front(await this.desk('nothing.db', PLAN.slice(3, 4))), await this.front(await this.desk('nobody.db', PLAN)));
   }
 
   async words() {

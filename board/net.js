@@ -1,0 +1,29 @@
+// Requests over HTTP that are given up where no answer comes. No document, so that a worker asks by it too.
+
+const PATIENCE = 10000;
+
+/** @param {number} milliseconds */
+export const sleep = milliseconds => new Promise(done => setTimeout(done, milliseconds));
+
+/** A reply with its text, and the server's time and this one's of it; an error `silent` where none came in time, `server` where nobody is there.
+ * @param {string} address @param {RequestInit} [how] @param {number} [patience] in milliseconds @param {AbortController} [giving] by which somebody else gives it up */
+export async function ask(address, how, patience = PATIENCE, giving = new AbortController()) {
+  const timer = setTimeout(() => giving.abort(), patience);
+  try {
+    const reply = await fetch(address, {cache: 'no-store', ...how, signal: giving.signal}), received = Date.now();
+    return {status: reply.status, date: Date.parse(reply.headers.get('date') ?? ''), received, text: await reply.text()};
+  } catch { throw new Error(giving.signal.aborted ? 'silent' : 'server'); } finally { clearTimeout(timer); }
+}
+
+/** The reply to a request of the desk, or nothing where it says no more than that none came: the proxy's, or that memory or the store failed.
+ * @param {string} body */
+export async function post(body) {
+  try {
+    const reply = await ask(`${location.origin}/csta`, {method: 'POST', body, headers: {'content-type': 'application/json'}});
+    return [429, 500, 502, 503, 504].includes(reply.status) ? null : reply;
+  } catch { return null; }
+}
+
+/** A requester that no other page has: with another's, a count from 1 would get kept replies and do nothing.
+ * @param {string} login */
+export const requesterOf = login => `${login}-${crypto.randomUUID().replaceAll('-', '').slice(-16)}`;

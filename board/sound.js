@@ -1,0 +1,36 @@
+// What makes something noticed behind other windows: two tones, and a notification of the browser.
+
+// seconds and hertz
+const TONES = [[0, 660], [0.3, 880]], LASTS = 0.22, LOUD = 0.3;
+/** @type {AudioContext|undefined} */ let audio;
+
+/** A browser lets no page sound before somebody clicked there or pressed a key.
+ * @param {() => boolean} isWanted */
+export function soundWhere(isWanted) {
+  const wake = () => {
+    if (isWanted()) audio ??= new AudioContext();
+    audio?.resume();
+  };
+  for (const kind of ['pointerdown', 'keydown']) addEventListener(kind, wake, {passive: true});
+  if (/** @type {any} */ (navigator).userActivation?.hasBeenActive) wake();
+}
+
+export const isHeard = () => audio?.state === 'running';
+
+export function tone() {
+  const context = audio ??= new AudioContext();
+  for (const [begins, hertz] of TONES) {
+    const sound = context.createOscillator(), louder = context.createGain(), from = context.currentTime + begins;
+    sound.connect(louder).connect(context.destination);
+    sound.frequency.value = hertz;
+    for (const [loud, at] of [[0, 0], [LOUD, 0.02], [LOUD, LASTS - 0.04], [0, LASTS]]) louder.gain.linearRampToValueAtTime(loud, from + at);
+    sound.start(from);
+    sound.stop(from + LASTS);
+  }
+}
+
+/** Tells of it where somebody let this page do so.
+ * @param {string} title @param {NotificationOptions} how */
+export function notify(title, how) {
+  try { if (Notification.permission === 'granted') return new Notification(title, how); } catch { /* a browser that lets no page do so */ }
+}
