@@ -32,7 +32,7 @@ export async function unreached(browser) {
     await browser.press('\uE004');
     await browser.run('const focus = document.activeElement; if (getComputedStyle(focus).outlineStyle !== "none") window.reached.add(focus);');
   }
-  return browser.run('return window.controls.filter(element => !window.reached.has(element)).map(element => element.outerHTML.slice(0, 80))');
+  return browser.run('return window.controls.filter(element => element.isConnected && !window.reached.has(element)).map(element => element.outerHTML.slice(0, 80))');
 }
 
 const CONTROLS = new Set(['button', 'link', 'checkbox', 'textbox', 'searchbox', 'spinbutton', 'combobox', 'radio']), NAMED = new Set([...CONTROLS, 'navigation', 'table', 'img', 'region', 'group', 'columnheader', 'rowheader', 'heading']);

@@ -208,9 +208,13 @@ export async function ways(see, browser, desk, address) {
   see('from how long on it is long is a setting', long.length > 0 && long.every(text => text.startsWith('! ')), String(long));
   await go('find=nobody+here', 'agents');
   see('nobody found is said', await browser.text('#empty') === 'No agent is as you look for.', await browser.text('#empty'));
+  const made = [], waits = async () => (await desk.get('/snapshot')).calls.some(({connections}) => connections.some(one => one.state === 'queued'));
+  while (made.length < 30 && !await waits()) made.push((await desk.post({requester: 'ways', invoke: made.length + 1, service: 'arriveCall', caller: '0307', called: group})).result.call);
   await go('long=1&bad=2', 'calls');
+  await until(() => browser.run('return [...document.querySelectorAll("#calls-table .state")].some(cell => cell.textContent === "■ waiting")'), 5);
   const states = await browser.run('return [...document.querySelectorAll("#calls-table tbody tr")].map(row => row.querySelector(".state").textContent)');
   see('a call that waits has the sign of its wait', states.some(text => text === '■ waiting') && !states.some(text => /^[●▲] waiting/.test(text)), states.slice(0, 5).join('; '));
+  for (const [number, call] of made.entries()) await desk.post({requester: 'ways-end', invoke: number + 1, service: 'clearConnection', call, device: '0307'});
   await browser.click('#calls-table [data-press=agent]');
   await sleep(600);
   see('a call leads to its agent', await browser.run('return location.hash') === '#agents' && (await tiles('strong')).length === 1, String(await tiles('strong')));
