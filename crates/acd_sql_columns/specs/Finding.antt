@@ -1,5 +1,5 @@
 -- What a read between transactions finds.
-use Rattle.std.specs.Prelude.{ℕ, nat_lt, List, take, filter, Result, IfOk, OnOk, IsTrue}
+use Rattle.std.specs.Prelude.{List, Result, IfOk, OnOk, IsTrue}
 use Rattle.sqlite.specs.State.{State, HasCleanDisk}
 use Rattle.acd_terms.specs.declared.rows.Rows.{Rows}
 use Rattle.acd_terms.specs.declared.record.GroupRecord.{GroupRecord}
@@ -9,7 +9,6 @@ use Rattle.acd_terms.specs.declared.record.CallRecord.{CallRecord}
 use Rattle.acd_terms.specs.declared.record.ConnectionRecord.{ConnectionRecord}
 use Rattle.acd_terms.specs.declared.record.MonitorRecord.{MonitorRecord}
 use Rattle.acd_book.specs.Content.{Content}
-use Rattle.acd_book.specs.declared.kept.Kept.{Kept}
 use Rattle.acd_sql_columns.specs.declared.meta.Meta.{Meta}
 use Rattle.acd_sql_columns.specs.Draft.{HoldsContent, Quiet, NoStop}
 
@@ -19,10 +18,6 @@ pub record Finds {A E : Type 0} (old new : State) (result : Result A E) (IsAnswe
   pub quiet : Quiet old new
   pub stops : HasCleanDisk new → (c : Content) → HoldsContent old c → NoStop old new
   pub answer : HasCleanDisk new → IfOk result (λ (found : A). (c : Content) → HoldsContent old c → IsAnswer c found)
-
--- the first kept records above a stamp
-abbrev pub kept_behind : List Kept → ℕ → ℕ → List Kept
-kept_behind kept stamp limit = take limit (filter (λ (k : Kept). nat_lt stamp k.stamp) kept)
 
 -- the state of these counters and lists
 abbrev pub joined_rows : Meta → List GroupRecord → List StationRecord → List AgentRecord → List CallRecord → List ConnectionRecord → List MonitorRecord → Rows
