@@ -13,7 +13,7 @@ const LEAST = 10;
 export function ahead(state, now) { return state.moment > now + APART ? state.moment - now : 0; }
 
 // What should have ended by a tick: an offer that rings longer than its group gives, or after-call work. Null where nothing is.
-/** @param {State} state @param {number} now @returns {{what:'rings'|'works', who:string, seconds:number, given:number, since:number}|null} */
+/** @param {State} state @param {number} now */
 export function overdue(state, now) {
   for (const group of state.groups.values()) {
     for (const call of group.ringing) for (const {state: is, device, since} of call.connections.values()) {
@@ -28,7 +28,7 @@ export function overdue(state, now) {
 }
 
 // All alarms, the desk's own before those of groups.
-/** @param {Drawn} drawn @param {number} clock the server's @returns {Alarm[]} */
+/** @param {Drawn} drawn @param {number} clock the server's */
 export function alarms({state, lines, counted, now}, clock) {
   /** @type {Alarm[]} */ const found = [], early = ahead(state, clock), late = early ? null : overdue(state, now);
   if (early) found.push({key: 'clock', kind: 'clock', group: null, since: null, values: {seconds: early}});

@@ -1,38 +1,36 @@
 // The figures of a day, by steps of a quarter of an hour, and of each agent, counted from event reports. No document, no network.
 
+import {kept} from './state.js';
+
 export const STEP = 900;
 
-/** @returns {Sums} */
 const noSums = () => ({entered: 0, answered: 0, abandoned: 0, moved: 0, waited: 0, within: 0, late: 0, longest: 0, handled: 0, handling: 0});
 /** @returns {Line} */
 const newLine = () => ({steps: new Map(), sum: noSums(), balance: 0});
 
 export class Day {
+  last = 0;
+  moment = 0;
+  all = newLine();
+  /** @type {Map<string,Line>} */ groups = new Map();
+  /** @type {Map<string,Agents>} */ agents = new Map();
+  /** @type {Map<number,number>} */ queued = new Map();
+  // stations whose next event of an agent is behind an answered call of a group, or behind an offer that wasn't taken
+  /** @type {Map<string,string>} */ answers = new Map();
+  /** @type {Set<string>} */ missed = new Set();
+  // where the call that is being cleared had connections
+  /** @type {Set<string>} */ cleared = new Set();
+
   // It begins at a moment; of what was before, it takes since when calls wait. A call of a group is answered in time within `limit` seconds; the own groups are counted together.
   /** @param {number} begin @param {(group:string) => number} limit @param {(group:string) => boolean} own */
   constructor(begin, limit = () => 20, own = () => true) {
+    this.begin = begin;
     this.limit = limit;
     this.own = own;
-    this.begin = begin;
-    this.last = 0;
-    this.moment = 0;
-    this.all = newLine();
-    /** @type {Map<string,Line>} */ this.groups = new Map();
-    /** @type {Map<string,Agents>} */ this.agents = new Map();
-    /** @type {Map<number,number>} */ this.queued = new Map();
-    // stations whose next event of an agent is behind an answered call of a group, or behind an offer that wasn't taken
-    /** @type {Map<string,string>} */ this.answers = new Map();
-    /** @type {Set<string>} */ this.missed = new Set();
-    // where the call that is being cleared had connections
-    /** @type {Set<string>} */ this.cleared = new Set();
   }
 
   /** @param {string} group */
-  line(group) {
-    let line = this.groups.get(group);
-    if (!line) this.groups.set(group, line = newLine());
-    return line;
-  }
+  line(group) { return kept(this.groups, group, newLine); }
 
   /** @param {Report} report */
   apply(report) {
@@ -73,8 +71,7 @@ export class Day {
 
   /** @param {AgentReport} report */
   changeAgent({agent: id, device, event, moment}) {
-    let agent = this.agents.get(id);
-    if (!agent) this.agents.set(id, agent = {calls: 0, missed: 0, spent: {}, doing: '', since: moment, groups: new Set(), group: '', handled: 0});
+    const agent = kept(this.agents, id, () => ({calls: 0, missed: 0, spent: {}, doing: '', since: moment, groups: new Set(), group: '', handled: 0}));
     agent.spent[agent.doing] = (agent.spent[agent.doing] ?? 0) + moment - agent.since;
     // what is done for a call ends with after-call work, where that is right behind it
     if (agent.group && !(agent.doing === 'agentBusy' && event === 'agentWorkingAfterCall')) {
@@ -129,45 +126,34 @@ export class Day {
   // The steps of the day one after the other, with the most calls that waited at once in each.
   /** @param {Line} line @param {number} waiting how many wait in it at present @param {number} now */
   steps(line, waiting, now) {
-    const first = Math.floor(Math.max(this.begin, this.earliest()) / STEP), found = [];
-    let before = waiting - line.balance;
-    for (let number = first; number <= Math.floor(now / STEP); number++) {
-      const step = line.steps.get(number) ?? emptyStep(0);
-      const base = waiting - line.balance, counted = line.steps.has(number);
-      found.push({...step, at: number * STEP, peak: counted ? Math.max(before, base + step.top) : before});
-      if (counted) before = base + step.end;
+    // the first step that has anything
+    const earliest = Math.min(Math.floor(this.moment / STEP), ...this.all.steps.keys()), base = waiting - line.balance, found = [];
+    let before = base;
+    for (let number = Math.max(Math.floor(this.begin / STEP), earliest); number <= Math.floor(now / STEP); number++) {
+      const counted = line.steps.get(number);
+      found.push({...counted ?? emptyStep(0), at: number * STEP, peak: counted ? Math.max(before, base + counted.top) : before});
+      if (counted) before = base + counted.end;
     }
     return found;
   }
-
-  // The moment of the first step that has anything.
-  earliest() { return STEP * Math.min(Math.floor(this.moment / STEP), ...this.all.steps.keys()); }
 }
 
-/** @param {number} balance @returns {Step} */
-function emptyStep(balance) { return {...noSums(), top: balance, end: balance}; }
+/** @param {number} balance */
+const emptyStep = balance => ({...noSums(), top: balance, end: balance});
 
 /** @param {Line} line @param {number} moment */
-function stepOf(line, moment) {
-  const number = Math.floor(moment / STEP);
-  let step = line.steps.get(number);
-  if (!step) line.steps.set(number, step = emptyStep(line.balance));
-  return step;
-}
+const stepOf = (line, moment) => kept(line.steps, Math.floor(moment / STEP), () => emptyStep(line.balance));
 
-/** @param {Sums} sums @param {Partial<Sums>} more */
-function add(sums, more) {
-  for (const name in more) {
-    const by = more[/** @type {keyof Sums} */ (name)] ?? 0;
-    if (name === 'longest') sums.longest = Math.max(sums.longest, by); else sums[/** @type {keyof Sums} */ (name)] += by;
-  }
+/** @param {Sums} sums @param {Partial<Sums>} more @param {string[]} [names] */
+function add(sums, more, names = Object.keys(more)) {
+  for (const name of /** @type {(keyof Sums)[]} */ (names)) sums[name] = name === 'longest' ? Math.max(sums.longest, more.longest ?? 0) : sums[name] + (more[name] ?? 0);
 }
 
 // The figures of steps together.
 /** @param {Sums[]} steps */
 export function sumOf(steps) {
   const sum = noSums();
-  for (const step of steps) for (const name of /** @type {(keyof Sums)[]} */ (Object.keys(sum))) add(sum, {[name]: step[name]});
+  for (const step of steps) add(sum, step, Object.keys(sum));
   return sum;
 }
 
@@ -176,19 +162,19 @@ const share = (part, whole) => whole ? part / whole : null;
 
 // The service level: calls answered in time, of all that were answered, and those whose callers gave up later than that. Null where there is none.
 /** @param {Sums} sum @param {boolean} [answered] of the answered alone */
-export function level(sum, answered) { return share(sum.within, answered ? sum.answered : sum.answered + sum.late); }
+export const level = (sum, answered) => share(sum.within, answered ? sum.answered : sum.answered + sum.late);
 
 // The share of callers who gave up, of those who were answered or gave up.
-/** @param {Sums} sum */
-export function abandonment(sum) { return share(sum.abandoned, sum.answered + sum.abandoned); }
+/** @type {OfSums} */
+export const abandonment = sum => share(sum.abandoned, sum.answered + sum.abandoned);
 
 // The average wait of the answered calls: the speed of answer.
-/** @param {Sums} sum */
-export function averageWait(sum) { return share(sum.waited, sum.answered); }
+/** @type {OfSums} */
+export const averageWait = sum => share(sum.waited, sum.answered);
 
 // The average time for a call: talk, hold, and the after-call work right behind it.
-/** @param {Sums} sum */
-export function averageHandling(sum) { return share(sum.handling, sum.handled); }
+/** @type {OfSums} */
+export const averageHandling = sum => share(sum.handling, sum.handled);
 
 // How much of the time in which agents were there for callers they worked: talk, hold and after-call work, of these and ready.
 /** @param {{talk:number, work:number, ready:number}[]} agents */

@@ -1,49 +1,67 @@
-// Writes into the page only what has changed.
-import {clock, CLOSES, named, number, OPENS, timeOfDay, word, zoneOf} from './words.js';
+// Makes of the page what is described, and writes only what has changed.
+import {clock, CLOSES, isWord, named, number, OPENS, plain, timeOfDay, word, zoneOf} from './words.js';
 
 // milliseconds: what is older than that is grey
-const GREY = 10000;
+const GREY = 10000, SVG = 'http://www.w3.org/2000/svg', ISOLATED = new RegExp(`(${OPENS}[^${CLOSES}]*${CLOSES})`);
+
+// What is in an element stays as it is.
+export const AS_IT_IS = Symbol('as it is');
 
 /** @param {string} id @returns {any} */
 export function byId(id) { return document.getElementById(id); }
 
-/** @type {WeakMap<Element, string>} */ const written = new WeakMap();
+// An element as it should be: a `data-key` tells it from its neighbours, wherever it stands.
+/** @param {string} tag @param {Attributes} [attributes] @param {Part[]} parts @returns {Made} */
+export const make = (tag, attributes = {}, ...parts) => ({tag, attributes, parts});
 
-// Writes a text or a number; names that are isolated in it become <bdi>.
-/** @param {Element} element @param {string|number} text */
-export function put(element, text) {
-  const whole = typeof text === 'number' ? number(text) : text;
-  if (!whole.includes(OPENS)) {
-    if (element.textContent !== whole || element.firstElementChild) element.textContent = whole;
-  } else if (written.get(element) !== whole || !element.firstElementChild) {
-    written.set(element, whole);
-    element.replaceChildren(...whole.split(/(\u2068[^\u2069]*\u2069)/).filter(Boolean).map(part => part.startsWith(OPENS) ? make('bdi', {}, part.slice(1, -1)) : part));
+// Gives an element attributes, without a value where it is true; takes away what is false or nothing. A function is what is done at an event.
+/** @param {Place} place @param {Attributes} attributes */
+export function set(place, attributes) {
+  const element = typeof place === 'string' ? byId(place) : place;
+  for (const [name, value] of Object.entries(attributes)) {
+    const text = value === true ? '' : String(value);
+    if (typeof value === 'function') element[name] = value;
+    else if (value === false || value === undefined) element.removeAttribute(name);
+    else if (element.getAttribute(name) !== text) element.setAttribute(name, text);
   }
 }
 
-/** @param {Element} element @param {string} name @param {string} value */
-export function mark(element, name, value) { if (element.getAttribute(name) !== value) element.setAttribute(name, value); }
-
-/** @param {Element} element @param {string} name @param {boolean} on */
-export function toggle(element, name, on) { if (element.hasAttribute(name) !== on) element.toggleAttribute(name, on); }
-
-/** @param {string} tag @param {Record<string,string>} [attributes] @param {(Node|string)[]} children */
-export function make(tag, attributes = {}, ...children) {
-  const element = document.createElement(tag);
-  for (const [name, value] of Object.entries(attributes)) element.setAttribute(name, value);
-  element.append(...children);
-  return element;
+// Writes what is in an element: texts, where names that are isolated become <bdi>, numbers, and elements; what is false or nothing is left out.
+/** @param {Place} place @param {Part[]} parts */
+export function put(place, ...parts) {
+  if (parts[0] === AS_IT_IS) return;
+  const element = typeof place === 'string' ? byId(place) : place;
+  const wanted = parts.flatMap(part => typeof part === 'number' ? number(part) : typeof part === 'string' ? texts(part, element) : part ? /** @type {Made} */ (part) : []);
+  const keys = new Set(wanted.flatMap(part => typeof part === 'string' ? [] : part.attributes['data-key'] ?? [])), had = new Map();
+  if (keys.size) for (const one of [...element.children]) if (keys.has(one.dataset.key)) had.set(one.dataset.key, one); else one.remove();
+  wanted.forEach((part, place) => {
+    const there = element.childNodes[place], isText = typeof part === 'string', fits = isText ? there instanceof Text : !keys.size && there?.localName === part.tag;
+    const node = !isText && had.get(part.attributes['data-key']) || (fits ? there : isText ? new Text() : created(part.tag, element));
+    if (node !== there) element.insertBefore(node, there ?? null);
+    if (!isText) {
+      set(node, part.attributes);
+      put(node, ...part.parts);
+    } else if (node.data !== part) node.data = part;
+  });
+  while (element.childNodes.length > wanted.length) element.lastChild.remove();
 }
+
+/** @param {string} tag @param {Element} within */
+const created = (tag, within) => document.createElementNS(tag === 'svg' ? SVG : within.namespaceURI, tag);
+
+// A text and its names; an option can only have a text.
+/** @param {string} text @param {Element} within @returns {(string|Made)[]} */
+const texts = (text, within) => within.localName === 'option' ? [text] : text.split(ISOLATED).filter(Boolean).map(part => part.startsWith(OPENS) ? make('bdi', {}, plain(part)) : part);
 
 // How what is seen stands to the desk. What changes each second is beside what a screen reader is told.
 /** @param {string} kind @param {number} known when the desk was known last, in milliseconds; 0 where it never was @param {string} why @param {number} moment of the server's clock @param {string} [reading] how much of the day has been read */
 export function drawStatus(kind, known, why, moment, reading) {
   const age = Date.now() - known, isLive = kind === 'live';
-  mark(byId('status'), 'data-kind', kind);
-  put(byId('status-text'), kind === 'lost' ? word(known ? 'status.old' : 'status.none', {why}) : word(`status.${isLive && reading ? 'counting' : kind}`));
-  put(byId('status-age'), known && ['late', 'lost'].includes(kind) ? word('status.age', {clock: clock(age / 1000)}) : (isLive && reading) || '');
-  toggle(document.body, 'data-old', known > 0 && !isLive && age > GREY);
-  put(byId('clock'), `${timeOfDay(moment)} ${zoneOf(moment)}`);
+  set('status', {'data-kind': kind});
+  put('status-text', kind === 'lost' ? word(known ? 'status.old' : 'status.none', {why}) : word(`status.${isLive && reading ? 'counting' : kind}`));
+  put('status-age', known && ['late', 'lost'].includes(kind) ? word('status.age', {clock: clock(age / 1000)}) : isLive && reading);
+  set(document.body, {'data-old': known > 0 && !isLive && age > GREY});
+  put('clock', `${timeOfDay(moment)} ${zoneOf(moment)}`);
 }
 
 // A name with its number, as text.
@@ -54,85 +72,37 @@ export const withNumber = ({id, name}) => name && name !== id ? `${named(name)} 
 /** @param {Settings} settings */
 export const within = settings => Object.keys(settings).some(name => name.startsWith('limit.')) ? word('tile.limits') : word('tile.limit', {n: settings.limit});
 
-// The choice among groups.
-/** @param {HTMLSelectElement} select @param {{id:string, name:string}[]} groups @param {string} chosen */
-export function choose(select, groups, chosen) {
-  const names = groups.map(withNumber), key = names.join('\n');
-  if (select.dataset.names !== key) {
-    select.dataset.names = key;
-    select.replaceChildren(new Option(word('set.group.'), ''), ...groups.map((group, place) => new Option(names[place], group.id)));
-  }
-  if (select.value !== chosen) select.value = groups.some(group => group.id === chosen) ? chosen : '';
+/** @param {Column} column */
+const kindOf = ({kind, wide, least}) => [kind, wide && 'wide', least && 'least'].filter(Boolean).join(' ');
+
+/** @param {Column} column @param {any} line */
+const textOf = ({head, text}, line) => text ? text(line) : line[head];
+
+/** @param {Column[]} columns @param {any[]} lines */
+const rows = (columns, lines) => [
+  make('thead', {}, make('tr', {}, ...columns.map(column => {
+    const {head, about = isWord(`about.${head}`)} = column;
+    return make('th', {scope: 'col', class: kindOf(column), title: about && word(`about.${head}`)}, word(`head.${head}`));
+  }))),
+  make('tbody', {}, ...lines.map(line => make('tr', {'data-key': line.key, 'data-severity': line.severity ?? ''}, ...columns.map((column, place) => {
+    const text = textOf(column, line);
+    return make(place ? 'td' : 'th', {scope: !place && 'row', class: kindOf(column), 'data-severity': column.severity?.(line)},
+      column.press && text ? make('button', {'data-press': column.press}, text) : text);
+  })))),
+];
+
+// A table with a row for each line, known by its key; a cell may be a button, and main.js does what it is pressed for. As a file it has numbers where a column says so.
+/** @param {string} id @param {Column[]} columns */
+export function table(id, columns) {
+  /** @type {any[]} */ let lines = [];
+  const filed = columns.filter(column => !column.press || column.file);
+  /** @param {Column} column @param {any} line */
+  const value = (column, line) => {
+    const found = column.file ? column.file(line) ?? '' : textOf(column, line);
+    return typeof found === 'number' ? found : plain(found);
+  };
+  return {
+    draw: (/** @type {any[]} */ now) => put(id, ...rows(columns, lines = now)),
+    file: () => [filed.map(({head}) => word(`head.${head}`)), ...lines.map(line => filed.map(column => value(column, line)))],
+  };
 }
-
-// What stands in a list, each known by its key: it is made as its key comes, and goes with it.
-/** @template {{element:Element}} Item */
-export class Keyed {
-  /** @param {Element} list @param {(key:string) => Item} made */
-  constructor(list, made) {
-    this.list = list;
-    this.made = made;
-    /** @type {Map<string, Item>} */ this.all = new Map();
-  }
-
-  /** @param {string[]} keys in their order @param {boolean} [moves] whether those that are there may change their places */
-  show(keys, moves = true) {
-    const wanted = new Set(keys);
-    for (const [key, {element}] of this.all) if (!wanted.has(key)) { element.remove(); this.all.delete(key); }
-    return keys.map((key, place) => {
-      const one = this.all.get(key) ?? this.made(key), {element} = one, there = this.list.children[place];
-      this.all.set(key, one);
-      if (there !== element && (moves || element.parentNode !== this.list)) this.list.insertBefore(element, there ?? null);
-      return one;
-    });
-  }
-}
-
-// A table with a row for each line, known by its key.
-export class Table {
-  /** @param {HTMLTableElement} table @param {Column[]} columns */
-  constructor(table, columns) {
-    this.columns = columns;
-    /** @type {any[]} */ this.lines = [];
-    const classes = columns.map(({kind = '', wide, least}) => `${kind}${wide ? ' wide' : ''}${least ? ' least' : ''}`.trim());
-    const heads = columns.map(({head, about}, place) => make('th', {scope: 'col', class: classes[place], ...(about && {title: word(about)})}, word(head)));
-    this.body = make('tbody');
-    this.rows = new Keyed(this.body, key => ({element: make('tr', {'data-key': key}, ...classes.map((kind, place) => place ? make('td', {class: kind}) : make('th', {scope: 'row', class: kind})))}));
-    table.append(make('thead', {}, make('tr', {}, ...heads)), this.body);
-  }
-
-  /** @param {any[]} lines each with a key @param {boolean} [moves] whether rows may change their places */
-  draw(lines, moves) {
-    this.lines = lines;
-    this.rows.show(lines.map(({key}) => key), moves).forEach(({element: row}, place) => {
-      const line = lines[place];
-      mark(row, 'data-severity', line.severity ?? '');
-      this.columns.forEach(({text: of, press: what, severity}, number) => {
-        const cell = row.children[number], text = of(line);
-        if (what) press(cell, String(text), what); else put(cell, text);
-        if (severity) mark(cell, 'data-severity', severity(line));
-      });
-    });
-  }
-
-  // Its heads and lines, for a file: as numbers where a column has them.
-  file() {
-    const columns = this.columns.filter(column => !column.press || column.file);
-    return [columns.map(column => word(column.head)), ...this.lines.map(line => columns.map(column => column.file ? column.file(line) ?? '' : typed(column.text(line))))];
-  }
-}
-
-/** @param {string|number} value */
-const typed = value => typeof value === 'number' ? value : plain(value);
-
-// A cell that is a button, or empty; whoever presses it is told by its attribute.
-/** @param {Element} cell @param {string} text @param {string} what */
-function press(cell, text, what) {
-  if (!text) return cell.replaceChildren();
-  if (!cell.firstElementChild) cell.append(make('button', {type: 'button', 'data-press': what}));
-  put(/** @type {Element} */ (cell.firstElementChild), text);
-}
-
-// A text without the signs that isolate names in it.
-/** @param {string} text */
-export const plain = text => text.replaceAll(OPENS, '').replaceAll(CLOSES, '');

@@ -1,51 +1,50 @@
 // Follows a desk: a snapshot to begin with, then each second the events behind it; goes on by itself after a loss, and begins anew where another file is in its place.
-import {ask, sleep} from './net.js';
+import * as net from './net.js';
 import {refusal, word} from './words.js';
 
 const EVERY = 1000, LONGEST = 5000, FULL = 1000, SEVERAL = 6;
 
 // A request of a desk. The server's clock less this one's, in milliseconds, is told on the way.
 /** @param {string} address @param {(offset:number) => void} [clock] */
-export async function read(address, clock) {
-  const {status, date, received, text} = await ask(address).catch(({message}) => { throw new Error(word(`lost.${message}`)); });
+export async function ask(address, clock) {
+  const {status, date, received, text} = await net.ask(address).catch(({message}) => { throw new Error(word(`lost.${message}`)); });
   if (date) clock?.(date + 500 - received);
   if (status !== 200) throw Object.assign(new Error(refusal(status, text)), {status});
   return JSON.parse(text);
 }
 
 export class Feed {
+  last = 0;
+  begun = false;
+  renewed = 0;
+  // the last event as it was read: another one in its place is another desk's
+  seen = '';
+  losses = 0;
+  wake = () => {};
+
   /** @param {string} base the desk's address @param {number} renew after how many milliseconds a snapshot is read anew, for what no event tells @param {Follower} owner */
   constructor(base, renew, owner) {
     this.base = base;
     this.renew = renew;
     this.owner = owner;
-    this.last = 0;
-    this.begun = false;
-    this.renewed = 0;
-    // the last event as it was read: another one in its place is another desk's
-    this.seen = '';
-    this.losses = 0;
-    this.wake = () => {};
   }
 
   /** @param {string} path */
-  get(path) { return read(this.base + path, this.owner.clock); }
+  get(path) { return ask(this.base + path, this.owner.clock); }
 
   async run() {
-    for (;;) {
-      try {
-        if (!this.begun || Date.now() - this.renewed > this.renew) await this.takeSnapshot();
-        const more = this.begun && await this.poll();
-        if (this.begun) {
-          this.losses = 0;
-          this.owner.tell({kind: 'live'});
-        }
-        if (!more) await this.wait(this.begun ? EVERY : 0);
-      } catch (error) {
-        const {status, message} = /** @type {any} */ (error);
-        this.owner.tell({kind: 'lost', status, why: message});
-        await this.wait(Math.min(LONGEST, EVERY * 2 ** this.losses++) * (0.75 + Math.random() / 2));
+    for (;;) try {
+      if (!this.begun || Date.now() - this.renewed > this.renew) await this.takeSnapshot();
+      const more = this.begun && await this.poll();
+      if (this.begun) {
+        this.losses = 0;
+        this.owner.tell({kind: 'live'});
       }
+      if (!more) await this.wait(this.begun ? EVERY : 0);
+    } catch (error) {
+      const {status, message} = /** @type {any} */ (error);
+      this.owner.tell({kind: 'lost', status, why: message});
+      await this.wait(Math.min(LONGEST, EVERY * 2 ** this.losses++) * (0.75 + Math.random() / 2));
     }
   }
 
@@ -63,6 +62,7 @@ export class Feed {
     this.last = 0;
     this.seen = '';
     this.owner.tell({kind: 'anew'});
+    return true;
   }
 
   // The events behind the last one, and that one again. True where there may be more.
@@ -70,33 +70,27 @@ export class Feed {
     const {events, last} = /** @type {Page} */ (await this.get(`/history?after=${Math.max(0, this.last - 1)}`));
     if (this.last > 0) {
       const again = JSON.stringify(events.shift());
-      if (last < this.last || (this.seen && again !== this.seen)) {
-        this.forget();
-        return true;
-      }
+      if (last < this.last || (this.seen && again !== this.seen)) return this.forget();
       this.seen = again;
     }
-    if (events.length) {
-      this.last = events[events.length - 1].number;
-      this.seen = JSON.stringify(events[events.length - 1]);
+    const latest = events[events.length - 1];
+    if (latest) {
+      this.last = latest.number;
+      this.seen = JSON.stringify(latest);
       this.owner.take(events);
     }
-    await this.ask();
-    return last > this.last;
-  }
-
-  // Reads the agents who logged on in several groups.
-  async ask() {
+    // of agents who logged on in several groups a read tells which
     for (const agent of [...this.owner.unknown()]) {
       try { this.owner.learn(await this.get(`/agents/${agent}`)); } catch (error) { if (/** @type {any} */ (error).status !== 404) throw error; }
     }
+    return last > this.last;
   }
 
   /** @param {number} milliseconds */
   wait(milliseconds) {
     return new Promise(done => {
-      const timer = setTimeout(done, milliseconds);
-      this.wake = () => { clearTimeout(timer); done(undefined); };   // a page that comes to the front asks at once
+      setTimeout(done, milliseconds);
+      this.wake = () => done(undefined);   // a page that comes to the front asks at once
     });
   }
 }
@@ -107,8 +101,8 @@ export async function lastBefore(base, last, moment) {
   let low = 0, high = last;
   while (low < high) {
     const places = new Set(Array.from({length: SEVERAL}, (_, part) => low + Math.floor((high - low) * part / SEVERAL)));
-    const pages = await Promise.all([...places].map(async after => ({after, page: /** @type {Page} */ (await read(`${base}/events?after=${after}`))})));
-    for (const {after, page: {events}} of pages) {
+    const pages = await Promise.all([...places].map(async after => ({after, .../** @type {Page} */ (await ask(`${base}/events?after=${after}`))})));
+    for (const {after, events} of pages) {
       const first = events.findIndex(event => event.moment >= moment);
       if (first > 0) return after + first;
       if (first === 0 || !events.length) { high = after; break; }
@@ -123,17 +117,17 @@ export async function lastBefore(base, last, moment) {
 export async function history(base, after, last, take) {
   /** @type {Promise<Page>[]} */ const asked = [];
   let next = after;
-  const ask = () => {
+  const more = () => {
     if (next >= last) return;
-    const page = read(`${base}/history?after=${next}`);
+    const page = ask(`${base}/history?after=${next}`);
     page.catch(() => {});   // told where it is awaited
     asked.push(page);
     next += FULL;
   };
-  for (let stream = 0; stream < SEVERAL; stream++) ask();
+  for (let stream = 0; stream < SEVERAL; stream++) more();
   for (let page = asked.shift(); page; page = asked.shift()) {
     const {events} = await page;
-    ask();
+    more();
     if (!take(events)) return;
   }
 }

@@ -5,6 +5,7 @@ declare global {
   type Agent = types.Agent;
   type AgentReport = types.AgentReport;
   type Alarm = types.Alarm;
+  type Attributes = types.Attributes;
   type Call = types.Call;
   type CallLine = types.CallLine;
   type CallReport = types.CallReport;
@@ -18,6 +19,12 @@ declare global {
   type GroupLine = types.GroupLine;
   type Limits = types.Limits;
   type Looked = types.Looked;
+  type Made = types.Made;
+  type Numbers = (value: number) => string;
+  type OfSums = (sum: Sums) => number | null;
+  type Part = types.Part;
+  type Place = types.Place;
+  type Texts = (text: string) => string;
   type Line = types.Line;
   type Report = types.Report;
   type Series = types.Series;

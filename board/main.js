@@ -2,9 +2,9 @@
 import {Lead} from './act.js';
 import {alarms} from './alarms.js';
 import {save} from './csv.js';
-import {byId, choose, drawStatus, make, mark, put, toggle} from './draw.js';
+import {byId, drawStatus, make, put, set, withNumber} from './draw.js';
 import {Day} from './day.js';
-import {Feed, history, lastBefore, read} from './feed.js';
+import {ask, Feed, history, lastBefore} from './feed.js';
 import {fault, office} from './office.js';
 import {callLines, groupLines, totals} from './reckon.js';
 import {logIn, logOut, openSession} from './session.js';
@@ -47,9 +47,7 @@ const now = () => Math.max(state.moment, told.kind === 'lost' && answered ? Math
 
 // The office's names, before those of the desk.
 function rename() {
-  for (const [kind, of] of /** @type {['groups'|'agents', Map<string,{name:string}>][]} */ ([['groups', state.groups], ['agents', state.agents]])) {
-    for (const [id, name] of Object.entries(office.names[kind])) { const one = of.get(id); if (one) one.name = name; }
-  }
+  for (const kind of /** @type {const} */ (['groups', 'agents'])) for (const [id, name] of Object.entries(office.names[kind])) { const one = state[kind].get(id); if (one) one.name = name; }
 }
 
 const feed = new Feed(base, RENEW, {
@@ -91,26 +89,33 @@ const feed = new Feed(base, RENEW, {
   learn(agent) { state.learn(agent); },
 });
 
-/** @param {number} begin */
-const newDay = begin => new Day(begin, group => settings[`limit.${group}`] ?? settings.limit, ownOf(settings));
+// When the day begins, or another one so many days before.
+const begins = (back = 0) => dayBegin(settings.since, now(), office.zone, back);
+const newDay = (back = 0) => new Day(begins(back), group => settings[`limit.${group}`] ?? settings.limit, ownOf(settings));
 
 // Behind which event a day begins, with those before it that tell since when calls wait.
 /** @param {Day} of */
 const before = of => lastBefore(base, feed.last, of.begin - greatestLimit(settings) - 1);
 
+// Counts what is of a day of the events that the feed has, behind the last that it counted, a page at a time.
+/** @param {Day} day @param {(report:Report) => boolean} isOf @param {(counted:Report[]) => boolean} goesOn */
+const read = (day, isOf, goesOn) => history(base, day.last, feed.last, reports => {
+  const found = reports.filter(isOf);
+  for (const report of found) day.apply(report);
+  return goesOn(found) && found.length === reports.length;
+});
+
 // Counts the day up to the events that the feed has; from then on the feed goes on with them.
 async function count() {
-  const mine = counting = newDay(dayBegin(settings.since, now(), office.zone));
+  const mine = counting = newDay();
   /** @type {Report[]} */ let found = [];
   counted = false;
   share = 0;
   others.clear();
   try {
     const from = mine.last = await before(mine);
-    while (mine === counting && mine.last < feed.last) await history(base, mine.last, feed.last, reports => {
-      const taken = reports.filter(report => report.number <= feed.last);
-      for (const report of taken) mine.apply(report);
-      found = [...found, ...taken].slice(-RECENT);
+    while (mine === counting && mine.last < feed.last) await read(mine, ({number}) => number <= feed.last, more => {
+      found = [...found, ...more].slice(-RECENT);
       share = (mine.last - from) / Math.max(1, feed.last - from);
       return mine === counting;
     });
@@ -118,7 +123,7 @@ async function count() {
     counted = true;
     recent = found;
     performance.mark('counted');
-    draw(true);
+    redraw();
   } catch { if (mine === counting) setTimeout(count, OLD); }
 }
 
@@ -131,16 +136,13 @@ function past(back) {
 
 /** @param {number} back */
 async function readPast(back) {
-  const of = newDay(dayBegin(settings.since, now(), office.zone, back)), end = dayBegin(settings.since, now(), office.zone, back - 1), mine = {day: of, whole: false};
+  const day = newDay(back), end = begins(back - 1), mine = {day, whole: false};
   others.set(back, mine);
   try {
-    await history(base, await before(of), feed.last, reports => {
-      const taken = reports.filter(report => report.moment < end);
-      for (const report of taken) of.apply(report);
-      return taken.length === reports.length && others.get(back) === mine;
-    });
+    day.last = await before(day);
+    await read(day, ({moment}) => moment < end, () => others.get(back) === mine);
     mine.whole = true;
-    draw(true);
+    redraw();
   } catch { setTimeout(() => { if (others.get(back) === mine) others.delete(back); }, OLD); }
 }
 
@@ -150,7 +152,7 @@ async function learn(calls) {
   const mine = asked, wanted = calls.filter(call => !mine.has(call)).slice(0, ASKING);
   for (const call of wanted) mine.add(call);
   for (const call of wanted) try {
-    const {caller} = await read(`${base}/calls/${call}`), known = mine === asked && state.calls.get(call);
+    const {caller} = await ask(`${base}/calls/${call}`), known = mine === asked && state.calls.get(call);
     if (known) known.caller = caller;
   } catch { /* it has ended, or the desk is gone: a snapshot tells */ }
 }
@@ -164,50 +166,54 @@ function schedule() {
 
 /** @param {string} text */
 function empty(text) {
-  put(byId('empty'), text);
-  toggle(byId('empty'), 'hidden', !text);
+  put('empty', text);
+  set('empty', {hidden: !text});
 }
+
+const redraw = () => draw(true);
 
 /** @param {boolean} anew whether all may have changed */
 function draw(anew) {
   if (state.last === 0 && state.groups.size === 0) return told.kind === 'live' ? empty(word('empty.plan')) : undefined;
-  const looked = {state, day: counting, settings, now: now()}, lines = groupLines(looked);
+  const looked = {state, day: counting, settings, now: now()}, lines = groupLines(looked), choice = field('group');
   if (lines.length && !lines.some(line => line.id === settings.group)) settings.group = '';   // it is none of the own ones any more
-  drawn = {...looked, counted, recent, lines, all: totals(looked, lines), past, learn, empty, lead};
+  drawn = {...looked, counted, recent, lines, all: totals(looked, lines), past, learn, empty, lead, filter, redraw};
   empty(!state.groups.size ? word('empty.plan') : !lines.length ? word('empty.groups') : '');
-  choose(field('group'), lines, settings.group);
+  put(choice, make('option', {value: ''}, word('set.group.')), ...lines.map(line => make('option', {value: line.id}, withNumber(line))));
+  if (choice.value !== settings.group) choice.value = settings.group;
   if (told.kind === 'live') unseen = alarmsView.draw(drawn, alarms(drawn, serverClock()), view === 'wall');
   totalsView.draw(drawn);
   VIEWS[view].draw(drawn, anew);
-  if (counted && dayBegin(settings.since, looked.now, office.zone) !== counting.begin && told.kind === 'live') count();   // another day has begun
+  if (counted && begins() !== counting.begin && told.kind === 'live') count();   // another day has begun
 }
+
+const title = () => settings.title || office.title || word('title.usual');
 
 function drawTop() {
   const age = Date.now() - answered, lost = told.kind === 'lost', why = 'why' in told ? told.why : '';
   drawStatus(told.kind === 'live' && age > OLD ? 'late' : told.kind, answered, why, serverClock(), counted ? '' : `${Math.floor(100 * share)} %`);
-  put(byId('band'), lost ? `■ ${answered ? word('band.old', {clock: clock(age / 1000)}) : word('status.none', {why})}` : '');
-  toggle(byId('band'), 'hidden', !lost);
-  document.title = `${lost ? `■ ${word('title.lost')} – ` : unseen ? `■ ${word('title.alarms', {n: unseen})} – ` : ''}${settings.title || office.title || word('title.usual')}: ${word(`view.${view}`)}`;
+  put('band', lost && `■ ${answered ? word('band.old', {clock: clock(age / 1000)}) : word('status.none', {why})}`);
+  set('band', {hidden: !lost});
+  document.title = `${lost ? `■ ${word('title.lost')} – ` : unseen ? `■ ${word('title.alarms', {n: unseen})} – ` : ''}${title()}: ${word(`view.${view}`)}`;
 }
 
 function show() {
   const hash = location.hash.slice(1);
   view = Object.hasOwn(VIEWS, hash) ? hash : 'wall';
-  mark(document.body, 'data-view', view);
-  for (const part of document.querySelectorAll('[data-for]')) toggle(part, 'hidden', !part.getAttribute('data-for')?.split(' ').includes(view));
-  for (const link of document.querySelectorAll('nav a')) if (link.getAttribute('href') === `#${view}`) mark(link, 'aria-current', 'page'); else link.removeAttribute('aria-current');
+  set(document.body, {'data-view': view});
+  for (const part of document.querySelectorAll('[data-for]')) set(part, {hidden: !part.getAttribute('data-for')?.split(' ').includes(view)});
+  put('views', ...Object.keys(VIEWS).map(name => make('li', {}, make('a', {href: `#${name}`, 'aria-current': name === view && 'page'}, word(`view.${name}`)))));
   drawTop();
-  draw(true);
+  redraw();
 }
 
-const form = /** @type {HTMLFormElement} */ (document.querySelector('#settings form')), filters = byId('filters');
 /** @param {string} name @returns {any} */
-const field = name => form.elements.namedItem(name) ?? filters.querySelector(`[name="${name}"]`);
+const field = name => document.querySelector(`[name="${name}"]`);
 
 // What has been set is written into the fields and the address.
 function useSettings() {
-  mark(document.documentElement, 'data-theme', settings.theme);
-  put(byId('title'), settings.title || office.title || word('title.usual'));
+  set(document.documentElement, {'data-theme': settings.theme});
+  put('title', title());
   for (const [name, value] of Object.entries(settings)) {
     const one = field(name);
     if (one?.type === 'checkbox') one.checked = Boolean(value);
@@ -217,80 +223,70 @@ function useSettings() {
   window.history.replaceState(null, '', location.pathname + searchOf(settings, usual) + location.hash);
 }
 
-/** @param {Record<string,string>} wanted @param {string} [hash] the view that is to be shown */
-function filter({toggle: one, ...wanted}, hash) {
+/** @type {Drawn['filter']} */
+const filter = ({toggle: one, ...wanted}, hash) => {
   const states = new Set(settings.states.split(',').filter(Boolean));
   if (one && !states.delete(one)) states.add(one);
-  Object.assign(settings, wanted, one ? {states: [...states].join(',')} : {});
+  Object.assign(settings, wanted, one && {states: [...states].join(',')});
   useSettings();
-  if (hash && hash !== view) location.hash = hash; else draw(true);
+  if (hash && hash !== view) location.hash = hash; else redraw();
+};
+
+/** @param {string[]} setting @param {Attributes} attributes */
+function labelled([name, kind = 'text', ...choices], attributes = {}) {
+  const isNumber = ['s', 'percent'].includes(kind), options = ['', ...choices].map(value => make('option', {value}, word(`set.${name}.${value}`)));
+  const one = kind ? make('input', {name, type: isNumber ? 'number' : kind, min: 1, autocomplete: 'off'}) : make('select', {name}, ...options);
+  return make('label', attributes, make('span', {}, word(`set.${name}`)), make('span', {}, one, isNumber && ` ${word(`unit.${kind}`)}`));
 }
 
-/** @param {string[]} setting */
-function labelled([name, kind = 'text', ...choices]) {
-  const isNumber = ['s', 'percent'].includes(kind), options = ['', ...choices].map(choice => new Option(word(`set.${name}.${choice}`), choice));
-  const one = kind ? make('input', {name, type: isNumber ? 'number' : kind, min: '1', autocomplete: 'off'}) : make('select', {name}, ...options);
-  return make('label', {}, make('span', {}, word(`set.${name}`)), make('span', {}, one, isNumber ? ` ${word(`unit.${kind}`)}` : ''));
-}
-form.prepend(...FIELDS.map(labelled));
-filters.prepend(...FILTERS.map(([views, ...setting]) => {
-  const label = labelled(setting);
-  label.dataset.for = views;
-  label.addEventListener('input', () => filter({[setting[0]]: field(setting[0]).value}));
-  return label;
-}));
-document.querySelector('nav ul')?.append(...Object.keys(VIEWS).map(name => make('li', {}, make('a', {href: `#${name}`}, word(`view.${name}`)))));
-form.addEventListener('change', event => {
-  const one = /** @type {any} */ (event.target), before = JSON.stringify(settings), given = one.type === 'checkbox' ? (one.checked ? '1' : '') : one.value;
+/** @param {any} event */
+function change({target: one}) {
+  const before = JSON.stringify(settings), given = one.type === 'checkbox' ? (one.checked ? '1' : '') : one.value;
   one.setCustomValidity(valueOf(one.name, given) === undefined ? word('set.wrong') : '');
   field('bad').setCustomValidity(Number(field('bad').value) < Number(field('long').value) ? word('set.order') : '');
-  put(byId('set-told'), one.validationMessage || field('bad').validationMessage);
-  if (![...form.elements].every(element => /** @type {any} */ (element).checkValidity())) return;
+  put('set-told', one.validationMessage || field('bad').validationMessage);
+  if (!byId('fields').checkValidity()) return;
   Object.assign(settings, settingsOf([...Object.entries(settings).map(([name, value]) => /** @type {[string,string]} */ ([name, String(value)])), [one.name, given]], usual));
   useSettings();
   if (one.name === 'lang') return location.reload();
   if (one.name === 'notify' && one.checked) Notification.requestPermission();
   if (['since', 'limit', 'groups'].includes(one.name) && JSON.stringify(settings) !== before) count();
   show();
-});
-form.addEventListener('submit', event => event.preventDefault());
-
-// What a button in a row or a tile asks for.
-/** @param {HTMLElement} button @param {string} key of the row */
-function press(button, key) {
-  const what = button.dataset.press, line = drawn && callLines(drawn).find(one => String(one.number) === key);
-  if (what === 'agents') filter({group: key, find: ''}, 'agents');
-  if (what === 'calls') filter({group: '', find: button.dataset.call ?? ''}, 'calls');
-  if (what === 'agent') filter({group: '', states: '', find: line ? state.agentAt(line.device)?.id ?? line.device : ''}, 'agents');
-  if (what === 'call' && line) lead.ofCall(state, line);
-  if (what === 'state') lead.ofAgent(state, key);
-  if (what === 'priority') lead.ofGroup(state, key);
 }
-document.addEventListener('click', event => {
-  const button = /** @type {HTMLElement|null} */ (/** @type {Element} */ (event.target).closest('[data-press]')), key = /** @type {HTMLElement|null|undefined} */ (button?.closest('[data-key]'))?.dataset.key;
-  if (button && key) press(button, key);
-});
-byId('skip').addEventListener('click', (/** @type {Event} */ event) => { event.preventDefault(); byId('main').focus(); });
-byId('csv').addEventListener('click', () => {
-  if (drawn) save(`${view}-${new Date(serverClock() * 1000).toISOString().slice(0, 16).replace(/[:T]/g, '-')}.csv`, VIEWS[view].file(drawn));
+
+// What a button in a row or a tile asks for, by the row's key.
+/** @type {Record<string, (key:string, button:HTMLElement, line?:CallLine) => void>} */
+const PRESSED = {
+  agents: group => filter({group, find: ''}, 'agents'),
+  calls: (_, {dataset}) => filter({group: '', find: dataset.call ?? ''}, 'calls'),
+  agent: (_, __, line) => filter({group: '', states: '', find: line ? state.agentAt(line.device)?.id ?? line.device : ''}, 'agents'),
+  call: (_, __, line) => line && lead.ofCall(state, line),
+  state: key => lead.ofAgent(state, key),
+  priority: key => lead.ofGroup(state, key),
+};
+document.addEventListener('click', ({target}) => {
+  const button = /** @type {HTMLElement|null} */ (/** @type {Element} */ (target).closest('[data-press]')), key = button?.closest('[data-key]')?.getAttribute('data-key');
+  if (button && key) PRESSED[button.dataset.press ?? ''](key, button, drawn && callLines(drawn).find(line => String(line.number) === key));
 });
 
 translate();
-if (fault) {
-  put(byId('fault'), word('fault.office', {what: fault}));
-  toggle(byId('fault'), 'hidden', false);
-}
-agents.begin(() => draw(true), filter);
-alarmsView.begin(() => draw(true));
+put('fields', ...FIELDS.map(setting => labelled(setting)), make('p', {}, make('output', {id: 'set-told'})), make('p', {}, word('set.about')));
+set('fields', {onchange: change, onsubmit: (/** @type {Event} */ event) => event.preventDefault()});
+put('filters', ...FILTERS.map(([views, ...setting]) => labelled(setting, {'data-for': views, oninput: () => filter({[setting[0]]: field(setting[0]).value})})),
+  make('label', {'data-for': 'events'}, make('input', {type: 'checkbox', id: 'events-hold'}), make('span', {}, word('filter.hold'))),
+  make('div', {id: 'states', role: 'group', 'aria-label': word('filter.states'), 'data-for': 'agents'}));
+put('fault', fault && word('fault.office', {what: fault}));
+set('fault', {hidden: !fault});
+set('skip', {onclick: (/** @type {Event} */ event) => { event.preventDefault(); byId('main').focus(); }});
+set('csv', {onclick: () => { if (drawn) save(`${view}-${new Date(serverClock() * 1000).toISOString().slice(0, 16).replace(/[:T]/g, '-')}.csv`, VIEWS[view].file(drawn)); }});
 soundWhere(() => Boolean(settings.tone));
-calls.begin(() => draw(true));
 addEventListener('hashchange', show);
-addEventListener('resize', () => draw(true));
+addEventListener('resize', redraw);
 document.addEventListener('visibilitychange', () => feed.wake());
 setInterval(() => { drawTop(); schedule(); }, 1000);
 useSettings();
 show();
 feed.run();
-openSession(() => logOut().catch(() => {})).then(who => { lead.begin(who); draw(true); });
+openSession(() => logOut().catch(() => {})).then(who => { lead.begin(who); redraw(); });
 // for whoever looks into a board from its console, and for its tests
 Object.assign(window, {board: {feed, state: () => state, day: () => counting, counted: () => counted, settings}});

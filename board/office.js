@@ -2,7 +2,7 @@
 // Without the file a page is as the desk and its own address say. One that says nothing readable is passed over, and told in a line.
 import {ask} from './net.js';
 
-/** @typedef {{title?:string, language?:string, zone?:string, names:Record<'groups'|'agents'|'stations', Record<string,string>>, limits:Record<string,string>}} Office */
+/** @typedef {typeof office} Office */
 
 const PATIENCE = 3000, LONGEST = 80;
 
@@ -16,7 +16,7 @@ function texts(text) {
 function isZone(zone) { try { return Boolean(new Intl.DateTimeFormat('en', {timeZone: zone})); } catch { return false; } }
 
 // What a file says, and what of it can't be used: `board.json`, or the name of a member.
-/** @param {string} text @returns {{office:Office, fault:string}} */
+/** @param {string} text */
 function officeOf(text) {
   /** @type {any} */ let said;
   try { said = JSON.parse(text); } catch { /* a fault, as any other that is no object */ }

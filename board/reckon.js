@@ -6,33 +6,25 @@ import {limitsOf, ownOf} from './settings.js';
 // so many percent below its goal a service level is bad; abandonment is at twice its goal
 const FAR = 15;
 
-/** @returns {Record<Doing,number>} */
 export const noCounts = () => ({ready: 0, ringing: 0, busy: 0, hold: 0, own: 0, workingAfterCall: 0, notReady: 0, null: 0});
 
 // What an agent does.
 /** @param {State} state @param {Agent} agent */
 export const doing = (state, agent) => doingAt(agent, state.at(agent.station));
 
-// Since when the call waits that has waited longest in a group, or null.
-/** @param {Group} group */
-function firstQueued(group) {
-  let queued = null;
-  for (const call of group.waiting) queued = Math.min(queued ?? Infinity, call.queued);
-  return queued;
-}
-
 /** @param {number|null} wait @param {{long:number, bad:number}} limits @returns {Severity} */
-export function severity(wait, limits) {
-  return wait === null ? 'none' : wait >= limits.bad ? 'bad' : wait >= limits.long ? 'long' : 'calm';
-}
+export const severity = (wait, {long, bad}) => wait === null ? 'none' : wait >= bad ? 'bad' : wait >= long ? 'long' : 'calm';
+
+/** @param {number|null} share @param {(percent:number) => boolean} isGood @param {(percent:number) => boolean} isBad @returns {Severity} */
+const judged = (share, isGood, isBad) => share === null ? 'none' : isGood(100 * share) ? 'calm' : isBad(100 * share) ? 'bad' : 'long';
 
 // The shares of a day, and how they stand to their goals.
 /** @param {Sums} sum @param {{goal:number, lost:number}} limits @param {Settings} settings @returns {Share} */
 function shares(sum, limits, settings) {
   const reached = level(sum, settings.level === 'answered'), lost = abandonment(sum);
   return {
-    level: reached, levelSeverity: reached === null ? 'none' : 100 * reached >= limits.goal ? 'calm' : 100 * reached >= limits.goal - FAR ? 'long' : 'bad',
-    lost, lostSeverity: lost === null ? 'none' : 100 * lost <= limits.lost ? 'calm' : 100 * lost <= 2 * limits.lost ? 'long' : 'bad',
+    level: reached, levelSeverity: judged(reached, percent => percent >= limits.goal, percent => percent < limits.goal - FAR),
+    lost, lostSeverity: judged(lost, percent => percent <= limits.lost, percent => percent > 2 * limits.lost),
   };
 }
 
@@ -42,12 +34,10 @@ const worst = severities => /** @type {Severity[]} */ (['bad', 'long', 'calm']).
 // A line for each of the own groups, in their order.
 /** @param {Looked} looked @returns {GroupLine[]} */
 export function groupLines({state, day, settings, now}) {
-  /** @type {Map<string,{counts:Record<Doing,number>, next:Agent|null}>} */ const staff = new Map();
   const own = ownOf(settings), groups = [...state.groups.values()].filter(group => own(group.id)).sort((one, other) => order(one.id, other.id));
-  for (const group of groups) staff.set(group.id, {counts: noCounts(), next: null});
+  /** @type {Map<string,{counts:Record<Doing,number>, next:Agent|null}>} */ const staff = new Map(groups.map(({id}) => [id, {counts: noCounts(), next: null}]));
   for (const agent of state.agents.values()) {
-    const does = doing(state, agent).doing;
-    const eligible = does === 'ready' && state.isEligible(agent);
+    const does = doing(state, agent).doing, eligible = does === 'ready' && state.isEligible(agent);
     for (const id of agent.groups) {
       const those = staff.get(id);
       if (!those) continue;
@@ -55,11 +45,12 @@ export function groupLines({state, day, settings, now}) {
       if (eligible && !(those.next && turn(those.next, agent) < 0)) those.next = agent;
     }
   }
-  return groups.map(group => {
-    const queued = firstQueued(group), wait = queued === null ? null : Math.max(0, now - queued), limits = limitsOf(settings, group.id), {sum} = day.line(group.id);
-    const {counts, next} = /** @type {{counts:Record<Doing,number>, next:Agent|null}} */ (staff.get(group.id));
+  return groups.map(({id, name, priority, waiting, ringing}) => {
+    // since when the call waits that has waited longest
+    const queued = waiting.size ? [...waiting].reduce((least, call) => Math.min(least, call.queued), Infinity) : null, wait = queued === null ? null : Math.max(0, now - queued);
+    const limits = limitsOf(settings, id), {sum} = day.line(id), {counts, next} = /** @type {{counts:Record<Doing,number>, next:Agent|null}} */ (staff.get(id));
     return {
-      id: group.id, name: group.name || group.id, priority: group.priority, waiting: group.waiting.size, ringing: group.ringing.size, queued, wait, severity: severity(wait, limits), limits,
+      id, name: name || id, priority, waiting: waiting.size, ringing: ringing.size, queued, wait, severity: severity(wait, limits), limits,
       counts, loggedOn: Object.values(counts).reduce((all, one) => all + one), next, ...sum, ...shares(sum, limits, settings),
     };
   });
@@ -77,23 +68,21 @@ export function ownAgents({state, day, settings}) {
 export function totals(looked, lines) {
   const {state, day, settings, now} = looked, counts = noCounts(), agents = ownAgents(looked), {sum} = day.all;
   for (const agent of agents) counts[doing(state, agent).doing]++;
-  const waits = lines.flatMap(line => line.wait === null ? [] : [line.wait]);
+  const waits = lines.flatMap(({wait}) => wait ?? []), sumOf = (/** @type {'waiting'|'ringing'} */ name) => lines.reduce((all, line) => all + line[name], 0);
   return {
-    waiting: lines.reduce((all, line) => all + line.waiting, 0), ringing: lines.reduce((all, line) => all + line.ringing, 0),
+    waiting: sumOf('waiting'), ringing: sumOf('ringing'),
     wait: waits.length ? Math.max(...waits) : null, severity: worst(lines.map(line => line.severity)), counts, loggedOn: agents.length - counts.null,
     ...sum, ...shares(sum, settings, settings), occupancy: occupancy(agents.map(agent => day.agent(agent.id, now))),
   };
 }
 
 // The live calls of the own groups, or all where none was chosen: those that wait first, the longest first.
-/** @param {Looked} looked @returns {CallLine[]} */
+/** @param {Looked} looked */
 export function callLines({state, settings}) {
-  const own = ownOf(settings), found = [...state.calls.values()].map(call => {
-    /** @type {CallLine} */ let line = {number: call.number, state: 'none', since: call.since, group: null, device: '', caller: call.caller, begun: call.since, rank: 9};
-    for (const connection of call.connections.values()) {
-      const rank = RANK[connection.state];
-      if (rank >= line.rank || state.isOutside(call, connection.device)) continue;
-      line = {...line, rank, state: connection.state, since: connection.state === 'queued' ? call.queued : connection.since, group: connection.group, device: connection.device};
+  const own = ownOf(settings), found = [...state.calls.values()].map(({number, since, caller, queued, connections}) => {
+    /** @type {CallLine} */ let line = {number, state: 'none', since, group: null, device: '', caller, begun: since, rank: 9};
+    for (const {device, state: is, group, since} of connections.values()) {
+      if (RANK[is] < line.rank && !state.isOutside({caller}, device)) line = {...line, rank: RANK[is], state: is, since: is === 'queued' ? queued : since, group, device};
     }
     return line;
   });

@@ -1,6 +1,6 @@
 // Who is logged in, and the session of a browser: that it is used, and that it ends.
-import {byId, toggle} from './draw.js';
-import {read} from './feed.js';
+import {set} from './draw.js';
+import {ask} from './feed.js';
 import {sleep} from './net.js';
 
 const USED_EVERY = 60000, AGAIN = 5000, base = location.origin;
@@ -18,7 +18,7 @@ export async function logOut() {
 /** @param {() => void} leave what the button does @param {(why:string) => void} [late] @returns {Promise<Who>} */
 export async function openSession(leave, late) {
   /** @type {Who|undefined} */ let who;
-  while (!who) try { who = /** @type {Who} */ (await read(`${base}/session`)); } catch (error) {
+  while (!who) try { who = /** @type {Who} */ (await ask(`${base}/session`)); } catch (error) {
     const {status, message} = /** @type {any} */ (error);
     if ([401, 403, 404].includes(status)) return {};
     late?.(message);
@@ -31,7 +31,6 @@ export async function openSession(leave, late) {
     used = Date.now();
     fetch(`${base}/session`, {method: 'POST'}).catch(() => { used = 0; });
   }, {capture: true, passive: true});
-  toggle(byId('log-off'), 'hidden', false);
-  byId('log-off').addEventListener('click', leave);
+  set('log-off', {hidden: false, onclick: leave});
   return who;
 }

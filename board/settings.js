@@ -1,4 +1,5 @@
 // The settings of a board stand in its address, so that a board is a bookmark; what isn't there is as the office says, or as here. No document, no network.
+import {kept} from './state.js';
 
 // limit, goal: of the service level, in seconds and percent; lost: the goal of abandonment, in percent; long, bad: from how many seconds on a wait is long, and too long.
 // Each of these may be a group's own: `long.100`.
@@ -33,8 +34,10 @@ export function valueOf(name, text) {
 /** @param {Iterable<[string, string]>} said @param {Settings} [before] what it goes before @returns {Settings} */
 export function settingsOf(said, before) {
   const settings = /** @type {any} */ ({...LIMITS, ...AGENTS, ...TEXTS, ...before});
-  for (const [name, text] of said) settings[name] = valueOf(name, text) ?? settings[name];
-  for (const name of Object.keys(settings)) if (settings[name] === undefined) delete settings[name];
+  for (const [name, text] of said) {
+    const value = valueOf(name, text);
+    if (value !== undefined) settings[name] = value;
+  }
   settings.bad = Math.max(settings.long, settings.bad);
   return settings;
 }
@@ -49,7 +52,7 @@ export function searchOf(settings, usual) {
 }
 
 // What counts for a group.
-/** @param {Settings} settings @param {string} group @returns {Limits} */
+/** @param {Settings} settings @param {string} group */
 export function limitsOf(settings, group) {
   const of = (/** @type {keyof typeof LIMITS} */ name) => settings[`${name}.${group}`] ?? settings[name], long = of('long');
   return {limit: of('limit'), goal: of('goal'), lost: of('lost'), long, bad: Math.max(long, of('bad'))};
@@ -57,7 +60,7 @@ export function limitsOf(settings, group) {
 
 // The greatest limit of the service level, of any group.
 /** @param {Settings} settings */
-export function greatestLimit(settings) { return Object.entries(settings).reduce((most, [name, value]) => /^limit\b/.test(name) ? Math.max(most, Number(value)) : most, 0); }
+export const greatestLimit = settings => Math.max(...Object.entries(settings).flatMap(([name, value]) => /^limit\b/.test(name) ? Number(value) : []));
 
 // Whether a group is among the own ones; all are where none was chosen.
 /** @param {Settings} settings @returns {(group:string) => boolean} */
@@ -68,14 +71,11 @@ export function ownOf({groups}) {
 
 /** @type {Map<string|undefined, Intl.DateTimeFormat>} */ const clocks = new Map();
 
-// What a clock in a zone shows at a moment, as seconds since 1970 there.
+// What a clock in a zone shows at a moment, as seconds since 1970 there. Swedes write a moment as 2026-11-28 16:05:30.
 /** @param {number} moment @param {string} [zone] */
 export function shown(moment, zone) {
-  let clock = clocks.get(zone);
-  if (!clock) clocks.set(zone, clock = new Intl.DateTimeFormat('en', {timeZone: zone, hourCycle: 'h23', year: 'numeric', month: 'numeric', day: 'numeric', hour: 'numeric', minute: 'numeric', second: 'numeric'}));
-  const parts = clock.formatToParts(moment * 1000);
-  const of = (/** @type {string} */ type) => Number(parts.find(part => part.type === type)?.value);
-  return Date.UTC(of('year'), of('month') - 1, of('day'), of('hour'), of('minute'), of('second')) / 1000;
+  const clock = kept(clocks, zone, () => new Intl.DateTimeFormat('sv', {timeZone: zone, dateStyle: 'short', timeStyle: 'medium'}));
+  return Date.parse(`${clock.format(moment * 1000).replace(' ', 'T')}Z`) / 1000;
 }
 
 // The moment at which the day's figures begin: the last time that it was so late, so many days before; or a moment in seconds since 1970.

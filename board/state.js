@@ -1,7 +1,6 @@
 // What the desk's switch holds: begun by a snapshot, or by nothing before the first event, and carried on by event reports.
 // It has no document and no network, so that node runs the same file as a browser.
 
-
 // A snapshot ranks by stamps, of at most 1000000000. Less this they come before all numbers of events, which rank what follows.
 const EARLIER = 2000000000;
 
@@ -26,54 +25,54 @@ export function doingAt({state, since}, here) {
   return own && state === 'ready' ? {doing: 'own', since: own.since, group} : {doing: state, since, group};
 }
 
+// What a map has for a key; made where it has nothing.
+/** @template K, V @param {Map<K,V>} map @param {K} key @param {() => V & {}} made @returns {V} */
+export function kept(map, key, made) {
+  const had = map.get(key), one = had ?? made();
+  if (had === undefined) map.set(key, one);
+  return one;
+}
+
 export class State {
+  last = 0;
+  moment = 0;
+  /** @type {Map<string,Group>} */ groups = new Map();
+  /** @type {Map<string,Agent>} */ agents = new Map();
+  /** @type {Map<number,Call>} */ calls = new Map();
+  /** @type {Map<string,Station>} */ stations = new Map();
+  // agents who logged on in several groups, and which ones no event told
+  /** @type {Set<string>} */ unknown = new Set();
+  // agents who leave a call that is being cleared, with the rank that they get
+  /** @type {Map<string,number>} */ leaving = new Map();
+
   /** @param {Snapshot} [snapshot] @param {State} [before] what was known until now: since when connections are as they are, which no snapshot tells */
-  constructor(snapshot, before) {
-    this.last = 0;
-    this.moment = 0;
-    /** @type {Map<string,Group>} */ this.groups = new Map();
-    /** @type {Map<string,Agent>} */ this.agents = new Map();
-    /** @type {Map<number,Call>} */ this.calls = new Map();
-    /** @type {Map<string,Station>} */ this.stations = new Map();
-    // agents who logged on in several groups, and which ones no event told
-    /** @type {Set<string>} */ this.unknown = new Set();
-    // agents who leave a call that is being cleared, with the rank that they get
-    /** @type {Map<string,number>} */ this.leaving = new Map();
-    if (snapshot) this.begin(snapshot, before);
-  }
+  constructor(snapshot, before) { if (snapshot) this.begin(snapshot, before); }
 
   /** @param {Snapshot} snapshot @param {State|undefined} before */
   begin(snapshot, before) {
     this.last = snapshot.last;
     this.moment = snapshot.moment;
-    for (const {device, name, ring, wrap, priority = 0, ...figures} of snapshot.groups) Object.assign(this.group(device), {name, ring, wrap, priority}).figures = {
-      entered: figures.entered, answered: figures.answered, abandoned: figures.abandoned, moved: figures.moved, waited: figures.waited,
-    };
+    for (const {device, name, ring, wrap, priority = 0, entered, answered, abandoned, moved, waited} of snapshot.groups) {
+      Object.assign(this.group(device), {name, ring, wrap, priority, figures: {entered, answered, abandoned, moved, waited}});
+    }
     for (const {device, agent} of snapshot.stations) this.station(device).agent = agent ?? null;
-    for (const text of snapshot.agents) Object.assign(this.agent(text.agent), {
-      name: text.name, state: text.state, since: text.since, rank: text.stamp - EARLIER, station: text.device ?? null, groups: text.groups ?? (text.group ? [text.group] : []), pending: text.pending ?? null,
-    });
-    for (const text of snapshot.calls) {
-      const call = this.call(text.call, text.since);
-      Object.assign(call, {caller: text.caller, called: text.called});
-      const known = before?.calls.get(call.number);
-      for (const {device, state, group, place, queued, offered} of text.connections) {
+    for (const {agent, name, state, since, stamp, device = null, group, groups = group ? [group] : [], pending = null} of snapshot.agents) {
+      Object.assign(this.agent(agent), {name, state, since, rank: stamp - EARLIER, station: device, groups, pending});
+    }
+    for (const {call: number, since, caller, called, connections} of snapshot.calls) {
+      const call = Object.assign(this.call(number, since), {caller, called}), known = before?.calls.get(number);
+      for (const {device, state, group = null, place, queued, offered} of connections) {
         if (place !== undefined) call.rank = place - EARLIER;
         if (queued !== undefined) call.queued = queued;
         const had = known?.connections.get(device);
-        this.put(call, device, state, state === 'queued' ? device : group ?? null, offered ?? (had?.state === state ? had.since : this.agentAt(device)?.since ?? queued ?? text.since));
+        this.put(call, device, state, state === 'queued' ? device : group, offered ?? (had?.state === state ? had.since : this.agentAt(device)?.since ?? queued ?? since));
       }
     }
   }
 
   /** @param {string} id */
   group(id) {
-    let group = this.groups.get(id);
-    if (!group) {
-      group = {id, name: '', ring: 0, wrap: 0, priority: 0, figures: {entered: 0, answered: 0, abandoned: 0, moved: 0, waited: 0}, waiting: new Set(), ringing: new Set()};
-      this.groups.set(id, group);
-    }
-    return group;
+    return kept(this.groups, id, () => ({id, name: '', ring: 0, wrap: 0, priority: 0, figures: {entered: 0, answered: 0, abandoned: 0, moved: 0, waited: 0}, waiting: new Set(), ringing: new Set()}));
   }
 
   // What a group is called, or else another device.
@@ -81,25 +80,13 @@ export class State {
   nameOf(id, other) { return this.groups.get(id)?.name || other || id; }
 
   /** @param {string} id */
-  station(id) {
-    let station = this.stations.get(id);
-    if (!station) this.stations.set(id, station = {id, agent: null, calls: new Set()});
-    return station;
-  }
+  station(id) { return kept(this.stations, id, () => ({id, agent: null, calls: new Set()})); }
 
   /** @param {string} id */
-  agent(id) {
-    let agent = this.agents.get(id);
-    if (!agent) this.agents.set(id, agent = {id, name: '', state: 'null', since: 0, rank: 0, station: null, groups: [], pending: null});
-    return agent;
-  }
+  agent(id) { return kept(this.agents, id, /** @returns {Agent} */ () => ({id, name: '', state: 'null', since: 0, rank: 0, station: null, groups: [], pending: null})); }
 
   /** @param {number} number @param {number} since */
-  call(number, since) {
-    let call = this.calls.get(number);
-    if (!call) this.calls.set(number, call = {number, caller: '', called: '', since, rank: 0, queued: since, connections: new Map(), ended: 0});
-    return call;
-  }
+  call(number, since) { return kept(this.calls, number, () => ({number, caller: '', called: '', since, rank: 0, queued: since, connections: new Map(), ended: 0})); }
 
   /** @param {string} device */
   agentAt(device) {
@@ -189,8 +176,8 @@ export class State {
   }
 
   // The side of an external caller stands at no planned device.
-  /** @param {Call} call @param {string} device */
-  isOutside(call, device) { return device === call.caller && !this.stations.has(device); }
+  /** @param {{caller:string}} call @param {string} device */
+  isOutside({caller}, device) { return device === caller && !this.stations.has(device); }
 
   /** @param {Call} call @param {string} device @param {ConnectionState} state @param {number} since */
   become(call, device, state, since) {
@@ -224,27 +211,14 @@ export class State {
     if (agent.station && agent.station === text.device) agent.groups = text.groups ?? (text.group ? [text.group] : []);
   }
 
-  // The calls that wait in a group, the first first.
-  /** @param {Group} group */
-  static queue(group) { return [...group.waiting].sort((one, other) => one.rank - other.rank); }
-
-  // The agents of a group to whom a call may be offered, the next first.
-  /** @param {string} group */
-  next(group) {
-    return [...this.agents.values()].filter(agent => agent.groups.includes(group) && this.isEligible(agent)).sort(turn);
-  }
-
+  // Whether a call may be offered to an agent.
   /** @param {Agent} agent */
   isEligible(agent) { return agent.state === 'ready' && this.at(agent.station).every(connection => connection.state === 'fail'); }
 
   // The connections at a station.
   /** @param {string|null} device */
   at(device) {
-    const found = [];
-    for (const number of (device && this.stations.get(device)?.calls) || []) {
-      const connection = this.calls.get(number)?.connections.get(/** @type {string} */ (device));
-      if (connection) found.push(connection);
-    }
-    return found;
+    const place = device ?? '';
+    return [...this.stations.get(place)?.calls ?? []].flatMap(number => this.calls.get(number)?.connections.get(place) ?? []);
   }
 }

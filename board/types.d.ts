@@ -62,8 +62,8 @@ export type Kind = 'wait' | 'level' | 'lost' | 'nobody' | 'ticks' | 'clock';
 export type Alarm = {key: string, kind: Kind, group: string | null, since: number | null, values: Record<string, string | number>};
 /** a call, with its busiest connection */
 export type CallLine = {number: number, state: ConnectionState | 'none', since: number, group: string | null, device: string, caller: string, begun: number, rank: number};
-/** head, about: keys of words; text: what stands in a line's cell; file: what a file has in its place; press: what the button is called that it is; wide and least: left out on a small screen */
-export type Column = {head: string, about?: string, text: (line: any) => string | number, file?: (line: any) => string | number | null, severity?: (line: any) => string, press?: string,
+/** head: the word at the top, which may have one that says more (about); text: what stands in a line's cell, else the line's member of that name; file: what a file has in its place; press: what the button is called that it is; wide and least: left out on a small screen */
+export type Column = {head: string, about?: false, text?: (line: any) => string | number, file?: (line: any) => string | number | null, severity?: (line: any) => string, press?: string,
   kind?: 'words' | 'state' | 'name' | 'mid' | 'name mid' | 'filed', wide?: boolean, least?: boolean};
 /** look: first, second or third, by which the style tells them apart, with colour and without */
 export type Series = {name: string, look: string, bar?: (step: any) => number, line?: (step: any) => number | null};
@@ -74,9 +74,20 @@ export type Course = {kind: 'begins' | 'live' | 'anew'} | {kind: 'lost', why: st
 export type Follower = {tell: (course: Course) => void, begin: (snapshot: Snapshot) => void, take: (events: Report[]) => void,
   unknown: () => Iterable<string>, learn: (agent: any) => void, clock: (offset: number) => void};
 
+// what a page is made of
+
+/** what an element is given: true is an attribute without a value, false or nothing takes it away, and a function is done at an event */
+export type Attributes = Record<string, string | number | boolean | undefined | ((event: any) => void)>;
+export type Made = {tag: string, attributes: Attributes, parts: Part[]};
+/** what is in an element; of an element as it is, a symbol */
+export type Part = Made | string | number | boolean | undefined | symbol;
+/** an element, or its id */
+export type Place = any;
+
 // what a view draws
 /** what all is reckoned from */
 export type Looked = {state: import('./state.js').State, day: import('./day.js').Day, settings: import('./settings.js').Settings, now: number};
-/** counted: whether the day's events have been read; all: the own groups together; lines: one for each; past: another day, so many days before; learn: reads who calls; empty: says why nothing is shown */
+/** counted: whether the day's events have been read; all: the own groups together; lines: one for each; past: another day, so many days before; learn: reads who calls; empty: says why nothing is shown; filter: sets filters, and shows a view; redraw: draws all anew */
 export type Drawn = Looked & {counted: boolean, recent: Report[], lines: GroupLine[],
-  all: ReturnType<typeof import('./reckon.js').totals>, past: (back: number) => import('./day.js').Day | undefined, learn: (calls: number[]) => void, empty: (text: string) => void, lead: import('./act.js').Lead};
+  all: ReturnType<typeof import('./reckon.js').totals>, past: (back: number) => import('./day.js').Day | undefined, learn: (calls: number[]) => void, empty: (text: string) => void, lead: import('./act.js').Lead,
+  filter: (wanted: Record<string, string>, view?: string) => void, redraw: () => void};

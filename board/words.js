@@ -3,7 +3,7 @@
 //   <b data-word="view.wall"></b> translate() writes it; data-label is for an aria-label, data-title for a title
 import {office} from './office.js';
 
-/** @typedef {string|{zero?:string, one?:string, two?:string, few?:string, many?:string, other:string}} Said */
+/** @typedef {string|Partial<Record<Intl.LDMLPluralRule, string>> & {other:string}} Said */
 /** @typedef {Record<string, Said|Record<string, Said>>} Words */
 
 /** @type {Words} */
@@ -51,7 +51,7 @@ export const ENGLISH = {
     afterCall: 'After-call work', notReady: 'Not ready', inTime: 'In time', entered: 'Entered', answered: 'Answered', abandoned: 'Abandoned', lost: 'Lost, %', moved: 'Moved',
     average: 'Speed of answer', handling: 'Handling time', priority: 'Priority', act: 'Act', onCalls: 'On calls', call: 'Call', for: 'For', at: 'At', caller: 'Caller', whole: 'In all',
     time: 'Time', number: 'Number', event: 'Event', from: 'From', longestWait: 'Longest wait', peak: 'Most waiting', 'then.answered': 'Answered then', 'then.inTime': 'In time then',
-    day: 'Day', agent: 'Agent', talk: 'Talk', missed: 'Missed',
+    day: 'Day', calls: 'Calls', agent: 'Agent', talk: 'Talk', missed: 'Missed',
   },
   about: {
     ready: 'agents who are ready, of those who are logged on', next: 'the agent who gets the next call',
@@ -107,7 +107,7 @@ export const ENGLISH = {
   },
   // the agent's page
   agent: {
-    title: 'Agent', state: 'Your state', change: 'Change your state', at: 'at {station}', ready: 'Ready', notReady: 'Not ready', workingAfterCall: 'After-call work',
+    state: 'Your state', change: 'Change your state', at: 'at {station}', ready: 'Ready', notReady: 'Not ready', workingAfterCall: 'After-call work',
     loggedOff: 'Log off', loggedOn: 'Log on', readyIn: 'ready in {clock}', readySoon: 'ready in a moment', notPlanned: 'No such agent is planned', station: 'Station',
     'station.form': '1 to 15 digits', groups: 'Groups, one to eight', chooseGroups: 'Log on: choose one to eight groups', logOnAt: 'Log on at {station}',
     'again.logOn': 'Log on as last time: at {station}, {groups}', leaves: 'You are logged off here as soon as the desk has logged you off.', calls: 'Calls at your station',
@@ -146,17 +146,16 @@ function take(words) {
 take(ENGLISH);
 if (language !== 'en') try { take((await import(`./words/${language}.js`)).default); } catch { language = 'en'; }
 // Britain's English has 24 hours
-const locale = language === 'en' ? 'en-GB' : language, zone = office.zone;
+const locale = language === 'en' ? 'en-GB' : language, dates = (/** @type {Intl.DateTimeFormatOptions} */ how) => new Intl.DateTimeFormat(locale, {timeZone: office.zone, ...how});
 document.documentElement.lang = language;
 
 const plural = new Intl.PluralRules(locale), figures = new Intl.NumberFormat(locale), shares = new Intl.NumberFormat(locale, {style: 'percent'});
-const hours = new Intl.DateTimeFormat(locale, {timeZone: zone, hour: '2-digit', minute: '2-digit'}), times = new Intl.DateTimeFormat(locale, {timeZone: zone, timeStyle: 'medium'});
-const days = new Intl.DateTimeFormat(locale, {timeZone: zone, weekday: 'short', day: 'numeric', month: 'short'}), zones = new Intl.DateTimeFormat(locale, {timeZone: zone, timeZoneName: 'short'});
+const hours = dates({hour: '2-digit', minute: '2-digit'}), times = dates({timeStyle: 'medium'}), days = dates({weekday: 'short', day: 'numeric', month: 'short'}), zones = dates({timeZoneName: 'short'});
 
 /** @param {string} key @param {Record<string, string|number>} [values] */
 export function word(key, values = {}) {
   const said = table[key] ?? key, text = typeof said === 'string' ? said : said[plural.select(Number(values.n))] ?? said.other;
-  return text.replace(/\{(\w+)\}/g, (/** @type {string} */ all, /** @type {string} */ name) => { const value = values[name]; return value === undefined ? all : typeof value === 'number' ? number(value) : value; });
+  return text.replace(/\{(\w+)\}/g, (all, name) => { const value = values[name] ?? all; return typeof value === 'number' ? number(value) : value; });
 }
 
 // Whether there is such a key.
@@ -166,44 +165,45 @@ export const isWord = key => key in table;
 // Unicode's isolates: what is between them has a direction of its own
 export const [OPENS, CLOSES] = ['\u2068', '\u2069'];
 // A name of the desk or the office, isolated, so that one from right to left moves nothing beside it. put() makes it <bdi>; attributes and options keep the signs.
-/** @param {string} text */
+/** @type {Texts} */
 export const named = text => OPENS + text.replace(/[\u202a-\u202e\u2066-\u2069]/g, '') + CLOSES;
+// A text without these signs.
+/** @type {Texts} */
+export const plain = text => text.replaceAll(OPENS, '').replaceAll(CLOSES, '');
 
-// Writes the words that stand in a page or a part of one.
-/** @param {ParentNode} [part] */
-export function translate(part = document) {
-  for (const element of /** @type {Iterable<HTMLElement>} */ (part.querySelectorAll('[data-word], [data-label], [data-title]'))) {
+// Writes the words that stand in a page.
+export function translate() {
+  for (const element of /** @type {Iterable<HTMLElement>} */ (document.querySelectorAll('[data-word], [data-label], [data-title]'))) {
     const {word: text, label, title} = element.dataset;
     if (text) element.textContent = word(text);
-    if (label) element.setAttribute('aria-label', word(label));
+    if (label) element.ariaLabel = word(label);
     if (title) element.title = word(title);
   }
 }
 
-/** @param {number} value */
+/** @type {Numbers} */
 export const number = value => figures.format(value);
 
 /** @param {number|null} share */
 export const percent = share => share === null ? '–' : shares.format(share);
 
 // Seconds as 0:07, 12:34 or 1:02:03.
-/** @param {number} seconds */
-export function clock(seconds) {
-  const whole = Math.max(0, Math.floor(seconds)), hours = Math.floor(whole / 3600);
-  const two = (/** @type {number} */ part) => String(part).padStart(2, '0');
-  return hours ? `${hours}:${two(Math.floor(whole / 60) % 60)}:${two(whole % 60)}` : `${Math.floor(whole / 60)}:${two(whole % 60)}`;
-}
+/** @type {Numbers} */
+export const clock = seconds => {
+  const whole = Math.max(0, Math.floor(seconds)), hour = Math.floor(whole / 3600), minute = String(Math.floor(whole / 60) % 60), second = String(whole % 60).padStart(2, '0');
+  return hour ? `${hour}:${minute.padStart(2, '0')}:${second}` : `${minute}:${second}`;
+};
 
 // A moment as a time of day, in the office's zone or the browser's.
 /** @param {number} moment @param {boolean} [short] without seconds */
 export const timeOfDay = (moment, short) => (short ? hours : times).format(moment * 1000);
 
 // A moment's day, as `Sat 28 Nov`.
-/** @param {number} moment */
+/** @type {Numbers} */
 export const dayOf = moment => days.format(moment * 1000);
 
 // The name of the zone at a moment, as `CET`.
-/** @param {number} moment */
+/** @type {Numbers} */
 export const zoneOf = moment => zones.formatToParts(moment * 1000).find(part => part.type === 'timeZoneName')?.value ?? '';
 
 /** @param {string} area @param {Record<string, string>} signs @returns {Record<any, {sign:string, words:string}>} */
@@ -216,11 +216,7 @@ export const CONNECTION = signed('connection', {queued: '●', alerting: '◆', 
 export const SIGN = {none: '○', calm: '●', long: '▲', bad: '■'};
 // How long callers wait.
 /** @param {{severity:Severity}} line */
-export const waits = line => `${SIGN[line.severity]} ${word(`waits.${line.severity}`)}`;
-
-// What is to be behind a call, by its state.
-/** @type {Record<string,string>} */
-export const PENDING = Object.fromEntries(['ready', 'notReady', 'workingAfterCall', 'loggedOff'].map(state => [state, word(`pending.${state}`)]));
+export const waits = ({severity}) => `${SIGN[severity]} ${word(`waits.${severity}`)}`;
 
 // What a refusal means.
 /** @param {number} status @param {string} text the reply's body */

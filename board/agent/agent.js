@@ -1,10 +1,10 @@
 // An agent's own page: what the agent is and may do now, the calls at the station, what rings, and the day.
-import {byId, drawStatus, make, mark, plain, put, Table, toggle, withNumber} from '../draw.js';
+import {byId, drawStatus, make, put, set, table, withNumber} from '../draw.js';
 import {office} from '../office.js';
 import {logIn, logOut, openSession} from '../session.js';
 import {isHeard, soundWhere, tone} from '../sound.js';
-import {clock, DOING, named, PENDING, refusal, timeOfDay, translate, word} from '../words.js';
-import {callsBy, drawCalls, joined, KEYS, say} from './calls.js';
+import {clock, DOING, named, plain, refusal, timeOfDay, translate, word} from '../words.js';
+import {drawCalls, joined, say} from './calls.js';
 import * as logOn from './log-on.js';
 import {doing, isFree, isOverdue, meant, placesOf, sideOf, STATES, states, wrapLeft} from './mine.js';
 import {Requests} from './requests.js';
@@ -31,39 +31,25 @@ const now = () => (Math.min(Date.now(), known + OLD) + offset) / 1000;
 
 /** @type {Namer} */
 const groupName = device => named(office.names.groups[device] ?? names.groups.find(group => group.device === device)?.name ?? device);
-/** @param {Place} place */
+/** @param {Goal} goal */
 const placeName = ({to, name}) => withNumber({id: to, name});
 /** @type {Namer} */
 const callerName = device => placeName(places.places.find(({to}) => to === device) ?? {to: device, name: ''});
 
-/** @param {string} id @param {string} text */
-const write = (id, text) => put(byId(id), text);
-/** @param {string} id @param {boolean} is */
-const hide = (id, is) => toggle(byId(id), 'hidden', is);
+/** @type {Map<string, [string, Button[], Part?]>} */ const notices = new Map();
 
-/** @type {Map<string, HTMLElement>} */ const notices = new Map();
+const drawNotices = () => put('notices', ...[...notices].map(([key, [words, buttons, more]]) => make('p', {class: 'notice', 'data-key': key}, make('span', {}, words),
+  make('span', {}, ...buttons.map(([label, act]) => make('button', {onclick: () => { drop(key); act(); }}, label)), more))));
 
 // A sentence that stands until somebody clicks it away, or until it isn't so any more.
 /** @type {Notice} */
-const notice = (key, words, buttons = []) => {
-  const line = notices.get(key) ?? make('p', {class: 'notice', 'data-key': key.split(' ')[0]}, make('span'), make('span'));
-  if (!line.isConnected) byId('notices').append(line);
-  notices.set(key, line);
-  put(line.children[0], words);
-  if (line.children[1].children.length !== buttons.length) line.children[1].replaceChildren(...buttons.map(([label, act]) => {
-    const button = make('button', {type: 'button'});
-    put(button, label);
-    button.addEventListener('click', () => { drop(key); act(); });
-    return button;
-  }));
-  return line;
+const notice = (key, words, buttons = [], more) => {
+  notices.set(key, [words, buttons, more]);
+  drawNotices();
 };
 
 /** @param {string} key */
-function drop(key) {
-  notices.get(key)?.remove();
-  notices.delete(key);
-}
+const drop = key => { if (notices.delete(key)) drawNotices(); };
 
 /** @param {string} words */
 const refuse = words => tell({kind: 'refused', words});
@@ -71,10 +57,10 @@ const refuse = words => tell({kind: 'refused', words});
 /** @param {Told} told */
 function tell({kind, words, key, result}) {
   if (kind === 'dropped') notice(`dropped ${words}`, say('dropped', {what: words}), [[say('read'), () => {}]]);
-  mark(byId('told'), 'data-kind', kind);
-  write('told', `${{sent: '…', waits: '▲', done: '✓', refused: '■', dropped: '■'}[kind]} ${words}`);
+  set('told', {'data-kind': kind});
+  put('told', `${{sent: '…', waits: '▲', done: '✓', refused: '■', dropped: '■'}[kind]} ${words}`);
   clearTimeout(fades);
-  if (kind !== 'waits') fades = setTimeout(() => write('told', ''), kind === 'refused' ? REFUSED : FLEETING);
+  if (kind !== 'waits') fades = setTimeout(put, kind === 'refused' ? REFUSED : FLEETING, 'told');
   if (result?.pending && mine) mine.agent.pending = result.pending;   // which no event tells
   if (kind === 'refused' && key === 'loggedOff') leaves = false;
   draw();
@@ -123,7 +109,7 @@ function askAbout({body, words, at = 0}, answer) {
   const {requested, call} = JSON.parse(body), {state, device} = mine?.agent ?? {};
   if (requested && (requested === state || requested === (device ? 'loggedOn' : 'loggedOff'))) return answer(false);
   if (!call || mine?.calls.some(one => one.call === call)) {
-    return void notice(`kept ${at} ${words}`, say('kept', {what: words, time: timeOfDay(at / 1000)}), [[say('kept.send'), () => answer(true)], [say('kept.drop'), () => answer(false)]]);
+    return notice(`kept ${at} ${words}`, say('kept', {what: words, time: timeOfDay(at / 1000)}), [[say('kept.send'), () => answer(true)], [say('kept.drop'), () => answer(false)]]);
   }
   answer(false);
   refuse(`${words}: ${word('error.unknownCall')}`);
@@ -155,34 +141,34 @@ function takeNames(told) {
   names = told;
   places = placesOf(names, office.names);
   logOn.offer(names, who, id);
-  byId('destinations').replaceChildren(...places.places.map(({to, name}) => new Option(name || say('station'), to)));
+  put('destinations', ...places.places.map(({to, name}) => make('option', {value: to}, name || say('station'))));
 }
 
 function draw() {
   const why = lost?.status ? refusal(lost.status, lost.text) : word(lost ? `lost.${lost.text}` : 'error.gatewayTimeout');
   drawStatus(lost || (mine && !mine.live) ? 'lost' : !known ? 'begins' : age() > OLD ? 'late' : 'live', known, why, (Date.now() + offset) / 1000);
   if (!mine) return;
-  const {agent} = mine, moment = now(), isLiving = isLive(), may = acts && isLiving ? states(mine) : new Set(), isOn = Boolean(agent.device);
-  const offer = isLiving ? offerOf(mine, moment) : undefined, {doing: does, since} = doing(mine), left = wrapLeft(mine, moment);
-  write('name', withNumber({id, name: office.names.agents[id] ?? agent.name ?? ''}));
-  for (const button of byId('states').children) button.disabled = !may.has(button.dataset.requested) || requests.out.has(button.dataset.requested);
-  for (const part of ['at-station', 'own-queues']) hide(part, !isOn);
-  hide('states', !isOn || !acts);
-  hide('log-on', agent.state !== 'null' || !acts);
-  hide('dial', !acts || !isLiving || !isFree(mine));
+  const {agent, calls, groups} = mine, moment = now(), isLiving = isLive(), may = acts && isLiving ? states(mine) : new Set(), isOn = Boolean(agent.device);
+  const offer = isLiving ? offerOf(mine, moment) : undefined, {doing: does, since} = doing(mine), left = wrapLeft(mine, moment), {sign, words} = DOING[does];
+  put('name', withNumber({id, name: office.names.agents[id] ?? agent.name ?? ''}));
+  put('states', ...STATES.map(requested => make('button', {'data-requested': requested, disabled: !may.has(requested) || requests.out.has(requested), onclick: () => ask(requested)}, say(requested))));
+  for (const part of ['at-station', 'own-queues']) set(part, {hidden: !isOn});
+  set('states', {hidden: !isOn || !acts});
+  set('log-on', {hidden: agent.state !== 'null' || !acts});
+  set('dial', {hidden: !acts || !isLiving || !isFree(mine)});
   logOn.draw(may.has('loggedOn') && !requests.out.has('loggedOn'), agent);
-  mark(byId('state'), 'data-doing', does);
-  [DOING[does].sign, agent.state ? DOING[does].words : say('notPlanned'), isOn ? clock(moment - since) : ''].forEach((text, place) => put(byId('state').children[place], text));
-  write('pending', joined(left !== null && (left > 0 ? say('readyIn', {clock: clock(Math.ceil(left))}) : say('readySoon')), agent.pending && PENDING[agent.pending],
+  set('state', {'data-doing': does});
+  put('state', make('span', {'aria-hidden': 'true'}, sign), ' ', make('span', {}, agent.state ? words : say('notPlanned')), ' ', make('time', {}, isOn && clock(moment - since)));
+  put('pending', joined(left !== null && (left > 0 ? say('readyIn', {clock: clock(Math.ceil(left))}) : say('readySoon')), agent.pending && word(`pending.${agent.pending}`),
     agent.device && say('at', {station: agent.device})));
-  toggle(document.body, 'data-rings', Boolean(offer));
+  set(document.body, {'data-rings': Boolean(offer)});
   ring(offer);
-  document.title = offer ? `◆ ${offer.title}` : `${isLiving ? DOING[does].sign : '▲'} ${agent.name ?? id}`;
-  drawCalls({mine, now: moment, acts: acts && isLiving, off: requests.out, who: callerName, group: groupName});
-  hide('no-calls', mine.calls.length > 0);
-  queues.draw(mine.groups.map(queue => ({key: queue.device, queue, moment})));
+  document.title = offer ? `◆ ${offer.title}` : `${isLiving ? sign : '▲'} ${agent.name ?? id}`;
+  drawCalls({mine, now: moment, acts: acts && isLiving, off: requests.out, who: callerName, group: groupName, act});
+  set('no-calls', {hidden: calls.length > 0});
+  queues.draw(groups.map(queue => ({key: queue.device, queue, moment})));
   drawDay(mine, moment);
-  drawNotices(mine, moment);
+  tellOf(mine, moment);
   if (leaves && isLiving && !isOn) end();
 }
 
@@ -195,44 +181,40 @@ const offerOf = (mine, moment) => {
   }
 };
 
-const queues = new Table(byId('queues'), [
-  {head: 'head.group', kind: 'words', text: ({queue}) => `${groupName(queue.device)} (${queue.device})`},
-  {head: 'head.waiting', text: ({queue}) => queue.calls.length},
-  {head: 'head.longest', text: ({queue, moment}) => queue.calls.length ? clock(moment - Math.min(.../** @type {OwnQueue} */ (queue).calls.map(({queued = moment}) => queued))) : '–'},
-  {head: 'head.ready', text: ({queue}) => say('of', {n: queue.ready, all: queue.loggedOn})},
+const queues = table('queues', [
+  {head: 'group', kind: 'words', text: ({queue}) => `${groupName(queue.device)} (${queue.device})`},
+  {head: 'waiting', text: ({queue}) => queue.calls.length},
+  {head: 'longest', text: ({queue, moment}) => queue.calls.length ? clock(moment - Math.min(.../** @type {OwnQueue} */ (queue).calls.map(({queued = moment}) => queued))) : '–'},
+  {head: 'ready', text: ({queue}) => say('of', {n: queue.ready, all: queue.loggedOn})},
 ]);
-const lastCalls = new Table(byId('day'), [
-  {head: 'head.time', kind: 'words', text: ({call}) => timeOfDay(call.moment, true)},
-  {head: 'head.caller', kind: 'words', text: ({call}) => call.caller ? callerName(call.caller) : '–'},
-  {head: 'head.group', kind: 'words', text: ({call}) => call.group ? groupName(call.group) : say('direct')},
-  {head: 'head.talk', text: ({call}) => clock(call.talked)},
+const lastCalls = table('day', [
+  {head: 'time', kind: 'words', text: ({moment}) => timeOfDay(moment, true)},
+  {head: 'caller', kind: 'words', text: ({caller}) => caller ? callerName(caller) : '–'},
+  {head: 'group', kind: 'words', text: ({group}) => group ? groupName(group) : say('direct')},
+  {head: 'talk', text: ({talked}) => clock(talked)},
 ]);
 
 /** @type {AtMoment<void>} */
 const drawDay = ({agent: {state, since = 0}, day}, moment) => {
-  hide('own-day', !day);
+  set('own-day', {hidden: !day});
   if (!day) return;
   const talking = day.talking + (state === 'busy' ? Math.max(0, moment - Math.max(since, day.begins)) : 0);
-  write('day-sums', joined(say('day.calls', {n: day.answered}), day.answered && say('day.average', {clock: clock(talking / day.answered)}), day.missed && say('day.missed', {n: day.missed})));
-  hide('day', !day.calls.length);
-  lastCalls.draw(day.calls.map(call => ({key: `${call.call} ${call.moment}`, call})).reverse());
+  put('day-sums', joined(say('day.calls', {n: day.answered}), day.answered && say('day.average', {clock: clock(talking / day.answered)}), day.missed && say('day.missed', {n: day.missed})));
+  set('day', {hidden: !day.calls.length});
+  lastCalls.draw(day.calls.map(call => ({...call, key: `${call.call} ${call.moment}`})).reverse());
 };
 
-const missedKey = () => `${mine?.missed?.call} ${mine?.missed?.since}`;
-
 /** @type {AtMoment<void>} */
-const drawNotices = ({agent, missed}, moment) => {
-  const place = `acd-missed-${id}`, isOff = agent.state === 'notReady';
-  if (missed && acts && localStorage[place] !== missedKey()) {
-    // the buttons may be of an offer before this one
-    const read = () => { localStorage[place] = missedKey(); };
+const tellOf = ({agent, missed}, moment) => {
+  const place = `acd-missed-${id}`, isOff = agent.state === 'notReady', key = `${missed?.call} ${missed?.since}`;
+  if (missed && acts && localStorage[place] !== key) {
+    const read = () => { localStorage[place] = key; };
     /** @type {Button} */ const ready = [say('ready'), () => { ask('ready'); if (requests.out.has('ready')) read(); }];
     notice('missed', say(isOff ? 'missed.off' : 'missed', {who: missed.caller ?? say('somebody'), group: groupName(missed.group ?? ''), clock: clock(missed.moment - missed.since), time: timeOfDay(missed.moment)}),
       [...(isOff ? [ready] : []), [say('read'), read]]);
   } else drop('missed');
-  for (const [key, is] of /** @type {[string, unknown][]} */ ([['ticks', isLive() && mine && isOverdue(mine, moment)], ['sound', acts && agent.device && byId('tone').checked && !isHeard()], ['leaves', leaves]])) {
-    if (is) notice(key, say(key)); else drop(key);
-  }
+  const is = {ticks: isLive() && mine && isOverdue(mine, moment), sound: acts && agent.device && byId('tone').checked && !isHeard(), leaves};
+  for (const [key, so] of Object.entries(is)) if (so) notice(key, say(key)); else drop(key);
 };
 
 function end() {
@@ -245,36 +227,25 @@ function end() {
   });
 }
 
-// What clicks and keys do.
+// What clicks do.
 function listen() {
-  callsBy(act);
-  for (const requested of STATES) {
-    const button = make('button', {type: 'button', 'data-requested': requested}, say(requested));
-    button.addEventListener('click', () => ask(requested));
-    byId('states').append(button);
-  }
+  const field = byId('tone'), offerNotices = () => set('notify', {hidden: !('Notification' in window) || Notification.permission !== 'default'});
   logOn.askBy((device, groups) => ask('loggedOn', {device, ...(groups.length === 1 ? {group: groups[0]} : {groups})}), refuse);
-  byId('dial').addEventListener('submit', (/** @type {Event} */ event) => {
+  set('dial', {onsubmit: event => {
     event.preventDefault();
     const field = byId('called'), what = say('makeCall');
     choose(field, what, false, place => {
       send('makeCall', {device: mine?.agent.device, called: place.to}, say('button', {what, who: placeName(place)}), 'makeCall');
       field.value = '';
     });
-  });
-  addEventListener('keydown', event => {
-    if (!(event.key in KEYS) || event.altKey || event.ctrlKey || event.metaKey || event.shiftKey) return;
-    event.preventDefault();
-    if (!event.repeat) [...byId('calls').querySelectorAll(`[data-service=${KEYS[event.key]}]`)].find(button => !button.hidden)?.click();
-  });
-  byId('tone').checked = localStorage['acd-tone'] !== 'off';
-  soundWhere(() => byId('tone').checked);
-  byId('tone').addEventListener('change', () => {
-    localStorage['acd-tone'] = byId('tone').checked ? 'on' : 'off';
-    if (byId('tone').checked) tone();
-  });
-  const offerNotices = () => hide('notify', !('Notification' in window) || Notification.permission !== 'default');
-  byId('notify').addEventListener('click', () => Notification.requestPermission().then(offerNotices));
+  }});
+  field.checked = localStorage['acd-tone'] !== 'off';
+  soundWhere(() => field.checked);
+  set(field, {onchange: () => {
+    localStorage['acd-tone'] = field.checked ? 'on' : 'off';
+    if (field.checked) tone();
+  }});
+  set('notify', {onclick: () => Notification.requestPermission().then(offerNotices)});
   offerNotices();
 }
 
@@ -294,12 +265,12 @@ async function begin() {
   id ||= who.agent ?? '';
   acts = who.agent === id || who.role === 'exchange';
   const login = named(who.login ?? '');
-  write('told', '');
+  put('told');
   if (!who.login) return refuse(say('noGate'));
   if (who.why) return refuse(`${login}: ${who.why}`);
-  if (!id) return notice('nobody', say('noNumber', {login})).append(make('a', {href: '../'}, say('board')));
+  if (!id) return notice('nobody', say('noNumber', {login}), [], make('a', {href: '../'}, say('board')));
   if (!acts) notice('looks', say('looks', {login, number: id}));
-  requests = new Requests(id, who.login ?? '', {isLive, logOn: () => mine?.agent.logOn ?? null, tell, ask: askAbout});
+  requests = new Requests(id, who.login, {isLive, logOn: () => mine?.agent.logOn ?? null, tell, ask: askAbout});
   const worker = new Worker(new URL('listening.js', import.meta.url), {type: 'module'});
   worker.onmessage = ({data}) => hear(data);
   worker.postMessage(`${base}/mine?agent=${id}`);

@@ -1,5 +1,5 @@
 // Where and for which groups an agent logs on: chosen, or as the last time, which the browser keeps.
-import {byId, make, put, toggle, withNumber} from '../draw.js';
+import {byId, make, put, set, withNumber} from '../draw.js';
 import {office} from '../office.js';
 import {order} from '../state.js';
 import {named} from '../words.js';
@@ -8,7 +8,7 @@ import {say} from './calls.js';
 const MOST_GROUPS = 8, form = byId('log-on'), query = new URLSearchParams(location.search);
 /** @type {Map<string, string>} */ let groups = new Map();
 /** @type {string[]} */ let free = [];
-let shown = '', place = '';
+let isFilled = false, place = '';
 
 const chosen = () => [...form.querySelectorAll('input:checked')].map(input => input.value);
 
@@ -17,38 +17,33 @@ function last() { try { return JSON.parse(localStorage[place]); } catch { return
 
 /** @param {LogOn} logOn @param {(fault:string) => void} refuse */
 export function askBy(logOn, refuse) {
-  form.addEventListener('submit', (/** @type {Event} */ event) => {
+  set(form, {onsubmit: event => {
     event.preventDefault();
     const many = chosen();
     if (many.length && many.length <= MOST_GROUPS) logOn(form.elements.station.value, many); else refuse(say('chooseGroups'));
-  });
-  byId('again').addEventListener('click', () => { const one = last(); if (one) logOn(one.device, one.groups); });
+  }});
+  set('again', {onclick: () => { const one = last(); if (one) logOn(one.device, one.groups); }});
 }
 
 // Offers the stations where nobody is, and the groups: those of the login, where it has fewer.
 /** @param {Names} names @param {Who} who @param {string} agent */
 export function offer(names, who, agent) {
-  const before = shown;
   place = `acd-log-on-${agent}`;
   free = (who.stations ?? names.stations).filter(station => !names.agents.some(({device}) => device === station)).sort(order);
   groups = new Map(names.groups.filter(({device}) => who.groups?.includes(device) ?? true).map(({device, name}) => [device, office.names.groups[device] ?? name]));
-  byId('stations').replaceChildren(...free.map(device => new Option(office.names.stations[device] ?? '', device)));
-  shown = JSON.stringify([...groups]);
-  if (shown === before) return;
-  const wanted = before ? chosen() : query.get('groups')?.split(',') ?? last()?.groups ?? [];
-  if (!before) form.elements.station.value = query.get('station') ?? last()?.device ?? '';
-  byId('groups').replaceChildren(...[...groups].map(([device, name]) => {
-    const words = make('span');
-    put(words, withNumber({id: device, name}));
-    return make('label', {}, make('input', {type: 'checkbox', value: device, ...(wanted.includes(device) && {checked: ''})}), words);
-  }));
+  put('stations', ...free.map(device => make('option', {value: device}, office.names.stations[device])));
+  put('groups', ...[...groups].map(([id, name]) => make('label', {'data-key': id}, make('input', {type: 'checkbox', value: id}), make('span', {}, withNumber({id, name})))));
+  if (isFilled) return;
+  isFilled = true;
+  form.elements.station.value = query.get('station') ?? last()?.device ?? '';
+  for (const box of form.querySelectorAll('[type=checkbox]')) box.checked = (query.get('groups')?.split(',') ?? last()?.groups ?? []).includes(box.value);
 }
 
 /** @param {boolean} may @param {Own} own */
 export function draw(may, {device, groups: own}) {
   if (device && own) localStorage[place] = JSON.stringify({device, groups: own});
   const one = last(), fits = one && free.includes(one.device) && one.groups.every(group => groups.has(group));
-  byId('log-on-button').disabled = byId('again').disabled = !may;
-  toggle(byId('again'), 'hidden', !fits);
-  if (fits) put(byId('again'), say('again.logOn', {station: one.device, groups: one.groups.map(group => named(groups.get(group) ?? group)).join(', ')}));
+  set('log-on-button', {disabled: !may});
+  set('again', {disabled: !may, hidden: !fits});
+  if (fits) put('again', say('again.logOn', {station: one.device, groups: one.groups.map(group => named(groups.get(group) ?? group)).join(', ')}));
 }

@@ -69,7 +69,7 @@ export const placesOf = ({agents, groups, stations}, office) => {
 const plain = (/** @type {string} */ name) => name.normalize('NFKC').toLocaleLowerCase().trim();
 
 // The places that a typed text means: a number, or a name, or else all that have it in their names. Null for somebody who isn't logged on.
-/** @param {string} typed @param {Places} known @param {string} own the own station @returns {Place[]|null} */
+/** @param {string} typed @param {Places} known @param {string} own the own station @returns {Goal[]|null} */
 export function meant(typed, {places, away}, own) {
   const text = plain(typed), has = (/** @type {string} */ name) => plain(name).includes(text), found = places.filter(({to, name}) => name && to !== own && has(name));
   if (!text) return [];

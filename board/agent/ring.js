@@ -14,7 +14,7 @@ export function ring(offer) {
   if (rings === (offer?.key ?? '')) return;
   rings = offer?.key ?? '';
   told?.close();
-  put(byId('ring'), offer ? word('agent.rings', {what: offer.title}) : '');
+  put('ring', offer ? word('agent.rings', {what: offer.title}) : '');
   beats = 0;
   beat();
   if (!offer || document.hasFocus()) return;

@@ -34,9 +34,9 @@ declare global {
   type Asking = {isLive: () => boolean, logOn: () => number | null, tell: (told: Told) => void, ask: (kept: Kept, answer: (sends: boolean) => void) => void};
 
   /** A place to which a call can go; isEmpty: a station at which nobody is logged on. */
-  type Place = {to: string, name: string, isEmpty?: boolean};
+  type Goal = {to: string, name: string, isEmpty?: boolean};
   /** away: the names of agents who aren't logged on */
-  type Places = {places: Place[], away: string[]};
+  type Places = {places: Goal[], away: string[]};
 
   // functions of the page
 
@@ -48,15 +48,13 @@ declare global {
   type AtMoment<T> = (mine: Mine, now: number) => T;
   type Say = (key: string, values?: Record<string, string | number>) => string;
   type Send = (service: string, members: Record<string, unknown>, words: string, key: string) => void;
-  type Notice = (key: string, words: string, buttons?: Button[]) => HTMLElement;
+  type Notice = (key: string, words: string, buttons?: Button[], more?: Part) => void;
   type Act = (service: Service, call: number, to: HTMLInputElement) => void;
-  type Choose = (field: HTMLInputElement, what: string, asks: boolean, take: (place: Place) => void) => void;
+  type Choose = (field: HTMLInputElement, what: string, asks: boolean, take: (place: Goal) => void) => void;
   type LogOn = (device: string, groups: string[]) => void;
   type Keep = (place: string, one: Kept) => void;
   type Offer = {key: string, title: string, words: string};
-  /** What is shown of a call at the station. */
-  type Card = {element: HTMLElement, line: Element, number: Element, about: Element, to: HTMLInputElement, buttons: Map<Service, HTMLButtonElement>};
   /** off: what was clicked and isn't answered */
-  type DrawnCalls = {mine: Mine, now: number, acts: boolean, off: Set<string>, who: Namer, group: Namer};
+  type DrawnCalls = {mine: Mine, now: number, acts: boolean, off: Set<string>, who: Namer, group: Namer, act: Act};
   type Button = [string, () => void];
 }

@@ -50,7 +50,7 @@ export default {
     afterCall: 'Nacharbeit', notReady: 'Nicht bereit', inTime: 'Rechtzeitig', entered: 'Gekommen', answered: 'Angenommen', abandoned: 'Aufgegeben', lost: 'Verlust, %', moved: 'Verlegt',
     average: 'Wartezeit Ø', handling: 'Bearbeitung Ø', priority: 'Vorrang', act: 'Tun', onCalls: 'Im Gespräch', call: 'Anruf', for: 'Seit', at: 'Bei', caller: 'Anrufer',
     whole: 'Insgesamt', time: 'Zeit', number: 'Nummer', event: 'Ereignis', from: 'Von', longestWait: 'Längstes Warten', peak: 'Höchstens wartend', 'then.answered': 'Angenommen damals',
-    'then.inTime': 'Rechtzeitig damals', day: 'Tag', agent: 'Agent', talk: 'Gespräch', missed: 'Verpasst',
+    'then.inTime': 'Rechtzeitig damals', day: 'Tag', calls: 'Anrufe', agent: 'Agent', talk: 'Gespräch', missed: 'Verpasst',
   },
   about: {
     ready: 'bereite Agenten, von den angemeldeten', next: 'der Agent, der den nächsten Anruf bekommt',
@@ -108,7 +108,7 @@ export default {
   },
   // die Seite des Agenten
   agent: {
-    title: 'Agent', state: 'Dein Zustand', change: 'Zustand ändern', at: 'an {station}', ready: 'Bereit', notReady: 'Nicht bereit', workingAfterCall: 'Nachbearbeitung',
+    state: 'Dein Zustand', change: 'Zustand ändern', at: 'an {station}', ready: 'Bereit', notReady: 'Nicht bereit', workingAfterCall: 'Nachbearbeitung',
     loggedOff: 'Abmelden', loggedOn: 'Anmelden', readyIn: 'bereit in {clock}', readySoon: 'gleich bereit', notPlanned: 'Ein solcher Agent ist nicht geplant', station: 'Platz',
     'station.form': '1 bis 15 Ziffern', groups: 'Gruppen, eine bis acht', chooseGroups: 'Anmelden: wähle eine bis acht Gruppen', logOnAt: 'Anmelden an {station}',
     'again.logOn': 'Anmelden wie zuletzt: an {station}, {groups}', leaves: 'Du wirst hier abgemeldet, sobald die Zentrale dich abgemeldet hat.', calls: 'Anrufe an deinem Platz',

@@ -20,7 +20,7 @@ export async function delay(browser, desk, address, times) {
   for (let time = 0; time < times; time++) {
     await sleep(700 + 437 * time % 1000);
     const {result} = await desk.post({requester: 'try-delay', invoke: time + 1, service: 'arriveCall', caller: '0305', called: device}), begin = Date.now();
-    if (!await until(() => browser.run(`return document.querySelector('#events').textContent.includes('Call ${result.call} ')`), 10, 20)) return Infinity;
+    if (!await until(() => browser.run(`return document.querySelector('#events-list').textContent.includes('Call ${result.call} ')`), 10, 20)) return Infinity;
     waits.push(Date.now() - begin);
   }
   return Math.max(...waits);

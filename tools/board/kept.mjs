@@ -6,7 +6,7 @@ const left = browser => browser.run(`return Object.keys(localStorage).filter(pla
 const requester = browser => until(() => browser.run('return window.agent?.requests()?.requester'), 20);
 
 /** Clicks one of the two buttons of a question. */
-const answer = (browser, words, sends) => browser.run(`const line = [...document.querySelectorAll('#notices [data-key=kept]')].find(line => line.textContent.startsWith(arguments[0])); line.querySelectorAll('button')[arguments[1]].click()`, words, sends ? 0 : 1);
+const answer = (browser, words, sends) => browser.run(`const line = [...document.querySelectorAll('#notices [data-key^=kept]')].find(line => line.textContent.startsWith(arguments[0])); line.querySelectorAll('button')[arguments[1]].click()`, words, sends ? 0 : 1);
 
 /** Puts requests into the browser as a page keeps them: [requester, requested, words, seconds ago, log-on]. */
 const keep = (browser, kept) => browser.run(`for (const [place, one] of arguments[0]) localStorage.setItem(place, JSON.stringify(one))`, kept.map(([owner, wanted, words, ago, logOn], number) => {
@@ -87,7 +87,7 @@ export async function otherLogOn(hands) {
   await hands.sees('over a new load too', '#notices', /After-call work: you asked for this.*Ready: you asked for this|Ready: you asked for this.*After-call work: you asked/, 10);
   await sleep(2500);
   see('nothing of it was sent', String(await hands.events(last)) === 'agentLoggedOff,agentLoggedOn', String(await hands.events(last)));
-  await browser.run(`for (const button of [...document.querySelectorAll('#notices [data-key=kept] button:last-child')]) button.click()`);
+  await browser.run(`for (const button of [...document.querySelectorAll('#notices [data-key^=kept] button:last-child')]) button.click()`);
 }
 
 /** What an older page kept: it is asked about, and under a requester that isn't the login's it is told and let go. */

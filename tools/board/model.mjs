@@ -4,6 +4,10 @@ import {join} from 'node:path';
 import {pathToFileURL} from 'node:url';
 
 const sorted = list => [...list].sort();
+/** The calls that wait in a group, the first first. */
+const queue = group => [...group.waiting].sort((one, other) => one.rank - other.rank);
+/** The agents of a group to whom a call may be offered, the next first. */
+const next = (turn, state, group) => [...state.agents.values()].filter(agent => agent.groups.includes(group) && state.isEligible(agent)).sort(turn);
 
 /** All that events tell, out of a snapshot. */
 export function toldBySnapshot(snapshot) {
@@ -22,7 +26,7 @@ export function toldBySnapshot(snapshot) {
 }
 
 /** The same, out of a state; a group of which it knows nothing has nothing. */
-export function toldByState(State, state, snapshot) {
+export function toldByState(state, snapshot) {
   const planned = new Set([...snapshot.groups, ...snapshot.stations].map(device => device.device)), groups = snapshot.groups.map(group => state.group(group.device));
   return {
     last: state.last,
@@ -30,7 +34,7 @@ export function toldByState(State, state, snapshot) {
     stations: sorted([...state.stations.values()].filter(station => station.agent).map(station => `${station.id} ${station.agent}`)),
     calls: sorted([...state.calls.values()].map(call => `${call.number} ${call.since}`)),
     connections: sorted([...state.calls.values()].flatMap(call => [...call.connections.values()].filter(one => planned.has(one.device)).map(one => `${call.number} ${one.device} ${one.state} ${one.group ?? ''}`))),
-    queues: groups.map(group => `${group.id}: ${State.queue(group).map(call => `${call.number} since ${call.queued}`)}`),
+    queues: groups.map(group => `${group.id}: ${queue(group).map(call => `${call.number} since ${call.queued}`)}`),
     ringing: groups.map(group => `${group.id}: ${[...group.ringing].map(call => call.number).sort((one, other) => one - other)}`),
     figures: groups.map(({id, figures}) => `${id}: ${[figures.entered, figures.answered, figures.abandoned, figures.moved, figures.waited]}`),
   };
@@ -46,12 +50,12 @@ export function differences(has, wanted) {
 }
 
 /** How a state differs from what the single reads of the desk tell. */
-function againstReads(State, state, reads) {
+function againstReads(turn, state, reads) {
   const wrong = [];
   const see = (what, has, wanted) => { if (JSON.stringify(has) !== JSON.stringify(wanted)) wrong.push(`${what}: ${JSON.stringify(has)} and not ${JSON.stringify(wanted)}`); };
   for (const {group, calls, ready} of reads.queues) {
-    see(`queue ${group}`, State.queue(state.group(group)).map(call => [call.number, call.queued]), calls.map(call => [call.call, call.since]));
-    see(`ready in ${group}`, state.next(group).map(agent => agent.id), ready);
+    see(`queue ${group}`, queue(state.group(group)).map(call => [call.number, call.queued]), calls.map(call => [call.call, call.since]));
+    see(`ready in ${group}`, next(turn, state, group).map(agent => agent.id), ready);
   }
   for (const [device, waiting, ringing, entered, answered, abandoned, moved, average] of reads.report) {
     const group = state.group(device), {figures} = group;
@@ -96,7 +100,7 @@ export async function record(desk, parts) {
 const WATCHED = 5;
 
 /** Carries states on from the first event and from each snapshot; the number of comparisons and what differed. Until the first difference, where one is enough. */
-export function replay({State, Day}, told, oneIsEnough = false) {
+export function replay({State, turn, Day}, told, oneIsEnough = false) {
   const wrong = [], states = [{from: 'the first event', begun: Infinity, state: new State()}], day = Day && new Day(0);
   let compared = 0;
   for (const [place, {snapshot, events, reads}] of told.entries()) {
@@ -107,7 +111,7 @@ export function replay({State, Day}, told, oneIsEnough = false) {
       for (const event of [...(told[place - 1]?.events.slice(-1) ?? []), ...events]) state.apply(event);
       for (const agent of snapshot.agents) if (state.unknown.has(agent.agent)) state.learn(agent);
       if (place - begun > WATCHED && place < told.length - 1) continue;
-      const found = [...differences(toldByState(State, state, snapshot), wanted), ...againstReads(State, state, reads)];
+      const found = [...differences(toldByState(state, snapshot), wanted), ...againstReads(turn, state, reads)];
       compared += Object.keys(wanted).length + reads.queues.length * 2 + reads.report.length + reads.agents.length + reads.stations.length;
       wrong.push(...found.map(text => `part ${place + 1}, begun by ${from}: ${text}`));
     }
@@ -189,7 +193,7 @@ export async function inLoad({State}, desk, lines, rounds) {
     await learn(begun);
     behind += begun.last - snapshot.last;
     const without = told => ({...told, agents: told.agents.map(text => text.split(' ').slice(0, 4).join(' '))});   // the groups that are read may be later ones
-    wrong.push(...differences(without(toldByState(State, begun, snapshot)), without(toldByState(State, whole, snapshot))).map(text => `round ${round + 1}: ${text}`));
+    wrong.push(...differences(without(toldByState(begun, snapshot)), without(toldByState(whole, snapshot))).map(text => `round ${round + 1}: ${text}`));
   }
   const still = posting;
   posting = false;

@@ -142,7 +142,7 @@ class Trial {
     await ways(this.see, browser, desk, address);
     folks.goOn();
     await still(this.see, browser, address, 10);
-    await looks(this.see, browser, address, this.pictures);
+    await looks(this.see, browser, folks, address, this.pictures);
     await callers(this.see, browser, desk, address);
     folks.stop();
     await sheets(this.see, browser, desk, address);
