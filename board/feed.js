@@ -69,8 +69,9 @@ export class Feed {
   async poll() {
     const {events, last} = /** @type {Page} */ (await this.get(`/history?after=${Math.max(0, this.last - 1)}`));
     if (this.last > 0) {
-      const again = JSON.stringify(events.shift());
-      if (last < this.last || (this.seen && again !== this.seen)) return this.forget();
+      // over a file that was carried over it may be that the last event isn't there any more
+      const again = events[0]?.number === this.last ? JSON.stringify(events.shift()) : '';
+      if (last < this.last || (this.seen && again !== this.seen) || (events.length && events[0].number > this.last + 1)) return this.forget();
       this.seen = again;
     }
     const latest = events[events.length - 1];
@@ -95,7 +96,7 @@ export class Feed {
   }
 }
 
-// The number of the last event before a moment, looked for at several places at once.
+// The number of the last event before a moment, looked for at several places at once; where the file hasn't those before it, that before the first one there.
 /** @param {string} base @param {number} last @param {number} moment */
 export async function lastBefore(base, last, moment) {
   let low = 0, high = last;
@@ -104,13 +105,18 @@ export async function lastBefore(base, last, moment) {
     const pages = await Promise.all([...places].map(async after => ({after, .../** @type {Page} */ (await ask(`${base}/events?after=${after}`))})));
     for (const {after, events} of pages) {
       const first = events.findIndex(event => event.moment >= moment);
-      if (first > 0) return after + first;
+      if (first > 0) return events[first - 1].number;
+      if (first === 0 && events[0].number > after + 1) return events[0].number - 1;
       if (first === 0 || !events.length) { high = after; break; }
       low = events[events.length - 1].number;
     }
   }
   return low;
 }
+
+// Whether the event is there, and with it all behind it: over a file that was carried over those before its first one aren't. Before the first of all is nothing.
+/** @param {string} base @param {number} number */
+export const has = async (base, number) => number === 0 || (await ask(`${base}/events?after=${number - 1}`)).events[0]?.number === number;
 
 // All events behind one, in their order and a page at a time, several pages being asked for at once; up to the last that there is by then.
 /** @param {string} base @param {number} after @param {number} last @param {(events:Report[]) => boolean} take says whether to go on */

@@ -4,7 +4,7 @@ import {alarms} from './alarms.js';
 import {save} from './csv.js';
 import {byId, drawStatus, make, put, set, withNumber} from './draw.js';
 import {Day} from './day.js';
-import {ask, Feed, history, lastBefore} from './feed.js';
+import {ask, Feed, has, history, lastBefore} from './feed.js';
 import {fault, office} from './office.js';
 import {callLines, groupLines, totals} from './reckon.js';
 import {logIn, logOut, openSession} from './session.js';
@@ -30,7 +30,7 @@ const usual = settingsOf(Object.entries(office.limits)), settings = settingsOf(n
 const base = location.origin;
 let view = 'wall', state = new State(), counting = new Day(0), counted = false;
 /** @type {Report[]} */ let recent = [];
-/** @type {Map<number, {day:Day, whole:boolean}>} */ const others = new Map();
+/** @type {Map<number, {day:Day, whole:boolean, lacks:boolean}>} */ const others = new Map();
 // calls whose caller has been asked for
 /** @type {Set<number>} */ let asked = new Set();
 /** @type {Drawn|undefined} */ let drawn;
@@ -131,16 +131,18 @@ async function count() {
 function past(back) {
   const had = others.get(back);
   if (!had && counted && settings.since.includes(':') && [...others.values()].every(one => one.whole)) readPast(back);
-  return had?.whole ? had.day : undefined;
+  return had?.whole && !had.lacks ? had.day : undefined;
 }
 
 /** @param {number} back */
 async function readPast(back) {
-  const day = newDay(back), end = begins(back - 1), mine = {day, whole: false};
+  const day = newDay(back), end = begins(back - 1), mine = {day, whole: false, lacks: false};
   others.set(back, mine);
   try {
     day.last = await before(day);
-    await read(day, ({moment}) => moment < end, () => others.get(back) === mine);
+    // a day whose beginning lies in an archive isn't shown beside this one
+    mine.lacks = !await has(base, day.last);
+    if (!mine.lacks) await read(day, ({moment}) => moment < end, () => others.get(back) === mine);
     mine.whole = true;
     redraw();
   } catch { setTimeout(() => { if (others.get(back) === mine) others.delete(back); }, OLD); }

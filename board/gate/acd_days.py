@@ -111,7 +111,8 @@ class Days:
 
 
 def first_of(ask, last, moment):
-    """The number of the last event before a moment, found by halving; ask gives the events behind a number."""
+    """The number of the last event before a moment, found by halving; where the file hasn't those before it, that before the first one there. ask gives the
+    events behind a number."""
     low, high = 0, last
     while low < high:
         middle = (low + high) // 2
@@ -119,8 +120,10 @@ def first_of(ask, last, moment):
         later = next((place for place, event in enumerate(events) if event["moment"] >= moment), None)
         if later is None and events:
             low = events[-1]["number"]
+        elif later == 0 and events[0]["number"] > middle + 1:
+            return events[0]["number"] - 1
         elif not later:
             high = middle
         else:
-            return middle + later
+            return events[later - 1]["number"]
     return low

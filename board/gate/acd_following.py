@@ -423,8 +423,9 @@ class Following:
             raise Away
         events = page["events"]
         if last > 0:
-            again = events.pop(0) if events else None
-            if page["last"] < last or (self.seen is not None and again != self.seen):
+            # over a file that was carried over it may be that the last one isn't there any more
+            again = events.pop(0) if events and events[0]["number"] == last else None
+            if page["last"] < last or (self.seen is not None and again != self.seen) or (events and events[0]["number"] > last + 1):
                 raise Another
             self.seen = again
         if events:

@@ -459,9 +459,15 @@ class FollowTest(unittest.TestCase):
 
     def test_the_first_event_of_a_day(self):
         moments = [5, 5, 7, 7, 7, 9, 20, 20, 31]
-        for moment in range(40):
-            found = days.first_of(lambda after: [{"number": number, "moment": moments[number - 1]} for number in range(after + 1, min(after + 3, len(moments) + 1))], len(moments), moment)
-            self.assertEqual(found, sum(one < moment for one in moments), moment)
+
+        def page(after):
+            begin = max(after + 1, first)
+            return [{"number": number, "moment": moments[number - 1]} for number in range(begin, min(begin + 2, len(moments) + 1))]
+
+        # a file that was carried over has those from the fourth on alone, say
+        for first in (1, 4):
+            for moment in range(40):
+                self.assertEqual(days.first_of(page, len(moments), moment), max(first - 1, sum(one < moment for one in moments)), (first, moment))
         self.assertEqual(days.first_of(lambda after: self.fail("nothing is asked"), 0, 5), 0)
 
     def test_a_question_that_is_out(self):

@@ -15,11 +15,19 @@ FEW = ("rename", "link", "symlink", "unlink", "rmdir", "write")
 TRACED = ",".join(f"?{name}" for name in CALLS)
 # how many wait in the copy, in the file alone that was in place, and in it with its log
 COPIED, LAID_IN, IN_PLACE = 2, 4, 7
+# what lies beside a file that was carried over twice, in the way that has it: notes and archives, of which a restore looks at the names alone
+ARCHIVES = {".archive": "archive desk.db-2026-01-02-7\nlast 7\ndigest 0\nwas 1 1\n", "-2026-01-02-7": "the last one", "-2026-01-01-5": "the first one",
+            "-2026-01-02-7.archive": "archive desk.db-2026-01-01-5\nlast 5\ndigest 0\nwas 1 1\n"}
 DONE, UNDONE, NOTHING = "is the copy of", "is what it was", "there is no restore to take back"
 
 
 def strace(office, *more):
     return ["strace", "-qq", "-o", office.folder.parent / "trace", "-e", f"trace={TRACED}", *more]
+
+
+def lies(file):
+    """All that belongs to a file and lies there, to the byte."""
+    return sums(file, log_of(file), *(file.with_name(f"{file.name}{part}") for part in ARCHIVES))
 
 
 class Kills:
@@ -50,7 +58,7 @@ class Kills:
         """Anew, to the byte."""
         office = Office(tempfile.mkdtemp(dir=self.folder), self.program, self.script)
         subprocess.run(["cp", "-a", f"{self.first.folder}/.", office.folder], check=True)
-        office.moment, office.before = self.first.moment, sums(office.file, log_of(office.file))
+        office.moment, office.before = self.first.moment, lies(office.file)
         return office
 
     def lie_otherwise(self, office):
@@ -66,6 +74,9 @@ class Kills:
         elif self.way == "no log":
             office.run("acd", "audit", "--file", office.file)
             log.unlink()
+        elif self.way == "archives of after the copy":
+            for part, text in ARCHIVES.items():
+                Path(f"{office.file}{part}").write_text(text)
         elif self.way in ("no file", "neither file nor log"):
             office.file.rename(office.folder / "lost")
             if self.way == "neither file nor log":
@@ -82,7 +93,7 @@ class Kills:
         copied, in_place = self.numbers()
         if not office.file.exists() and not office.file.is_symlink():
             # there was none before; what a command does then isn't a restore's
-            self.expect(f"{what}: without a file all is as it was", [None, sums(log_of(office.file))[0]], office.before)
+            self.expect(f"{what}: without a file all is as it was", lies(office.file), office.before)
             return
         told = self.answers.of(office)
         first = told["audit"]
@@ -93,17 +104,18 @@ class Kills:
         copied, _ = self.numbers()
         self.expect(f"{what}: the copy is in place", sum(key.startswith("x ") for key in kept(office.file)), copied + more)
         away = office.folders("put-away-*")
-        self.expect(f"{what}: to the byte what was in place is put away", any(sums(one / office.file.name, one / log_of(office.file).name) == office.before for one in away))
+        self.expect(f"{what}: to the byte what was in place is put away", any(lies(one / office.file.name) == office.before for one in away))
+        self.expect(f"{what}: no archive of after the copy", lies(office.file)[2:], [None] * len(ARCHIVES))
 
     def is_back(self, office, what):
-        self.expect(f"{what}: to the byte all is as before", sums(office.file, log_of(office.file)), office.before)
+        self.expect(f"{what}: to the byte all is as before", lies(office.file), office.before)
         self.expect(f"{what}: nothing is left of it", [str(path) for path in office.folders("put-away-*") + office.folders(".put-away.*")], [])
 
     def undo(self, office, what, said):
         """Back; of a restore that had been done, and that the same command did once more, in two steps."""
         for _ in range(2 if DONE in said else 1):
             status, told, faults = office.copy("--undo")
-            if sums(office.file, log_of(office.file)) == office.before:
+            if lies(office.file) == office.before:
                 break
         self.expect(f"{what}: --undo ({faults})", (status, UNDONE in told), (0, True))
         self.is_back(office, what)
@@ -172,7 +184,7 @@ class Kills:
         print(f"    {self.way}: {self.kills} kills", flush=True)
 
 
-WAYS = ("file and log", "a copy without a log", "a copy whose log has callers", "no log", "no file", "neither file nor log")
+WAYS = ("file and log", "a copy without a log", "a copy whose log has callers", "no log", "no file", "neither file nor log", "archives of after the copy")
 
 
 def try_kills(cases, folder, program, script, ways=WAYS, some=False):

@@ -4,23 +4,16 @@
     rows.execute("SELECT moment, call FROM events WHERE kind = 3 ORDER BY number")
 
 The archives stand from the oldest on. What a file still has of the archive before it is read there, and has to be the same."""
-import fcntl
 import itertools
 import re
-import shutil
 import sqlite3
-import tempfile
 from dataclasses import dataclass
 from pathlib import Path
 
+from acd_book import Fault, connected
+
 VERSION = 2
-# the first of the bytes that who has the file open keeps locked, how many they are, and the most that a log without a page has
-LOCKED, LOCKS, PAGELESS = 0x40000000, 512, 56
 HISTORY = {"kept": ("stamp", "last_stamp", "request"), "events": ("number", "last_event", "event")}
-
-
-class Fault(Exception):
-    """Why there is nothing to tell."""
 
 
 @dataclass
@@ -53,26 +46,8 @@ class Rows:
             link.rows.close()
 
 
-def connected(file, folder):
-    """The file, which stays as it is: a log is played into the file, so one that has a log is read in a copy of both."""
-    if not file.is_file():
-        raise Fault(f"there is no file {file}")
-    with file.open("rb") as held:
-        try:
-            fcntl.lockf(held, fcntl.LOCK_SH | fcntl.LOCK_NB, LOCKS, LOCKED)
-        except OSError:
-            raise Fault(f"{file} is open elsewhere: take a copy of it, by acd-copy") from None
-    log = Path(f"{file}-wal")
-    if not log.exists() or log.stat().st_size <= PAGELESS:
-        return sqlite3.connect(f"{file.resolve().as_uri()}?immutable=1", uri=True)
-    copy = Path(tempfile.mkdtemp(dir=folder)) / "book"
-    for part, name in ((file, copy), (log, f"{copy}-wal")):
-        shutil.copyfile(part, name)
-    return sqlite3.connect(copy)
-
-
-def link_of(file, folder):
-    rows = connected(file, folder)
+def link_of(file, folder, is_live):
+    rows = connected(file, folder, is_live)
     try:
         version, *lasts = rows.execute("SELECT version, last_stamp, last_event FROM meta").fetchone()
     except (sqlite3.Error, TypeError):
@@ -103,9 +78,9 @@ def fit(archive, link):
                 raise Fault(f"{archive.file} and {link.file} differ at {what} {number}")
 
 
-def opened(file, archives, folder):
-    """All of a file and its archives. What has a log is copied into the folder."""
-    links = [link_of(Path(each), folder) for each in (*archives, file)]
+def opened(file, archives, folder, is_live=False):
+    """All of a file, which a desk may have open, and its archives. What has a log is copied into the folder."""
+    links = [*(link_of(Path(archive), folder, False) for archive in archives), link_of(Path(file), folder, is_live)]
     for archive, link in itertools.pairwise(links):
         fit(archive, link)
     behind = dict.fromkeys(HISTORY, 0)

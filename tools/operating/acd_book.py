@@ -3,6 +3,7 @@ import fcntl
 import json
 import shutil
 import sqlite3
+import tempfile
 import time
 from collections import Counter
 from pathlib import Path
@@ -72,23 +73,54 @@ class Book:
     def last_moment(self):
         return self.rows.execute("SELECT last_moment FROM meta").fetchone()[0]
 
+    # what lies elsewhere, where the file was carried over and not all of its archives are read
+
+    def begins(self):
+        """The moment of its first request, where it hasn't those before it; else nothing."""
+        first = next(iter(self.rows.execute("SELECT stamp, moment FROM kept ORDER BY stamp LIMIT 1")), None)
+        stamp, moment = first or (self.rows.execute("SELECT last_stamp FROM meta").fetchone()[0] + 1, self.last_moment())
+        return moment if stamp > 1 else None
+
+    def logged_on_before(self):
+        """Who was logged on at which station before its first event: whose first event of these is a log-off, and who is logged on without one."""
+        kinds = [KINDS.index(kind) + 1 for kind in ("agentLoggedOn", "agentLoggedOff")]
+        firsts = {}
+        for kind, station, agent in self.rows.execute("SELECT kind, device, agent FROM events WHERE kind IN (?, ?) ORDER BY number", kinds):
+            firsts.setdefault(agent, station if kind == kinds[1] else None)
+        stays = {agent: station for agent, station in self.rows.execute("SELECT agent, station FROM agents WHERE station IS NOT NULL") if agent not in firsts}
+        return {identifier(station): identifier(agent) for agent, station in {**stays, **firsts}.items() if station is not None}
+
+    def waited_before(self):
+        """How many waited in each group before its first event: as many as wait now, less those who came since and more those who went."""
+        waiting = Counter(dict(self.rows.execute("SELECT device, count(*) FROM connections WHERE place IS NOT NULL AND offered IS NULL GROUP BY device")))
+        groups = {device for device, in self.rows.execute("SELECT device FROM acd_groups")}
+        queued, diverted, cleared = (KINDS.index(kind) + 1 for kind in ("queued", "diverted", "connectionCleared"))
+        for kind, device, group in self.rows.execute("SELECT kind, device, grp FROM events WHERE kind IN (?, ?, ?)", (queued, diverted, cleared)):
+            if device in groups and (kind != diverted or device == group):
+                waiting[device] += -1 if kind == queued else 1
+        return {identifier(group): count for group, count in waiting.items()}
+
     def close(self):
         self.rows.close()
 
 
-def opened(file, folder, is_live=False):
-    """The book in the file, which stays as it is: a log is played into the file, so one that has a log is read in a copy of both."""
+def connected(file, folder, is_live=False):
+    """The file's rows. It stays as it is: a log is played into the file, so one that has a log is read in a copy of both."""
     if not file.is_file():
         raise Fault(f"there is no file {file}")
     log = Path(f"{file}-wal")
     if is_open(file):
         if not is_live:
             raise Fault(f"{file} is open elsewhere: take a copy of it, by acd-copy, or add --live")
-        rows = sqlite3.connect(copied_live(file, log, Path(folder)))
-    elif log.exists() and log.stat().st_size > PAGELESS:
-        rows = sqlite3.connect(copied(file, log, Path(folder)))
-    else:
-        rows = sqlite3.connect(f"{file.resolve().as_uri()}?immutable=1", uri=True)
+        return sqlite3.connect(copied_live(file, log, Path(tempfile.mkdtemp(dir=folder))))
+    if log.exists() and log.stat().st_size > PAGELESS:
+        return sqlite3.connect(copied(file, log, Path(tempfile.mkdtemp(dir=folder))))
+    return sqlite3.connect(f"{file.resolve().as_uri()}?immutable=1", uri=True)
+
+
+def opened(file, folder, is_live=False):
+    """The book in the file."""
+    rows = connected(file, folder, is_live)
     version = rows.execute("SELECT version FROM meta").fetchone()[0]
     if version not in (1, 2):
         raise Fault(f"wrong version {version}")

@@ -40,6 +40,11 @@ class Quarters:
         self.cleared = set()  # where the call that is being cleared had connections
         self.answers, self.handles = {}, {}  # of which group a station's call was that is answered just now; an agent's group and begin
 
+    def begin(self, moment, waiting):
+        """So many wait in each group at this moment already."""
+        self.waiting.update(waiting)
+        self.seen.update(dict.fromkeys(waiting, moment // STEP - 1))
+
     def take(self, event):
         moment, kind, device, call, agent, group, _, cause, waited = event
         if agent is not None:
@@ -82,7 +87,8 @@ class Quarters:
         quarter.longest = max(quarter.longest or 0, waited)
 
     def take_clearing(self, moment, call, group):
-        queued = self.queued.pop(call, None)
+        # one that came before the first event waits longer than any limit
+        queued = self.queued.pop(call, -math.inf)
         if group is not None:
             quarter = self.at(moment, group)
             quarter.abandoned += 1

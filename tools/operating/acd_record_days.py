@@ -1,5 +1,6 @@
 """Files of records, a day each: the days that are over, in FOLDER/records, FOLDER/agents and FOLDER/groups. Tested, not proved."""
 import contextlib
+import datetime
 import os
 
 KINDS = ("records", "agents", "groups")
@@ -9,10 +10,10 @@ AGAIN = 7
 
 
 class Days:
-    """The files below a folder. `today` is the first day that isn't over; `writer_of` makes a writer of rows of a stream."""
+    """The files below a folder. `first` is the first day that is there as a whole, and `today` the first that isn't over; `writer_of` makes a writer of rows of a stream."""
 
-    def __init__(self, folder, today, heads, writer_of):
-        self.folder, self.today, self.heads, self.writer_of = folder, today, heads, writer_of
+    def __init__(self, folder, first, today, heads, writer_of):
+        self.folder, self.first, self.today, self.heads, self.writer_of = folder, first, today, heads, writer_of
         self.open, self.written, self.newest = {}, 0, {}
         for kind in KINDS:
             (folder / kind).mkdir(mode=0o750, exist_ok=True)
@@ -21,11 +22,16 @@ class Days:
                 left.unlink()
             self.newest[kind] = max((file.stem for file in (folder / kind).glob("*.csv")), default="")
 
+    def lacks(self):
+        """Whether days before the first one would be next, behind those that are written."""
+        newest = max(self.newest.values())
+        return self.first > datetime.date.min and newest < str(self.first - datetime.timedelta(days=1))
+
     def place(self, kind, day):
         return self.folder / kind / f"{day}.csv"
 
     def wants(self, kind, day):
-        return day < self.today and ((self.today - day).days <= AGAIN or str(day) > self.newest[kind])
+        return self.first <= day < self.today and ((self.today - day).days <= AGAIN or str(day) > self.newest[kind])
 
     def write(self, kind, day, row):
         """Rows come day by day; those of a day that needs no file are dropped."""

@@ -1,5 +1,6 @@
 """What became of each call and of each agent's day, event by event. Tested, not proved."""
 import datetime
+import math
 from collections import defaultdict
 from dataclasses import dataclass, field
 
@@ -139,24 +140,34 @@ class Records:
         self.came, self.log_ons, self.by_ticks = book.calls_that_came(), book.log_ons(), book.returns_by_ticks()
         self.calls, self.agents, self.days, self.calendar = {}, defaultdict(Agent), defaultdict(Day), Calendar()
         self.at = {}  # who is logged on at a station
+        # the first call that is told of: of those before it the beginning lies elsewhere
+        self.first = 1
+        if book.begins() is not None:
+            self.at = book.logged_on_before()
+            self.first = self.meet() or math.inf
 
     def take(self, event):
         moment, kind, device, call, agent, group, to, cause, _ = event
         if agent is not None:
             self.take_agent(moment, kind, device, agent)
-        else:
+        elif call >= self.first:
             self.take_call(moment, kind, device, self.known(call), group, to, cause)
 
     def known(self, number):
         """The call of a number; those that came before its first event are known then."""
         while number not in self.calls:
-            came, caller, called, moment, is_made = next(self.came, (None,) * 5)
-            if came is None:
+            if self.meet() is None:
                 raise Fault(f"no kept request tells of call {number}: the beginning of this file lies elsewhere")
+        return self.calls[number]
+
+    def meet(self):
+        """The next call that came is known from now on: its number, or nothing where there is none."""
+        came, caller, called, moment, is_made = next(self.came, (None,) * 5)
+        if came is not None:
             call = self.calls[came] = Call(came, caller, called, moment, since=moment)
             if not is_made:
                 call.at[caller] = Leg(caller, "connected", moment)
-        return self.calls[number]
+        return came
 
     def take_call(self, moment, kind, device, call, group, to, cause):
         call.pass_to(moment)
@@ -212,7 +223,8 @@ class Records:
         self.pass_to(moment, number, agent)
         before, agent.state = agent.state, AGENT_STATES[kind]
         if agent.state == "busy":
-            agent.call.busy += 1
+            if agent.call is not None:  # it isn't one that isn't told of
+                agent.call.busy += 1
         elif agent.call is not None and (before, agent.state) != ("busy", "workingAfterCall"):
             agent.call.busy -= 1
             agent.call = agent.leg = None

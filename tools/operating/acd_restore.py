@@ -19,6 +19,7 @@ from dataclasses import dataclass, field
 from pathlib import Path
 
 import acd_audit
+import acd_chain
 import acd_held
 import acd_pair
 from acd_pair import log_of
@@ -27,8 +28,8 @@ NOWHERE = "/dev/null/"
 # SQLite's pending, reserved and shared locks, which the program takes too
 LOCKS_AT, LOCKS = 1 << 30, 512
 IN, BACK = "restore", "undo"
-# what goes with a file: its log, and what SQLite leaves where it was ended
-PARTS = ("", "-wal", "-journal", "-shm")
+# what goes with a file: its log, what SQLite leaves where it was ended, and the note of its archive
+PARTS = ("", "-wal", "-journal", "-shm", acd_chain.NOTE)
 # the folders that nobody knows of yet, or any more
 HALF = ".put-away."
 
@@ -78,7 +79,8 @@ def is_hidden(file):
 
 @dataclass
 class Pair:
-    """A file with what lies beside it, by the inodes of what is there; and where it lies while it isn't in place."""
+    """A file with what lies beside it, and with the archives that it alone goes on from, by the inodes of what is there; and where it lies while it isn't in
+    place."""
     home: Path
     name: str
     parts: dict = field(default_factory=dict)
@@ -86,12 +88,13 @@ class Pair:
     def at_home(self, part=""):
         return self.home / f"{self.name}{part}"
 
-    def found(self, file):
-        """As it lies now, in this place."""
-        self.parts = {part: inode(f"{file}{part}") for part in PARTS}
+    def found(self, file, archives=()):
+        """As it lies now, in this place, with these archives besides those that were its own."""
+        more = [f"{name[len(self.name):]}{part}" for name in archives for part in ("", acd_chain.NOTE)]
+        self.parts = {part: inode(f"{file}{part}") for part in dict.fromkeys((*PARTS, *self.parts, *more))}
 
     def is_at(self, path, part=""):
-        return self.parts[part] is not None and inode(path) == self.parts[part]
+        return self.parts.get(part) is not None and inode(path) == self.parts[part]
 
     def is_at_home(self, part=""):
         return self.is_at(self.at_home(part), part)
@@ -136,7 +139,7 @@ def exchange(file, leaving, coming, link):
     if coming.is_none() and not leaving.is_none() and not os.path.lexists(file):
         return
     hide(file, leaving, link)
-    beside = {part: Path(f"{file}{part}") for part in PARTS if part}
+    beside = {part: Path(f"{file}{part}") for part in dict.fromkeys((*leaving.parts, *coming.parts)) if part}
     for part, path in beside.items():
         if leaving.is_at(path, part):
             move(path, leaving.at_home(part))
@@ -207,7 +210,7 @@ class PutAway:
         """From now on the way is back, from wherever it was broken off, or from its end, since when there may be other files in place."""
         if not self.new.is_at_home():
             self.was_in_place = True
-            self.new.found(self.file)
+            self.new.found(self.file, own_archives(self.file, self.old.at_home()))
             if self.is_ended():
                 if not self.old.is_none() and inode(self.old.at_home()) is None:
                     raise Fault(f"{self.folder} hasn't the file any more that was put away")
@@ -318,6 +321,28 @@ def alone(file):
         yield
 
 
+# Archives
+
+def own_archives(file, other):
+    """The names of the archives that a file goes on from, and the other one doesn't: what was made since the other one was."""
+    kept = {note.name for note in acd_chain.chain(other, [file.parent])}
+    return [note.name for note in acd_chain.chain(file) if note.name not in kept and acd_chain.is_name(file, note.name)]
+
+
+def missing_archives(file, copy, new):
+    """Copies into the new file's folder the archives that it goes on from, and that aren't beside the file, as far as they lie in the folder of copies; their
+    names."""
+    copies, made = acd_chain.copies_of(copy.parent), []
+    for note in acd_chain.chain(new, [file.parent, copies]):
+        if acd_chain.is_name(file, note.name) and not (file.parent / note.name).exists() and (copies / note.name).is_file():
+            for part in ("", acd_chain.NOTE):
+                source = copies / f"{note.name}{part}"
+                if source.exists() and subprocess.run(["cp", "--reflink=auto", "--preserve=timestamps", "--", source, new.parent]).returncode:
+                    raise Fault(f"{source} can't be copied; nothing was touched")
+            made.append(note.name)
+    return made
+
+
 # Both ways
 
 def copy_of(file, copies, moment):
@@ -330,15 +355,20 @@ def copy_of(file, copies, moment):
 
 
 def copied(file, copy, home):
-    """A copy of the copy, as the owner's alone; audited, as it will lie in its place."""
+    """A copy of the copy, as the owner's alone; audited, as it will lie in its place. The names of the archives that come with it."""
     home.mkdir()
     new = home / file.name
-    for part, target in ((copy / file.name, new), (log_of(copy / file.name), log_of(new))):
+    for part, target in ((copy / file.name, new), *((at(copy / file.name), at(new)) for at in (log_of, acd_chain.note_of))):
         if part.exists() and subprocess.run(["cp", "--reflink=auto", "--preserve=timestamps", "--", part, target]).returncode:
             raise Fault(f"{part} can't be copied; nothing was touched")
     had_log = log_of(new).exists()
+    archives = missing_archives(file, copy, new)
     sync(*home.iterdir(), home)
-    found = acd_audit.audited(new)
+    try:
+        note = acd_chain.noted(new)
+        found = acd_audit.audited(new, acd_chain.place(note, file.parent, home) if note else None)
+    except acd_chain.Broken as fault:
+        raise Fault(f"{fault}; nothing was touched") from None
     if found.verdict != acd_audit.SOUND:
         raise Fault(f"the copy isn't sound: the audit says '{found.said}'; nothing was touched")
     # the audit made one, and left nothing in it
@@ -347,16 +377,17 @@ def copied(file, copy, home):
     for part in home.iterdir():
         part.chmod(0o600)
     sync(*home.iterdir(), home)
+    return archives
 
 
 def prepared(file, copy, number):
     """A folder with all that comes, beside the file; until it has its name nobody knows of it."""
     half = PutAway(Path(tempfile.mkdtemp(prefix=HALF, dir=file.parent)), file)
     try:
-        copied(file, copy, half.new.home)
+        archives = copied(file, copy, half.new.home)
         half.number, half.moment = number, copy.name
-        half.old.found(file)
-        half.new.found(half.new.at_home())
+        half.old.found(file, own_archives(file, half.new.at_home()))
+        half.new.found(half.new.at_home(), archives)
         half.save()
         named = PutAway(fresh(file, "put-away"), file)
         move(half.folder, named.folder)

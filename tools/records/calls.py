@@ -330,6 +330,79 @@ class Calls:
                 own = [row for row in whole if {"100", "0100"} & set(row[column].removeprefix("'").split())]
                 self.expect(f"a lead's {kind} of {date}", list(csv.DictReader(io.StringIO(told.decode("utf-8-sig")))) == own, True)
 
+    # a file that was carried over
+
+    def carried(self, file):
+        """Two archives and the file that goes on from them, as the desk leaves them where it is carried over twice; and the first request that the file has."""
+        folder = Path(tempfile.mkdtemp(dir=self.folder))
+        with contextlib.closing(sqlite3.connect(file)) as book:
+            kept = book.execute("SELECT moment, request FROM kept ORDER BY stamp").fetchall()
+        places = [place for place in range(1, len(kept)) if kept[place - 1][0] < kept[place][0]]
+        cuts, ends, made = [0, *(places[len(places) * part // 3] for part in (1, 2))], [], []
+        ends = [cuts[1] + 30, cuts[2] + 30, len(kept)]
+        for number, (cut, end) in enumerate(zip(cuts, ends)):
+            made.append(folder / f"part{number}.db")
+            self.ran([self.trial.program, "lines", "--file", made[-1]], "".join(f"{moment} {request}\n" for moment, request in kept[:end]))
+            with contextlib.closing(sqlite3.connect(made[-1])) as book:
+                book.execute("DELETE FROM kept WHERE stamp <= ?", (cut,))
+                book.execute("DELETE FROM events WHERE moment < ?", (kept[cut][0] if cut else 0,))
+                book.commit()
+        return made[:-1], made[-1], kept[cuts[-1]][0]
+
+    def try_archives(self):
+        """With its archives it is as if it had never been carried over; without them the calls are missing that came before."""
+        for file, zone, tables, _ in self.days:
+            archives, last, begin = self.carried(file)
+            words = ["--file", last, *(word for archive in archives for word in ("--archive", archive))]
+            for name, (more, _, _) in TABLES.items():
+                status, said, fault = self.script(*words, *more, zone=zone)
+                self.expect_lines(f"{file.name} and its archives: {name} {status} {fault}", said.splitlines(), tables[name])
+            self.try_alone(file.name, last, zone, tables, begin)
+        self.expect("in another order", self.script("--file", last, "--archive", archives[1], "--archive", archives[0])[::2][0], 1)
+        self.expect("one is missing", self.script("--file", last, "--archive", archives[0])[::2][0], 1)
+
+    def try_alone(self, what, file, zone, tables, begin):
+        with contextlib.closing(sqlite3.connect(file)) as book:
+            first = min(json.loads(body)["result"]["call"] for request, body in book.execute("SELECT request, body FROM kept WHERE status = 200")
+                        if json.loads(request)["service"] in ("arriveCall", "makeCall"))
+        for name in ("calls", "legs"):
+            status, said, fault = self.script("--file", file, *TABLES[name][0], zone=zone)
+            wanted = [line for line in tables[name][1:] if int(line.split(",")[0]) >= first]
+            if name == "calls":
+                self.expect_lines(f"{what} without its archives: {status} {fault}", said.splitlines()[1:], wanted)
+            else:
+                self.expect_lines(f"{what} without its archives, the legs: {status} {fault}", self.without(said.splitlines()[1:], 4), self.without(wanted, 4))
+        # of the quarter in which it begins a part lies elsewhere, and so does what was begun before
+        rows = [[{**row, "handled": "", "handling": ""} for row in csv.DictReader(lines) if self.moment(row["begin"]) > begin]
+                for lines in (tables["groups"], self.script("--file", file, "--groups", zone="UTC")[1].splitlines())] if zone == "UTC" else [[], []]
+        self.expect(f"{what} without its archives, the quarters", [row for row in rows[1] if row not in rows[0]], [])
+        status, said, fault = self.script("--file", file, "--agents", zone=zone)
+        self.expect(f"{what} without its archives, the agents: {fault}", status, 0)
+
+    @staticmethod
+    def without(lines, column):
+        """The lines without a column: which groups an agent serves isn't known of one who logged on before."""
+        return [fields[:column] + fields[column + 1:] for fields in csv.reader(lines)]
+
+    def try_days_of_a_part(self):
+        """Files of days that aren't there as a whole stay as they are, and which are missing is told."""
+        file, zone, _, moment = self.longest()
+        folder = self.folder / "parts"
+        shutil.rmtree(folder, ignore_errors=True)
+        self.write(folder, self.copy_of(file, moment), zone)
+        whole = self.files(folder)
+        archives, last, begin = self.carried(file)
+        day = str(datetime.datetime.fromtimestamp(begin, zoneinfo.ZoneInfo(zone)).date())
+        copies = self.copy_of(last, moment)
+        self.expect("beside whole ones", (self.write(folder, copies, zone)[::2], {name for name in whole if self.files(folder).get(name) != whole[name]}), ((0, ""), set()))
+        shutil.rmtree(folder)
+        status, said, fault = self.write(folder, copies, zone)
+        self.expect(f"told: {fault}", (status, fault.count("\n"), "aren't there as a whole" in fault), (0, 1, True))
+        self.expect("of these none is made", {name.rpartition("/")[2][:10] <= day for name in self.files(folder)} - {False}, set())
+        folder.mkdir(exist_ok=True)
+        words = [word for archive in archives for word in ("--archive", archive)]
+        self.expect("with the archives", (self.script("--copies", copies, "--days", folder, *words, zone=zone)[0], self.files(folder) == whole), (0, True))
+
     # files that are no copies
 
     def try_copies(self):
@@ -443,5 +516,7 @@ class Calls:
         self.try_live_anew()
         self.try_faulty_files()
         self.try_days()
+        self.try_archives()
+        self.try_days_of_a_part()
         self.try_page()
         self.try_sums()

@@ -21,6 +21,9 @@ BOOK = [
     ("the first group of a log-on alone", 'else request["groups"]', 'else request["groups"][:1]'),
     ("the log isn't read", "PAGELESS = 0x40000000, 56", "PAGELESS = 0x40000000, 1 << 60"),
     ("a file that is open is read", "fcntl.lockf(held, fcntl.LOCK_SH | fcntl.LOCK_NB, 512, LOCKED)", "pass"),
+    ("nobody was logged on before", "{**stays, **firsts}.items() if station is not None}", "{**stays, **firsts}.items() if False}"),
+    ("who stays isn't there", "in {**stays, **firsts}.items()", "in firsts.items()"),
+    ("nobody waited before", "for group, count in waiting.items()}", "for group, count in ()}"),
     ("a log that began anew is taken", 'if before and before == head(folder / "book-wal") == head(log):', "if True:"),
 ]
 RECORDS = [
@@ -37,6 +40,7 @@ RECORDS = [
     ("who hangs up while it rings isn't told", '        if own in RINGS:\n            return f"at {device} while it rang"\n', ""),
     ("who takes it out of the queue isn't told", '        if own == "queued":\n            return f"at {device} while it waited"\n', ""),
     ("the last who is cleared ended it", '            if call.ended == "live":\n', "            if True:\n"),
+    ("calls that came before are told of", "        elif call >= self.first:", "        else:"),
     ("a private call takes the wrap-up", 'if before == "offered":\n', "if agent:\n"),
     ("no wrap-up of a call", '("busy", "workingAfterCall"):', '("busy", "busy"):'),
     ("a span counts to the day it began on", "end = min(moment, self.calendar.ends)", "end = moment"),
@@ -65,7 +69,9 @@ QUARTERS = [
     ("the level of the answered alone", "counted = self.answered + self.late", "counted = self.answered"),
 ]
 DAYS = [
-    ("the day that goes on is written", "return day < self.today and (", "return ("),
+    ("the day that goes on is written", "<= day < self.today and (", "<= day and ("),
+    ("a day of which a part is there is written", "return self.first <= day <", "return day <"),
+    ("missing days aren't told", "newest < str(self.first - datetime.timedelta(days=1))", "False"),
     ("a file stays for ever", "(self.today - day).days <= AGAIN or ", ""),
     ("each file is written anew", " or str(day) > self.newest[kind])", " or True)"),
     ("days of before the first run aren't written", " or str(day) > self.newest[kind])", ")"),

@@ -1,25 +1,30 @@
 """acd-export over a file and its archives, and acd_archives.py: what they read is what one file of all has; holes, altered rows and a wrong order are told. And who
 follows events over a file that was carried over."""
 import importlib.util
+import json
 import re
+import subprocess
 import sys
+import urllib.request
 
 from cases import changed
 from ground import TOP, copied, firsts, held, joined, log_of
 from kills import PLAN, calls
 
-sys.path += [str(TOP / "tools/api"), str(TOP / "clients/python")]
+sys.path += [str(TOP / "tools/api"), str(TOP / "clients/python"), str(TOP / "board/gate")]
 import acd_client  # noqa: E402
+import acd_days as days  # noqa: E402
+import acd_following as following  # noqa: E402
 import exchange  # noqa: E402
 
 
 def module(ground):
     """As it lies among the scripts."""
-    spec = importlib.util.spec_from_file_location("acd_archives", ground.scripts / "acd_archives.py")
-    made = importlib.util.module_from_spec(spec)
-    sys.modules["acd_archives"] = made
-    spec.loader.exec_module(made)
-    return made
+    for name in ("acd_book", "acd_archives"):
+        spec = importlib.util.spec_from_file_location(name, ground.scripts / f"{name}.py")
+        sys.modules[name] = importlib.util.module_from_spec(spec)
+        spec.loader.exec_module(sys.modules[name])
+    return sys.modules["acd_archives"]
 
 
 class Exports:
@@ -144,10 +149,39 @@ class Exports:
                     self.ground.expect(what, type(found), fault)
 
 
+    def pages(self):
+        """The board and the gate over a file whose events are all left behind: what comes is handed on, once. And where a day begins that the file hasn't."""
+        with self.ground.scratch() as scratch:
+            file, new = scratch / "desk.db", scratch / "new.db"
+            self.ground.feed(file, [*PLAN, *calls(1, 400), '90000 {"requester":"clock","invoke":1,"service":"tick"}'])
+            self.ground.carry("--from", file, "--to", new, "--keep", 1)
+            with exchange.Desk(self.ground.program, new) as desk:
+                address = f"http://127.0.0.1:{desk.port}"
+                gate = following.Following(lambda method, path: asked(address, method, path))
+                gate.catch_up()
+                board = subprocess.Popen(["node", TOP / "tools/years/feed.mjs", address, "2000", "80000", "90000", "90001"], stdout=subprocess.PIPE, text=True)
+                self.ground.expect("the board begins", board.stdout.readline(), "begun\n")
+                for number in range(500, 510):
+                    desk.ask("POST", "/csta", json.dumps({"requester": "pbx", "invoke": number, "service": "arriveCall", "caller": "0301", "called": "100"}).encode())
+                gate.catch_up()
+                self.ground.expect("what the gate knows", (gate.state.last, len(gate.state.groups["100"].waiting)), (409, 409))
+                told = json.loads(board.communicate(timeout=60)[0])
+                self.ground.expect("what the board takes", (told["taken"][:1], told["anew"], told["taken"] == list(range(400, 400 + len(told["taken"])))), ([400], 0, True))
+                self.ground.expect("where a day begins", (told["before"], told["reads"] < 40), ([399] * 4, True))
+                self.ground.expect("which events are there", told["there"], [True, False, True, True, False])
+                self.ground.expect("as the gate finds it", [days.first_of(lambda after: gate.events(f"/events?after={after}"), 409, moment) for moment in (2000, 90000)], [399, 399])
+
+
+def asked(address, method, path):
+    with urllib.request.urlopen(urllib.request.Request(f"{address}{path}", method=method)) as reply:
+        return reply.status, "", reply.read()
+
+
 def try_all(ground):
     with ground.scratch() as folder:
         exports = Exports(ground, folder)
         # the program lays a log in, so what is to read one comes first
         exports.archives_are_read()
         exports.follow()
+        exports.pages()
         exports.exports()

@@ -12,6 +12,7 @@ OPERATING = TOP / "tools/operating"
 sys.path.append(str(TOP / "tests"))
 import tables  # noqa: E402
 
+SCRIPTS = ("acd-calls", "acd-carry", "acd-copy", "acd-export", "acd-forget")
 # that of Debian, which the scripts are run by
 PYTHON = "/usr/bin/python3"
 HISTORY = {"kept": "stamp", "events": "number"}
@@ -45,7 +46,7 @@ class Ground:
         for folder in (self.scripts, self.short):
             shutil.rmtree(folder, ignore_errors=True)
             folder.mkdir()
-            for file in (*OPERATING.glob("acd_*.py"), OPERATING / "acd-carry", OPERATING / "acd-export"):
+            for file in (*OPERATING.glob("acd_*.py"), *(OPERATING / name for name in SCRIPTS)):
                 text = file.read_text()
                 if file.name in faults:
                     text = planted(text, *faults[file.name])

@@ -38,6 +38,10 @@ class Kills:
     def words(self, file):
         return ["--from", file, "--to", file.with_name("new.db"), "--keep", 12]
 
+    def new_of(self, file):
+        """Where the new file comes."""
+        return file.with_name("new.db")
+
     def strace(self, *more):
         return ["strace", "-qq", "-y", "-o", self.trace, "-e", f"trace={TRACED}", *more]
 
@@ -46,10 +50,10 @@ class Kills:
         file = self.made()
         status, told, faults = self.ground.carry(*self.words(file), wrapped=self.strace())
         self.ground.expect(f"it goes through: {faults}", status, 0)
-        self.wanted = held(file.with_name("new.db"))
+        self.wanted = held(self.new_of(file))
         text = self.trace.read_text()
         # before it begins there is the same of all scripts
-        begins = text[:text.index(f"{file.with_name('new.db')}.carry")].rindex("\n")
+        begins = text[:text.index(f"{self.new_of(file)}.carry")].rindex("\n")
         return {name: (len(re.findall(rf"^{name}\(", text[:begins], re.MULTILINE)), len(re.findall(rf"^{name}\(", text, re.MULTILINE))) for name in CALLS}
 
     def look(self, what, file, again):

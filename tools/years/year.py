@@ -6,9 +6,8 @@ import signal
 import subprocess
 import sys
 import time
-from pathlib import Path
 
-from ground import PYTHON, TOP, held, joined, log_of
+from ground import PYTHON, TOP, held, joined
 
 sys.path.append(str(TOP / "clients/python"))
 import acd_due  # noqa: E402
@@ -85,9 +84,14 @@ class Office:
         self.tick(begin + DAY - 1)
 
 
-def carry(ground, file, new, chance):
-    """By the command as it is; at times it is killed, and the same command ends it. How long the last one took."""
-    words = [PYTHON, ground.scripts / "acd-carry", "--from", file, "--to", new, "--days", "2", "--desk", ground.program]
+def archives_of(file):
+    """In their order."""
+    return sorted((path for path in file.parent.glob("desk.db-????-??-??-*") if not path.name.endswith(".archive")), key=lambda path: int(path.name.rpartition("-")[2]))
+
+
+def carry(ground, file, count, chance):
+    """In its place, by the command as it is; at times it is killed, and the same command ends it."""
+    words = [PYTHON, ground.scripts / "acd-carry", "--file", file, "--days", "2", "--desk", ground.program]
     for _ in range(chance.choice([0, 0, 1, 2])):
         killed = subprocess.Popen(words, stdout=subprocess.DEVNULL, stderr=subprocess.DEVNULL)
         time.sleep(chance.uniform(0, 0.6))
@@ -95,18 +99,15 @@ def carry(ground, file, new, chance):
         killed.wait()
         # a program that it had begun goes on to its end
         time.sleep(0.1)
-    begun = time.monotonic()
-    if not new.exists():
-        status, told, faults = ground.run(*words)
-        ground.expect(f"carried over: {faults}", status, 0)
-    return time.monotonic() - begun
+    status, told, faults = ground.run(*words)
+    ground.expect(f"carried over: {faults}", (status in (0, 3), len(archives_of(file))), (True, count))
 
 
 def try_year(ground, weeks=WEEKS):
     chance = random.Random(73)
-    office, archives, longest, greatest = Office(chance), [], 0.0, 0
+    office, longest, greatest = Office(chance), 0.0, 0
     with ground.scratch() as folder:
-        file, new = folder / "desk.db", folder / "new.db"
+        file = folder / "desk.db"
         for week in range(weeks):
             begun = time.monotonic()
             office.desk = Desk(ground.program, file)
@@ -119,13 +120,8 @@ def try_year(ground, weeks=WEEKS):
             office.desk.close()
             rows = held(file)["kept"]
             greatest, longest = max(greatest, len(rows)), max(longest, opened)
-            carry(ground, file, new, chance)
-            archive = folder / f"week-{week:02}.db"
-            for old, name in ((file, archive), (new, file)):
-                log_of(old).unlink(missing_ok=True)
-                old.rename(name)
-            Path(f"{new}.carry").exists() and Path(f"{new}.carry").rmdir()
-            archives.append(archive)
+            carry(ground, file, week + 1, chance)
+        archives = archives_of(file)
         ground.expect("archives and file together", ground.audit(joined(archives, file, folder / "joined.db")), (0, f"sound\nexecuted {office.asked}\n", ""))
         ground.expect("no file has over nine days", greatest < office.asked / weeks / 7 * 9 + 400)
         status, told, faults = ground.export("--file", file, *(word for archive in archives for word in ("--archive", archive)))

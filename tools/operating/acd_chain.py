@@ -1,0 +1,232 @@
+"""The archives that a desk's file goes on from. Tested, not proved.
+
+Beside a file F that was carried over lies F.archive, the note of the file that it was carried over from, which is its archive:
+
+    archive desk.db-2026-11-28-81234
+    last 81234
+    digest 5e88...
+    was 131 1800000000.5
+
+The archive's name, in F's folder; its last stamp; its SHA-256; and its inode, with the moment when that was made, as F had it until then. An archive that was
+itself carried over has such a note too, so archives are a chain. In a folder of copies each archive lies once, in the folder `archives`, with its note and the
+digest that it was copied with."""
+import contextlib
+import hashlib
+import os
+import re
+import sqlite3
+import subprocess
+import time
+from dataclasses import dataclass
+from pathlib import Path
+
+import acd_pair
+
+NOTE, DIGEST = ".archive", ".sha256"
+# the folder beside a file in which acd-carry makes the one that takes its place
+BESIDE = ".carry"
+FOLDER = "archives"
+# the columns of meta that are limits
+LIMITS = "max_requests, max_calls, max_groups, max_stations, max_agents, max_monitors"
+# what the program ends with where it doesn't know an option
+REFUSED = 2
+
+
+class Broken(Exception):
+    """An archive isn't there, or isn't the one that was noted."""
+
+
+# The note
+
+@dataclass(frozen=True)
+class Note:
+    name: str
+    last: int
+    digest: str
+    was: str
+
+    def text(self):
+        return f"archive {self.name}\nlast {self.last}\ndigest {self.digest}\nwas {self.was}\n"
+
+
+def note_of(file):
+    return Path(f"{file}{NOTE}")
+
+
+def noted(file):
+    """The note beside a file; nothing where it wasn't carried over."""
+    try:
+        said = dict(line.partition(" ")[::2] for line in note_of(file).read_text().splitlines())
+        return Note(said["archive"], int(said["last"]), said["digest"], said["was"])
+    except FileNotFoundError:
+        return None
+    except (KeyError, ValueError):
+        raise Broken(f"{note_of(file)} is no note of an archive") from None
+
+
+def write(file, text):
+    """In one step, and on the disk; for its owner alone, as all that lies beside the file."""
+    new = file.with_name(f".{file.name}.new")
+    new.unlink(missing_ok=True)
+    with open(os.open(new, os.O_WRONLY | os.O_CREAT | os.O_EXCL, 0o600), "w") as out:
+        out.write(text)
+        out.flush()
+        os.fsync(out.fileno())
+    os.replace(new, file)
+    acd_pair.sync_folder(file.parent)
+
+
+def put_note(file, note):
+    write(note_of(file), note.text())
+
+
+def change_digest(note, name, old, new):
+    """Where a note says this digest of this archive, it says the new one: in place, since a restore knows the note by its inode, and within one sector."""
+    data = note.read_bytes() if note.is_file() else b""
+    if {f"archive {name}".encode(), f"digest {old}".encode()} <= set(data.splitlines()):
+        with open(note, "rb+") as out:
+            out.seek(data.index(f"digest {old}".encode()))
+            out.write(f"digest {new}".encode())
+            out.flush()
+            os.fsync(out.fileno())
+
+
+def chain(file, folders=()):
+    """The notes of the archives, from the last one back to the oldest that is there. An archive's own is looked for beside the file, then in these folders."""
+    found, note = [], noted(file)
+    while note and note.name not in [one.name for one in found]:
+        found.append(note)
+        places = [folder / note.name for folder in (file.parent, *folders)]
+        note = next((one for one in map(noted, places) if one), None)
+    return found
+
+
+def exchanged(file):
+    """The note of a file whose place the new one has already, while the rest is still to do: it is where the new one was made. Else nothing."""
+    note = noted(Path(f"{file}{BESIDE}") / file.name)
+    return note if note and acd_pair.identity(file) != note.was else None
+
+
+def unfinished(file):
+    """What to say where an exchange was broken off."""
+    return f"acd-carry of {file} was broken off: acd-carry --file {file} ends it" if exchanged(file) else None
+
+
+# The archive
+
+def digest(file):
+    """The SHA-256 of a file's bytes."""
+    with open(file, "rb") as has:
+        return hashlib.file_digest(has, "sha256").hexdigest()
+
+
+def name_for(file, last, moment):
+    """What the file is called as an archive: by the day of its last request, in Universal Time, and its stamp."""
+    return f"{file.name}-{time.strftime('%Y-%m-%d', time.gmtime(moment))}-{last}"
+
+
+def is_name(file, name):
+    return re.fullmatch(rf"{re.escape(file.name)}-\d{{4,}}-\d\d-\d\d-\d+", name) is not None
+
+
+def place(note, *folders):
+    """Where an archive lies, in one of these folders."""
+    found = next((folder / note.name for folder in folders if (folder / note.name).is_file()), None)
+    if not found:
+        raise Broken(f"the archive {note.name} isn't in {' or '.join(map(str, folders))}")
+    return found
+
+
+# Copies of archives
+
+def copies_of(folder):
+    return folder / FOLDER
+
+
+def noted_digest(copy):
+    return Path(f"{copy}{DIGEST}").read_text().partition(" ")[0]
+
+
+def put_digest(copy, found):
+    """As sha256sum --check reads it."""
+    write(Path(f"{copy}{DIGEST}"), f"{found}  {copy.name}\n")
+
+
+def keep(archive, note, copies):
+    """Copies an archive into a folder of copies, where it isn't there; it has its name once it is whole, and has its digest."""
+    copies.mkdir(mode=0o700, exist_ok=True)
+    copy = copies / note.name
+    if copy.exists() and Path(f"{copy}{DIGEST}").exists():
+        if noted_digest(copy) != note.digest:
+            raise Broken(f"{copy} is another archive than that which was noted: its digest is another one")
+        return
+    new = copies / f".{note.name}.new"
+    new.unlink(missing_ok=True)
+    if subprocess.run(["cp", "--reflink=auto", "--preserve=timestamps", "--", archive, new]).returncode:
+        raise Broken(f"{archive} can't be copied into {copies}")
+    if digest(new) != note.digest:
+        raise Broken(f"{archive} isn't the archive that was noted: its digest is another one")
+    with open(new, "rb") as has:
+        os.fsync(has.fileno())
+    own = noted(archive)
+    if own:
+        put_note(copy, own)
+    put_digest(copy, note.digest)
+    os.replace(new, copy)
+    acd_pair.sync_folder(copies)
+
+
+def look(copies):
+    """What is the matter with the archives in a folder of copies, a line each."""
+    for copy in sorted(copies.iterdir()) if copies.is_dir() else ():
+        if copy.name.startswith(".") or copy.name.endswith((NOTE, DIGEST)):
+            continue
+        try:
+            if digest(copy) != noted_digest(copy):
+                yield f"{copy} isn't what was copied: its digest is another one"
+        except FileNotFoundError:
+            yield f"{copy} has no digest beside it, {copy.name}{DIGEST}"
+
+
+# Whether a file goes on from its archive
+
+def immutable(file):
+    """Its name for SQLite, which then takes no lock, and makes nothing beside it."""
+    return f"{file.absolute().as_uri()}?immutable=1"
+
+
+def differences(file, archive):
+    """Why a file doesn't go on from its archive, as far as SQL tells it: limits, and the rows that both have; nothing where it does. What its newer requests
+    make of the archive's tables isn't looked at."""
+    with contextlib.closing(sqlite3.connect(immutable(file), uri=True)) as book:
+        book.execute("ATTACH ? AS old", (immutable(archive),))
+        ours, theirs = (book.execute(f"SELECT version, {LIMITS} FROM {base}.meta").fetchone() for base in ("main", "old"))
+        if ours != theirs:
+            return "the limits are others"
+        for table, key, last in (("kept", "stamp", "last_stamp"), ("events", "number", "last_event")):
+            found = differs(book, table, key, last)
+            if found:
+                return found
+    return None
+
+
+def differs(book, table, key, last):
+    """Where the rows of a table of both aren't the same, or one is missing."""
+    end, = book.execute(f"SELECT {last} FROM old.meta").fetchone()
+    newest, = book.execute(f"SELECT {last} FROM main.meta").fetchone()
+    first, most, count = book.execute(f"SELECT coalesce(min({key}), ? + 1), coalesce(max({key}), ?), count(*) FROM main.{table}", (newest, newest)).fetchone()
+    if first > end + 1 or most != newest or count != newest - first + 1:
+        return f"its {table} aren't whole"
+    both = [f"SELECT * FROM {base}.{table} WHERE {key} BETWEEN {first} AND {end}" for base in ("main", "old")]
+    for one, other in (both, both[::-1]):
+        found, = book.execute(f"SELECT min({key}) FROM ({one} EXCEPT {other})").fetchone()
+        if found is not None:
+            return f"{key} {found} of {table} is another one"
+    return None
+
+
+def audited(program, file, archive, *more):
+    """Status and output of the program's audit of a file behind its archive, or nothing where the program can't look there."""
+    told = subprocess.run([*program, "audit", *more, "--file", file, "--archive", archive],
+                          stdin=subprocess.DEVNULL, stdout=subprocess.PIPE, stderr=subprocess.STDOUT, text=True)
+    return None if told.returncode == REFUSED else (told.returncode, told.stdout)

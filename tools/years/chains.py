@@ -1,0 +1,375 @@
+"""acd-carry in a file's own place, killed before each call of the system that changes something; the notes that it leaves; and acd-copy over files that were
+carried over: copies, their archives, and putting back what was copied before a cut."""
+import hashlib
+import json
+import re
+import shutil
+import signal
+import subprocess
+from pathlib import Path
+
+from cases import changed, disk, listing
+from ground import PYTHON, copied, from_on, held, log_of
+from kills import PLAN, Kills
+
+HOUR, DAY = 3600, 86400
+ALONE = ("desk.db", "desk.db-wal", "desk.db-pair", "desk.db.archive")
+
+
+def days(first, last):
+    """Callers who come, one an hour, and hang up ten seconds later."""
+    for number in range(first, last):
+        moment = DAY + HOUR * number
+        yield f"{moment} " + json.dumps({"requester": "pbx", "invoke": 2 * number, "service": "arriveCall", "caller": f"030{number:08}", "called": "100"})
+        yield f"{moment + 10} " + json.dumps({"requester": "pbx", "invoke": 2 * number + 1, "service": "clearConnection", "call": number,
+                                              "device": f"030{number:08}"})
+
+
+def identity(path):
+    return subprocess.run(["stat", "--format=%i %.9W", "--", path], capture_output=True, text=True).stdout.strip()
+
+
+def sha256(path):
+    return hashlib.sha256(path.read_bytes()).hexdigest()
+
+
+def text_of(path):
+    return Path(path).read_text() if Path(path).exists() else None
+
+
+def note_of(file):
+    """What the note of its archive says; nothing where there is none."""
+    return dict(line.split(" ", 1) for line in (text_of(f"{file}.archive") or "").splitlines())
+
+
+class Office:
+    """A folder with a desk's file, which is carried over in its place, and its copies."""
+
+    def __init__(self, ground, folder):
+        self.ground, self.folder, self.file, self.copies = ground, folder, folder / "desk.db", folder / "copies"
+
+    def carry(self, *words, **how):
+        return self.ground.carry("--file", self.file, *words, short=False, **how)
+
+    def copy(self, *words, program=None):
+        path = {"wrapped": ["env", f"PATH={program.parent}:{self.ground.program.parent}:/usr/sbin:/usr/bin:/sbin:/bin"]} if program else {}
+        return self.ground.run(PYTHON, self.ground.scripts / "acd-copy", "--file", self.file, "--folder", self.copies, *words, **path)
+
+    def good(self, what, *words):
+        """The folder of a good copy."""
+        status, told, faults = self.copy(*words)
+        made = re.search(r"^sound: (\S+)$", told, re.MULTILINE)
+        self.ground.expect(f"{what}: {told}{faults}", (status, faults, bool(made)), (0, "", True))
+        return Path(made[1]) if made else self.copies / "none"
+
+    def archives(self, folder=None):
+        """In their order."""
+        found = (re.fullmatch(r"desk\.db-\d{4}-\d\d-\d\d-(\d+)", path.name) for path in (folder or self.folder).iterdir())
+        return [(folder or self.folder) / name[0] for name in sorted(filter(None, found), key=lambda name: int(name[1]))]
+
+    def serve(self, first, last):
+        answers = self.ground.feed(self.file, days(first, last))
+        self.ground.expect("answers", {answer[:4] for answer in answers}, {"200 "})
+
+
+class Chains:
+    def __init__(self, ground, folder):
+        self.ground, self.folder = ground, folder
+
+    def office(self, name):
+        folder = self.folder / name
+        folder.mkdir()
+        office = Office(self.ground, folder)
+        self.ground.feed(office.file, PLAN)
+        office.serve(1, 81)
+        return office
+
+    # in its place
+
+    def in_place(self):
+        """Twice: rows, notes, and that nothing else is left."""
+        ground, office = self.ground, self.office("place")
+        for day, last, first in (("1970-01-05", 162, 66), ("1970-01-07", 262, 166)):
+            rows, was = held(office.file), identity(office.file)
+            own = text_of(f"{office.file}.archive")
+            status, told, faults = office.carry()
+            ground.expect(f"carried over: {faults}", (status, faults), (0, ""))
+            archive = office.folder / f"desk.db-{day}-{last}"
+            ground.expect("the archive's rows", archive.exists() and held(archive) == rows)
+            event = next(row[0] for row in rows["events"] if row[1] >= rows["kept"][first - rows["kept"][0][0]][3])
+            ground.expect("the new file's rows", held(office.file) == from_on(rows, first, event))
+            ground.expect("the note", note_of(office.file), {"archive": archive.name, "last": str(last), "digest": sha256(archive), "was": was})
+            ground.expect("the archive's own", text_of(f"{archive}.archive"), own)
+            ground.expect("which file and log are together", text_of(f"{office.file}-pair"), f"file {identity(office.file)}\nlog none\n")
+            archived = {f"{each.name}{part}" for each in office.archives() for part in ("", ".archive")}
+            ground.expect("the rest", {path.name for path in office.folder.iterdir()} - archived <= set(ALONE))
+            office.serve(81 + (last - 162) // 2, 131 + (last - 162) // 2)
+        self.refusals(office)
+
+    def refusals(self, office):
+        ground, last = self.ground, held(office.file)["meta"][0]
+        taken = office.folder / f"desk.db-1970-01-09-{last[8]}"
+        for part in ("", ".archive"):
+            Path(f"{taken}{part}").write_text("mine")
+            before = listing(office.folder)
+            status, told, faults = office.carry()
+            after = listing(office.folder)
+            for found in (before, after):
+                found.pop("desk.db-wal", None)
+            ground.expect(f"a name that is taken: {faults}", (status, faults, after == before),
+                          (1, f"acd-carry: {taken}{part} is there already; nothing was changed\n", True))
+            Path(f"{taken}{part}").unlink()
+        for words in ((), ("--file", office.file, "--to", "x"), ("--from", "x"), ("--from", "x", "--to", "y", "--file", "z")):
+            ground.expect(f"{words}", ground.carry(*words)[0], 2)
+        ground.expect("carried over once more", office.carry()[0], 0)
+        ground.expect("and there is nothing to leave behind", office.carry()[0], 3)
+
+    def beside(self):
+        """What was broken off behind the exchange is ended beside a desk, too, which goes on."""
+        ground, office = self.ground, self.office("beside")
+        rows = held(office.file)
+        status, told, faults = office.carry(wrapped=["strace", "-qq", "-o", "/dev/null", "-e", "trace=renameat2", "-e", "inject=renameat2:signal=KILL:when=2"])
+        ground.expect("broken off behind the exchange", (status, len(held(office.file)["kept"]) < len(rows["kept"]), office.archives()),
+                      (-signal.SIGKILL, True, []))
+        desk = subprocess.Popen([ground.program, "lines", "--file", office.file], stdin=subprocess.PIPE, stdout=subprocess.PIPE, text=True)
+        try:
+            self.ask(desk, 81)
+            status, told, faults = office.carry()
+            ground.expect(f"ended: {faults}", (status, told.endswith("what was broken off is ended\n"),
+                                               [held(archive) == rows for archive in office.archives()]), (0, True, [True]))
+            office.good("a copy")
+            self.ask(desk, 82)
+            ground.expect("and then it is refused beside a desk", office.carry()[0], 1)
+        finally:
+            desk.stdin.close()
+            desk.wait()
+
+    def ask(self, desk, number):
+        desk.stdin.write(f"{next(days(number, number + 1))}\n")
+        desk.stdin.flush()
+        self.ground.expect("the desk goes on", desk.stdout.readline()[:4], "200 ")
+
+    def full(self):
+        """On disks of each size from too small to great enough it is the old file, with nothing else, or the new one with all that belongs to it."""
+        ground, whole, states = self.ground, self.office("whole"), set()
+        rows = held(whole.file)
+        for size in range(100, 1000, 100):
+            folder = self.folder / "full"
+            folder.mkdir(exist_ok=True)
+            with disk(folder, f"{size}k"):
+                office = Office(ground, folder)
+                shutil.copy(whole.file, folder)
+                status, told, faults = office.carry()
+                states.add(status)
+                lies = {path.name for path in folder.iterdir()} - {"desk.db-wal", "desk.db-pair"}
+                wanted = {"desk.db", "desk.db.archive", "desk.db-1970-01-05-162"} if status == 0 else {"desk.db"}
+                ground.expect(f"a disk of {size} kB: {faults}", (lies, faults.count("\n"), held(office.file) == rows),
+                              (wanted, 1 if status else 0, status != 0))
+        ground.expect("some go through, and some don't", states, {0, 1})
+
+    # copies
+
+    def copied(self):
+        """Each archive is copied once, and its digest looked at; the number of requests goes on over cuts."""
+        ground, office = self.ground, self.office("copied")
+        before = office.good("before the first cut")
+        ground.expect("it has no archive", [path.name for path in before.iterdir() if "archive" in path.name], [])
+        office.carry()
+        first = office.archives()[0]
+        made = office.good("behind it")
+        lies = office.copies / "archives" / first.name
+        ground.expect("the archive's copy, and its digest", (sha256(lies), text_of(f"{lies}.sha256")), (sha256(first), f"{sha256(first)}  {first.name}\n"))
+        ground.expect("the note goes along", note_of(made / "desk.db"), note_of(office.file))
+        ground.expect("the number goes on", (office.copies / "executed").read_text().splitlines()[0], "executed 162")
+        office.serve(81, 131)
+        was = lies.stat()
+        office.carry()
+        office.good("behind the second cut")
+        ground.expect("it isn't copied again", (lies.stat().st_ino, lies.stat().st_mtime_ns), (was.st_ino, was.st_mtime_ns))
+        ground.expect("both are there", [path.name for path in office.archives(lies.parent)], [path.name for path in office.archives()])
+        self.fewer(office)
+        self.altered(office)
+        self.without(office)
+        self.by_memory(office)
+
+    def bad(self, what, office, name, said, *words, **how):
+        """It fails, its copy has this name, and nothing is cleared away."""
+        before = {path.name for path in office.copies.glob("*Z")}
+        status, told, faults = office.copy("--keep", "1", *words, **how)
+        lies = re.search(r"it lies in (\S+),", faults)
+        self.ground.expect(f"{what}: {told}{faults}", (status, said in faults, bool(lies and re.fullmatch(name, Path(lies[1]).name))), (1, True, bool(name)))
+        self.ground.expect(f"{what}: nothing is cleared away", before <= {path.name for path in office.copies.glob("*Z")})
+
+    def fewer(self, office):
+        """A file that was carried over goes on from the one that was copied before: it can't have fewer requests than that."""
+        note = office.copies / "executed"
+        office.serve(131, 135)
+        office.carry("--days", "1")
+        text = note.read_text()
+        note.write_text(text.replace("executed 262", "executed 999"))
+        self.bad("fewer than the file that it was carried over from", office, r"fewer-\S+",
+                 "the copy has 270 executed requests, and the last one of the same file had 999")
+        note.write_text(text)
+        office.good("as many")
+
+    def altered(self, office):
+        """A file whose older requests aren't the archive's; a copied archive that changed; one whose log ends early."""
+        office.serve(135, 140)
+        whole = copied(office.file, self.folder)
+        for statement in ("UPDATE kept SET body = '{}' WHERE stamp = (SELECT min(stamp) FROM kept)",
+                          "UPDATE events SET call = 1 WHERE number = (SELECT min(number) FROM events)",
+                          "UPDATE meta SET max_calls = max_calls - 1", "DELETE FROM events WHERE number = (SELECT max(number) - 1 FROM events)"):
+            changed(office.file, statement)
+            self.bad(statement, office, "unsound", "the copy isn't sound")
+            for part in (whole, log_of(whole)):
+                shutil.copyfile(part, office.folder / part.name)
+        lies = office.copies / "archives" / office.archives()[0].name
+        data = lies.read_bytes()
+        lies.write_bytes(data[:-9] + bytes([data[-9] ^ 1]) + data[-8:])
+        self.bad("a copied archive that changed", office, "", f"{lies} isn't what was copied")
+        lies.write_bytes(data)
+        office.good("as it was")
+
+    def without(self, office):
+        """The archive that it goes on from is nowhere; or is another one than was noted."""
+        last = office.archives()[-1]
+        copy, aside = office.copies / "archives" / last.name, self.folder / "aside"
+        last.rename(aside)
+        office.good("with the copied one alone")
+        away = copy.rename(self.folder / "copy-aside")
+        self.bad("without its archive", office, r"\S+\.unaudited", "the copy can't be looked at behind its archive")
+        shutil.copy(office.archives()[0], last)
+        self.bad("with another one", office, r"\S+\.unaudited", "isn't the archive that was noted")
+        aside.rename(last)
+        away.rename(copy)
+        office.good("with its own")
+
+    def by_memory(self, office):
+        """What ends the audit for its memory; and a program that looks behind the archive: stand-ins."""
+        program, last = self.folder / "stand-in/acd", office.copies / "archives" / office.archives()[-1].name
+        program.parent.mkdir(exist_ok=True)
+        for what, does, name, said in (("killed", "kill -9 $$", r"\S+\.unaudited", "the copy's audit wasn't ended"),
+                                       ("no memory", "echo 'acd: no memory' >&2; exit 1", r"\S+\.unaudited", "the copy's audit wasn't ended"),
+                                       ("differs", "echo 'differs at request 7'; exit 3", "unsound", "the audit says 'differs at request 7'"),
+                                       ("early", "echo 'sound, but its log ends early'; exit 5", r"\S+\.early", "log ends early"),
+                                       ("sound", f'case "$*" in *--archive\\ {last}*) echo sound; echo executed 9;; esac', None, "")):
+            program.write_text(f'#!/bin/sh\nif [ "$1" = audit ]; then {does}; exit; fi\nexec {self.ground.program} "$@"\n')
+            program.chmod(0o755)
+            if name:
+                self.bad(what, office, name, said, program=program)
+            else:
+                status, told, faults = office.copy(program=program)
+                self.ground.expect(f"{what}: {told}{faults}", (status, faults), (0, ""))
+
+    # restores
+
+    def restored(self):
+        """Copies of before each cut are put back, with the archives that they go on from; and each time that is taken back, to the byte."""
+        ground, office = self.ground, self.office("restored")
+        moments = []
+        for first in (81, 131, 181):
+            moments.append((office.good("before a cut"), held(office.file), [path.name for path in office.archives()]))
+            office.carry()
+            office.serve(first, first + 50)
+        for made, rows, archives in moments:
+            before, all_archives = listing(office.folder), [path.name for path in office.archives()]
+            status, told, faults = office.copy("--restore", made.name)
+            ground.expect(f"put back: {faults}", (status, held(office.file) == rows, [path.name for path in office.archives()]), (0, True, archives))
+            ground.expect("its note", note_of(office.file).get("archive"), archives[-1] if archives else None)
+            away, = office.folder.glob("put-away-*")
+            ground.expect("what was made after it is put aside", [path.name for path in office.archives(away)],
+                          [name for name in all_archives if name not in archives])
+            if not archives:
+                office.serve(81, 91)
+            status, told, faults = office.copy("--undo")
+            for taken in office.folder.glob("taken-back-*"):
+                shutil.rmtree(taken)
+            ground.expect(f"taken back: {faults}", (status, self.same(listing(office.folder), before)), (0, []))
+        self.brought(office, moments)
+
+    @staticmethod
+    def same(after, before):
+        """What differs, but for the note of which file and log are together."""
+        return sorted(name for name in after.keys() | before.keys() if after.get(name) != before.get(name) and name not in ("desk.db-pair", "desk.db-wal"))
+
+    def brought(self, office, moments):
+        """What lies in the folder of copies alone comes back along with a copy."""
+        made, rows, archives = moments[2]
+        bytes_of = {name: (office.folder / name).read_bytes() for name in archives}
+        for path in office.folder.iterdir():
+            if path.name != "copies":
+                path.unlink() if path.is_file() else shutil.rmtree(path)
+        status, told, faults = office.copy("--restore", made.name)
+        self.ground.expect(f"of a lost disk: {faults}", status, 0)
+        self.ground.expect("rows and archives", (held(office.file) == rows, {path.name: path.read_bytes() for path in office.archives()} == bytes_of),
+                           (True, True))
+        office.good("and goes on")
+
+    def all(self, case=None):
+        for each in [case] if case else ("in_place", "beside", "full", "copied", "restored"):
+            getattr(self, each)()
+
+
+class Places(Kills):
+    """The same kills as of one over two paths."""
+
+    def __init__(self, ground, folder):
+        super().__init__(ground, folder)
+        self.archive = "desk.db-1970-01-01-31"
+
+    def words(self, file):
+        return ["--file", file, "--keep", 12]
+
+    def new_of(self, file):
+        return file
+
+    def look(self, what, file, again):
+        ground, rows = self.ground, held(file)
+        is_new, archive = rows == self.wanted, file.with_name(self.archive)
+        self.states.add(is_new)
+        ground.expect(f"{what}: the file is the old one or the new one", is_new or rows == self.rows)
+        places = [path for path in (archive, file.parent / "desk.db.carry/desk.db") if path.exists()]
+        ground.expect(f"{what}: the old one is there", self.rows in (rows, *map(held, places)))
+        status, told, faults = ground.run(PYTHON, ground.scripts / "acd-copy", "--file", file, "--folder", file.parent / "copies")
+        done = not (is_new and (file.parent / "desk.db.carry/desk.db.archive").exists())
+        ground.expect(f"{what}: a copy {faults}", (status, "was broken off" in faults), (0, False) if done else (1, True))
+        shutil.rmtree(file.parent / "copies", ignore_errors=True)
+        status, told, faults = ground.carry(*self.words(file))
+        ground.expect(f"{what}, the same again: {told}{faults}", status in (0, 3) and (status == 0 or is_new))
+        ground.expect(f"{what}, the same again: both", (held(file) == self.wanted, held(archive) == self.rows), (True, True))
+        ground.expect(f"{what}, the same again: the note", note_of(file).get("digest"), sha256(archive))
+        ground.expect(f"{what}, the same again: what lies there", {path.name for path in file.parent.iterdir()} - {"desk.db-wal"},
+                      {"desk.db", "desk.db-pair", "desk.db.archive", self.archive})
+
+    def power(self):
+        """What was written is on the disk before the two change places, and all is before it is told."""
+        file = self.made()
+        self.ground.carry(*self.words(file), wrapped=["strace", "-f", "-qq", "-y", "-s", "999", "-o", self.trace, "-e",
+                                                      "trace=?write,?pwrite64,?ftruncate,?fsync,?fdatasync,?renameat2,?rename"])
+        unsynced, folders, exchanged = set(), set(), False
+        for name, path, line in re.findall(r"^\d+ +(\w+)\((?:\d+<([^>]*)>|)(.*)", self.trace.read_text(), re.MULTILINE):
+            if name in ("write", "pwrite64", "ftruncate") and path.startswith(f"{file.parent}/"):
+                unsynced.add(path)
+            elif name in ("fsync", "fdatasync"):
+                unsynced.discard(path)
+                folders.discard(path)
+            elif "RENAME_EXCHANGE" in line:
+                self.ground.expect("not on the disk as they change places", {path for path in unsynced if not path.endswith(("-wal", "-shm", "-journal"))},
+                                   set())
+                exchanged, folders = True, {str(file.parent)}
+            elif name.startswith("rename") and exchanged:
+                folders.add(str(file.parent))
+            elif name == "write" and " goes on from " in line:
+                self.ground.expect("the names as it is told", (exchanged, folders), (True, set()))
+
+
+def try_all(ground, case=None):
+    with ground.scratch() as folder:
+        Chains(ground, folder).all(case)
+
+
+def try_places(ground):
+    with ground.scratch() as folder:
+        trial = Places(ground, folder)
+        trial.power()
+        print(f"{trial.all()} kills in its place", flush=True)
