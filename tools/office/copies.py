@@ -49,6 +49,8 @@ class Copies(Office):
 
     def try_one_behind_the_other(self):
         """More copies by hand than a unit may be started in ten seconds, and more than are kept: each is good, and says nothing else."""
+        # a slow machine starts fewer in ten seconds
+        self.expect("how many may be started isn't limited", self.show("StartLimitIntervalUSec", unit="acd-copy"), ["0"])
         for number in range(STARTS):
             self.expect(f"copy {number}", self.run("systemctl", "start", "acd-copy"), (0, ""))
         said, forms = self.lines(), (r"the desk was halted for \d+ ms", f"sound: {COPIES}/{MOMENT}", f"cleared away: {COPIES}/{MOMENT}")
