@@ -40,15 +40,18 @@ ben agent 07
 cleo stations=201,202 agent groups=100,110 agent=7
 ana-b agent agent=8
 lea lead reads=none groups=110,100
+Copy.2 follow
+blind office reads=none
 """
 # of "secret" by SHA-1, as `htpasswd -s` makes it
 SECRET = "{SHA}5en6G6MezRroT3XKqkdPOmY/BfQ="
-USERS = "".join(f"{login}:{SECRET}\n" for login in ("pbx", "planner", "sup", "ana", "ana-b", "nobody", "Jürgen"))
+USERS = "".join(f"{login}:{SECRET}\n" for login in ("pbx", "planner", "sup", "ana", "ana-b", "nobody", "Jürgen", "Copy.2"))
 CALL_SERVICES = ["makeCall", "phoneOffHook", "answerCall", "rejectCall", "holdCall", "retrieveCall", "clearConnection", "deflectCall", "singleStepTransfer"]
 PLAN_SERVICES = ["addGroup", "addStation", "addAgent", "setGroupPriority", "changeGroup", "changeAgent"]
 OTHERS = ["arriveCall", "monitorStart", "monitorStop", "tick"]
 FORBIDDEN = (403, b'{"error":{"code":41,"name":"forbidden"}}')
 REPLY = b'{"error":{"code":3,"name":"unknownCall"},  "odd":1}'
+PAGE = b'{"last":0,  "requests":[]}'
 
 
 def lines(content):
@@ -81,6 +84,9 @@ class StandIn(BaseHTTPRequestHandler):
         self.wfile.write(body)
 
     def do_GET(self):
+        if self.path.startswith("/requests"):
+            self.server.got.append(self.path)
+            return self.answer(200, PAGE)
         known = {"/agents/7": {"agent": "7", "device": self.server.station}, "/agents/07": {"agent": "07"}}
         self.answer(200, json.dumps(known[self.path]).encode())
 
@@ -137,7 +143,7 @@ class RoleTest(GateTest):
         every = [*CALL_SERVICES, *PLAN_SERVICES, *OTHERS, "setAgentState", "nothing"]
         self.assertEqual(self.allowed("pbx", every), every)
         self.assertEqual(self.allowed("planner", every), PLAN_SERVICES)
-        for login in ("sup", "nobody", ""):
+        for login in ("sup", "nobody", "Copy.2", ""):
             self.assertEqual(self.allowed(login, every, agent="7", device="201"), [])
 
     def test_agent(self):
@@ -183,17 +189,34 @@ class RoleTest(GateTest):
         for words in ("", "wizard", "agent", "agent 7 8", "agent 7 agent=7", "agent=7", "agent agent 7", "office 7", "office agent=7", "exchange stations=201", "supervisor groups=100",
                       "agent 7 stations=", "agent 7 stations=201,", "agent 7 stations=201, 202", "agent 7 stations=201 stations=202", "agent 7 groups=all", "agent 7 room=1", "agent x",
                       "agent 7 Stations=201", "lead", "lead agent=7 groups=100", "lead groups=100 stations=201", "lead groups=", "lead groups=100 reads=own", "supervisor reads=own", "office reads=some",
-                      "agent 7 reads=", "agent 7 reads=own reads=own", "reads=all", "agent 7 office", "agent=1234567890 agent", "agent 7 stations=1234567890123456", "agent ٧", "agent agent=٧", "agent agent= 7"):
+                      "follow reads=all", "follow reads=none", "follow groups=100", "follow office", "agent 7 reads=", "agent 7 reads=own reads=own", "reads=all", "agent 7 office", "agent=1234567890 agent", "agent 7 stations=1234567890123456", "agent ٧", "agent agent=٧", "agent agent= 7"):
             found, told = roles(f"pbx exchange\n\nana {words}\r")
             self.assertEqual(found, {"pbx": gate.Role("exchange"), "ana": gate.NOTHING}, words)
             self.assertRegex(told, r"\Aacd-gate: roles, line 3: ana .*\n\Z")
 
     def test_what_a_line_reads(self):
         for words, wanted in (("supervisor", "all"), ("office reads=none", "none"), ("agent 7", "own"), ("reads=all agent 7", "all"), ("agent reads=none agent=7", "none"), ("lead groups=1", "all"),
-                              ("exchange reads=all", "all")):
+                              ("exchange reads=all", "all"), ("follow", "none")):
             found, told = roles(f"ana {words}")
             self.assertEqual((found["ana"].reading, told), (wanted, ""), words)
         self.assertEqual(gate.READS.reading, "all")
+
+    def test_who_reads_requests(self):
+        for login in ("planner", "Copy.2"):
+            self.assertEqual(self.ask(login, None, "GET", "/requests?after=7"), (200, PAGE))
+            status, fields, told = self.exchange("HEAD", "/requests", None, {"X-Login": login})
+            self.assertEqual((status, fields["Content-Length"], told), (200, str(len(PAGE)), b""))
+        self.assertEqual(self.desk.got, ["/requests?after=7", "/requests?"] * 2)
+        for login in ("pbx", "sup", "ana", "ben", "lea", "blind", "nobody", "Jürgen", ""):
+            self.assertEqual(self.ask(login, None, "GET", "/requests?after=7"), FORBIDDEN, login)
+        self.assertEqual(len(self.desk.got), 4)
+
+    def test_a_query_of_requests_goes_on(self):
+        for query, sent in (("after=1&after=2", "after=1&after=2"), ("after=%31&x=?/#'\"<", "after=%31&x=?/#'\"<"), ("\xe4fter=1", "%E4fter=1"), ("after=1&x=\x7f", "after=1&x=%7F")):
+            with socket.create_connection(("127.0.0.1", self.gate.server_port), timeout=5) as connection:
+                connection.sendall(f"GET /requests?{query} HTTP/1.1\r\nX-Login: planner\r\n\r\n".encode("latin-1"))
+                self.assertRegex(connection.recv(100), rb"^HTTP/1.1 200 ")
+            self.assertEqual(self.desk.got.pop(), f"/requests?{sent}")
 
     def test_two_lines_of_a_login(self):
         found, told = roles("ana agent 7\nben office\nana agent 8")
@@ -219,7 +242,7 @@ class RoleTest(GateTest):
             self.assertFalse(self.passes("ana", state))
             self.roles.unlink()
             self.assertFalse(self.passes("eve", tick))
-        self.assertRegex(told.getvalue(), rf"\Aacd-gate: {self.roles}, line 12: ana .*\nacd-gate: {self.roles} can't be read: No such file or directory\n\Z")
+        self.assertRegex(told.getvalue(), rf"\Aacd-gate: {self.roles}, line 14: ana .*\nacd-gate: {self.roles} can't be read: No such file or directory\n\Z")
 
 
 class KeyTest(GateTest):
@@ -296,7 +319,7 @@ class RequestTest(GateTest):
     def test_who(self):
         for login, wanted in (("ana", {"agent": "7", "login": "ana", "reads": "own", "role": "agent"}), ("sup", {"login": "sup", "role": "supervisor"}), ("nobody", {"login": "nobody"}), ("Jürgen", {"login": "Jürgen"}),
                               ("cleo", {"agent": "7", "groups": ["100", "110"], "login": "cleo", "reads": "own", "role": "agent", "stations": ["201", "202"]}),
-                              ("lea", {"groups": ["100", "110"], "login": "lea", "reads": "none", "role": "lead"})):
+                              ("lea", {"groups": ["100", "110"], "login": "lea", "reads": "none", "role": "lead"}), ("Copy.2", {"login": "Copy.2", "reads": "none", "role": "follow"})):
             status, text = self.ask(login, None, "GET", "/who")
             self.assertEqual((status, json.loads(text)), (200, wanted))
 

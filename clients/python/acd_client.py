@@ -241,7 +241,8 @@ class Client:
         return cast(Snapshot | None, self.read("/snapshot"))
 
     def requests(self, after: int = 0) -> RequestsPage | None:
-        """The first thousand executed requests above the stamp `after`; None from a desk that tells none, or behind nginx, which lets nobody read them."""
+        """The first thousand executed requests above the stamp `after`; None from a desk that tells none. Behind the proxy it takes a login of the role office or follow:
+        another one is refused, by ValueError."""
         return cast(RequestsPage | None, self.read(f"/requests?after={after}"))
 
     def follow(self, after: int, poll: float = 0.5) -> Iterator[list[Event]]:

@@ -332,6 +332,16 @@ class NotImplemented(TypedDict):
     name: Literal['notImplemented']
 
 
+class Forbidden(TypedDict):
+    code: Literal[41]
+    name: Literal['forbidden']
+
+
+class Unauthorized(TypedDict):
+    code: Literal[42]
+    name: Literal['unauthorized']
+
+
 class RefusalReply(TypedDict):
     error: RefusalError
     invoke: Invoke
@@ -356,6 +366,14 @@ class MalformedReply(TypedDict):
 
 class UnavailableReply(TypedDict):
     error: UnavailableError
+
+
+class UnauthorizedReply(TypedDict):
+    error: Unauthorized
+
+
+class ForbiddenReply(TypedDict):
+    error: Forbidden
 
 
 class NotFoundReply(TypedDict):

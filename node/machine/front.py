@@ -1,6 +1,7 @@
 """Takes requests and reads over HTTP, as the desk does: one a connection."""
 import json
 import os
+import re
 import ssl
 import sys
 import threading
@@ -22,6 +23,7 @@ NOT_IMPLEMENTED = 501, b'{"error":{"code":40,"name":"notImplemented"}}'
 WRONG_LENGTH = 400, malformed(b"contentLength")
 NO_JSON = 400, malformed(b"json")
 NO_HEAD = 400, malformed(b"head")
+FORBIDDEN = 403, b'{"error":{"code":41,"name":"forbidden"}}'
 TOO_LARGE_HEAD = 431, b'{"error":{"code":39,"name":"headTooLarge"}}'
 
 
@@ -42,6 +44,11 @@ def length_of(path, fields):
         return None, NO_LENGTH
     digits = lengths[0].lstrip("0") or "0"
     return (None, TOO_LARGE) if len(digits) > 9 or int(digits) > LONGEST else (int(digits), None)
+
+
+def path_of(target):
+    """The path of a target as the desk finds it: an absolute target loses what is before its path."""
+    return re.sub(rb"(?i)\Ahttp://[^/?]*", b"", target).partition(b"?")[0]
 
 
 class Handler(BaseHTTPRequestHandler):
@@ -88,7 +95,10 @@ class Handler(BaseHTTPRequestHandler):
         return self.send_line(self.server.bridge.answer(request)) if request else self.send(*NO_JSON)
 
     def do_GET(self):
-        self.send_line(self.server.bridge.read(self.path.encode("latin-1")))
+        target = self.path.encode("latin-1")
+        if self.server.hides_requests and path_of(target) == b"/requests":
+            return self.send(*FORBIDDEN)
+        return self.send_line(self.server.bridge.read(target))
 
     do_HEAD = do_GET
 
@@ -104,6 +114,8 @@ class Front(ThreadingHTTPServer):
     def __init__(self, address, bridge, context=None):
         super().__init__(address, Handler)
         self.bridge, self.room = bridge, threading.BoundedSemaphore(self.most)
+        # whose clients are known by certificates has no gate before it, which would ask for the role
+        self.hides_requests = context is not None and context.verify_mode == ssl.CERT_REQUIRED
         if context:
             self.socket = context.wrap_socket(self.socket, server_side=True, do_handshake_on_connect=False)
 

@@ -23,6 +23,7 @@ TOO_LARGE = b'{"error":{"code":38,"name":"bodyTooLarge"}}'
 HEAD_TOO_LARGE = b'{"error":{"code":39,"name":"headTooLarge"}}'
 NOT_IMPLEMENTED = b'{"error":{"code":40,"name":"notImplemented"}}'
 AGAIN = b'{"error":{"code":33,"name":"noMemory"}}'
+FORBIDDEN = b'{"error":{"code":41,"name":"forbidden"}}'
 
 
 class Answers:
@@ -170,23 +171,28 @@ class Certificates(Fronting):
             context.load_cert_chain(theirs / "m.crt", theirs / "m.key")
         return context
 
-    def tried(self, context):
+    def tried(self, context, sent=b"POST /csta HTTP/1.1\r\nHost: desk\r\nContent-Length: 2\r\n\r\n{}"):
         """What a client gets, behind its request."""
         with socket.create_connection(self.server.server_address, timeout=5) as plain:
             try:
                 with context.wrap_socket(plain, server_hostname="127.0.0.1") as connection:
-                    connection.sendall(b"POST /csta HTTP/1.1\r\nHost: desk\r\nContent-Length: 2\r\n\r\n{}")
+                    connection.sendall(sent)
                     return read_all(connection)
             except OSError:
                 return b""
 
-    def test_who_has_no_certificate_gets_nothing(self):
-        ours, theirs = self.certify("ours"), self.certify("theirs")
+    def front_of(self, ours, asks=True):
+        """A front with this certificate, which may ask its clients for theirs."""
         context = ssl.SSLContext(ssl.PROTOCOL_TLS_SERVER)
         context.load_cert_chain(ours / "m.crt", ours / "m.key")
-        context.load_verify_locations(ours / "ca.crt")
-        context.verify_mode = ssl.CERT_REQUIRED
+        if asks:
+            context.load_verify_locations(ours / "ca.crt")
+            context.verify_mode = ssl.CERT_REQUIRED
         self.front(context)
+
+    def test_who_has_no_certificate_gets_nothing(self):
+        ours, theirs = self.certify("ours"), self.certify("theirs")
+        self.front_of(ours)
         self.assertTrue(self.tried(self.client(ours, ours)).endswith(b"\r\n\r\n{}"))
         self.assertEqual((self.tried(self.client(ours)), self.tried(self.client(ours, theirs)), self.answers.asked), (b"", b"", [b"{}"]))
         with socket.create_connection(self.server.server_address, timeout=5) as plain:
@@ -200,6 +206,19 @@ class Certificates(Fronting):
         self.assertTrue(self.tried(self.client(ours, ours)).endswith(b"{}"))
         self.assertLess(time.monotonic() - start, 5)
         silent.close()
+
+    def test_executed_requests_are_read_by_no_certificate(self):
+        ours = self.certify("ours")
+        for asks in (True, False):
+            self.front_of(ours, asks)
+            for target, is_one in ((b"/requests", True), (b"/requests?after=7", True), (b"//requests", True), (b"http://desk/requests?x", True),
+                                   (b"HtTp:///requests", True), (b"/requests/", False), (b"/Requests", False), (b"/%72equests", False), (b"/events?/requests", False),
+                                   (b"http://desk?/requests", False)):
+                head, _, body = self.tried(self.client(ours, ours), b"GET %s HTTP/1.1\r\nHost: desk\r\n\r\n" % target).partition(b"\r\n\r\n")
+                wanted = (b"403", FORBIDDEN) if asks and is_one else (b"200", b"/requests" if target == b"//requests" else target)
+                self.assertEqual((head.split()[1], body), wanted, target)
+            told = self.tried(self.client(ours, ours), b"HEAD /requests HTTP/1.1\r\nHost: desk\r\n\r\n")
+            self.assertTrue(told.startswith(b"HTTP/1.1 403 " if asks else b"HTTP/1.1 200 ") and told.endswith(b"\r\n\r\n"), told)
 
 
 if __name__ == "__main__":

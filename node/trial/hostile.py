@@ -77,6 +77,7 @@ def strangers(machines):
             for sent in (post, b"GET /snapshot HTTP/1.1\r\nHost: desk\r\n\r\n"):
                 told = send(machines, n, sent, bare)
                 machines.see("a stranger without a certificate gets nothing", told == b"", told)
+    requests(machines)
     for address in own_addresses():
         for n in (1, 2, 3):
             machines.see(f"nobody listens at {address}", not answers(address, machines.ports[n]))
@@ -85,6 +86,15 @@ def strangers(machines):
         done = subprocess.run(list(map(str, words)), stderr=subprocess.PIPE, timeout=20)
         machines.see("a node that would ask no stranger for a certificate doesn't start", done.returncode == 2 and b"--client-ca" in done.stderr, done)
     machines.see("nothing of theirs is in the log", len(machines.everything()) == before)
+
+
+def requests(machines):
+    """By a certificate executed requests aren't read; where a gate stands before it a node tells what its desk tells."""
+    status = 403 if machines.context else 200
+    for target, wanted in (("/requests", status), ("/requests?after=0", status), ("http://desk/requests", status), ("HTTP://desk/requests?/x", status),
+                           ("//requests", status), ("/requests/", 404), ("/%72equests", 404)):
+        told = send(machines, 1, f"GET {target} HTTP/1.1\r\nHost: desk\r\n\r\n".encode(), machines.context)
+        machines.see(f"{target} of a node", told.startswith(b"HTTP/1.1 %d " % wanted) and (b'"requests":[' in told) == (wanted == 200), told[:200])
 
 
 def own_addresses():

@@ -36,6 +36,7 @@ FAULTS = [
     ("422 left out", "        '422':\n", "        '423':\n"),
     ("a status that never comes", "      summary: The queue report, as text\n      responses:\n",
      "      summary: The queue report, as text\n      responses:\n        '404': {$ref: '#/components/responses/NotFound'}\n"),
+    ("a status of the proxy as the desk's", "may not read it.\n      x-proxy: true\n", "may not read it.\n"),
     ("the report as JSON", "text/plain", "application/json"),
     ("a method that may not be", "enum: [POST, 'GET, HEAD']", "enum: [POST, GET]"),
     ("an example's reply", "result: {monitor: 1}", "result: {monitor: 2}"),

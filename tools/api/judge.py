@@ -31,14 +31,16 @@ class Judge:
                          for content in response.get("content", {}).values() for name, it in content.get("examples", {}).items()}
 
     def responses(self, path, method):
+        """Those of the desk: none that a proxy alone answers."""
         described = self.description.document["paths"].get(path, {}).get(method, {}).get("responses", {})
-        return {status: self.description.resolved(response) for status, response in described.items()}
+        resolved = {status: self.description.resolved(response) for status, response in described.items()}
+        return {status: response for status, response in resolved.items() if "x-proxy" not in response}
 
     def judged(self, exchange):
         """What of an exchange isn't as the description says."""
         path, operation, values = self.description.operation(exchange.method, exchange.target)
         self.statuses[path, exchange.method, exchange.status] += 1
-        response = self.response_to(exchange, operation)
+        response = self.response_to(exchange, path, operation)
         if response is None:
             yield f"status {exchange.status} isn't named"
             return
@@ -52,10 +54,9 @@ class Judge:
         elif operation is not None and not exchange.sent:
             yield from self.judged_parameters(exchange, operation, values)
 
-    def response_to(self, exchange, operation):
+    def response_to(self, exchange, path, operation):
         if operation is not None:
-            found = operation["responses"].get(str(exchange.status))
-            return found and self.description.resolved(found)
+            return self.responses(path, "get" if exchange.method == "HEAD" else exchange.method.lower()).get(str(exchange.status))
         name = REFUSED_BEFORE.get(exchange.status)
         return name and self.description.document["components"]["responses"][name]
 
@@ -121,10 +122,11 @@ class Judge:
 
     def missing(self):
         """What the description names and no exchange had: statuses, fixed texts, members that may be there or not."""
-        for path, method, operation in self.description.operations():
-            for status in operation["responses"]:
+        for path, method, _ in self.description.operations():
+            responses = self.responses(path, method)
+            for status in responses:
                 if not self.statuses[path, method.upper(), int(status)]:
                     yield f"{method} {path} {status}"
-            for response in self.responses(path, method).values():
+            for response in responses.values():
                 for content in response["content"].values():
                     yield from (fact for fact in self.description.facts(content["schema"], "reply") if fact not in self.seen)

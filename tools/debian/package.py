@@ -29,7 +29,7 @@ OPERATING = TOP / "tools/operating"
 MAINTAINER = "Hullapricot maintainers <maintainers@users.noreply.hullapricot.example>"
 UNITS = ("acd.service", "acd-tick.service", "acd-gate.service", "acd-copy.service", "acd-copy.timer", "acd-local.service",
          "acd-node.service", "acd-node-upkeep.service", "acd-node-upkeep.timer", "acd-records.service")
-MANUAL = ("acd.1", "acd-calls.1", "acd-plan.1", "acd-ready.8", "acd-tick.8", "acd-gate.8", "acd-copy.8", "acd-carry.8", "acd-forget.8", "acd-export.1", "acd-local.8", "acd-node.8")
+MANUAL = ("acd.1", "acd-calls.1", "acd-plan.1", "acd-trail.1", "acd-ready.8", "acd-tick.8", "acd-gate.8", "acd-copy.8", "acd-carry.8", "acd-forget.8", "acd-export.1", "acd-local.8", "acd-node.8")
 BOARD = TOP / "board"
 PAGES = (".html", ".css", ".js")
 
@@ -266,7 +266,7 @@ def lay_out(root, options, moment):
     for name in ("acd-ready", "acd-tick", "acd-copy", "acd-carry", "acd-forget", "acd-local"):
         put(f"usr/sbin/{name}", (OPERATING / name).read_bytes(), 0o755)
     put("usr/sbin/acd-gate", (BOARD / "gate/acd-gate").read_bytes(), 0o755)
-    for name in ("acd-calls", "acd-export", "acd-plan"):
+    for name in ("acd-calls", "acd-export", "acd-plan", "acd-trail"):
         put(f"usr/bin/{name}", (OPERATING / name).read_bytes(), 0o755)
     for module in (*sorted(OPERATING.glob("acd_*.py")), *sorted((BOARD / "gate").glob("acd_*.py")), TOP / "clients/python/acd_client.py", TOP / "clients/python/acd_due.py"):
         put(f"usr/share/acd/{module.name}", module.read_bytes())

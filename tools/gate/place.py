@@ -75,8 +75,8 @@ class Place:
 
     def start_nginx(self):
         here = self.folder
-        subprocess.run(["openssl", "req", "-x509", "-newkey", "rsa:2048", "-nodes", "-subj", "/CN=desk", "-days", "2", "-keyout", here / "desk.key", "-out", here / "desk.crt"],
-                       stderr=subprocess.DEVNULL, check=True)
+        subprocess.run(["openssl", "req", "-x509", "-newkey", "rsa:2048", "-nodes", "-subj", "/CN=desk", "-addext", "subjectAltName=IP:127.0.0.1", "-days", "2",
+                        "-keyout", here / "desk.key", "-out", here / "desk.crt"], stderr=subprocess.DEVNULL, check=True)
         (here / "share").mkdir()
         (here / "share/board").symlink_to(TOP / "board")
         places = {"8080": self.desk_port, "8081": self.gate_port, "8443": self.port, "/etc/acd": here, "/usr/share/acd": here / "share"}

@@ -1,5 +1,7 @@
 """What the office says in /etc/acd/board.json, as far as records go by it: names in any script, limits of the service level, the zone. Tested, not proved."""
 import json
+import os
+import time
 import zoneinfo
 from dataclasses import dataclass, field
 from pathlib import Path
@@ -48,6 +50,17 @@ def office(file, tell):
         tell(f"{file}: there is no zone {zone}")
         zone = None
     return Office({kind: texts(names.get(kind) if isinstance(names, dict) else None) for kind in ("groups", "agents")}, texts(said.get("limits")), zone)
+
+
+def counting(file, tell):
+    """What stands in the file that was named, else in the machine's, where that is there. Its zone counts where TZ names none."""
+    if file is None and not FILE.exists():
+        return Office()
+    found = office(file or FILE, tell)
+    if found.zone and "TZ" not in os.environ:
+        os.environ["TZ"] = found.zone
+        time.tzset()
+    return found
 
 
 def is_zone(name):

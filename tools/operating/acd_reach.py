@@ -34,6 +34,10 @@ def address(text):
 
 def add_options(parser):
     parser.add_argument("--from", dest="address", type=address, metavar="ADDRESS", help="ask the desk at this address, as http://127.0.0.1:8080 or https://desk.example:8443")
+    add_login_options(parser)
+
+
+def add_login_options(parser):
     parser.add_argument("--login", metavar="LOGIN", help="ask by this login; its password is asked for, or that of the variable ACD_PASSWORD")
     parser.add_argument("--ca", metavar="FILE", help="trust the certificates in this file, in place of this machine's")
 
@@ -42,7 +46,7 @@ def check(parser, options):
     """Refuses options that don't fit together."""
     parts = urlsplit(options.address or "")
     if options.ca and parts.scheme != "https":
-        parser.error("--ca is for a desk --from https://")
+        parser.error("--ca is for a desk at https://")
     if options.login is not None and (not options.login or ":" in options.login):
         parser.error("a login has a letter at least, and no colon")
     if options.login and parts.scheme == "http" and parts.hostname not in THIS_MACHINE:

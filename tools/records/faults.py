@@ -7,9 +7,6 @@ CALLS = [
     ("the last answer", "when(min((leg.answered", "when(max((leg.answered"),
     ("since leaves its day out", "self.options.since <= day", "self.options.since < day"),
     ("until leaves its day out", "day <= self.options.until", "day < self.options.until"),
-    ("a formula goes out", "changes = FORMULA.match(field) or", "changes ="),
-    ("a number loses its 0", " else LOST.fullmatch(field))", " else None)"),
-    ("a name may seem a date", "LIKE_NUMBER.match(field) if column in NAMED", "None if column in NAMED"),
     ("names of the desk alone", "            names[kind] |= office.names[kind]", "            pass"),
     ("the oldest copy", "made, place = max(found)", "made, place = min(found)"),
     ("a day ends with the last request", "end = max(book.last_moment(), made)", "end = book.last_moment()"),
@@ -68,6 +65,11 @@ QUARTERS = [
     ("after-call work isn't handling", '(before, kind) == ("agentBusy", "agentWorkingAfterCall")', "False"),
     ("the level of the answered alone", "counted = self.answered + self.late", "counted = self.answered"),
 ]
+SHEETS = [
+    ("a name may seem a date", "LIKE_NUMBER.match(field) if is_name", "None if is_name"),
+    ("a formula goes out", "changes = FORMULA.match(field) or", "changes ="),
+    ("a number loses its 0", " else LOST.fullmatch(field))", " else None)"),
+]
 DAYS = [
     ("the day that goes on is written", "<= day < self.today and (", "<= day and ("),
     ("a day of which a part is there is written", "return self.first <= day <", "return day <"),
@@ -120,7 +122,7 @@ REACH = [
 
 # of which script, in which file
 ALL = [("calls", "acd-calls", CALLS), ("calls", "acd_book.py", BOOK), ("calls", "acd_records.py", RECORDS), ("calls", "acd_quarters.py", QUARTERS), ("calls", "acd_record_days.py", DAYS),
-       ("calls", "acd_office.py", OFFICE), ("plan", "acd-plan", PLAN), ("plan", "acd_reach.py", REACH)]
+       ("calls", "acd_sheets.py", SHEETS), ("calls", "acd_office.py", OFFICE), ("plan", "acd-plan", PLAN), ("plan", "acd_reach.py", REACH)]
 
 
 def planted(text, old, new):
