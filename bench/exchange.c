@@ -1,6 +1,7 @@
 /* One client of a desk over HTTP, which takes the time of each exchange; and a server that does nothing, to compare with.
 
-   usage: exchange PORT COUNT post CALLER     COUNT calls arrive at group CALLER's, each is cleared again
+   usage: exchange PORT COUNT post CALLER [RATE FIRST]    COUNT calls arrive at group CALLER's, each is cleared again; RATE requests
+                                              a second, and behind FIRST calls of an earlier run
           exchange PORT COUNT get PATH        COUNT reads of PATH
           exchange PORT COUNT serve BYTES     serves COUNT connections, each with a reply that has a body of BYTES bytes
 
@@ -105,8 +106,8 @@ static int by_value(const void *a, const void *b) {
 }
 
 int main(int argc, char **argv) {
-    if (argc != 5) {
-        fprintf(stderr, "usage: exchange PORT COUNT post|get|serve WORD\n");
+    if (argc != 5 && argc != 7) {
+        fprintf(stderr, "usage: exchange PORT COUNT post|get|serve WORD [RATE FIRST]\n");
         return 2;
     }
     long count = atol(argv[2]);
@@ -121,7 +122,13 @@ int main(int argc, char **argv) {
     snprintf(request, sizeof request, "GET %s HTTP/1.1\r\nHost: desk\r\n\r\n", argv[4]);
     double *times = malloc(count * sizeof *times), start = now();
     int is_post = strcmp(argv[3], "post") == 0;
-    for (long i = 0; i < count; i++) times[i] = is_post ? arrive_and_clear(i, argv[4]) : exchange(request);
+    double pause = argc == 7 ? 2e6 / atof(argv[5]) : 0;
+    long first = argc == 7 ? atol(argv[6]) : 0;
+    for (long i = 0; i < count; i++) {
+        double early = start + i * pause - now();
+        if (early > 0) usleep(early);
+        times[i] = is_post ? arrive_and_clear(first + i, argv[4]) : exchange(request);
+    }
     double all = now() - start;
     qsort(times, count, sizeof *times, by_value);
     printf("%ld %ld %.6f %.1f %.1f %.1f %.1f\n", count * (1 + is_post), granted, all / 1e6, times[0], times[count / 2], times[count * 99 / 100],

@@ -150,8 +150,8 @@ class Client:
             self.connection.close()
             self.connection = None
 
-    def attempt(self, method: str, path: str, body: Request | None = None) -> Answer:
-        """One HTTP exchange. Where it fails the next one goes to the next address."""
+    def exchange(self, method: str, path: str, body: Request | None = None) -> tuple[int, bytes]:
+        """One HTTP exchange: the status of the answer, and its body to the byte. Where it fails the next one goes to the next address."""
         try:
             connection = self.connect()
             text = json.dumps(body, separators=(",", ":")) if body is not None else None
@@ -162,16 +162,26 @@ class Client:
                 raise Unanswered("the reply is cut off, or longer than any")
             if reply.status in SEND_AGAIN:
                 raise Unanswered(f"status {reply.status}")
-            told = json.loads(data)
-            if not isinstance(told, dict):
-                raise Unanswered("the reply is no object")
-            return Answer(reply.status, told)
-        except (OSError, http.client.HTTPException, ValueError, RecursionError) as fault:
+            return reply.status, data
+        except (OSError, http.client.HTTPException, ValueError) as fault:
             self.fail_over()
             raise Unanswered(repr(fault)) from fault
         except Unanswered:
             self.fail_over()
             raise
+
+    def attempt(self, method: str, path: str, body: Request | None = None) -> Answer:
+        """One HTTP exchange whose answer is an object."""
+        status, data = self.exchange(method, path, body)
+        try:
+            told = json.loads(data)
+        except (ValueError, RecursionError) as fault:
+            self.fail_over()
+            raise Unanswered(repr(fault)) from fault
+        if not isinstance(told, dict):
+            self.fail_over()
+            raise Unanswered("the reply is no object")
+        return Answer(status, told)
 
     def fail_over(self) -> None:
         self.disconnect()

@@ -1,0 +1,423 @@
+"""What is told that isn't so, what is missing, what doesn't answer: acd-follow goes on where nothing is wrong, else it stops with both, and nothing is fed."""
+import base64
+import contextlib
+import json
+import os
+import signal
+import sqlite3
+import subprocess
+import threading
+import time
+from pathlib import Path
+
+from ground import Between, Desk, Follower, ask, certificate, copied, day, held, is_beginning, judge, last_of, state_in, until
+
+FAULT, REFUSED, DIFFERS, LACKS = 1, 2, 3, 4
+# a desk's program that is another one at some lines, by the environment: what stands in its place is Python
+ODD_PROGRAM = """#!/usr/bin/python3
+import os, subprocess, sys, time
+how, at, note, real = (os.environ[f"ODD_{name}"] for name in ("HOW", "AT", "NOTE", "REAL"))
+desk = subprocess.Popen([real, *sys.argv[1:]], stdin=subprocess.PIPE, stdout=subprocess.PIPE)
+for line in sys.stdin.buffer:
+    # once for all starts together
+    counts = b" GET " not in line and not os.path.exists(note)
+    with open(note + ".count", "a+") as count:
+        if counts:
+            count.write("x")
+        count.seek(0)
+        odd = counts and len(count.read()) == int(at)
+    if odd and how != "slow":
+        open(note, "w").close()
+    if odd and how in ("33", "34"):
+        print(f'503 {{"error":{{"code":{how},"name":"{"noMemory" if how == "33" else "storeFault"}"}}}}', flush=True)
+        continue
+    if odd and how == "before":
+        desk.kill()
+        sys.exit(1)
+    desk.stdin.write(line)
+    desk.stdin.flush()
+    answer = desk.stdout.readline()
+    if not answer:
+        sys.exit(desk.wait())
+    if odd and how == "behind":
+        desk.kill()
+        sys.exit(1)
+    if odd and how == "slow":
+        open(note, "w").close()
+        time.sleep(1)
+    sys.stdout.buffer.write(answer)
+    sys.stdout.flush()
+desk.stdin.close()
+sys.exit(desk.wait())
+"""
+
+
+def changed(file, statement, *values):
+    book = sqlite3.connect(file)
+    with book:
+        book.execute(statement, values)
+    book.close()
+
+
+def page_with(body, change):
+    """A page whose records were changed, as a desk would spell it."""
+    page = json.loads(body)
+    page["requests"] = change(page["requests"])
+    return json.dumps(page, separators=(",", ":"), sort_keys=True).encode()
+
+
+class Cases:
+    def __init__(self, ground):
+        self.ground, self.folder = ground, ground.scratch()
+        self.count, self.lines = 0, day(7, 240)
+        self.desk = self.day_at("desk.db", self.lines)
+        self.last = len(self.desk.rows()["kept"])
+
+    def day_at(self, name, lines):
+        """A desk that has answered these lines."""
+        desk = Desk(self.ground, self.folder / name)
+        self.ground.feed(desk.file, lines)
+        return desk.start()
+
+    def expect(self, what, has, wanted=True):
+        self.ground.expect(what, has, wanted)
+
+    def new_file(self, of=None):
+        """The name of a new copy, or one that has what the desk has."""
+        self.count += 1
+        file = self.folder / f"copy-{self.count}/copy.db"
+        file.parent.mkdir()
+        if of:
+            copied(of, file.parent)
+            for path in list(file.parent.iterdir()):
+                path.rename(path.with_name(path.name.replace(of.name, file.name)))
+        return file
+
+    def whole(self):
+        """A copy that has all."""
+        return self.new_file(of=self.desk.file)
+
+    def follow(self, what, address, file, wanted, *texts, more=None, words=()):
+        """Once; its status, and what it tells, among it these texts."""
+        status, said, told = self.ground.once(address, file, *words, more=more)
+        self.expect(f"{what}: {told}{said}", (status, [text for text in texts if text not in told]), (wanted, []))
+        state = state_in(said)
+        if state:
+            self.expect(f"{what}: how many it has by its own account, {said}", state[0], last_of(file))
+        return told, state
+
+    # all is well
+
+    def anew(self):
+        """Three pages of an office's day."""
+        desk, file = self.day_at("long.db", day(8, 2200)), self.new_file()
+        between = Between(desk)
+        self.follow("anew", between.address, file, 0)
+        count = judge(self.ground, "anew", file, desk)
+        self.expect("anew: what it asked for", [asked[0] for asked in between.asked], [f"/requests?after={after}" for after in (0, 999, 1998)])
+        self.expect("anew: nobody else reads it", file.stat().st_mode & 0o077, 0)
+        status, said, _ = self.ground.run("acd", "audit", "--count", "--file", file)
+        self.expect("anew: its audit", (status, said), (0, f"sound\nexecuted {count}\n"))
+        desk.kill()
+
+    def again(self):
+        file = self.whole()
+        between = Between(self.desk)
+        told, state = self.follow("again", between.address, file, 0)
+        self.expect("again: it asks for one page", [asked[0] for asked in between.asked], [f"/requests?after={self.last - 1}"])
+        self.expect("again: the state", state, (self.last, self.last))
+
+    def rests(self):
+        """While it is far behind the desk serves others for as long as it served this. Of short pages, which are fed at once."""
+        def alter(number, path, status, body):
+            time.sleep(1)
+            return status, page_with(body, lambda records: records[:60])
+
+        between = Between(self.desk, alter)
+        self.follow("short pages", between.address, self.new_file(), 0)
+        pauses = [later[1] - before[2] for before, later in zip(between.asked, between.asked[1:])]
+        self.expect(f"short pages: a pause as long as each, {pauses}", len(pauses) == 4 and min(pauses) > 0.95)
+
+    def empty(self):
+        """Of a desk that has nothing, and then one request, and then two."""
+        desk, file = Desk(self.ground, self.folder / "empty.db").start(), self.new_file()
+        for number in range(3):
+            if number:
+                ask(desk.port, "/csta", b'{"requester":"a","invoke":%d,"service":"tick"}' % number)
+            _, state = self.follow(f"{number} requests", desk.address, file, 0)
+            self.expect(f"{number} requests: the state", state, (number, number))
+        judge(self.ground, "two requests", file, desk)
+        desk.kill()
+
+    def copy_of_it(self):
+        """acd-copy takes one in place of a desk that it halts."""
+        file, copies = self.new_file(), self.folder / "copies"
+        self.follow("a live copy", self.desk.address, file, 0)
+        status, said, told = self.ground.script("acd-copy", "--file", file, "--folder", copies)
+        self.expect(f"acd-copy of it: {said}{told}", (status, "halted" in said, "sound: " in said), (0, False, True))
+        made = next(copies.glob("20*")) / file.name
+        has = held(made)
+        self.expect("acd-copy of it: what the copy has", [table for table, rows in self.desk.rows().items() if has[table] != rows], [])
+
+    # who doesn't answer
+
+    def silent(self):
+        """Each is asked again, and told once."""
+        def alter(number, path, status, body):
+            odd = [(503, b'{"error":{"code":33,"name":"noMemory"}}'), None, (502, b"<html>"), (200, body[:-40]), (200, b"[]"), (200, b'{"last":9}'),
+                   (429, b"{}"), (200, page_with(body, lambda records: records[::-1])), (200, body.replace(b'"stamp":4,', b'"stamp":3,'))]
+            return odd[number] if number < len(odd) else (status, body)
+
+        file, between = self.new_file(), Between(self.desk, alter)
+        # with --once it gives up behind some seconds, so without
+        follower = Follower(self.ground, between.address, file)
+        self.expect("silent: it goes on", until(lambda: len(between.asked) > 14))
+        status, said = follower.end()
+        self.expect(f"silent: it says so once, {said}", (status, said.count("no answer: "), said.count("the desk answers again")), (0, 1, 1))
+        judge(self.ground, "silent", file, self.desk)
+
+    def nobody(self):
+        with contextlib.closing(Between(self.desk, lambda *_: None).listener) as listener:
+            told, state = self.follow("nobody", f"http://127.0.0.1:{listener.getsockname()[1]}", self.new_file(), FAULT, "no answer: ")
+            self.expect("nobody: the state", state, (0, None))
+
+    def refusals(self):
+        for status, name in ((404, "notFound"), (403, "forbidden"), (401, "unauthorized"), (400, "malformed")):
+            body = b'{"error":{"code":35,"name":"%s"}}' % name.encode()
+            self.follow(f"{status}", Between(self.desk, lambda *_: (status, body)).address, self.new_file(), FAULT, f"answered {status} {name}")
+
+    # another history
+
+    def told_otherwise(self):
+        """What the desk tells of a request in the middle isn't what the copy answers: it has that one then, and none behind it."""
+        place = 150
+
+        def told(what, change, *texts):
+            def alter(number, path, status, body):
+                return status, page_with(body, lambda records: [record | change(record) if record["stamp"] == place else record for record in records])
+
+            file = self.new_file()
+            self.follow(f"another {what}", Between(self.desk, alter).address, file, DIFFERS, f"the desk: request number {place}", *texts)
+            has = held(file)["kept"]
+            self.expect(f"another {what}: a beginning", is_beginning(has, shown))
+            return len(has)
+
+        shown = self.desk.rows()["kept"]
+        changes = {"reply": lambda record: {"reply": {**record["reply"], "result": {"call": 77}}}, "status": lambda record: {"status": 609 - record["status"]}}
+        for what, change in changes.items():
+            self.expect(f"another {what}: what it has", told(what, change, f"copy.db: request number {place}"), place)
+        self.expect("an earlier moment: what it has", told("moment", lambda record: {"moment": 1}, "moment", f"copy.db: request number {place - 1}"), place - 1)
+
+    def told_twice(self):
+        """A request in another one's place, as that is answered."""
+        def twice(records):
+            return [records[at - 1] | {"stamp": record["stamp"]} if record["stamp"] == 90 else record for at, record in enumerate(records)]
+
+        def alter(number, path, status, body):
+            return status, page_with(body, lambda records: twice(records)[:90])
+
+        file = self.new_file()
+        told, _ = self.follow("told twice", Between(self.desk, alter).address, file, DIFFERS, "told one of them twice")
+        self.expect("told twice: what it has", is_beginning(held(file)["kept"][:89], self.desk.rows()["kept"]))
+
+    def left_out(self):
+        def alter(number, path, status, body):
+            return status, page_with(body, lambda records: [record for record in records if record["stamp"] != 110])
+
+        file = self.new_file()
+        self.follow("left out", Between(self.desk, alter).address, file, LACKS, "request 110 ")
+        self.expect("left out: what it has", len(held(file)["kept"]), 109)
+
+    def planted(self):
+        """The last request is another one here or there."""
+        _, requester, invoke, moment, _, status, _ = self.desk.rows()["kept"][-1]
+        request = json.dumps({"invoke": invoke, "requester": requester, "service": "tick"}, separators=(",", ":"))
+        for column, value in (("moment", moment - 1), ("request", request), ("status", 609 - status), ("body", '{"invoke":1}')):
+            file = self.whole()
+            changed(file, f"UPDATE kept SET {column} = ? WHERE stamp = ?", value, self.last)
+            before = held(file)
+            texts = f"the desk: request number {self.last}", f"{file}: request number {self.last}", str(value)
+            self.follow(f"another {column} in the copy", self.desk.address, file, DIFFERS, *texts)
+            self.expect(f"another {column} in the copy: nothing was fed", held(file), before)
+
+            spoilt = Desk(self.ground, self.whole())
+            changed(spoilt.file, f"UPDATE kept SET {column} = ? WHERE stamp = ?", value, self.last)
+            spoilt.start()
+            file = self.whole()
+            before = held(file)
+            self.follow(f"another {column} at the desk", spoilt.address, file, DIFFERS, f"the desk: request number {self.last}", str(value))
+            self.expect(f"another {column} at the desk: nothing was fed", held(file), before)
+            spoilt.kill()
+
+    def shorter(self):
+        """An older copy was put back: with fewer requests, with as many, with more."""
+        desk = Desk(self.ground, self.folder / "older.db")
+        self.ground.feed(desk.file, self.lines[:60])
+        short = len(held(desk.file)["kept"])
+        file = self.new_file(of=desk.file)
+        # one that has three more than the desk has
+        self.ground.feed(file, [f'9999 {{"requester":"more","invoke":{number},"service":"tick"}}' for number in (1, 2, 3)])
+        for number in range(5):
+            desk.start()
+            if number:
+                ask(desk.port, "/csta", b'{"requester":"other","invoke":%d,"service":"tick"}' % number)
+            before = held(file)
+            texts = [f"up to {short + number}", f"up to {short + 3}"] if number < 3 else ["the desk: request number", f"{file}: request number"]
+            self.follow(f"a copy put back, and {number} requests", desk.address, file, DIFFERS, *texts)
+            self.expect(f"a copy put back, and {number} requests: nothing was fed", held(file), before)
+            desk.kill()
+
+    def clocks(self):
+        """Nobody learns the ticks' requester."""
+        desk = Desk(self.ground, self.folder / "clock.db")
+        secret = "clock-abcdefghijkl"
+        self.ground.feed(desk.file, [f'{number} {{"requester":"{secret}","invoke":{number},"service":"tick"}}' for number in (1, 2)])
+        file = self.new_file(of=desk.file)
+        changed(file, "UPDATE kept SET moment = 3 WHERE stamp = 2")
+        desk.start()
+        told, _ = self.follow("a tick that differs", desk.address, file, DIFFERS)
+        self.expect(f"a tick that differs: {told}", secret in told, False)
+        desk.kill()
+
+    # a file that was carried over
+
+    def carried(self):
+        whole, new = self.folder / "carried/whole.db", self.folder / "carried/desk.db"
+        whole.parent.mkdir()
+        self.ground.feed(whole, self.lines)
+        up_to_date = self.new_file(of=whole)
+        self.ground.feed(whole.with_name("behind.db"), self.lines[:70])
+        behind = self.new_file(of=whole.with_name("behind.db"))
+        status, said, told = self.ground.script("acd-carry", "--from", whole, "--to", new, "--keep", 90)
+        self.expect(f"acd-carry: {told}", status, 0)
+        first = held(new)["kept"][0][0]
+        desk = Desk(self.ground, new).start()
+        self.follow("carried over, up to date", desk.address, up_to_date, 0)
+        needed = len(held(behind)["kept"])
+        for what, file, number in (("behind", behind, needed), ("anew", self.new_file(), 1)):
+            self.follow(f"carried over, {what}", desk.address, file, LACKS, f"request {number} is needed", f"is {first}: ")
+            self.expect(f"carried over, {what}: nothing was fed", len(held(file)["kept"]), number if what == "behind" else 0)
+        for number in range(20):
+            ask(desk.port, "/csta", b'{"requester":"later","invoke":%d,"service":"tick"}' % (number + 1))
+        for what, file in (("up to date", up_to_date), ("of the archive", self.new_file(of=whole)), ("of the new file", self.new_file(of=new))):
+            self.follow(f"carried over, {what}, later", desk.address, file, 0)
+            has, wanted = held(file), desk.rows()
+            kept = {table: rows[-len(wanted[table]):] if table in ("kept", "events") else rows for table, rows in has.items()}
+            self.expect(f"carried over, {what}, later: row for row", [table for table in wanted if kept[table] != wanted[table]], [])
+        desk.kill()
+
+    # the copy's desk
+
+    def odd(self, how, at):
+        program = self.folder / "odd"
+        program.write_text(ODD_PROGRAM)
+        program.chmod(0o755)
+        note = self.folder / f"odd-{self.count}-{how}-{at}"
+        return ("--desk", program), {"ODD_HOW": how, "ODD_AT": str(at), "ODD_NOTE": str(note), "ODD_REAL": str(self.ground.program)}
+
+    def its_desk(self):
+        """Refuses memory, fails, is killed before or behind a line."""
+        for how in ("33", "34", "before", "behind"):
+            for at in (1, 50, self.last):
+                file = self.new_file()
+                words, more = self.odd(how, at)
+                told, _ = self.follow(f"its desk, {how} at {at}", self.desk.address, file, 0, words=words, more=more)
+                self.expect(f"its desk, {how} at {at}: it says so once, {told}", told.count("it is opened and asked again"), 1)
+                judge(self.ground, f"its desk, {how} at {at}", file, self.desk)
+
+    def signals(self):
+        """One that comes while a line is on its way waits for the answer: what it says that it has is what it has."""
+        for one in (signal.SIGTERM, signal.SIGINT, signal.SIGHUP):
+            file = self.new_file()
+            words, more = self.odd("slow", 50)
+            follower = Follower(self.ground, self.desk.address, file, *words, more=more)
+            note = Path(more["ODD_NOTE"])
+            self.expect("a slow line is on its way", until(note.exists))
+            status, said = follower.end(one)
+            self.expect(f"a signal amid a line: {said}", (status, (state_in(said) or [None])[0]), (0, last_of(file)))
+
+    def terminal(self):
+        """Ctrl-C is for all of a terminal's processes: its desk answers the line first."""
+        file = self.new_file()
+        words, more = self.odd("slow", 50)
+        follower = Follower(self.ground, self.desk.address, file, *words, more=more, process_group=0)
+        self.expect("a slow line is on its way", until(Path(more["ODD_NOTE"]).exists))
+        os.killpg(follower.process.pid, signal.SIGINT)
+        status, said = follower.end()
+        self.expect(f"Ctrl-C amid a line: {said}", (status, state_in(said)), (0, (50, self.last)))
+
+    def soon(self):
+        """A file that another program has for a moment yet, as the desk that a killed one left."""
+        file = self.whole()
+        other = Desk(self.ground, file).start()
+        threading.Timer(1.5, other.process.kill).start()
+        self.follow("open elsewhere for a moment", self.desk.address, file, 0)
+
+    def disk(self):
+        """The copy's disk is full: it ends, or asks again, and goes on once there is room."""
+        folder = self.folder / "disk"
+        folder.mkdir()
+        subprocess.run(["mount", "-t", "tmpfs", "-o", "size=500k", "full", folder], check=True)
+        try:
+            file = folder / "copy.db"
+            ends = [self.ground.once(self.desk.address, file)[0]]
+            self.expect("a full disk: it doesn't end well", ends, [FAULT])
+            has = len(held(file)["kept"])
+            self.expect(f"a full disk: {has} of {self.last} are there", 0 < has < self.last)
+            subprocess.run(["mount", "-o", "remount,size=50m", folder], check=True)
+            self.follow("a disk with room again", self.desk.address, file, 0)
+            judge(self.ground, "a disk with room again", file, self.desk)
+        finally:
+            subprocess.run(["umount", "--lazy", folder], check=True)
+
+    def held_elsewhere(self):
+        file = self.whole()
+        other = Desk(self.ground, file).start()
+        self.follow("open elsewhere", self.desk.address, file, FAULT, "is open elsewhere", f"{file} can't be opened")
+        other.kill()
+        self.follow("not any more", self.desk.address, file, 0)
+
+    def programs(self):
+        self.follow("no program", self.desk.address, self.new_file(), FAULT, "No such file", words=("--desk", self.folder / "none"))
+        self.follow("another program", self.desk.address, self.new_file(), FAULT, "can't be opened", words=("--desk", "/bin/true"))
+        old = self.folder / "old"
+        old.write_text('#!/bin/sh\nwhile read -r line; do echo \'404 {"error":{"code":35,"name":"notFound"}}\'; done\n')
+        old.chmod(0o755)
+        self.follow("an older program", self.desk.address, self.new_file(), FAULT, "older version", words=("--desk", old))
+        none = self.folder / "none.db"
+        none.write_text("no database, and more than a page of it" * 100)
+        self.follow("no desk's file", self.desk.address, none, FAULT, "can't be opened")
+
+    # the way there
+
+    def login(self):
+        made, context = certificate(self.folder)
+        between = Between(self.desk, context=context, needs=base64.b64encode(b"standby:secret-1").decode())
+        right, wrong = {"ACD_PASSWORD": "secret-1"}, {"ACD_PASSWORD": "secret-2"}
+        words = "--ca", made, "--login", "standby"
+        file = self.new_file()
+        self.follow("by a login", between.address, file, 0, words=words, more=right)
+        judge(self.ground, "by a login", file, self.desk)
+        self.follow("a wrong password", between.address, file, FAULT, "401 unauthorized", words=words, more=wrong)
+        self.follow("nobody's certificate", between.address, file, FAULT, "CERTIFICATE_VERIFY_FAILED", words=words[2:], more=right)
+        self.follow("no terminal", between.address, file, FAULT, "no terminal", words=words)
+
+    def command_lines(self):
+        here, file = "http://127.0.0.1:1", ("--file", "g")
+        for words in ((), (here,), ("ftp://a", *file), ("http://a:b@127.0.0.1:1", *file), ("http://10.0.0.1:1", *file, "--login", "a"),
+                      (here, *file, "--ca", "a"), (here, *file, "--on"), (here, *file, "more")):
+            status, said, told = self.ground.script("acd-follow", *words)
+            self.expect(f"{words}: {told}", (status, said, "acd-follow: error: " in told), (REFUSED, "", True))
+
+    def all(self, only=None):
+        names = [name for name in ORDER if only in (None, name)]
+        for name in names:
+            tried = self.ground.tried
+            getattr(self, name)()
+            if not self.ground.is_planted:
+                print(f"    {name}: {self.ground.tried - tried}", flush=True)
+        self.desk.kill()
+
+
+ORDER = ("anew", "again", "rests", "empty", "copy_of_it", "silent", "nobody", "refusals", "told_otherwise", "told_twice", "left_out", "planted", "shorter",
+         "clocks", "carried", "its_desk", "signals", "terminal", "soon", "disk", "held_elsewhere", "programs", "login", "command_lines")

@@ -1,0 +1,338 @@
+"""What try-follow stands on: desks that serve, the script that follows them, what stands between, and what files hold by an independent reader."""
+import http.client
+import json
+import re
+import shutil
+import signal
+import socket
+import ssl
+import subprocess
+import sys
+import tempfile
+import threading
+import time
+from pathlib import Path
+
+TOP = Path(__file__).resolve().parents[2]
+OPERATING, CLIENT = TOP / "tools/operating", TOP / "clients/python"
+sys.path.append(str(TOP / "tests"))
+import office  # noqa: E402
+import switch  # noqa: E402
+import tables  # noqa: E402
+
+# that of Debian, which the scripts are run by
+PYTHON = "/usr/bin/python3"
+STATE = re.compile(r" has the requests up to (\d+); (?:the desk told nothing yet|the last that the desk told of is (\d+), at ([-0-9: ]+ UTC))\n$")
+# what acd-carry keeps at least; a short day has less
+LEAST, SHORT = "LEAST, HOUR, DAY = 1000, 3600, 86400", "LEAST, HOUR, DAY = 1, 0, 86400"
+PATIENCE = 120
+
+
+class Found(Exception):
+    """What goes otherwise, where a fault is planted."""
+
+
+def planted(text, old, new):
+    if text.count(old) != 1:
+        raise SystemExit(f"try-follow: {old!r} isn't there once")
+    return text.replace(old, new)
+
+
+def until(test, patience=PATIENCE):
+    """Waits until it holds; whether it did."""
+    end = time.monotonic() + patience
+    while not test():
+        if time.monotonic() > end:
+            return False
+        time.sleep(0.01)
+    return True
+
+
+class Ground:
+    """A folder with the program as `acd`, and the scripts under trial."""
+
+    def __init__(self, folder, program):
+        self.folder, self.tried, self.wrong, self.is_planted = Path(folder), 0, 0, False
+        self.program, self.scripts, self.port, self.started = self.folder / "bin/acd", self.folder / "scripts", 18000, []
+        self.program.parent.mkdir()
+        shutil.copy(program, self.program)
+        self.lay(None)
+
+    def lay(self, fault):
+        """The scripts; acd-follow may have a fault, a pair of texts."""
+        shutil.rmtree(self.scripts, ignore_errors=True)
+        self.scripts.mkdir()
+        for file in (*OPERATING.glob("acd_*.py"), CLIENT / "acd_client.py", *(OPERATING / name for name in ("acd-follow", "acd-carry", "acd-copy"))):
+            text = file.read_text()
+            if fault and file.name == "acd-follow":
+                text = planted(text, *fault)
+            (self.scripts / file.name).write_text(planted(text, LEAST, SHORT) if file.name == "acd-carry" else text)
+
+    def expect(self, what, has, wanted=True):
+        self.tried += 1
+        if has != wanted:
+            if self.is_planted:
+                raise Found(f"{what}: {str(has)[:200]}")
+            self.wrong += 1
+            print(f"WRONG {what}: {has!r} and not {wanted!r}"[:1500], flush=True)
+
+    def scratch(self):
+        return Path(tempfile.mkdtemp(dir=self.folder))
+
+    def new_port(self):
+        self.port += 1
+        return self.port
+
+    def settings(self):
+        return {"PATH": f"{self.program.parent}:/usr/sbin:/usr/bin:/sbin:/bin", "LC_ALL": "C.UTF-8"}
+
+    def start(self, *words, **how):
+        started = subprocess.Popen([*map(str, words)], env=self.settings() | how.pop("more", {}), text=True, **how)
+        self.started.append(started)
+        return started
+
+    def run(self, *words, given="", more=None):
+        done = subprocess.run([*map(str, words)], input=given, capture_output=True, text=True, timeout=600, env=self.settings() | (more or {}))
+        return done.returncode, done.stdout, done.stderr
+
+    def script(self, name, *words, **how):
+        return self.run(PYTHON, self.scripts / name, *words, **how)
+
+    def once(self, address, file, *words, **how):
+        """acd-follow until it has caught up: its status, what it said of the copy, and what it told."""
+        return self.script("acd-follow", address, "--file", file, "--once", *words, **how)
+
+    def feed(self, file, lines):
+        status, told, faults = self.run("acd", "lines", "--file", file, given="".join(f"{line}\n" for line in lines))
+        self.expect(f"acd lines: {faults}", status, 0)
+        return told.splitlines()
+
+    def end(self):
+        for one in self.started:
+            if one.poll() is None:
+                one.kill()
+                one.wait()
+            for stream in (one.stdout, one.stderr):
+                if stream:
+                    stream.close()
+        self.started = []
+
+
+# Desks, and who follows them
+
+class Desk:
+    """A desk over a file, at one port, however often it is killed."""
+
+    def __init__(self, ground, file, program=None):
+        self.ground, self.file, self.port, self.program, self.process = ground, file, ground.new_port(), program or ground.program, None
+        self.address = f"http://127.0.0.1:{self.port}"
+
+    def start(self):
+        self.process = self.ground.start(self.program, "serve", "--file", self.file, "--port", self.port, "--endless", stdout=subprocess.PIPE)
+        if self.process.stdout.readline() != f"listening on 127.0.0.1:{self.port}\n":
+            raise ValueError("no desk serves")
+        return self
+
+    def kill(self):
+        self.process.kill()
+        self.process.wait()
+
+    def rows(self):
+        """What its file holds just now; it is halted for that."""
+        runs = self.process and self.process.poll() is None
+        if runs:
+            self.process.send_signal(signal.SIGSTOP)
+            until(lambda: "\nState:\tT" in Path(f"/proc/{self.process.pid}/status").read_text())
+        try:
+            return held(self.file)
+        finally:
+            if runs:
+                self.process.send_signal(signal.SIGCONT)
+
+
+class Follower:
+    """acd-follow over a file, and what it said."""
+
+    def __init__(self, ground, address, file, *words, more=None, **how):
+        # a file takes what it says, since nobody reads a pipe meanwhile
+        self.said = tempfile.NamedTemporaryFile("w+", dir=ground.folder)
+        words = [PYTHON, ground.scripts / "acd-follow", address, "--file", file, *words]
+        self.process = ground.start(*words, stdout=self.said, stderr=subprocess.STDOUT, more=more or {}, **how)
+
+    def has_ended(self):
+        return self.process.poll() is not None
+
+    def text(self):
+        return Path(self.said.name).read_text()
+
+    def end(self, by=signal.SIGTERM):
+        """Its status, and what it said."""
+        if not self.has_ended():
+            self.process.send_signal(by)
+        self.process.wait(PATIENCE)
+        return self.process.returncode, self.text()
+
+    def desk(self):
+        """The process of its desk."""
+        told = subprocess.run(["ps", "-o", "pid=", "--ppid", str(self.process.pid)], capture_output=True, text=True).stdout.split()
+        return int(told[0]) if told else None
+
+
+def state_in(said):
+    """What it said of the copy at its end: how many requests it has, and how many the desk told of."""
+    found = STATE.search(said)
+    return (int(found[1]), int(found[2]) if found[2] else None) if found else None
+
+
+class Between:
+    """Stands between a desk and who follows it: passes each exchange on, and what `alter` makes of its answer back; that gets the number of the exchange,
+    the path, the status and the body. Where it makes nothing the connection is closed without an answer."""
+
+    def __init__(self, desk, alter=lambda number, path, status, body: (status, body), context=None, needs=None):
+        self.desk, self.alter, self.context, self.needs, self.asked = desk, alter, context, needs, []
+        self.listener = socket.create_server(("127.0.0.1", desk.ground.new_port()))
+        self.address = f"{'https' if context else 'http'}://127.0.0.1:{self.listener.getsockname()[1]}"
+        threading.Thread(target=self.serve, daemon=True).start()
+
+    def serve(self):
+        while True:
+            connection, _ = self.listener.accept()
+            try:
+                with self.context.wrap_socket(connection, server_side=True) if self.context else connection as peer:
+                    peer.settimeout(10)
+                    self.exchange(peer)
+            except OSError:
+                pass
+
+    def exchange(self, peer):
+        head = b""
+        while b"\r\n\r\n" not in head:
+            more = peer.recv(65536)
+            if not more:
+                return
+            head += more
+        path = head.split(b" ")[1].decode()
+        number = len(self.asked)
+        self.asked.append([path, time.monotonic(), None])
+        if self.needs and f"authorization: basic {self.needs}".lower() not in head.decode().lower():
+            told = 401, b'{"error":{"code":42,"name":"unauthorized"}}'
+        else:
+            told = self.alter(number, path, *ask(self.desk.port, path))
+        if told:
+            status, body = told
+            fields = f"Content-Type: application/json\r\nContent-Length: {len(body)}\r\nConnection: close"
+            peer.sendall(f"HTTP/1.1 {status} Said\r\n{fields}\r\n\r\n".encode() + body)
+        self.asked[number][2] = time.monotonic()
+
+
+def ask(port, path, body=None):
+    """The status of an answer, and its bytes."""
+    asks = http.client.HTTPConnection("127.0.0.1", port, timeout=10)
+    try:
+        asks.request("POST" if body else "GET", path, body)
+        said = asks.getresponse()
+        return said.status, said.read()
+    finally:
+        asks.close()
+
+
+def certificate(folder):
+    """A certificate of the loopback address, and a server's context with it."""
+    subject = ["-subj", "/CN=desk", "-addext", "subjectAltName=IP:127.0.0.1", "-days", "2"]
+    words = ["openssl", "req", "-x509", "-newkey", "rsa:2048", "-nodes", *subject, "-keyout", folder / "key", "-out", folder / "crt"]
+    subprocess.run(words, check=True, capture_output=True)
+    context = ssl.SSLContext(ssl.PROTOCOL_TLS_SERVER)
+    context.load_cert_chain(folder / "crt", folder / "key")
+    return folder / "crt", context
+
+
+# An office's day
+
+def day(seed, requests, repeats=0):
+    """The lines of an office's day, refusals among them; at its end are repeats, and other requests under keys that are used."""
+    return office.Office(office.DAY._replace(seed=seed, requests=requests, repeats=repeats, reused=repeats // 10, wanted={}, named=set())).day().given
+
+
+class Load:
+    """Requests one after the other, each once more at times; each is sent until it is answered."""
+
+    def __init__(self, port, lines, chance, pause=0.005):
+        self.port, self.requests, self.chance, self.pause = port, [line.partition(" ")[2] for line in lines], chance, pause
+        self.goes_on, self.sent = True, 0
+        self.thread = threading.Thread(target=self.work, daemon=True)
+        self.thread.start()
+
+    def work(self):
+        for number, request in enumerate(self.requests):
+            self.insist(request)
+            if self.chance.random() < 0.05:
+                self.insist(self.requests[self.chance.randrange(number + 1)])
+
+    def insist(self, request):
+        while self.goes_on:
+            try:
+                status, _ = ask(self.port, "/csta", request.encode())
+            except (OSError, http.client.HTTPException):
+                status = None
+            if status not in (None, 503):
+                self.sent += 1
+                time.sleep(self.pause)
+                return
+            time.sleep(0.01)
+
+    def stop(self):
+        self.goes_on = False
+        self.thread.join()
+
+
+# What a file holds
+
+def log_of(file):
+    return Path(f"{file}-wal")
+
+
+def copied(file, folder):
+    """The file with its log, in a folder."""
+    made = Path(folder) / file.name
+    for source, target in ((file, made), (log_of(file), log_of(made))):
+        target.unlink(missing_ok=True)
+        if source.exists():
+            shutil.copy(source, target)
+    return made
+
+
+def held(file):
+    """All rows, read out of a copy, since SQLite plays the log into the file."""
+    with tempfile.TemporaryDirectory() as folder:
+        return tables.held(copied(file, folder))
+
+
+def last_of(file):
+    """The number of the last request that it has."""
+    has = held(file)["kept"]
+    return has[-1][0] if has else 0
+
+
+def foreseen(kept):
+    """The rows of a file that has executed these requests, as the switch in Python has them."""
+    desk = switch.Desk()
+    for _, requester, invoke, moment, request, *_ in kept:
+        members = {name: value for name, value in json.loads(request).items() if name not in ("requester", "invoke")}
+        desk.take(moment, requester, invoke, members.pop("service"), **members)
+    desk.moments = [row[3] for row in kept]
+    return tables.rows(desk)
+
+
+def is_beginning(some, all_of_them):
+    return some == all_of_them[:len(some)]
+
+
+def judge(ground, what, file, desk, is_whole=True):
+    """The copy is what the first of the desk's requests make; and all that the desk has."""
+    has, wanted = held(file), desk.rows()
+    ground.expect(f"{what}: its requests are a beginning of the desk's", is_beginning(has["kept"], wanted["kept"]))
+    ground.expect(f"{what}: its rows are foreseen", [table for table, rows in foreseen(has["kept"]).items() if rows != has[table]], [])
+    if is_whole:
+        differing = [table for table in wanted if has[table] != wanted[table]]
+        ground.expect(f"{what}: {len(has['kept'])} requests are {len(wanted['kept'])}, row for row", differing, [])
+    return len(has["kept"])

@@ -1,0 +1,82 @@
+"""acd-follow and the copy's desk are killed before each call of the system that sends or writes, as strace counts them: the copy then has a beginning of
+what the desk has, and the same command again ends it."""
+import re
+import signal
+
+from ground import PYTHON, Desk, day, judge
+
+# what each of the two is killed at
+SCRIPT = ("write", "sendto", "connect", "vfork", "clone", "clone3")
+DESK = ("write", "pwrite64", "pwritev", "fsync", "fdatasync", "ftruncate", "unlink", "openat", "fcntl")
+# strace runs the copy's desk the first time alone: behind the kill it is opened again
+WRAPPED = """#!/bin/sh
+[ -e {note} ] && exec {program} "$@"
+: >{note}
+exec strace -qq -o /dev/null -e trace={name} -e inject={name}:signal=KILL:when={number} {program} "$@"
+"""
+
+
+class Kills:
+    def __init__(self, ground):
+        self.ground, self.folder = ground, ground.scratch()
+        self.desk = Desk(ground, self.folder / "desk.db")
+        ground.feed(self.desk.file, day(3, 12))
+        self.desk.start()
+        self.trace, self.count, self.beginnings = self.folder / "trace", 0, set()
+
+    def new_file(self):
+        self.count += 1
+        return self.folder / f"copy-{self.count}.db"
+
+    def strace(self, names, *more):
+        return ["strace", "-qq", "-o", self.trace, "-e", "trace=" + ",".join(f"?{name}" for name in names), *more]
+
+    def words(self, file, *more):
+        return [PYTHON, self.ground.scripts / "acd-follow", self.desk.address, "--file", file, "--once", *more]
+
+    def counted(self, names, *words):
+        """How many calls of each kind there are."""
+        status, _, told = self.ground.run(*words)
+        self.ground.expect(f"it goes through: {told}", status, 0)
+        return {name: len(re.findall(rf"^{name}\(", self.trace.read_text(), re.MULTILINE)) for name in names}
+
+    def again(self, what, file):
+        status, said, told = self.ground.run(*self.words(file))
+        self.ground.expect(f"{what}, the same again: {told}", status, 0)
+        judge(self.ground, f"{what}, the same again", file, self.desk)
+
+    def of_the_script(self, every):
+        counts = self.counted(SCRIPT, *self.strace(SCRIPT), *self.words(self.new_file()))
+        for name, number in [(name, number) for name in SCRIPT for number in range(1, counts[name] + 1, every)]:
+            file, what = self.new_file(), f"killed at {name} {number}"
+            status, _, _ = self.ground.run(*self.strace(SCRIPT, "-e", f"inject={name}:signal=KILL:when={number}"), *self.words(file))
+            self.ground.expect(f"{what}: it is", status, -signal.SIGKILL)
+            if file.exists():
+                self.beginnings.add(judge(self.ground, what, file, self.desk, is_whole=False))
+            self.again(what, file)
+        return counts
+
+    def of_its_desk(self, every):
+        counted = self.folder / "counted"
+        counted.write_text(f'#!/bin/sh\nexec {" ".join(map(str, self.strace(DESK)))} {self.ground.program} "$@"\n')
+        counted.chmod(0o755)
+        counts = self.counted(DESK, *self.words(self.new_file(), "--desk", counted))
+        for name, number in [(name, number) for name in DESK for number in range(1, counts[name] + 1, every)]:
+            file, what, wrapped = self.new_file(), f"its desk killed at {name} {number}", self.folder / "wrapped"
+            wrapped.write_text(WRAPPED.format(note=f"{file}.note", program=self.ground.program, name=name, number=number))
+            wrapped.chmod(0o755)
+            status, said, told = self.ground.run(*self.words(file, "--desk", wrapped))
+            # as it opens the file it is a fault, and then the same command again ends it
+            self.ground.expect(f"{what}: it goes on, or says that it can't be opened: {told}", status == 0 or "can't be opened" in told)
+            self.again(what, file)
+        return counts
+
+    def all(self, every):
+        counts = self.of_the_script(every), self.of_its_desk(every)
+        self.ground.expect(f"what is there behind some kills, {self.beginnings}", len(self.beginnings) > 2)
+        script, desk = (sum(count.values()) for count in counts)
+        print(f"    killed at each {every}. of {script} calls of the script and {desk} of its desk", flush=True)
+
+
+def try_all(ground, every):
+    Kills(ground).all(every)

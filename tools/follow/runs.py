@@ -1,0 +1,127 @@
+"""Random runs: a desk under load and who follows it, each killed at random, copies that are put back, restarts. At each stop the copy is the desk's file
+row for row, or acd-follow said why it isn't."""
+import contextlib
+import os
+import random
+import signal
+import time
+from collections import Counter
+
+from ground import Desk, Follower, Load, copied, day, held, is_beginning, judge, last_of, state_in
+
+DIFFERS, KILLED = 3, -signal.SIGKILL
+SEEN = Counter()
+
+
+class Run:
+    def __init__(self, ground, seed):
+        self.ground, self.chance, self.what = ground, random.Random(seed), f"run {seed}"
+        self.folder = ground.scratch()
+        self.desk = Desk(ground, self.folder / "desk.db").start()
+        self.load = Load(self.desk.port, day(seed, 2000), self.chance)
+        self.file, self.follower, self.saved = self.folder / "g/copy.db", None, None
+        # the requests of each history that ended by a copy that was put back
+        self.histories = []
+        self.file.parent.mkdir()
+        self.follow()
+
+    def expect(self, what, has, wanted=True):
+        self.ground.expect(f"{self.what}, {what}", has, wanted)
+
+    def follow(self):
+        self.follower = Follower(self.ground, self.desk.address, self.file, "--desk", self.ground.program)
+
+    # what happens
+
+    def kill_follower(self):
+        self.ended(*self.follower.end(signal.SIGKILL))
+
+    def end_follower(self):
+        self.ended(*self.follower.end())
+
+    def kill_its_desk(self):
+        with contextlib.suppress(ProcessLookupError, TypeError):
+            os.kill(self.follower.desk(), signal.SIGKILL)
+
+    def kill_desk(self):
+        self.desk.kill()
+        time.sleep(self.chance.choice([0, 0.2]))
+        self.desk.start()
+
+    def save_copy(self):
+        self.desk.kill()
+        folder = self.folder / "saved"
+        folder.mkdir(exist_ok=True)
+        self.saved = copied(self.desk.file, folder)
+        self.desk.start()
+
+    def put_copy_back(self):
+        if self.saved is None:
+            return
+        self.desk.kill()
+        self.histories.append(held(self.desk.file)["kept"])
+        copied(self.saved, self.folder)
+        self.desk.start()
+
+    # what is so at a stop
+
+    def ended(self, status, said):
+        """That it ended well, by its own account; or why not."""
+        SEEN[f"ended with {status}"] += 1
+        if status == KILLED or status == -signal.SIGTERM and not said:
+            # the other one where it hadn't begun yet
+            return
+        state = state_in(said)
+        if state:
+            self.expect(f"what it has by its own account ({status}): {said}", state[0], last_of(self.file))
+        if status == DIFFERS:
+            self.is_of_before(said)
+        else:
+            self.expect(f"it ended by a signal: {said}", status, 0)
+
+    def is_of_before(self, said):
+        """It has what was answered before a copy was put back, and nothing of what was answered since; from here on it is made anew."""
+        has = held(self.file)["kept"]
+        self.expect(f"it stopped where it is no beginning of the desk's any more: {said}", not is_beginning(has, self.desk.rows()["kept"]))
+        self.expect("it is a beginning of what was before", any(is_beginning(has, history) for history in self.histories))
+        for part in self.file.parent.iterdir():
+            part.unlink()
+
+    def all(self):
+        happens = [self.kill_follower, self.end_follower, self.kill_its_desk, self.kill_desk, self.save_copy, self.put_copy_back]
+        for _ in range(self.chance.randrange(3, 9)):
+            time.sleep(self.chance.uniform(0, 0.6))
+            one = self.chance.choice(happens)
+            SEEN[one.__name__] += 1
+            one()
+            if self.follower.has_ended():
+                if one.__name__ not in ("kill_follower", "end_follower"):
+                    self.ended(*self.follower.end())
+                self.follow()
+        self.load.stop()
+        self.ended(*self.follower.end())
+        self.catch_up()
+
+    def catch_up(self):
+        for _ in range(2):
+            status, said, told = self.ground.once(self.desk.address, self.file, "--desk", self.ground.program)
+            if status != DIFFERS:
+                break
+            self.ended(status, told + said)
+        self.expect(f"it catches up: {said}{told}", status, 0)
+        SEEN["requests"] += judge(self.ground, self.what, self.file, self.desk)
+
+
+def try_runs(ground, count, first=1):
+    SEEN.clear()
+    begun = time.monotonic()
+    for seed in range(first, first + count):
+        run = Run(ground, seed)
+        try:
+            run.all()
+        finally:
+            run.load.stop()
+            ground.end()
+        if not ground.is_planted and (seed - first) % 50 == 49:
+            print(f"    {seed - first + 1} runs, {time.monotonic() - begun:.0f} s", flush=True)
+    print(f"    {count} runs: {', '.join(f'{what} {number}' for what, number in sorted(SEEN.items()))}", flush=True)
