@@ -82,7 +82,7 @@ class Trial:
         return cases.tried, cases.wrong + (not cases.tried)
 
     def find(self, folder, fault, packages):
-        """What goes otherwise first where a fault is planted; nothing where all goes on as ever."""
+        """What goes otherwise first where a fault is planted; nothing where all goes on as ever, or a case breaks off."""
         with tempfile.TemporaryDirectory(dir=folder) as scratch:
             changed = planted(packages[0], Path(scratch), *fault.change)
             with self.cases(folder, fault.part, [changed, *packages[1:]]) as cases:
@@ -92,6 +92,8 @@ class Trial:
                         getattr(cases, name)()
                 except Found as found:
                     return str(found)
+                except Exception:
+                    traceback.print_exc(file=sys.stdout)
         return None
 
     def run(self):

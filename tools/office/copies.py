@@ -29,8 +29,8 @@ class Copies(Office):
         self.try_new_year()
 
     def good(self):
-        """The copies that are sound, the oldest first."""
-        return [name for name in self.names(COPIES) if re.fullmatch(MOMENT, name)]
+        """The copies that are sound, the oldest first; none before the first one is made, by which the folder comes."""
+        return [name for name in (self.names(COPIES) if self.inside(COPIES).exists() else ()) if re.fullmatch(MOMENT, name)]
 
     def copied(self, what):
         """The name of a copy that is made by the unit, and is good."""
