@@ -158,6 +158,10 @@ export async function looks(see, browser, folks, address, folder) {
     folks.stop();
     await sleep(2000);
     const unseen = await unreached(browser);
+    await browser.run('window.first = [...document.querySelectorAll("main :is(tbody, li) button")].find(one => one.checkVisibility()); window.first?.focus()');
+    await sleep(2500);
+    const focused = await browser.run('return window.first?.isSameNode(document.activeElement) ?? true');
+    see(`${view}: what has the focus keeps it`, focused);
     folks.goOn();
     see(`${view}: every control by keyboard`, !unseen.length, `${unseen.length}: ${unseen.slice(0, 2).join('; ')}`);
     const silent = await untold(browser, ['heading', 'navigation', 'main', 'status', {wall: 'table', queues: 'table', agents: 'list', calls: 'table', day: 'image', events: 'list'}[view]]);
