@@ -14,7 +14,7 @@ use Rattle.acd_http.specs.declared.asked.Asked.{Asked}
 use Rattle.acd_http.specs.declared.asked.Asked.TheVariants.{Truncated, Refused}
 use Rattle.acd_http.specs.declared.refused.Refused.TheVariants as refused
 use Rattle.acd_http.specs.Wanting.{IsSmall}
-use Rattle.acd_http.specs.Asking.{HeadAsks, AsksBy, Asks, IsAsked, IsHeadOf, IsWanted, IsHeadAsked, IsUnasked, IsUnknown, asked_by, headless, is_bodiless, body_in, body_asks}
+use Rattle.acd_http.specs.Asking.{HeadAsks, AsksBy, Asks, IsAsked, IsHeadOf, IsWanted, IsHeadAsked, IsUnasked, IsUnknown, IsSeen, asked_by, headless, is_bodiless, body_in, body_asks}
 use Rattle.acd_http.specs.declared.asked.Unknown.{Unknown}
 use Rattle.acd_http.specs.declared.asked.Unknown.TheVariants as unknown
 use Rattle.acd_http.specs.declared.wanted.Wanted.{Wanted}
@@ -125,7 +125,7 @@ known_tells first left seen s n bodiless r v w a same h told is e asks read =
     head_tells first left seen n a read h.0 (λ behind. subst (λ (l : List ℕ). HeadAsks (take n l) behind a) same (subst (λ (x : Asked). HeadAsks (take n s) behind x) (asks behind) (wants behind)))
 
 pub unknown_tells : (first left : Option (List ℕ)) (seen s : List ℕ) (n : ℕ) (bodiless : Bool) (r : Result Wanted AllocError) (f : AllocError) → s ≡ seen → IsHeadOf n seen → IsHeadAsked (take n s) bodiless r → r ≡ Err f → Consumes first left seen
-    → IsUnknown first (unknown.NoMemory bodiless)
+    → IsUnknown first left (unknown.NoMemory bodiless)
 unknown_tells first left seen s n bodiless r f same h told is read =
     let unseen : IsHeadAsked (take n s) bodiless (Err f) = subst (λ (x : Result Wanted AllocError). IsHeadAsked (take n s) bodiless x) is told in
     let a = asked_by unseen.0 bodiless [] in (
@@ -145,20 +145,20 @@ not_bodiless (Err member) = refl
 
 -- a body that has come whole, and what its reading gave
 no_memory : (first left : Option (List ℕ)) (seen : List ℕ) (n len : ℕ) (body : List ℕ) → Consumes first left seen → head_len (take 8192 seen) ≡ Some n → n + len ≤ length seen
-    → ((behind : List ℕ) → HeadAsks (take n seen) behind (body_in len behind)) → body ≡ take len (drop n seen) → IsUnknown first (unknown.NoMemory false)
+    → ((behind : List ℕ) → HeadAsks (take n seen) behind (body_in len behind)) → body ≡ take len (drop n seen) → IsUnknown first left (unknown.NoMemory false)
 no_memory first left seen n len body read e whole h is =
     let a = body_asks (reads_as body) in
     (a, body_whole (reads_as body), not_bodiless (reads_as body), body_tells first left seen n len body a read e whole h is refl)
 
 pub read_tells : (first left : Option (List ℕ)) (seen : List ℕ) (n len : ℕ) (body : List ℕ) (r : Result Asked Unknown) → Consumes first left seen → head_len (take 8192 seen) ≡ Some n → n + len ≤ length seen
     → ((behind : List ℕ) → HeadAsks (take n seen) behind (body_in len behind)) → body ≡ take len (drop n seen)
-    → MatchResult r (λ (a : Asked). a ≡ body_asks (reads_as body)) (λ (u : Unknown). u ≡ unknown.NoMemory false) → MatchResult r (IsAsked first) (IsUnknown first)
+    → MatchResult r (λ (a : Asked). a ≡ body_asks (reads_as body)) (λ (u : Unknown). u ≡ unknown.NoMemory false) → IsSeen first left r
 read_tells first left seen n len body (Ok a) read e whole h is told = body_tells first left seen n len body a read e whole h is told
-read_tells first left seen n len body (Err u) read e whole h is told = subst (λ (v : Unknown). IsUnknown first v) (sym told) (no_memory first left seen n len body read e whole h is)
+read_tells first left seen n len body (Err u) read e whole h is told = subst (λ (v : Unknown). IsUnknown first left v) (sym told) (no_memory first left seen n len body read e whole h is)
 
 pub whole_tells : (first left later : Option (List ℕ)) (was s now s' : List ℕ) (n len : ℕ) (bodiless whole : Bool) (head : Result Wanted AllocError) (v : Wanted) (r : Result Asked Unknown) → s ≡ was → IsHeadOf n was → IsHeadAsked (take n s) bodiless head → head ≡ Ok v → v ≡ want.Body len → Consumes first left was
     → whole ≡ true → BodyFound whole (n + len) was now left later → s' ≡ now
-    → MatchResult r (λ (a : Asked). a ≡ body_asks (reads_as (take (n + len - n) (drop n s')))) (λ (u : Unknown). u ≡ unknown.NoMemory false) → MatchResult r (IsAsked first) (IsUnknown first)
+    → MatchResult r (λ (a : Asked). a ≡ body_asks (reads_as (take (n + len - n) (drop n s')))) (λ (u : Unknown). u ≡ unknown.NoMemory false) → IsSeen first later r
 whole_tells first left later was s now s' n len bodiless whole head v r same h asked so body read here found same' told =
     let is = (wants_so (take n s) bodiless head v (want.Body len) asked so body).1 in
     let stays = head_stays was found.more now n found.grown h in

@@ -1,11 +1,11 @@
 -- What was read of the input, and the head in it.
-use Rattle.std.proofs.Common.{◌≡◌, ℕ, zero, suc, ◌+◌, ◌<◌, ◌≤◌, ◌==◌, Bool, true, false, List, [], ◌∷◌, ◌++◌, length, take, Option, Some, None, option_map, Result, Ok, Err, OnErr, refl, sym, ap, ◌∙◌, arith, subst, length-append}
+use Rattle.std.proofs.Common.{◌≡◌, ℕ, zero, suc, ◌+◌, ◌<◌, ◌≤◌, ◌==◌, Bool, true, false, List, [], ◌∷◌, ◌++◌, length, take, Option, Some, None, option_map, refl, sym, ap, ◌∙◌, arith, subst, length-append}
 use Rattle.std.specs.Option.{MatchOption}
 use Rattle.std.proofs.lemmas.List.{length-take, take-append-le}
 use Rattle.std.specs.Bool.{if◌then◌else◌}
 use Rattle.std.specs.Io.KnownBytes.{Consumes, Keeps}
 use Rattle.std.proofs.KnownBytes.{Consumes-kept}
-use Rattle.acd_http.specs.Received.{Found, StopsInHead}
+use Rattle.acd_http.specs.Received.{Found, StopsInHead, StopsInBody}
 use Rattle.acd_http.specs.declared.head.Place.{Place}
 use Rattle.acd_http.specs.declared.head.Place.TheVariants.{Start}
 use Rattle.acd_http.specs.Head.{head_from, head_len, is_empty_at, place_after}
@@ -87,15 +87,19 @@ pub found_whole : (found : Option ℕ) (now : List ℕ) (old new : Option (List 
 found_whole None now old new read is full = record { read = read; head = (sym is, λ short. absurd (omega (arith, short, full))) }
 found_whole (Some n) now old new read is full = let bounds = head_bounds n now (sym is) in record { read = read; head = (sym is, bounds.0, bounds.1) }
 
-on_err : {A E : Type 0} {P : Type 0} (r : Result A E) → P → OnErr r P
-on_err (Ok a) p = tt
-on_err (Err e) p = p
-
 -- reading stopped within a head
-module _ {A E : Type 0} (r : Result A E) (a b c : Option (List ℕ)) where
-  pub stops_in_head : (seen now : List ℕ) → Consumes a b seen → head_len (take 8192 seen) ≡ None → length seen < 8192 → (now ≡ seen) × Keeps b c → OnErr r (StopsInHead now a c)
-  stops_in_head seen now read none short still = on_err r (record {
-    read = subst (Consumes a c) (sym still.0) (Consumes-kept a b c seen read still.1);
-    none = ap (λ (l : List ℕ). head_len (take 8192 l)) still.0 ∙ none;
-    short = omega (arith, short, ap length still.0);
-  })
+pub stops_in_head : (a b c : Option (List ℕ)) (seen now : List ℕ) → Consumes a b seen → head_len (take 8192 seen) ≡ None → length seen < 8192 → (now ≡ seen) × Keeps b c → StopsInHead now a c
+stops_in_head a b c seen now read none short still = record {
+  read = subst (Consumes a c) (sym still.0) (Consumes-kept a b c seen read still.1);
+  none = ap (λ (l : List ℕ). head_len (take 8192 l)) still.0 ∙ none;
+  short = omega (arith, short, ap length still.0);
+}
+
+-- reading stopped within a body
+pub stops_in_body : (a b c : Option (List ℕ)) (len : ℕ) (was more seen now : List ℕ) → Consumes a b more → seen ≡ was ++ more → length seen < len → (now ≡ seen) × Keeps b c → StopsInBody len was now a c
+stops_in_body a b c len was more seen now read grown short still = record {
+  more = more;
+  read = Consumes-kept a b c more read still.1;
+  grown = still.0 ∙ grown;
+  short = omega (arith, short, ap length still.0);
+}

@@ -1,15 +1,13 @@
 -- One connection after another.
-use Rattle.std.proofs.Common.{◌≡◌, false, ℕ, ◌+◌, suc, List, [], ◌∷◌, ◌++◌, length, Option, Result, Ok, Err, OnOk, OnErr, refl, sym, ap, ◌∙◌, subst, arith, append_assoc, append-nil, length-append}
-use Rattle.std.specs.Io.KnownBytes.{Appends}
+use Rattle.std.proofs.Common.{◌≡◌, false, ℕ, ◌+◌, suc, List, [], ◌∷◌, ◌++◌, length, Option, Result, Ok, Err, refl, sym, ap, ◌∙◌, subst, arith, append_assoc, append-nil, length-append}
 use Rattle.std.proofs.KnownBytes.{Appends-nil}
 use Rattle.acd_desk.specs.Ran.{Standing}
 use Rattle.acd_io.specs.declared.sending.Stopped.{Stopped}
-use Rattle.acd_io.specs.Sent.{Breaks}
-use Rattle.acd_http.specs.Listening.{Outcome, ServedOne, ServesEach, ServedAll, EachWell, ServedWell, WasSent, outcome_line, outcome_lines}
-
-pub noted_by : (r : Result (Unit {0}) Stopped) (a b : Option (List ℕ)) (slice text : List ℕ) → slice ≡ text → OnOk r (Appends a b slice) → OnErr r (Breaks a b slice) → WasSent r a b text
-noted_by (Ok u) a b slice text same ok err = subst (Appends a b) same ok
-noted_by (Err s) a b slice text same ok err = subst (Breaks a b) same err
+use Rattle.acd_io.specs.Sent.{WasSent}
+use Rattle.acd_lines.specs.Lines.{Streams}
+use Rattle.acd_http.specs.declared.serving.ExchangeFault.TheVariants.{Truncated, Read, Write, NoMemory}
+use Rattle.acd_http.specs.Exchanging.{ExchangeDone}
+use Rattle.acd_http.specs.Listening.{Outcome, ServedOne, ServesEach, ServedAll, EachWell, ServedWell, outcome_line, outcome_lines}
 
 zero_more : (n : ℕ) → n ≡ n + 0
 zero_more n = omega arith
@@ -22,11 +20,19 @@ lines_more n (y ∷ ys) x =
     ap (λ (l : List ℕ). outcome_line n y ++ l) (lines_more (suc n) ys x ∙ ap (λ (k : ℕ). outcome_lines (suc n) ys ++ outcome_line k x) e) ∙ sym (append_assoc (outcome_line n y) (outcome_lines (suc n) ys) (outcome_line (n + length (y ∷ ys)) x))
 
 module _ {D : Type 0} (stands : D → Standing) where
+  -- an exchange is a connection's
+  pub served_by : (moment : ℕ) (io : Streams) (d e : D) (r : Outcome) → ExchangeDone stands moment io d e r → ServedOne stands d r e
+  served_by moment io d e (Ok u) h = let x = h.whole in record { moment = moment; input = x.input; asked = x.asked; reply = x.reply; asks = x.asks; answers = x.answers }
+  served_by moment io d e (Err Write) h = let x = h.cause in record { moment = moment; input = x.input; asked = x.asked; reply = x.reply; asks = x.asks; answers = x.answers }
+  served_by moment io d e (Err Truncated) h = h.cause.2
+  served_by moment io d e (Err Read) h = h.cause.2
+  served_by moment io d e (Err NoMemory) h = h.cause.1
+
   serves_more : (d e f : D) (xs : List Outcome) (x : Outcome) → ServesEach stands d xs e → ServedOne stands e x f → ServesEach stands d (xs ++ x ∷ []) f
   serves_more d e f [] x h k = (f, subst (λ (a : D). ServedOne stands a x f) h k, refl)
   serves_more d e f (y ∷ ys) x h k = (h.0, h.1, serves_more h.0 e f ys x h.2 k)
 
-  pub served_none : (d : D) (a : Option (List ℕ)) → ServedAll stands 0 d d (WasSent (Ok tt) a a)
+  pub served_none : (d : D) (a : Option (List ℕ)) → ServedAll stands 0 d d (WasSent {E = Stopped} (Ok tt) a a)
   unfolding outcome_lines
   served_none d a = record { outcomes = []; count = refl; serves = refl; out = Appends-nil a }
 
@@ -53,7 +59,7 @@ module _ {D : Type 0} (stands : D → Standing) where
       let rest = well_behind h.0.0 e f ys x (h.0.2, h.1.1) well k in
       ((h.0.0, h.0.1, rest.0), (h.1.0, rest.1))
 
-  pub well_none : (d : D) (a : Option (List ℕ)) → ServedWell stands 0 d d (WasSent (Ok tt) a a)
+  pub well_none : (d : D) (a : Option (List ℕ)) → ServedWell stands 0 d d (WasSent {E = Stopped} (Ok tt) a a)
   unfolding outcome_lines
   well_none d a = record { outcomes = []; count = refl; serves = refl; well = tt; out = Appends-nil a }
 

@@ -1,5 +1,5 @@
 -- What the bytes of a connection ask.
-use Rattle.std.specs.Prelude.{◌≡◌, ◌≢◌, ◌⊎◌, ℕ, ◌≤◌, List, length, take, drop, Bool, true, false, nat_lt, nat_le, if◌then◌else◌, Option, Some, None, Result, Ok, Err}
+use Rattle.std.specs.Prelude.{◌≡◌, ◌≢◌, ◌⊎◌, ℕ, ◌≤◌, List, length, take, drop, Bool, true, false, nat_lt, nat_le, if◌then◌else◌, Option, Some, None, Result, Ok, Err, MatchResult}
 use Rattle.std.specs.Io.KnownBytes.{Consumes}
 use Rattle.httparse.specs.Grammar.{RequestHead}
 use Rattle.std.specs.declared.alloc.AllocError.{AllocError}
@@ -84,6 +84,11 @@ IsAsked known asked = (input : List ℕ) × IsInput known input × Asks input as
 abbrev pub IsUnasked : Option (List ℕ) → Option (List ℕ) → Type 0
 IsUnasked known left = (read : List ℕ) × Consumes known left read × Asks read Truncated
 
-abbrev pub IsUnknown : Option (List ℕ) → Unknown → Type 0
-IsUnknown known unknown.Stopped = Unit {0}
-IsUnknown known (unknown.NoMemory bodiless) = (asked : Asked) × (asked ≢ Truncated) × (bodiless ≡ is_bodiless asked) × IsAsked known asked
+-- it isn't known what they ask: reading stopped, or there was no memory to see it
+abbrev pub IsUnknown : Option (List ℕ) → Option (List ℕ) → Unknown → Type 0
+IsUnknown known left unknown.Stopped = IsUnasked known left
+IsUnknown known left (unknown.NoMemory bodiless) = (asked : Asked) × (asked ≢ Truncated) × (bodiless ≡ is_bodiless asked) × IsAsked known asked
+
+-- what a reader's bytes ask, as far as it was seen
+abbrev pub IsSeen : Option (List ℕ) → Option (List ℕ) → Result Asked Unknown → Type 0
+IsSeen known left result = MatchResult result (IsAsked known) (IsUnknown known left)

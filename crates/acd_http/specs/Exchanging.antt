@@ -1,5 +1,5 @@
 -- What is written for what was asked, and what the desk is after it.
-use Rattle.std.specs.Prelude.{◌≡◌, ◌≢◌, ◌⊎◌, ℕ, List, [], ◌∷◌, Bool, false, if◌then◌else◌, Option, Some, None, Result, Ok, Err}
+use Rattle.std.specs.Prelude.{◌≡◌, ◌≢◌, ◌⊎◌, ℕ, List, [], ◌∷◌, Bool, false, if◌then◌else◌, Option, Some, None, Result, Ok, Err, IfErr, OnOk}
 use Rattle.acd_terms.specs.declared.command.Request.{Request}
 use Rattle.acd_codec.specs.declared.fault.FixedAnswer.{FixedAnswer}
 use Rattle.acd_codec.specs.declared.fault.FixedAnswer.TheVariants as fixed
@@ -12,16 +12,21 @@ use Rattle.acd_desk.specs.Arrived.{at}
 use Rattle.acd_desk.specs.Ran.{Standing, Took, Ran}
 use Rattle.acd_desk.specs.Told.{Told}
 use Rattle.acd_desk.specs.Tells.{told_of, is_plain}
+use Rattle.std.specs.Io.KnownBytes.{Appends}
 use Rattle.acd_io.specs.Read.{IsInput}
+use Rattle.acd_io.specs.Sent.{Breaks}
+use Rattle.acd_lines.specs.Lines.{Streams, Untouched}
 use Rattle.acd_http.specs.declared.refused.Refused.{Refused}
 use Rattle.acd_http.specs.declared.reply.Kind.{Kind}
 use Rattle.acd_http.specs.declared.reply.Kind.TheVariants.{Json, Plain}
 use Rattle.acd_http.specs.declared.asked.Asked.{Asked}
 use Rattle.acd_http.specs.declared.asked.Asked.TheVariants as ask
 use Rattle.acd_http.specs.declared.answer.Reply.{Reply}
+use Rattle.acd_http.specs.declared.serving.ExchangeFault.{ExchangeFault}
+use Rattle.acd_http.specs.declared.serving.ExchangeFault.TheVariants as fault
 use Rattle.acd_http.specs.Refusing.{refused_said, refused_allow}
 use Rattle.acd_http.specs.Replying.{reply_bytes}
-use Rattle.acd_http.specs.Asking.{Asks, is_bodiless}
+use Rattle.acd_http.specs.Asking.{Asks, IsAsked, IsUnasked, is_bodiless}
 
 -- an answer in JSON
 abbrev pub json_reply : Bool → Said → List ℕ
@@ -80,6 +85,22 @@ module _ {D : Type 0} (stands : D → Standing) (moment : ℕ) where
     pub asks : Asks input asked
     pub answers : AnswersAsked d asked reply e
     pub out : WentOut reply
+
+  -- what is so behind a fault
+  abbrev pub StoppedBy : Streams → D → D → ExchangeFault → Type 0
+  -- a beginning of the reply was written, and not all
+  StoppedBy io d e fault.Write = Exchanged io.had d e (Breaks io.before io.behind)
+  -- the input ends before the request does
+  StoppedBy io d e fault.Truncated = IsAsked io.had ask.Truncated × io.unwritten × (e ≡ d)
+  -- what was read of the request is not all of it
+  StoppedBy io d e fault.Read = IsUnasked io.had io.left × io.unwritten × (e ≡ d)
+  -- nothing was read
+  StoppedBy io d e fault.NoMemory = Untouched io × (e ≡ d)
+
+  -- how an exchange ended: without a fault the whole reply was written
+  pub record ExchangeDone (io : Streams) (d e : D) (result : Result (Unit {0}) ExchangeFault) : Type 0 where
+    pub whole : OnOk result (Exchanged io.had d e (Appends io.before io.behind))
+    pub cause : IfErr result (StoppedBy io d e)
 
   -- for private clauses
   abbrev pub Answered : D → Asked → Option Reply → D → Type 0

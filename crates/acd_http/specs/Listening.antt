@@ -1,9 +1,6 @@
 -- What serving connections, one after another, leaves.
 use Rattle.std.specs.Prelude.{◌≡◌, ◌⊎◌, ℕ, suc, length, true, false, List, [], ◌∷◌, ◌++◌, Option, Some, None, Result, Ok, Err, codes, decimal}
-use Rattle.std.specs.Io.KnownBytes.{Appends}
 use Rattle.acd_desk.specs.Ran.{Standing}
-use Rattle.acd_io.specs.declared.sending.Stopped.{Stopped}
-use Rattle.acd_io.specs.Sent.{Breaks}
 use Rattle.acd_http.specs.declared.asked.Asked.{Asked}
 use Rattle.acd_http.specs.declared.serving.ExchangeFault.{ExchangeFault}
 use Rattle.acd_http.specs.declared.serving.ExchangeFault.TheVariants.{Truncated, Read, Write, NoMemory}
@@ -81,8 +78,3 @@ module _ {D : Type 0} (stands : D → Standing) where
   abbrev pub ServedFor : Option ℕ → D → D → (List ℕ → Type 0) → Type 0
   ServedFor (Some many) d e WentOut = ServedAll many d e WentOut
   ServedFor None d e WentOut = ServedUntilFailed d e WentOut
-
--- for private clauses: a text was written, or a beginning of it and not all
-abbrev pub WasSent : Result (Unit {0}) Stopped → Option (List ℕ) → Option (List ℕ) → List ℕ → Type 0
-WasSent (Ok u) old new text = Appends old new text
-WasSent (Err stopped) old new text = Breaks old new text

@@ -1,7 +1,13 @@
 -- For private clauses: what was read so far of an input.
-use Rattle.std.specs.Prelude.{◌≡◌, ℕ, ◌<◌, ◌≤◌, List, ◌++◌, length, take, Bool, true, false, Option, Some, None}
-use Rattle.std.specs.Io.KnownBytes.{Consumes, IsAtEnd}
+use Rattle.std.specs.Prelude.{◌≡◌, ℕ, ◌<◌, ◌≤◌, List, [], ◌++◌, length, take, Bool, true, false, Option, Some, None, Result, MatchResult}
+use Rattle.std.specs.Io.KnownBytes.{Consumes, IsAtEnd, Keeps}
+use Rattle.acd_io.specs.declared.sending.Stopped.{Stopped}
 use Rattle.acd_http.specs.Head.{head_len}
+
+-- bytes were read once more, none at the end of the input alone; or reading stopped, and nothing was
+abbrev pub Filled : List ℕ → List ℕ → Option (List ℕ) → Option (List ℕ) → Result Bool Stopped → Type 0
+Filled was now old new result =
+    MatchResult result (λ more. (bytes : List ℕ) × Consumes old new bytes × (now ≡ was ++ bytes) × (more ≡ false → IsAtEnd new × (bytes ≡ []))) (λ _. (now ≡ was) × Keeps old new)
 
 -- the length of a head in what was read; where none has ended, so much was read as a head may have, or all
 abbrev pub HeadIn : Option ℕ → List ℕ → Option (List ℕ) → Type 0
@@ -23,6 +29,10 @@ pub record StopsInHead (now : List ℕ) (old new : Option (List ℕ)) : Type 0 w
   pub none : head_len (take 8192 now) ≡ None
   pub short : length now < 8192
 
+-- what reading a head came to
+abbrev pub HeadRead : List ℕ → Option (List ℕ) → Option (List ℕ) → Result (Option ℕ) Stopped → Type 0
+HeadRead now old new result = MatchResult result (λ found. Found found now old new) (λ _. StopsInHead now old new)
+
 pub record BodyFound (whole : Bool) (len : ℕ) (was now : List ℕ) (old new : Option (List ℕ)) : Type 0 where
   pub more : List ℕ
   pub read : Consumes old new more
@@ -35,3 +45,7 @@ pub record StopsInBody (len : ℕ) (was now : List ℕ) (old new : Option (List 
   pub read : Consumes old new more
   pub grown : now ≡ was ++ more
   pub short : length now < len
+
+-- what reading a body came to
+abbrev pub BodyRead : ℕ → List ℕ → List ℕ → Option (List ℕ) → Option (List ℕ) → Result Bool Stopped → Type 0
+BodyRead len was now old new result = MatchResult result (λ whole. BodyFound whole len was now old new) (λ _. StopsInBody len was now old new)

@@ -1,8 +1,8 @@
 //! What the bytes of a connection ask.
 
-ghost use Rattle.std.specs.Prelude.{◌≡◌, ℕ, List, [], false, Err, MatchResult, Option};
+ghost use Rattle.std.specs.Prelude.{◌≡◌, ℕ, List, [], false, MatchResult, Option};
 ghost use Rattle.std.specs.Io.KnownBytes.{Consumes};
-ghost use Rattle.acd_http.specs.Asking.{IsHeadOf, IsAsked, IsUnasked, IsUnknown, body_asks, headless};
+ghost use Rattle.acd_http.specs.Asking.{IsHeadOf, IsSeen, body_asks, headless};
 ghost use Rattle.acd_codec.specs.Reading.{reads_as};
 
 use crate::input::Input;
@@ -90,10 +90,8 @@ fn asked_behind<R: Read>(
     len: usize,
 ) -> Result<Asked, Unknown>
     requires { IsHeadOf len input.old }
-    ensures asked { (first : Option (List ℕ)) → Consumes first (R.remaining reader.old) input.old
-        → MatchResult result (IsAsked first) (IsUnknown first) }
-    ensures stopped { (first : Option (List ℕ)) → Consumes first (R.remaining reader.old) input.old
-        → result ≡ Err Unknown.Stopped → IsUnasked first (R.remaining reader.new) }
+    ensures { (first : Option (List ℕ)) → Consumes first (R.remaining reader.old) input.old
+        → IsSeen first (R.remaining reader.new) result }
 {
     let (bodiless, wanted) = head_asked(alloc, routes, &input.as_slice()[..len]);
     match wanted {
@@ -116,10 +114,7 @@ pub(crate) fn asked_by<R: Read>(
     input: &mut Input,
 ) -> Result<Asked, Unknown>
     requires { input.old ≡ [] }
-    ensures asked { MatchResult result (IsAsked (R.remaining reader.old))
-        (IsUnknown (R.remaining reader.old)) }
-    ensures stopped { result ≡ Err Unknown.Stopped
-        → IsUnasked (R.remaining reader.old) (R.remaining reader.new) }
+    ensures { IsSeen (R.remaining reader.old) (R.remaining reader.new) result }
 {
     let mut calls = most_calls();
     match read_head(reader, &mut calls, input) {

@@ -1,7 +1,7 @@
 //! What was read of a connection.
 
-ghost use Rattle.std.specs.Prelude.{◌≡◌, ℕ, ◌<◌, ◌≤◌, ◌+◌, ◌++◌, [], List, length, IfOk, OnOk, OnErr, false};
-ghost use Rattle.std.specs.Io.KnownBytes.{Consumes, IsAtEnd, Keeps};
+ghost use Rattle.std.specs.Prelude.{◌≡◌, ◌<◌, ◌≤◌, ◌+◌, ◌++◌, [], length, IfOk, OnOk};
+ghost use Rattle.acd_http.specs.Received.{Filled};
 
 use acd_io::{Stopped, retried};
 use std::alloc::{AllocError, Global};
@@ -62,13 +62,9 @@ pub(crate) fn fill<R: Read>(
     input: &mut Input,
 ) -> Result<bool, Stopped>
     requires { length input.old ≤ 12288 }
-    ensures filled { IfOk result
-        (λ more. (bytes : List ℕ) × Consumes (R.remaining reader.old) (R.remaining reader.new) bytes
-        × (input.new ≡ input.old ++ bytes)
-        × (more ≡ false → IsAtEnd (R.remaining reader.new) × (bytes ≡ []))) }
+    ensures read { Filled input.old input.new (R.remaining reader.old) (R.remaining reader.new)
+        result }
     ensures called { OnOk result (calls.new < calls.old) }
-    ensures stopped { OnErr result ((input.new ≡ input.old)
-        × Keeps (R.remaining reader.old) (R.remaining reader.new)) }
 {
     let mut chunk = [0u8; CHUNK];
     while *calls > 0 {

@@ -1,10 +1,9 @@
 //! Connections of a listener, served one after the other.
 
-ghost use Rattle.std.specs.Prelude.{◌≡◌, ◌≤◌, ℕ, List, ◌++◌, min, length, Option, Err, OnOk};
-ghost use Rattle.std.specs.Io.KnownBytes.{Appends};
-ghost use Rattle.acd_io.specs.Sent.{Begins, Breaks};
+ghost use Rattle.std.specs.Prelude.{◌≡◌, ◌≢◌, ◌≤◌, ℕ, List, ◌++◌, min, length, Option, Err};
+ghost use Rattle.acd_io.specs.Sent.{WasSent};
 ghost use Rattle.acd_desk.specs.Ran.{standing};
-ghost use Rattle.acd_http.specs.Listening.{ServedOne, ServedAll, ServedUntilFailed, WasSent, fault_text, outcome_line};
+ghost use Rattle.acd_http.specs.Listening.{ServedOne, ServedAll, ServedUntilFailed, fault_text, outcome_line};
 
 use crate::head_text::HeadText;
 use crate::routes::Routes;
@@ -157,10 +156,8 @@ fn note_behind<E: Write>(
         → WasSent noted first (E.contents errors.old) text
         → WasSent result first (E.contents errors.new) (text ++ outcome_line number outcome) }
 {
-    match noted {
-        Ok(()) => note(errors, number, outcome),
-        Err(Stopped) => Err(Stopped),
-    }
+    noted?;
+    note(errors, number, outcome)
 }
 
 /// Serves so many connections, one after the other, each by an [`exchange`] at the clock's moment, and closes them.
@@ -174,16 +171,10 @@ pub fn serve_on<B: Book, C: Clock, E: Write>(
     connections: u64,
     errors: &mut E,
 ) -> Result<(), ServeFault>
-    ensures ok { OnOk result (ServedAll (standing B.Book) connections desk.old desk.new
-        (Appends (E.contents errors.old) (E.contents errors.new))) }
-    // a beginning of the lines was written
-    ensures write { result ≡ Err ServeFault.Write
+    // the lines were written or, where one of them could not be, a beginning of them and not all
+    ensures served { result ≢ Err ServeFault.NoMemory
         → ServedAll (standing B.Book) connections desk.old desk.new
-        (Begins (E.contents errors.old) (E.contents errors.new)) }
-    // and not all of them
-    ensures short { result ≡ Err ServeFault.Write
-        → ServedAll (standing B.Book) connections desk.old desk.new
-        (Breaks (E.contents errors.old) (E.contents errors.new)) }
+        (WasSent result (E.contents errors.old) (E.contents errors.new)) }
     ensures memory { result ≡ Err ServeFault.NoMemory
         → (desk.new ≡ desk.old) × (errors.new ≡ errors.old) }
 {
@@ -233,16 +224,10 @@ pub fn serve_until_failed<B: Book, C: Clock, E: Write>(
     desk: &mut Desk<B>,
     errors: &mut E,
 ) -> Result<(), ServeFault>
-    ensures ok { OnOk result (ServedUntilFailed (standing B.Book) desk.old desk.new
-        (Appends (E.contents errors.old) (E.contents errors.new))) }
-    // a beginning of the lines was written
-    ensures write { result ≡ Err ServeFault.Write
+    // the lines were written or, where one of them could not be, a beginning of them and not all
+    ensures served { result ≢ Err ServeFault.NoMemory
         → ServedUntilFailed (standing B.Book) desk.old desk.new
-        (Begins (E.contents errors.old) (E.contents errors.new)) }
-    // and not all of them
-    ensures short { result ≡ Err ServeFault.Write
-        → ServedUntilFailed (standing B.Book) desk.old desk.new
-        (Breaks (E.contents errors.old) (E.contents errors.new)) }
+        (WasSent result (E.contents errors.old) (E.contents errors.new)) }
     ensures memory { result ≡ Err ServeFault.NoMemory
         → (desk.new ≡ desk.old) × (errors.new ≡ errors.old) }
 {

@@ -3,9 +3,8 @@
 ghost use Rattle.std.specs.Prelude.{◌≡◌, ◌⊎◌, IfOk, OnErr, Ok, Some, string_bytes};
 ghost use Rattle.acd_desk.specs.Ran.{standing};
 ghost use Rattle.acd_desk.specs.AnswerTexts.{seen};
-ghost use Rattle.acd_lines.specs.Answers.{fixed_line};
+ghost use Rattle.acd_lines.specs.Answers.{answered_text, fixed_line};
 ghost use Rattle.acd_lines.specs.Lines.{LinesDone, streams};
-ghost use Rattle.acd_lines.specs.Parts.{answered_text};
 ghost use Rattle.acd_http.specs.Lookups.{target_looked};
 ghost use Rattle.acd_http.specs.ReadingLines.{is_read, json_told, told_line, Tells, ReadInTurn};
 

@@ -1,9 +1,8 @@
 //! A head and a body that are read as they come.
 
-ghost use Rattle.std.specs.Prelude.{◌≡◌, ℕ, ◌≤◌, ◌+◌, [], List, take, drop, length, IfOk, OnErr};
+ghost use Rattle.std.specs.Prelude.{◌≡◌, ◌≤◌, [], take};
 ghost use Rattle.acd_http.specs.Head.{head_len};
-ghost use Rattle.acd_http.specs.Received.{BodyFound, Found, StopsInBody, StopsInHead};
-ghost use Rattle.std.specs.Io.KnownBytes.{Consumes};
+ghost use Rattle.acd_http.specs.Received.{BodyRead, HeadRead};
 
 use crate::head::head_len;
 use crate::input::{Input, fill};
@@ -31,10 +30,7 @@ pub(crate) fn read_head<R: Read>(
     input: &mut Input,
 ) -> Result<Option<usize>, Stopped>
     requires { input.old ≡ [] }
-    ensures found { IfOk result
-        (λ found. Found found input.new (R.remaining reader.old) (R.remaining reader.new)) }
-    ensures stopped { OnErr result
-        (StopsInHead input.new (R.remaining reader.old) (R.remaining reader.new)) }
+    ensures { HeadRead input.new (R.remaining reader.old) (R.remaining reader.new) result }
 {
     while input.as_slice().len() < LONGEST_HEAD {
         match front_len(input.as_slice()) {
@@ -56,11 +52,8 @@ pub(crate) fn read_up_to<R: Read>(
     len: usize,
 ) -> Result<bool, Stopped>
     requires { len ≤ 12288 }
-    ensures found { IfOk result
-        (λ whole. BodyFound whole len input.old input.new (R.remaining reader.old)
-        (R.remaining reader.new)) }
-    ensures stopped { OnErr result
-        (StopsInBody len input.old input.new (R.remaining reader.old) (R.remaining reader.new)) }
+    ensures { BodyRead len input.old input.new (R.remaining reader.old) (R.remaining reader.new)
+        result }
 {
     while input.as_slice().len() < len {
         if !fill(reader, calls, input)? {

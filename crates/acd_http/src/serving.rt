@@ -1,12 +1,10 @@
 //! One request, and its reply.
 
-ghost use Rattle.std.specs.Prelude.{◌≡◌, ◌≢◌, OnOk, OnErr, IfErr, ◌++◌, cond, []};
-ghost use Rattle.std.specs.Io.KnownBytes.{Appends};
-ghost use Rattle.acd_io.specs.Sent.{Begins, Breaks};
+ghost use Rattle.std.specs.Prelude.{◌≡◌, IfErr, ◌++◌, cond, []};
+ghost use Rattle.acd_io.specs.Sent.{WasSent};
 ghost use Rattle.acd_desk.specs.Ran.{standing};
-ghost use Rattle.acd_http.specs.declared.asked.Asked.{Asked};
-ghost use Rattle.acd_http.specs.Asking.{IsAsked, IsUnasked};
-ghost use Rattle.acd_http.specs.Exchanging.{reply_out, Exchanged};
+ghost use Rattle.acd_lines.specs.Lines.{streams};
+ghost use Rattle.acd_http.specs.Exchanging.{reply_out, ExchangeDone};
 
 use crate::answer::{Reply, answered, fixed};
 use crate::asked::{Unknown, asked_by};
@@ -52,33 +50,22 @@ fn send_both<W: Write>(
     head: &mut HeadText,
     body: &[u8],
 ) -> Result<(), Stopped>
-    ensures ok { OnOk result
-        (Appends (W.contents writer.old) (W.contents writer.new) (head.old ++ body.now)) }
-    ensures err { OnErr result
-        (Begins (W.contents writer.old) (W.contents writer.new) (head.old ++ body.now)) }
-    ensures short { OnErr result
-        (Breaks (W.contents writer.old) (W.contents writer.new) (head.old ++ body.now)) }
+    ensures { WasSent result (W.contents writer.old) (W.contents writer.new)
+        (head.old ++ body.now) }
 {
     if body.len() <= head.room() {
         head.push(body);
         return send(writer, calls, head.as_slice());
     }
-    match send(writer, calls, head.as_slice()) {
-        Ok(()) => send(writer, calls, body),
-        Err(Stopped) => Err(Stopped),
-    }
+    send(writer, calls, head.as_slice())?;
+    send(writer, calls, body)
 }
 
 // Writes a reply.
 fn respond<W: Write>(writer: &mut W, bodiless: bool, reply: &Reply) -> Result<(), ExchangeFault>
-    ensures ok { OnOk result
-        (Appends (W.contents writer.old) (W.contents writer.new) (reply_out bodiless reply.now)) }
-    ensures err { IfErr result
-        (λ fault. (fault ≡ ExchangeFault.Write)
-        × Begins (W.contents writer.old) (W.contents writer.new) (reply_out bodiless reply.now)) }
-    ensures short { IfErr result
-        (λ fault. (fault ≡ ExchangeFault.Write)
-        × Breaks (W.contents writer.old) (W.contents writer.new) (reply_out bodiless reply.now)) }
+    ensures sent { WasSent result (W.contents writer.old) (W.contents writer.new)
+        (reply_out bodiless reply.now) }
+    ensures fault { IfErr result (λ fault. fault ≡ ExchangeFault.Write) }
 {
     let mut calls = most_calls();
     let body = reply.answer.body();
@@ -101,24 +88,9 @@ pub fn exchange<B: Book, R: Read, W: Write>(
     reader: &mut R,
     writer: &mut W,
 ) -> Result<(), ExchangeFault>
-    ensures ok { OnOk result (Exchanged (standing B.Book) moment (R.remaining reader.old)
-        desk.old desk.new (Appends (W.contents writer.old) (W.contents writer.new))) }
-    // a beginning of the reply was written
-    ensures write { result ≡ Err ExchangeFault.Write
-        → Exchanged (standing B.Book) moment (R.remaining reader.old) desk.old desk.new
-        (Begins (W.contents writer.old) (W.contents writer.new)) }
-    // and not all of it
-    ensures short { result ≡ Err ExchangeFault.Write
-        → Exchanged (standing B.Book) moment (R.remaining reader.old) desk.old desk.new
-        (Breaks (W.contents writer.old) (W.contents writer.new)) }
-    ensures truncated { result ≡ Err ExchangeFault.Truncated
-        → IsAsked (R.remaining reader.old) Asked.Truncated }
-    // what was read of the request is not all of it
-    ensures read { result ≡ Err ExchangeFault.Read
-        → IsUnasked (R.remaining reader.old) (R.remaining reader.new) }
-    ensures quiet { IfErr result (λ fault. fault ≢ ExchangeFault.Write
-        → (desk.new ≡ desk.old) × (writer.new ≡ writer.old)) }
-    ensures memory { result ≡ Err ExchangeFault.NoMemory → reader.new ≡ reader.old }
+    ensures { ExchangeDone (standing B.Book) moment
+        (streams R.remaining W.contents (reader.old, reader.new) (writer.old, writer.new))
+        desk.old desk.new result }
 {
     let mut input = match Input::new(alloc) {
         Ok(input) => input,

@@ -1,10 +1,10 @@
 -- A write of a part of the bytes that are left.
-use Rattle.std.proofs.Common.{◌≡◌, ℕ, ◌+◌, ◌-◌, ◌<◌, ◌≤◌, List, ◌++◌, length, take, drop, Option, sym, ap, ◌∙◌, arith, subst, length-drop, length-append, append_assoc, append-nil, [], Result, Ok, Err, OnOk, OnErr}
+use Rattle.std.proofs.Common.{◌≡◌, ℕ, ◌+◌, ◌-◌, ◌<◌, ◌≤◌, List, ◌++◌, length, take, drop, Option, sym, ap, ◌∙◌, arith, subst, length-drop, length-append, append_assoc, append-nil, [], Result, Ok, Err, MatchResult}
 use Rattle.std.proofs.lemmas.List.{take_all, take-append-drop}
 use Rattle.std.proofs.Math.Seq.{take-add}
 use Rattle.std.specs.Io.KnownBytes.{Appends}
 use Rattle.std.specs.Result.{IsErrAnd}
-use Rattle.acd_io.specs.Sent.{Passes, Begins, Breaks}
+use Rattle.acd_io.specs.Sent.{Passes, Begins, Breaks, WasSent}
 use Rattle.std.proofs.KnownBytes.{Appends-trans, Appends-nil}
 
 pub one_write : (a b c : Option (List ℕ)) (bytes : List ℕ) (done n : ℕ) → Appends a b (take done bytes) → Appends b c (take n (take (length bytes - done) (drop done bytes))) → Appends a c (take (done + n) bytes)
@@ -23,9 +23,6 @@ breaks_part a c bytes n few h = record { front = take n bytes; rest = drop n byt
 
 pub begins_so : (a c : Option (List ℕ)) (bytes : List ℕ) → Breaks a c bytes → Begins a c bytes
 begins_so a c bytes h = record { front = h.front; rest = h.rest; whole = h.whole; written = h.written }
-
-pub begins_front : (a c : Option (List ℕ)) (xs ys : List ℕ) → Begins a c xs → Begins a c (xs ++ ys)
-begins_front a c xs ys h = record { front = h.front; rest = h.rest ++ ys; whole = ap (λ (l : List ℕ). l ++ ys) h.whole ∙ append_assoc h.front h.rest ys; written = h.written }
 
 pub breaks_front : (a c : Option (List ℕ)) (xs ys : List ℕ) → Breaks a c xs → Breaks a c (xs ++ ys)
 breaks_front a c xs ys h = record {
@@ -108,22 +105,27 @@ breaks_out a b c w text h k = record {
 pub passes_whole : (a c : Option (List ℕ)) (text : List ℕ) → Passes a c [] text → Appends a c text
 passes_whole a c text h = subst (Appends a c) (sym (h.whole ∙ append-nil h.sent)) h.written
 
-pub on_err : {T E : Type 0} (r : Result T E) (P : Type 0) → P → OnErr r P
-on_err (Ok x) P p = tt
-on_err (Err e) P p = p
+-- ---- by how a call ended
 
-pub OnErr-weaker : {T E : Type 0} (r : Result T E) (P Q : Type 0) → (P → Q) → OnErr r P → OnErr r Q
-OnErr-weaker (Ok x) P Q f h = tt
-OnErr-weaker (Err e) P Q f h = f h
+pub stopped : {T E : Type 0} (r : Result T E) (x : E) (P : T → Type 0) (Q : Type 0) → IsErrAnd r (λ e. e ≡ x) → Q → MatchResult r P (λ _. Q)
+stopped (Ok v) x P Q is q = absurd is
+stopped (Err e) x P Q is q = q
 
-pub OnOk-weaker : {T E : Type 0} (r : Result T E) (P Q : Type 0) → (P → Q) → OnOk r P → OnOk r Q
-OnOk-weaker (Ok x) P Q f h = f h
-OnOk-weaker (Err e) P Q f h = tt
+pub so_of : {T E : Type 0} (r : Result T E) (P P' Q Q' : Type 0) → (P → P') → (Q → Q') → MatchResult r (λ _. P) (λ _. Q) → MatchResult r (λ _. P') (λ _. Q')
+so_of (Ok v) P P' Q Q' f g h = f h
+so_of (Err e) P P' Q Q' f g h = g h
 
-pub OnOk-both : {T E : Type 0} (r : Result T E) (P Q R : Type 0) → (P → Q → R) → OnOk r P → OnOk r Q → OnOk r R
-OnOk-both (Ok x) P Q R f h k = f h k
-OnOk-both (Err e) P Q R f h k = tt
+-- a text was written, and then another or a beginning of it
+pub sent_behind : {E : Type 0} (r : Result (Unit {0}) E) (a b c : Option (List ℕ)) (xs ys : List ℕ) → Appends a b xs → WasSent r b c ys → WasSent r a c (xs ++ ys)
+sent_behind (Ok u) a b c xs ys h k = Appends-trans a b c xs ys h k
+sent_behind (Err e) a b c xs ys h k = record {
+  front = xs ++ k.front;
+  rest = k.rest;
+  short = k.short;
+  whole = ap (λ (l : List ℕ). xs ++ l) k.whole ∙ sym (append_assoc xs k.front k.rest);
+  written = Appends-trans a b c xs k.front h k.written;
+}
 
-pub OnErr-is : {T E : Type 0} (r : Result T E) (x : E) (P : Type 0) → IsErrAnd r (λ e. e ≡ x) → P → OnErr r P
-OnErr-is (Ok v) x P h p = tt
-OnErr-is (Err e) x P h p = p
+-- the writer stopped at a text, and none was written behind it
+pub sent_first : {E : Type 0} (r : Result (Unit {0}) E) (x : E) (a c : Option (List ℕ)) (xs ys : List ℕ) → IsErrAnd r (λ e. e ≡ x) → Breaks a c xs → WasSent r a c (xs ++ ys)
+sent_first r x a c xs ys is h = stopped r x (λ _. Appends a c (xs ++ ys)) (Breaks a c (xs ++ ys)) is (breaks_front a c xs ys h)

@@ -1,5 +1,5 @@
 -- What was written, and what waits to be written.
-use Rattle.std.specs.Prelude.{◌≡◌, ℕ, ◌<◌, List, ◌++◌, length, Option}
+use Rattle.std.specs.Prelude.{◌≡◌, ℕ, ◌<◌, List, ◌++◌, length, Option, Result, MatchResult}
 use Rattle.std.specs.Io.KnownBytes.{Appends}
 
 -- all of text was written, but for what waits
@@ -22,3 +22,7 @@ pub record Breaks (old new : Option (List ℕ)) (text : List ℕ) : Type 0 where
   pub short : 0 < length rest
   pub whole : text ≡ front ++ rest
   pub written : Appends old new front
+
+-- all of text was written or, where the writer stopped, a beginning of it and not all
+abbrev pub WasSent : {E : Type 0} → Result (Unit {0}) E → Option (List ℕ) → Option (List ℕ) → List ℕ → Type 0
+WasSent result old new text = MatchResult result (λ _. Appends old new text) (λ _. Breaks old new text)

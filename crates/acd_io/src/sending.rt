@@ -1,8 +1,6 @@
 //! Bytes that are written whole.
 
-ghost use Rattle.std.specs.Prelude.{OnOk, OnErr};
-ghost use Rattle.std.specs.Io.KnownBytes.{Appends};
-ghost use Rattle.acd_io.specs.Sent.{Begins, Breaks};
+ghost use Rattle.acd_io.specs.Sent.{WasSent};
 
 use crate::retry::retried;
 use std::io::Write;
@@ -16,11 +14,7 @@ pub struct Stopped;
 /// Writes all of the bytes. Each call of the writer takes one off `calls`; a call that is interrupted is made
 /// again.
 pub fn send<W: Write>(writer: &mut W, calls: &mut u64, bytes: &[u8]) -> Result<(), Stopped>
-    ensures ok { OnOk result (Appends (W.contents writer.old) (W.contents writer.new) bytes.now) }
-    ensures err { OnErr result (Begins (W.contents writer.old) (W.contents writer.new) bytes.now) }
-    // the writer didn't take all of them
-    ensures short { OnErr result
-        (Breaks (W.contents writer.old) (W.contents writer.new) bytes.now) }
+    ensures { WasSent result (W.contents writer.old) (W.contents writer.new) bytes.now }
 {
     let mut done = 0;
     while done < bytes.len() {

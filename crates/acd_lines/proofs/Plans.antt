@@ -13,10 +13,10 @@ use Rattle.acd_desk.proofs.Many.{Settles, ran_nothing, ran_more}
 use Rattle.acd_lines.specs.Input.{arrival}
 use Rattle.acd_lines.specs.Answers.{Answers, taken_line}
 use Rattle.acd_lines.specs.Output.{AnswerLines, imported}
-use Rattle.acd_io.specs.Sent.{Passes, Breaks, Begins}
+use Rattle.acd_io.specs.Sent.{Passes, Breaks}
 use Rattle.acd_lines.specs.Parts.{LineDone, LineStops, Imports, ImportStops, HasImported}
-use Rattle.acd_io.proofs.Sends.{passes_nothing, passes_then, passes_out, passes_whole, breaks_then, breaks_out, begins_so}
-use Rattle.acd_lines.specs.Lines.{LinesAnswered, AllRequests, FirstRequests}
+use Rattle.acd_io.proofs.Sends.{passes_nothing, passes_then, passes_out, passes_whole, breaks_then, breaks_out}
+use Rattle.acd_lines.specs.Lines.{LinesAnswered, AllRequests}
 use Rattle.acd_lines.proofs.Weaker.{out_so}
 
 -- one answer line more
@@ -103,9 +103,6 @@ module _ {D : Type 0} (stands : D → Standing) (settles : (d : D) → Settles (
     out = breaks_out a b c waiting (concat h.answers) h.out stopped;
   }
 
-  -- what is told of them, but that not all was written
-  pub import_begun : (d e : D) (rs : List Request) (a c : Option (List ℕ)) → ImportStops stands d rs e a c → LinesAnswered (FirstRequests rs) (HasImported stands d e) (Begins a c)
-  import_begun d e rs a c h = out_so (FirstRequests rs) (HasImported stands d e) (Breaks a c) (Begins a c) (begins_so a c) h
-
+  -- nothing waits behind them
   pub import_told : (d e : D) (rs : List Request) (a c : Option (List ℕ)) → Imports stands d rs e a c [] → LinesAnswered (AllRequests rs) (HasImported stands d e) (Appends a c)
   import_told d e rs a c h = out_so (AllRequests rs) (HasImported stands d e) (Passes a c []) (Appends a c) (passes_whole a c) h

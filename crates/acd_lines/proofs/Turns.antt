@@ -1,5 +1,5 @@
 -- One line of the input, and one read, over plain values.
-use Rattle.std.proofs.Common.{◌≡◌, ℕ, zero, suc, ◌+◌, ◌<◌, true, List, [], ◌∷◌, ◌++◌, length, take, drop, Option, refl, sym, ap, ◌∙◌, subst, arith, lit<, append_assoc, append-nil}
+use Rattle.std.proofs.Common.{◌≡◌, ℕ, zero, suc, ◌+◌, ◌<◌, true, List, [], ◌∷◌, ◌++◌, length, take, drop, Option, Result, refl, sym, ap, ◌∙◌, subst, arith, lit<, append_assoc, append-nil}
 use Rattle.std.proofs.lemmas.List.{length-take, take_at}
 use Rattle.std.specs.Io.BufRead.{strip_last}
 use Rattle.std.specs.Io.KnownBytes.{Appends, Consumes}
@@ -7,8 +7,10 @@ use Rattle.std.proofs.KnownBytes.{Consumes-nil}
 use Rattle.acd_lines.specs.Input.{has_none, text_of, cut}
 use Rattle.acd_io.specs.Read.{IsInput}
 use Rattle.acd_io.proofs.Inputs.{input_begun}
+use Rattle.acd_io.specs.declared.sending.Stopped.{Stopped}
 use Rattle.acd_io.specs.Sent.{Passes, Breaks, Begins}
-use Rattle.acd_lines.specs.Parts.{ServesSome, Reached, AnsweredSoFar, LineDone, LineStops, Feeds, Stops, FeedStops, Finishes, FinishStops, InTurn, ServesText}
+use Rattle.acd_lines.specs.Outgoing.{Outgoing}
+use Rattle.acd_lines.specs.Parts.{ServesSome, Reached, AnsweredSoFar, LineDone, LineStops, Feeds, Stops, FeedStops, Finishes, FinishStops, InTurn, ServesText, LineServed, text_kept}
 use Rattle.acd_io.proofs.Sends.{breaks_front, passes_same_front, passes_nothing, passes_then, breaks_then, passes_out, breaks_out, begins_so, passes_whole}
 use Rattle.acd_lines.specs.Output.{whole_lines}
 use Rattle.acd_lines.specs.Lines.{LinesAnswered, AllLines, FirstLines, EndedLines}
@@ -81,11 +83,8 @@ module _ {S L : Type 0} (asks : List ℕ → L) (by_front : ByFront asks) (A : S
       subst (λ (l : List ℕ). Reached asks A s l [] (earlier ++ (h.answers ++ out)) t) (sym (up_to_feed seen end)) (subst (λ (w : List ℕ). Reached asks A s ((seen ++ end) ++ 10 ∷ []) [] w t) (append_assoc earlier h.answers out) reached)
 
   -- the same line
-  pub done_same : (s : S) (line line' : L) (t : S) (a b : Option (List ℕ)) (before waiting : List ℕ) → line ≡ line' → LineDone A s line t a b before waiting → LineDone A s line' t a b before waiting
-  done_same s line line' t a b before waiting e h = (h.0, subst (λ (l : L). A s l h.0 t) e h.1, h.2)
-
-  pub stops_same : (s : S) (line line' : L) (t : S) (a b : Option (List ℕ)) (before : List ℕ) → line ≡ line' → LineStops A s line t a b before → LineStops A s line' t a b before
-  stops_same s line line' t a b before e h = (h.0, subst (λ (l : L). A s l h.0 t) e h.1, h.2)
+  pub served_same : (s : S) (line line' : L) (t : S) (r : Result (Unit {0}) Stopped) (out : Outgoing) → line ≡ line' → LineServed A s line t r out → LineServed A s line' t r out
+  served_same s line line' t r out e h = (h.0, subst (λ (l : L). A s l h.0 t) e h.1, h.2)
 
   -- a line ended, and was answered
   pub step_line : (m : ℕ) (s : S) (seen kept kept' earlier before waiting waiting' : List ℕ) (mid t : S) (a b c : Option (List ℕ)) (end : List ℕ) → 4107 < m → AnsweredSoFar asks A (m + 1) s seen kept earlier before waiting mid a b → has_none 10 end ≡ true
@@ -164,14 +163,14 @@ module _ {S L : Type 0} (asks : List ℕ → L) (by_front : ByFront asks) (A : S
 
   -- a line of it
   pub feed_line : (mid now t : S) (kept kept' kept'' front end : List ℕ) (a b c : Option (List ℕ)) (before waiting waiting' : List ℕ) → Feeds asks A mid now kept kept' front a b before waiting → has_none 10 end ≡ true
-      → LineDone A now (asks (strip_last 13 (take 4109 (kept' ++ end)))) t b c waiting waiting' → kept'' ≡ [] → Feeds asks A mid t kept kept'' (front ++ (end ++ 10 ∷ [])) a c before waiting'
+      → LineDone A now (asks (text_kept kept' end)) t b c waiting waiting' → kept'' ≡ [] → Feeds asks A mid t kept kept'' (front ++ (end ++ 10 ∷ [])) a c before waiting'
   feed_line mid now t kept kept' kept'' front end a b c before waiting waiting' feeds none done empty = λ s seen part answers is reached.
       stands_seen 4109 s ((seen ++ front) ++ (end ++ 10 ∷ [])) (seen ++ (front ++ (end ++ 10 ∷ []))) kept'' answers before waiting' t a c (append_assoc seen front (end ++ 10 ∷ []))
       (step_line 4108 s (seen ++ front) kept' kept'' answers before waiting waiting' now t a b c end (lit< tt) (feeds s seen part answers is reached) none done empty)
 
   -- the writer stopped at it
   pub feed_stops : (mid now t : S) (kept kept' chunk front rest end behind : List ℕ) (a b c : Option (List ℕ)) (before waiting : List ℕ) → Feeds asks A mid now kept kept' front a b before waiting → has_none 10 end ≡ true
-      → LineStops A now (asks (strip_last 13 (take 4109 (kept' ++ end)))) t b c waiting → chunk ≡ front ++ rest → rest ≡ end ++ 10 ∷ behind → FeedStops asks A mid t kept chunk a c before
+      → LineStops A now (asks (text_kept kept' end)) t b c waiting → chunk ≡ front ++ rest → rest ≡ end ++ 10 ∷ behind → FeedStops asks A mid t kept chunk a c before
   feed_stops mid now t kept kept' chunk front rest end behind a b c before waiting feeds none stopped e f = λ s seen part answers is reached.
       stop_line 4108 s (seen ++ front) (seen ++ chunk) kept' answers before waiting now t a b c end behind (lit< tt) (feeds s seen part answers is reached) none stopped (seen_line seen chunk front rest end behind e f)
 

@@ -6,7 +6,8 @@ use Rattle.acd_codec.specs.declared.member.Member.TheVariants as members
 use Rattle.acd_codec.specs.declared.fault.FixedAnswer.{FixedAnswer}
 use Rattle.acd_codec.specs.declared.fault.FixedAnswer.TheVariants as fixed
 use Rattle.acd_desk.specs.declared.taken.Taken.{Taken}
-use Rattle.acd_desk.specs.AnswerTexts.{Said, fixed_said, malformed_said, taken_said}
+use Rattle.acd_desk.specs.declared.answer_text.AnswerText.{AnswerText}
+use Rattle.acd_desk.specs.AnswerTexts.{Said, said, fixed_said, malformed_said, taken_said}
 use Rattle.acd_desk.specs.Arrived.{at}
 use Rattle.acd_desk.specs.Ran.{Standing, Took}
 use Rattle.acd_lines.specs.Input.{Line, no_moment, too_long, faulty, arrival}
@@ -22,6 +23,10 @@ malformed_line member = line_text (malformed_said member)
 abbrev pub fixed_line : FixedAnswer → List ℕ
 fixed_line answer = line_text (fixed_said answer)
 
+-- the line that an answer is
+abbrev pub answered_text : AnswerText → List ℕ
+answered_text a = line_text (said a)
+
 -- the answer of the desk to a request
 abbrev pub taken_line : Request → Taken → List ℕ
 taken_line r t = line_text (taken_said r t)
@@ -33,3 +38,7 @@ module _ {D : Type 0} (stands : D → Standing) where
   Answers d too_long out e = (out ≡ fixed_line fixed.BodyTooLarge) × (e ≡ d)
   Answers d (faulty member) out e = ((out ≡ malformed_line member) ⊎ (out ≡ fixed_line fixed.NoMemory)) × (e ≡ d)
   Answers d (arrival moment request) out e = (t : Taken) × (out ≡ taken_line request t) × Took (stands d) (at moment request) t (stands e)
+
+  -- the same where that is the line of an answer
+  abbrev pub AnsweredBy : D → Line → AnswerText → D → Type 0
+  AnsweredBy d line answer e = Answers d line (answered_text answer) e

@@ -1,5 +1,5 @@
 -- What was answered: of what was asked so much was taken, there is one answer line for each of it, and so much of these lines was written; and how that ended.
-use Rattle.std.specs.Prelude.{◌≡◌, ℕ, Bool, true, false, List, map, take, Option, Result, IfErr, OnOk, OnErr}
+use Rattle.std.specs.Prelude.{◌≡◌, ℕ, Bool, true, false, List, map, take, Option, Result, IfErr, OnOk, OnErr, MatchResult}
 use Rattle.std.specs.List.{concat}
 use Rattle.std.specs.Io.KnownBytes.{Appends, Consumes}
 use Rattle.acd_terms.specs.declared.command.Request.{Request}
@@ -64,15 +64,25 @@ HasRun book old new arrivals answers = DeskRan book old arrivals answers new
 abbrev pub RunInTurn : {B : Type 0} → Ghosts B → Desk B → Desk B → List (List ℕ) → List (List ℕ) → Type 0
 RunInTurn book old new = ArrivalsAnswered (HasRun book old new)
 
+-- all requests of a plan were taken and all of their answers were written or, where the writer stopped, the first ones and not all
+abbrev pub PlanAnswered : {E : Type 0} → (List Arrival → List Taken → Type 0) → List Request → Result (Unit {0}) E → Option (List ℕ) → Option (List ℕ) → Type 0
+PlanAnswered Said plan result before behind =
+    MatchResult result (λ _. LinesAnswered (AllRequests plan) (RequestsAnswered Said) (Appends before behind)) (λ _. LinesAnswered (FirstRequests plan) (RequestsAnswered Said) (Breaks before behind))
+
 -- ---- how it ended
 
--- a reader and a writer over a call: what the one had and has left, what the other had taken before and has taken behind, each where that is known; and that neither was touched
+-- a reader and a writer over a call: what the one had and has left, what the other had taken before and has taken behind, each where that is known; that the one wasn't touched, and that the other wasn't
 pub record Streams : Type 1 where
   pub had : Option (List ℕ)
   pub left : Option (List ℕ)
   pub before : Option (List ℕ)
   pub behind : Option (List ℕ)
-  pub untouched : Type 0
+  pub unread : Type 0
+  pub unwritten : Type 0
+
+-- neither of the two was touched
+abbrev pub Untouched : Streams → Type 0
+Untouched io = io.unread × io.unwritten
 
 -- by each of the two as it was before the call, and as it is behind
 abbrev pub streams : {R W : Type 0} → (R → Option (List ℕ)) → (W → Option (List ℕ)) → R × R → W × W → Streams
@@ -81,7 +91,8 @@ streams remaining contents reader writer = record {
   left = remaining reader.1;
   before = contents writer.0;
   behind = contents writer.1;
-  untouched = (reader.1 ≡ reader.0) × (writer.1 ≡ writer.0);
+  unread = reader.1 ≡ reader.0;
+  unwritten = writer.1 ≡ writer.0;
 }
 
 -- `InTurn d e` says how lines were answered from the desk d to the desk e
@@ -93,7 +104,7 @@ module _ {D : Type 0} (InTurn : D → D → List (List ℕ) → List (List ℕ) 
   -- not all that was answered was written
   EndedBy Write = LinesAnswered (FirstLines io.had) (InTurn d e) (Breaks io.before io.behind)
   -- nothing was read
-  EndedBy NoMemory = io.untouched × (e ≡ d)
+  EndedBy NoMemory = Untouched io × (e ≡ d)
 
 -- where `ends` says so, a desk that has failed is answered no more
 module _ {D : Type 0} (stands : D → Standing) (InTurn : D → D → List (List ℕ) → List (List ℕ) → Type 0) (ends : Bool) (io : Streams) (d e : D) where

@@ -1,16 +1,15 @@
 -- The lines that were answered so far, by what their texts ask for, and by a relation of the desk, what is asked, what is written for it, and the desk after it.
-use Rattle.std.specs.Prelude.{◌≡◌, ℕ, List, [], ◌∷◌, ◌++◌, take, true, Option}
+use Rattle.std.specs.Prelude.{◌≡◌, ℕ, List, [], ◌∷◌, ◌++◌, take, true, Option, Result, MatchResult}
 use Rattle.std.specs.List.{concat, list_all}
-use Rattle.std.specs.Io.BufRead.{ends_with_byte}
+use Rattle.std.specs.Io.BufRead.{ends_with_byte, strip_last}
 use Rattle.acd_terms.specs.declared.command.Request.{Request}
 use Rattle.acd_terms.specs.declared.command.Arrival.{Arrival}
 use Rattle.acd_desk.specs.declared.taken.Taken.{Taken}
-use Rattle.acd_desk.specs.declared.answer_text.AnswerText.{AnswerText}
-use Rattle.acd_desk.specs.AnswerTexts.{said}
 use Rattle.acd_desk.specs.Ran.{Standing, Ran}
 use Rattle.acd_lines.specs.Input.{has_none, text_of, cut}
-use Rattle.acd_lines.specs.Answers.{line_text}
+use Rattle.acd_io.specs.declared.sending.Stopped.{Stopped}
 use Rattle.acd_io.specs.Sent.{Passes, Breaks}
+use Rattle.acd_lines.specs.Outgoing.{Outgoing, Pushed}
 use Rattle.acd_lines.specs.Lines.{LinesAnswered, AllRequests, FirstRequests, RequestsAnswered}
 
 module _ {S L : Type 0} (Answers : S → L → List ℕ → S → Type 0) where
@@ -21,6 +20,10 @@ module _ {S L : Type 0} (Answers : S → L → List ℕ → S → Type 0) where
   -- a line was answered, and then the writer stopped
   abbrev pub LineStops : S → L → S → Option (List ℕ) → Option (List ℕ) → List ℕ → Type 0
   LineStops s line t old new before = (out : List ℕ) × Answers s line out t × Breaks old new (before ++ out)
+
+  -- a line was answered, and its answer was pushed: by how that ended, the one or the other
+  abbrev pub LineServed : S → L → S → Result (Unit {0}) Stopped → Outgoing → Type 0
+  LineServed s line t result out = (text : List ℕ) × Answers s line text t × Pushed result out text
 
 module _ {S L : Type 0} (asks : List ℕ → L) (Answers : S → L → List ℕ → S → Type 0) where
   -- the lines are answered in order, each by the desk that the earlier ones left
@@ -74,6 +77,11 @@ module _ {S L : Type 0} (asks : List ℕ → L) (Answers : S → L → List ℕ 
   abbrev pub FeedStops : S → S → List ℕ → List ℕ → Option (List ℕ) → Option (List ℕ) → List ℕ → Type 0
   FeedStops mid t kept bytes old new before = (s : S) (seen part answers : List ℕ) → kept ≡ take 4109 part → Reached s seen part answers mid → Stops s (seen ++ bytes) answers t old new before
 
+  -- more bytes were taken, and nothing waits; or the writer stopped
+  abbrev pub Fed : S → S → List ℕ → List ℕ → List ℕ → Result (Unit {0}) Stopped → Outgoing → Type 0
+  Fed mid t kept kept' bytes result out =
+      MatchResult result (λ _. (out.waits ≡ []) × Feeds mid t kept kept' bytes out.before out.behind out.waited out.waits) (λ _. FeedStops mid t kept bytes out.before out.behind out.waited)
+
   -- the input is at its end
   abbrev pub Finishes : S → S → List ℕ → Option (List ℕ) → Option (List ℕ) → List ℕ → Type 0
   Finishes mid t kept old new before = (s : S) (seen part answers : List ℕ) → kept ≡ take 4109 part → Reached s seen part answers mid
@@ -82,6 +90,10 @@ module _ {S L : Type 0} (asks : List ℕ → L) (Answers : S → L → List ℕ 
   abbrev pub FinishStops : S → S → List ℕ → Option (List ℕ) → Option (List ℕ) → List ℕ → Type 0
   FinishStops mid t kept old new before = (s : S) (seen part answers : List ℕ) → kept ≡ take 4109 part → Reached s seen part answers mid
       → (out : List ℕ) × ServesText s (cut seen) (answers ++ out) t × Breaks old new (before ++ out)
+
+  -- it was answered to its end, or the writer stopped
+  abbrev pub Finished : S → S → List ℕ → Result (Unit {0}) Stopped → Outgoing → Type 0
+  Finished mid t kept result out = MatchResult result (λ _. Finishes mid t kept out.before out.behind out.waited) (λ _. FinishStops mid t kept out.before out.behind out.waited)
 
 module _ {D : Type 0} (stands : D → Standing) where
   -- a desk has run over the requests of a plan
@@ -96,6 +108,6 @@ module _ {D : Type 0} (stands : D → Standing) where
   abbrev pub ImportStops : D → List Request → D → Option (List ℕ) → Option (List ℕ) → Type 0
   ImportStops d requests e old new = LinesAnswered (FirstRequests requests) (HasImported d e) (Breaks old new)
 
--- the line that an answer is
-abbrev pub answered_text : AnswerText → List ℕ
-answered_text a = line_text (said a)
+-- the text of a line that ends in these bytes, of whose beginning at most 4109 bytes are kept
+abbrev pub text_kept : List ℕ → List ℕ → List ℕ
+text_kept kept end = strip_last 13 (take 4109 (kept ++ end))

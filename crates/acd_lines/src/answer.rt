@@ -2,8 +2,7 @@
 
 ghost use Rattle.acd_desk.specs.Ran.{standing};
 ghost use Rattle.acd_lines.specs.Input.{request_read, arrival};
-ghost use Rattle.acd_lines.specs.Answers.{Answers};
-ghost use Rattle.acd_lines.specs.Parts.{answered_text};
+ghost use Rattle.acd_lines.specs.Answers.{AnsweredBy};
 
 use acd_book::Book;
 use acd_codec::{FixedAnswer, ReadFault, RequestReader};
@@ -12,8 +11,7 @@ use acd_terms::Request;
 
 /// The answer to a request that comes in at a moment.
 pub(crate) fn execute<B: Book>(desk: &mut Desk<B>, moment: u32, request: &Request) -> AnswerText
-    ensures { Answers (standing B.Book) desk.old (arrival moment request.now) (answered_text result)
-        desk.new }
+    ensures { AnsweredBy (standing B.Book) desk.old (arrival moment request.now) result desk.new }
 {
     desk.take_text(moment, request)
 }
@@ -25,8 +23,7 @@ pub(crate) fn read<B: Book>(
     moment: u32,
     json: &[u8],
 ) -> AnswerText
-    ensures { Answers (standing B.Book) desk.old (request_read moment json.now)
-        (answered_text result) desk.new }
+    ensures { AnsweredBy (standing B.Book) desk.old (request_read moment json.now) result desk.new }
 {
     let read = requests.read(json);
     match &read {

@@ -5,8 +5,7 @@ ghost use Rattle.acd_codec.specs.declared.member.Member.TheVariants as members;
 ghost use Rattle.acd_codec.specs.declared.fault.FixedAnswer.TheVariants as fixes;
 ghost use Rattle.acd_desk.specs.declared.desk.Desk.{Desk as DeskOver};
 ghost use Rattle.acd_lines.specs.Input.{asked};
-ghost use Rattle.acd_lines.specs.Answers.{malformed_line, fixed_line};
-ghost use Rattle.acd_lines.specs.Parts.{answered_text};
+ghost use Rattle.acd_lines.specs.Answers.{answered_text, malformed_line, fixed_line};
 
 use crate::answer::read;
 use crate::moment::moment_of;

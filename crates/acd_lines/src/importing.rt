@@ -1,13 +1,12 @@
 //! The requests of a plan, and their answer lines.
 
-ghost use Rattle.std.specs.Prelude.{◌≡◌, [], OnOk, OnErr, IfErr};
-ghost use Rattle.std.specs.Io.KnownBytes.{Appends};
+ghost use Rattle.std.specs.Prelude.{◌≡◌, [], IfErr};
 ghost use Rattle.acd_desk.specs.Ran.{standing};
 ghost use Rattle.acd_lines.specs.Input.{arrival};
 ghost use Rattle.acd_lines.specs.Answers.{Answers};
-ghost use Rattle.acd_lines.specs.Lines.{LinesAnswered, AllRequests, FirstRequests, RequestsAnswered, HasRun};
-ghost use Rattle.acd_lines.specs.Parts.{LineDone, LineStops, Imports, ImportStops};
-ghost use Rattle.acd_io.specs.Sent.{Begins, Breaks};
+ghost use Rattle.acd_lines.specs.Lines.{PlanAnswered, HasRun};
+ghost use Rattle.acd_lines.specs.Outgoing.{outgoing};
+ghost use Rattle.acd_lines.specs.Parts.{LineServed};
 
 use crate::answer::execute;
 use crate::fault::LinesFault;
@@ -27,13 +26,8 @@ fn serve_request<B: Book, W: Write>(
     writer: &mut W,
     request: &Request,
 ) -> Result<(), Stopped>
-    ensures ok { OnOk result
-        (LineDone (Answers (standing B.Book)) desk.old (arrival 0 request.now) desk.new
-        (W.contents writer.old) (W.contents writer.new) outbox.old.waiting.items
-        outbox.new.waiting.items) }
-    ensures err { OnErr result
-        (LineStops (Answers (standing B.Book)) desk.old (arrival 0 request.now) desk.new
-        (W.contents writer.old) (W.contents writer.new) outbox.old.waiting.items) }
+    ensures { LineServed (Answers (standing B.Book)) desk.old (arrival 0 request.now) desk.new
+        result (outgoing W.contents writer.old writer.new outbox.old outbox.new) }
 {
     let answered = execute(desk, 0, request);
     push_answer(outbox, writer, &answered)
@@ -47,12 +41,8 @@ fn serve_requests<B: Book, W: Write>(
     requests: &[Request],
 ) -> Result<(), Stopped>
     requires { outbox.old.waiting.items ≡ [] }
-    ensures ok { OnOk result
-        (Imports (standing B.Book) desk.old requests.now desk.new (W.contents writer.old)
-        (W.contents writer.new) []) }
-    ensures err { OnErr result
-        (ImportStops (standing B.Book) desk.old requests.now desk.new (W.contents writer.old)
-        (W.contents writer.new)) }
+    ensures { PlanAnswered (HasRun B.Book desk.old desk.new) requests.now
+        result (W.contents writer.old) (W.contents writer.new) }
 {
     for request in requests {
         serve_request(desk, outbox, writer, request)?;
@@ -69,18 +59,10 @@ pub fn import<B: Book, W: Write>(
     requests: &[Request],
     writer: &mut W,
 ) -> Result<(), LinesFault>
-    // one answer line for each request, and the desk has run over them
-    ensures ok { OnOk result (LinesAnswered (AllRequests requests.now)
-        (RequestsAnswered (HasRun B.Book desk.old desk.new))
-        (Appends (W.contents writer.old) (W.contents writer.new))) }
-    // else the writer has failed, behind a beginning of them
-    ensures stopped { OnErr result (LinesAnswered (FirstRequests requests.now)
-        (RequestsAnswered (HasRun B.Book desk.old desk.new))
-        (Begins (W.contents writer.old) (W.contents writer.new))) }
-    // and not all of what was answered was written
-    ensures short { OnErr result (LinesAnswered (FirstRequests requests.now)
-        (RequestsAnswered (HasRun B.Book desk.old desk.new))
-        (Breaks (W.contents writer.old) (W.contents writer.new))) }
+    // one answer line for each request, and the desk has run over them; where the writer failed, over a beginning of
+    // them, and not all of what was answered was written
+    ensures answered { PlanAnswered (HasRun B.Book desk.old desk.new) requests.now
+        result (W.contents writer.old) (W.contents writer.new) }
     ensures fault { IfErr result (λ fault. fault ≡ LinesFault.Write) }
 {
     let mut outbox = match Outbox::new(alloc) {

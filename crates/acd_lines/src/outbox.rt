@@ -1,7 +1,7 @@
 //! Answers that wait to be written together.
 
-ghost use Rattle.std.specs.Prelude.{◌≡◌, ◌++◌, [], IfOk, OnOk, OnErr};
-ghost use Rattle.acd_io.specs.Sent.{Passes, Breaks};
+ghost use Rattle.std.specs.Prelude.{◌≡◌, [], IfOk};
+ghost use Rattle.acd_lines.specs.Outgoing.{outgoing, Pushed, Flushed};
 
 use acd_io::{Stopped, most_calls, send};
 use std::alloc::{AllocError, Global};
@@ -40,12 +40,8 @@ impl Outbox {
 
     /// The text goes behind what waits. A text that is longer than the room goes out at once.
     pub(crate) fn push<W: Write>(&mut self, writer: &mut W, text: &[u8]) -> Result<(), Stopped>
-        ensures ok { OnOk result
-            (Passes (W.contents writer.old) (W.contents writer.new) self.new.waiting.items
-            (self.old.waiting.items ++ text.now)) }
-        ensures err { OnErr result
-            (Breaks (W.contents writer.old) (W.contents writer.new)
-            (self.old.waiting.items ++ text.now)) }
+        ensures { Pushed result (outgoing W.contents writer.old writer.new self.old self.new)
+            text.now }
     {
         if text.len() > self.waiting.capacity() - self.waiting.len() {
             self.flush(writer)?;
@@ -61,11 +57,7 @@ impl Outbox {
 
     /// All that waits is written.
     pub(crate) fn flush<W: Write>(&mut self, writer: &mut W) -> Result<(), Stopped>
-        ensures none { OnOk result (self.new.waiting.items ≡ []) }
-        ensures ok { OnOk result
-            (Passes (W.contents writer.old) (W.contents writer.new) [] self.old.waiting.items) }
-        ensures err { OnErr result
-            (Breaks (W.contents writer.old) (W.contents writer.new) self.old.waiting.items) }
+        ensures { Flushed result (outgoing W.contents writer.old writer.new self.old self.new) }
     {
         send(writer, &mut self.calls, self.waiting.as_slice())?;
         self.waiting.clear();

@@ -1,10 +1,11 @@
 //! Lines that are cut out of what is read, and answered.
 
-ghost use Rattle.std.specs.Prelude.{◌≡◌, ◌++◌, [], take, OnOk, OnErr};
+ghost use Rattle.std.specs.Prelude.{◌≡◌, [], OnOk};
 ghost use Rattle.std.specs.Io.BufRead.{strip_last};
+ghost use Rattle.acd_lines.specs.Answers.{answered_text};
 ghost use Rattle.acd_lines.specs.Input.{asked};
-ghost use Rattle.acd_io.specs.Sent.{Passes, Breaks};
-ghost use Rattle.acd_lines.specs.Parts.{LineDone, LineStops, Feeds, FeedStops, Finishes, FinishStops, answered_text};
+ghost use Rattle.acd_lines.specs.Outgoing.{outgoing, Pushed};
+ghost use Rattle.acd_lines.specs.Parts.{LineServed, Fed, Finished, text_kept};
 
 use crate::answering::{Answering, answer_line};
 use crate::outbox::Outbox;
@@ -23,12 +24,8 @@ pub(crate) fn push_answer<W: Write>(
     writer: &mut W,
     answered: &AnswerText,
 ) -> Result<(), Stopped>
-    ensures ok { OnOk result
-        (Passes (W.contents writer.old) (W.contents writer.new) outbox.new.waiting.items
-        (outbox.old.waiting.items ++ answered_text answered.now)) }
-    ensures err { OnErr result
-        (Breaks (W.contents writer.old) (W.contents writer.new)
-        (outbox.old.waiting.items ++ answered_text answered.now)) }
+    ensures { Pushed result (outgoing W.contents writer.old writer.new outbox.old outbox.new)
+        (answered_text answered.now) }
 {
     let mut buffer = Buffer::new();
     outbox.push(writer, buffer.format(answered.status()).as_bytes())?;
@@ -46,13 +43,8 @@ fn serve<B: Book, A: Answering<B>, W: Write>(
     writer: &mut W,
     text: &[u8],
 ) -> Result<(), Stopped>
-    ensures ok { OnOk result
-        (LineDone A.answers desk.old (asked A.unmarked A.long A.read text.now) desk.new
-        (W.contents writer.old) (W.contents writer.new) outbox.old.waiting.items
-        outbox.new.waiting.items) }
-    ensures err { OnErr result
-        (LineStops A.answers desk.old (asked A.unmarked A.long A.read text.now) desk.new
-        (W.contents writer.old) (W.contents writer.new) outbox.old.waiting.items) }
+    ensures { LineServed A.answers desk.old (asked A.unmarked A.long A.read text.now) desk.new
+        result (outgoing W.contents writer.old writer.new outbox.old outbox.new) }
 {
     let answered = answer_line(lines, alloc, desk, text);
     push_answer(outbox, writer, &answered)
@@ -78,15 +70,9 @@ fn end_line<B: Book, A: Answering<B>, W: Write>(
     end: &[u8],
 ) -> Result<(), Stopped>
     ensures empty { OnOk result (partial.new ≡ []) }
-    ensures ok { OnOk result
-        (LineDone A.answers desk.old
-        (asked A.unmarked A.long A.read (strip_last 13 (take 4109 (partial.old ++ end.now))))
-        desk.new (W.contents writer.old) (W.contents writer.new) outbox.old.waiting.items
-        outbox.new.waiting.items) }
-    ensures err { OnErr result
-        (LineStops A.answers desk.old
-        (asked A.unmarked A.long A.read (strip_last 13 (take 4109 (partial.old ++ end.now))))
-        desk.new (W.contents writer.old) (W.contents writer.new) outbox.old.waiting.items) }
+    ensures served { LineServed A.answers desk.old
+        (asked A.unmarked A.long A.read (text_kept partial.old end.now)) desk.new
+        result (outgoing W.contents writer.old writer.new outbox.old outbox.new) }
 {
     if partial.is_empty() {
         return serve(alloc, lines, desk, outbox, writer, without_return(end));
@@ -114,14 +100,9 @@ pub(crate) fn feed<B: Book, A: Answering<B>, W: Write>(
     writer: &mut W,
     chunk: &[u8],
 ) -> Result<(), Stopped>
-    ensures none { OnOk result (outbox.new.waiting.items ≡ []) }
-    ensures ok { OnOk result
-        (Feeds (asked A.unmarked A.long A.read) A.answers desk.old desk.new partial.old partial.new
-        chunk.now (W.contents writer.old) (W.contents writer.new) outbox.old.waiting.items
-        outbox.new.waiting.items) }
-    ensures err { OnErr result
-        (FeedStops (asked A.unmarked A.long A.read) A.answers desk.old desk.new partial.old
-        chunk.now (W.contents writer.old) (W.contents writer.new) outbox.old.waiting.items) }
+    ensures { Fed (asked A.unmarked A.long A.read) A.answers desk.old desk.new
+        partial.old partial.new chunk.now
+        result (outgoing W.contents writer.old writer.new outbox.old outbox.new) }
 {
     let mut rest = chunk;
     while let Some((end, behind)) = split_once(rest, b'\n') {
@@ -141,12 +122,8 @@ pub(crate) fn finish<B: Book, A: Answering<B>, W: Write>(
     outbox: &mut Outbox,
     writer: &mut W,
 ) -> Result<(), Stopped>
-    ensures ok { OnOk result
-        (Finishes (asked A.unmarked A.long A.read) A.answers desk.old desk.new partial.now
-        (W.contents writer.old) (W.contents writer.new) outbox.old.waiting.items) }
-    ensures err { OnErr result
-        (FinishStops (asked A.unmarked A.long A.read) A.answers desk.old desk.new partial.now
-        (W.contents writer.old) (W.contents writer.new) outbox.old.waiting.items) }
+    ensures { Finished (asked A.unmarked A.long A.read) A.answers desk.old desk.new partial.now
+        result (outgoing W.contents writer.old writer.new outbox.old outbox.new) }
 {
     if partial.is_empty() {
         return outbox.flush(writer);

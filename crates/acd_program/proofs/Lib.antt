@@ -7,7 +7,6 @@ pub mod InFiles
 pub mod Tasks
 pub mod Begun
 pub mod Lone
-pub mod Sending
 pub mod Served
 pub mod LinesOver
 pub mod Inputs

@@ -1,6 +1,5 @@
 -- What serving over a database leaves, step by step.
 use Rattle.std.proofs.Common.{◌≡◌, ℕ, Bool, false, List, [], Option, Result, Ok, Err, OnOk, Some, None, sym, subst, refl, append-nil}
-use Rattle.std.specs.Io.KnownBytes.{Appends}
 use Rattle.sqlite.specs.State.{State}
 use Rattle.sqlite.specs.Held.{Held}
 use Rattle.sqlite.specs.Files.{over_files}
@@ -12,7 +11,8 @@ use Rattle.acd_sqlbook.specs.View.{BookView, book_of}
 use Rattle.acd_desk.specs.declared.desk.Desk.{Desk}
 use Rattle.acd_desk.specs.Opening.{Opened}
 use Rattle.acd_desk.specs.Standing.{Standing, standing}
-use Rattle.acd_io.specs.Sent.{Begins}
+use Rattle.acd_io.specs.Sent.{Begins, WasSent}
+use Rattle.acd_io.proofs.Sends.{begins_so}
 use Rattle.acd_lines.specs.Lines.{Streams}
 use Rattle.acd_http.specs.Listening.{ServedAll, ServedUntilFailed, ServedFor, outcome_lines}
 use Rattle.acd_program.specs.Desks.{OverDesk, OverDatabase, in_database}
@@ -24,27 +24,16 @@ use Rattle.acd_program.specs.declared.task.Task.TheVariants as task
 use Rattle.acd_program.specs.Tasks.{ServedIn, TaskDone}
 
 -- what was written whole is a beginning of itself
-pub begins_all : {D : Type 0} (stands : D → Standing) (many : ℕ) (d e : D) (a b : Option (List ℕ)) → ServedAll stands many d e (Appends a b) → ServedAll stands many d e (Begins a b)
-begins_all stands many d e a b h = record {
-  outcomes = h.outcomes;
-  count = h.count;
-  serves = h.serves;
-  out = record { front = outcome_lines 1 h.outcomes; rest = []; whole = sym (append-nil (outcome_lines 1 h.outcomes)); written = h.out };
-}
+begun : {E : Type 0} (r : Result (Unit {0}) E) (a b : Option (List ℕ)) (text : List ℕ) → WasSent r a b text → Begins a b text
+begun (Ok u) a b text h = record { front = text; rest = []; whole = sym (append-nil text); written = h }
+begun (Err e) a b text h = begins_so a b text h
+
+pub begins_all : {D E : Type 0} (stands : D → Standing) (many : ℕ) (d e : D) (r : Result (Unit {0}) E) (a b : Option (List ℕ)) → ServedAll stands many d e (WasSent r a b) → ServedAll stands many d e (Begins a b)
+begins_all stands many d e r a b h = record { outcomes = h.outcomes; count = h.count; serves = h.serves; out = begun r a b (outcome_lines 1 h.outcomes) h.out }
 
 -- and so behind an endless service
-pub begins_until : {D : Type 0} (stands : D → Standing) (d e : D) (a b : Option (List ℕ)) → ServedUntilFailed stands d e (Appends a b) → ServedUntilFailed stands d e (Begins a b)
-begins_until stands d e a b h = (
-  h.0,
-  record {
-    outcomes = h.1.outcomes;
-    count = h.1.count;
-    serves = h.1.serves;
-    well = h.1.well;
-    out = record { front = outcome_lines 1 h.1.outcomes; rest = []; whole = sym (append-nil (outcome_lines 1 h.1.outcomes)); written = h.1.out };
-  },
-  h.2,
-)
+pub begins_until : {D E : Type 0} (stands : D → Standing) (d e : D) (r : Result (Unit {0}) E) (a b : Option (List ℕ)) → ServedUntilFailed stands d e (WasSent r a b) → ServedUntilFailed stands d e (Begins a b)
+begins_until stands d e r a b h = (h.0, record { outcomes = h.1.outcomes; count = h.1.count; serves = h.1.serves; well = h.1.well; out = begun r a b (outcome_lines 1 h.1.outcomes) h.1.out }, h.2)
 
 told_for : {D : Type 0} (stands : D → Standing) (span : Option ℕ) (d e : D) (a b : Option (List ℕ)) → ServedFor stands span d e (Begins a b) → TellsConnections a b
 told_for stands (Some many) d e a b h = (h.outcomes, h.out)

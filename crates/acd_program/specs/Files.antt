@@ -1,5 +1,5 @@
 -- What becomes of the two files before the store has them.
-use Rattle.std.specs.Prelude.{◌≡◌, ◌⊎◌, ℕ, ◌<◌, ◌≤◌, List, [], length, IsTrue}
+use Rattle.std.specs.Prelude.{◌≡◌, ◌⊎◌, ◌↔◌, ℕ, ◌<◌, ◌≤◌, Bool, List, [], length, IsTrue, Result, IfOk}
 use Rattle.sqlite_disk.specs.declared.Disk.{Ghosts}
 use Rattle.sqlite_disk.specs.declared.Files.{Files}
 use Rattle.sqlite_wal.specs.PageSize.{IsPageSize}
@@ -40,6 +40,18 @@ module _ {D : Type 0} {g : Ghosts D} where
     pub creates : IsTrue (state_of rest).is_clean → Creates before (state_of rest)
 
 module _ {D : Type 0} (g : Ghosts D) where
+  -- this holds where neither file's disk lied
+  abbrev pub IfClean : Files D → Type 0 → Type 0
+  IfClean pair Fact = AreClean g pair.log pair.db → Fact
+
+  -- an answer says whether this is so, where neither file's disk lied
+  abbrev pub Tells : {E : Type 0} → Files D → Result Bool E → Type 0 → Type 0
+  Tells pair result Fact = IfOk result (λ (told : Bool). IfClean pair (IsTrue told ↔ Fact))
+
+  -- the log holds a commit, and its file has no bytes
+  abbrev pub IsLoneIn : Files D → Type 0
+  IsLoneIn pair = IsLone (g.seen pair.log) (g.seen pair.db)
+
   -- nothing but reading was done to them: reads return the same, and a crash leaves nothing that it didn't leave before
   pub record AreReadOnly (old new : Files D) : Type 0 where
     pub log : OnlyReads g old.log new.log
@@ -61,7 +73,7 @@ module _ {D : Type 0} (g : Ghosts D) where
   pub record IsBegun (old new : Files D) : Type 0 where
     pub large : AreClean g new.log new.db → new_page < length (g.seen old.db) → AreReadOnly old new
     pub small : AreReadOnly old new ⊎ IsReadAndCreated old new
-    pub made : AreClean g new.log new.db → length (g.seen old.db) ≤ new_page → (¬ IsLone (g.seen old.log) (g.seen old.db)) × IsReadAndCreated old new
+    pub made : AreClean g new.log new.db → length (g.seen old.db) ≤ new_page → (¬ IsLoneIn old) × IsReadAndCreated old new
 
   -- a connection to such files, as the store opened them
   pub record IsOpenedIn (old : Files D) (conn : Held (FileStore D g)) : Type 0 where

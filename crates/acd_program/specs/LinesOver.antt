@@ -14,7 +14,7 @@ use Rattle.acd_desk.specs.Opening.{Refused}
 use Rattle.acd_desk.specs.Standing.{standing}
 use Rattle.acd_lines.specs.Answers.{Answers}
 use Rattle.acd_lines.specs.Input.{line_of}
-use Rattle.acd_lines.specs.Lines.{LinesAnswered, AllLines, Streams, LinesDone}
+use Rattle.acd_lines.specs.Lines.{LinesAnswered, AllLines, Streams, Untouched, LinesDone}
 use Rattle.acd_lines.specs.Parts as parts
 use Rattle.acd_lines.specs.declared.fault.LinesFault.{LinesFault}
 use Rattle.acd_lines.specs.declared.fault.LinesFault.TheVariants.{NoMemory}
@@ -47,7 +47,7 @@ module _ {B : Type 0} (says : book.Ghosts B) (InTurn : Desk B → Desk B → Lis
     pub why : OpenFault
     pub told : result ≡ Err (open_fault why)
     pub refused : Refused old why (says.state last)
-    pub untouched : io.untouched
+    pub untouched : Untouched io
 
   -- lines over the book
   abbrev pub LinesOver : BookState → Result (Unit {0}) Fault → B → Type 0
@@ -59,7 +59,7 @@ module _ {S : Type 0} (store : Ghosts S) (InTurn : Desk (BookView S) → Desk (B
     pub why : Fault
     pub told : result ≡ Err why
     pub unserved : Unserved makes old (state store new)
-    pub untouched : io.untouched
+    pub untouched : Untouched io
 
   -- lines over the book of the database
   abbrev pub LinesIn : State → Result (Unit {0}) Fault → Held S → Type 0
@@ -73,4 +73,4 @@ DatabaseAnswered store makes true ends io old new = OverDatabase store makes (Wh
 module _ (InTurn : Desk Content → Desk Content → List (List ℕ) → List (List ℕ) → Type 0) (io : Streams) where
   -- lines over a new desk in memory, for which there may be no room
   abbrev pub LinesInMemory : Result (Unit {0}) LinesFault → Type 0
-  LinesInMemory result = ((result ≡ Err NoMemory) × io.untouched) ⊎ OverNewDesk (λ (d e : Desk Content). LinesDone (standing in_memory) InTurn false io d e result)
+  LinesInMemory result = ((result ≡ Err NoMemory) × Untouched io) ⊎ OverNewDesk (λ (d e : Desk Content). LinesDone (standing in_memory) InTurn false io d e result)

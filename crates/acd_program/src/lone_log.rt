@@ -2,8 +2,7 @@
 
 ghost use Rattle.std.specs.Prelude.{◌≡◌, ◌↔◌, IsTrue, IfOk};
 ghost use Rattle.sqlite_disk.specs.Memory.{memory_bytes, memory_is_usable};
-ghost use Rattle.sqlite_wal.specs.Reads.{AreClean};
-ghost use Rattle.acd_program.specs.Files.{AreReadOnly, HoldsCommit, IsLone};
+ghost use Rattle.acd_program.specs.Files.{AreReadOnly, Tells, HoldsCommit, IsLoneIn};
 
 use sqlite_disk::{Disk, Files, Memory};
 use sqlite_wal::{Error, probe_frames, probe_page_size};
@@ -14,9 +13,7 @@ use std::io;
 fn holds_commit<D: Disk>(alloc: Global, files: &mut Files<D>) -> Result<bool, Error>
     requires log { IsTrue (D.Disk.is_usable files.old.log) }
     requires db { IsTrue (D.Disk.is_usable files.old.db) }
-    ensures holds { IfOk result
-        (λ holds. AreClean D.Disk files.new.log files.new.db
-        → IsTrue holds ↔ HoldsCommit (D.Disk.seen files.old.log)) }
+    ensures holds { Tells D.Disk files.new result (HoldsCommit (D.Disk.seen files.old.log)) }
     ensures read { AreReadOnly D.Disk files.old files.new }
 {
     match probe_page_size(files)? {
@@ -29,9 +26,7 @@ fn holds_commit<D: Disk>(alloc: Global, files: &mut Files<D>) -> Result<bool, Er
 pub(crate) fn is_lone<D: Disk>(alloc: Global, files: &mut Files<D>) -> Result<bool, Error>
     requires log { IsTrue (D.Disk.is_usable files.old.log) }
     requires db { IsTrue (D.Disk.is_usable files.old.db) }
-    ensures lone { IfOk result
-        (λ lone. AreClean D.Disk files.new.log files.new.db
-        → IsTrue lone ↔ IsLone (D.Disk.seen files.old.log) (D.Disk.seen files.old.db)) }
+    ensures lone { Tells D.Disk files.new result (IsLoneIn D.Disk files.old) }
     ensures read { AreReadOnly D.Disk files.old files.new }
 {
     if files.db.len()? != 0 {

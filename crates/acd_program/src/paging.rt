@@ -2,7 +2,7 @@
 
 ghost use Rattle.std.specs.Prelude.{◌≡◌, ◌≤◌, ◌<◌, ◌↔◌, length, IsTrue, IfOk};
 ghost use Rattle.sqlite_wal.specs.Reads.{IsClean, AreClean, OnlyReads};
-ghost use Rattle.acd_program.specs.Files.{new_page, IsLone, AreReadOnly, IsCreated, IsReadAndCreated, IsBegun};
+ghost use Rattle.acd_program.specs.Files.{new_page, IfClean, IsLoneIn, AreReadOnly, IsCreated, IsReadAndCreated, IsBegun};
 
 use crate::fault::Fault;
 use crate::lone_log::is_lone;
@@ -55,8 +55,7 @@ fn created<'a, D: Disk + Drop>(
     requires log { IsTrue (D.Disk.is_usable files.log) }
     requires db { IsTrue (D.Disk.is_usable files.db) }
     ensures created { IfOk result (λ new. IsCreated D.Disk files new) }
-    ensures clean { IfOk result
-        (λ new. AreClean D.Disk new.log new.db → AreClean D.Disk files.log files.db) }
+    ensures clean { IfOk result (λ new. IfClean D.Disk new (AreClean D.Disk files.log files.db)) }
 {
     let Some(size) = PageSize::new(NEW_PAGE) else {
         return Err(Fault::CannotOpen(path));
@@ -99,11 +98,8 @@ fn created_beside<'a, D: Disk + Drop>(
     requires log { IsTrue (D.Disk.is_usable files.log) }
     requires db { IsTrue (D.Disk.is_usable files.db) }
     ensures created { IfOk result (λ new. IsReadAndCreated D.Disk files new) }
-    ensures clean { IfOk result
-        (λ new. AreClean D.Disk new.log new.db → AreClean D.Disk files.log files.db) }
-    ensures spared { IfOk result
-        (λ new. AreClean D.Disk new.log new.db
-        → ¬ IsLone (D.Disk.seen files.log) (D.Disk.seen files.db)) }
+    ensures clean { IfOk result (λ new. IfClean D.Disk new (AreClean D.Disk files.log files.db)) }
+    ensures spared { IfOk result (λ new. IfClean D.Disk new (¬ IsLoneIn D.Disk files)) }
 {
     match is_lone(alloc, &mut files) {
         Ok(false) => created(alloc, files, seed, path),

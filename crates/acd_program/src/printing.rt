@@ -2,7 +2,7 @@
 
 ghost use Rattle.std.specs.Prelude.{◌≡◌, ◌++◌, ◌∷◌, [], decimal, OnOk, OnErr, IfOk, IfErr};
 ghost use Rattle.std.specs.Io.KnownBytes.{Appends};
-ghost use Rattle.acd_io.specs.Sent.{Begins};
+ghost use Rattle.acd_io.specs.Sent.{Breaks, WasSent};
 ghost use Rattle.acd_program.specs.Found.{sound_line, finding_line};
 ghost use Rattle.acd_program.specs.Statuses.{IsDone, sound_status, finding_status};
 ghost use Rattle.acd_program.specs.Work.{text_left, status_left};
@@ -27,12 +27,8 @@ const CALLS: u64 = u64::MAX;
 
 // Writes a line that ends in a number.
 fn send_number<W: Write>(writer: &mut W, front: &[u8], number: u64) -> Result<(), Stopped>
-    ensures ok { OnOk result
-        (Appends (W.contents writer.old) (W.contents writer.new)
-        (front.now ++ (decimal number ++ 10 ∷ []))) }
-    ensures err { OnErr result
-        (Begins (W.contents writer.old) (W.contents writer.new)
-        (front.now ++ (decimal number ++ 10 ∷ []))) }
+    ensures { WasSent result (W.contents writer.old) (W.contents writer.new)
+        (front.now ++ (decimal number ++ 10 ∷ [])) }
 {
     let mut calls = CALLS;
     let mut digits = Buffer::new();
@@ -54,12 +50,8 @@ fn sound_line(ending: Ending) -> &'static str
 
 // Writes that, and how many requests were executed.
 fn send_counted<W: Write>(ending: Ending, count: u64, writer: &mut W) -> Result<(), Stopped>
-    ensures ok { OnOk result
-        (Appends (W.contents writer.old) (W.contents writer.new)
-        (finding_line ending (Finding.Counted count))) }
-    ensures err { OnErr result
-        (Begins (W.contents writer.old) (W.contents writer.new)
-        (finding_line ending (Finding.Counted count))) }
+    ensures { WasSent result (W.contents writer.old) (W.contents writer.new)
+        (finding_line ending (Finding.Counted count)) }
 {
     let mut calls = CALLS;
     send(writer, &mut calls, sound_line(ending).as_bytes())?;
@@ -68,10 +60,8 @@ fn send_counted<W: Write>(ending: Ending, count: u64, writer: &mut W) -> Result<
 
 // Writes what an audit found, as a line or two.
 fn send_finding<W: Write>(found: Finding, ending: Ending, writer: &mut W) -> Result<(), Stopped>
-    ensures ok { OnOk result
-        (Appends (W.contents writer.old) (W.contents writer.new) (finding_line ending found)) }
-    ensures err { OnErr result
-        (Begins (W.contents writer.old) (W.contents writer.new) (finding_line ending found)) }
+    ensures { WasSent result (W.contents writer.old) (W.contents writer.new)
+        (finding_line ending found) }
 {
     let mut calls = CALLS;
     match found {
@@ -82,10 +72,7 @@ fn send_finding<W: Write>(found: Finding, ending: Ending, writer: &mut W) -> Res
 }
 
 fn send_left<W: Write>(left: &Done, writer: &mut W) -> Result<(), Stopped>
-    ensures ok { OnOk result
-        (Appends (W.contents writer.old) (W.contents writer.new) (text_left left.now)) }
-    ensures err { OnErr result
-        (Begins (W.contents writer.old) (W.contents writer.new) (text_left left.now)) }
+    ensures { WasSent result (W.contents writer.old) (W.contents writer.new) (text_left left.now) }
 {
     let mut calls = CALLS;
     match left {
@@ -136,9 +123,9 @@ pub(crate) fn print<'a, W: Write>(left: &Done, writer: &mut W) -> Result<u8, Fau
     ensures status { IfOk result (λ status. status ≡ status_left left.now) }
     ensures ok { OnOk result
         (Appends (W.contents writer.old) (W.contents writer.new) (text_left left.now)) }
-    // where the writer failed, a beginning of it
-    ensures err { OnErr result
-        (Begins (W.contents writer.old) (W.contents writer.new) (text_left left.now)) }
+    // where the writer failed, a beginning of it and not all
+    ensures short { OnErr result
+        (Breaks (W.contents writer.old) (W.contents writer.new) (text_left left.now)) }
     ensures fault { IfErr result (λ fault. fault ≡ Fault.Write) }
 {
     match send_left(left, writer) {

@@ -59,9 +59,9 @@ module _ (old mid new : State) (b : Builds mid book_schema ((rows_of old.now.tre
   }
 
 pub altered_if : (old mid new : State) (r : Result (Unit {0}) Error) → ((rows : List (List Row)) → Builds old old_schema rows → Builds mid book_schema ((rows ++ [] ∷ []) ++ [] ∷ []))
-    → OnOk r (mid.now.schema ≡ book_schema → TellsSecond mid new) → OnOk r (IsTrue old.in_transaction → old.now.schema ≡ old_schema → IsAltered old new)
-altered_if old mid new (Err e) makes told = tt
-altered_if old mid new (Ok x) makes told = λ (inside : IsTrue old.in_transaction) (is : old.now.schema ≡ old_schema).
+    → OnOk r (mid.now.schema ≡ book_schema → TellsSecond mid new) → IsTrue old.in_transaction → old.now.schema ≡ old_schema → OnOk r (IsAltered old new)
+altered_if old mid new (Err e) makes told inside is = tt
+altered_if old mid new (Ok x) makes told inside is =
     let b = makes (rows_of old.now.trees) (old_builds old inside is) in altered old mid new b (told b.schema_is)
 
 -- ---- behind it

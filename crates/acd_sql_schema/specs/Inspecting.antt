@@ -28,10 +28,10 @@ use Rattle.acd_sql_schema.specs.declared.verdict.Page.{Page}
 use Rattle.acd_sql_schema.specs.declared.verdict.Page.TheVariants.{Bad, Last, More}
 use Rattle.acd_sql_columns.specs.Content.{IsIn, number_of}
 use Rattle.acd_sql_columns.specs.Draft.{Fits}
-use Rattle.acd_sql_columns.specs.AnyRows.{is_good, are_good, is_good_in, is_beside, is_ranked, IsFiledAs, table_of_log, Numbered, AreNumbered, values_behind, has_meta, BeginsAsBook, schema_of, Covers}
+use Rattle.acd_sql_columns.specs.AnyRows.{is_good, are_good, is_good_in, is_beside, is_ranked, IsFiledAs, table_of_log, Numbered, AreNumbered, values_behind, has_meta, BeginsAsBook, schema_of, Covers, TellsGood}
 use Rattle.acd_sql_columns.specs.Schema.{book_schema, nine, BeginsSchema}
 use Rattle.acd_sql_columns.specs.Schema as schema
-use Rattle.acd_sql_statements.specs.Looking.{BlamesLook}
+use Rattle.acd_sql_statements.specs.Looking.{BlamesLook, SeesOver}
 use Rattle.acd_sql_columns.specs.Values.{◌>>=◌, whole_at}
 
 -- the tables of a version, in the order in which they are looked at
@@ -41,10 +41,22 @@ tables_of version.Second =
     table.Meta ∷ table.Groups ∷ table.Stations ∷ table.Agents ∷ table.Calls ∷ table.Connections ∷ table.Monitors ∷ table.Events ∷ table.Kept
     ∷ table.AgentGroups ∷ table.GroupPriority ∷ []
 
+-- a schema has these tables as a book has them
+abbrev pub CoversAll : List Table → Schema → Type 0
+CoversAll tables s = Every (Covers s) tables
+
 -- one that isn't good or, of rows that are filed, none
 abbrev pub IsBadOf : List Table → Database → Option Table → Type 0
 IsBadOf tables d None = IsFiledAs version.First d.trees → Every (λ t. is_good_in t d.trees ≡ true) tables
 IsBadOf tables d (Some t) = Covers d.schema t × (is_good_in t d.trees ≡ false)
+
+-- what a look sees of the rows of each database of such a schema
+abbrev pub SeesRows : {S A : Type 0} → (Schema → Type 0) → Ghosts S → Held S → Held S → Result A Error → (Trees → A → Type 0) → Type 0
+SeesRows Has g old new result IsAnswer = SeesOver Has g old new result (λ (d : Database). IsAnswer d.trees)
+
+-- whether each value of the table is in its range
+abbrev pub SeesGood : {S : Type 0} → Table → (Schema → Type 0) → Ghosts S → Held S → Held S → Result Bool Error → Type 0
+SeesGood t Has g old new result = SeesRows Has g old new result (TellsGood t)
 
 unfoldable pub is_good_behind : Log → ℕ → List Numbered → Bool
 is_good_behind l n xs = are_good (table_of_log l) (values_behind l n xs)
@@ -91,6 +103,10 @@ PageFits Last = ⊤
 PageFits (More m) = Fits m
 
 -- ---- versions
+
+-- the tables are those of this version
+abbrev pub IsSchemaOf : Version → Schema → Type 0
+IsSchemaOf v s = s ≡ schema_of v
 
 -- they are those of no version
 abbrev pub IsNoBook : Schema → Type 0
@@ -184,6 +200,10 @@ IsRowFound v d (Some f) = IsFoundFaultOf d f
 abbrev pub IsPlaceFound : Version → Database → Option AdoptFault → Type 0
 IsPlaceFound v d None = ArePlaced v d.trees
 IsPlaceFound v d (Some f) = IsFoundFaultOf d f
+
+-- the same of each database of this version
+abbrev pub SeesPlaces : {S : Type 0} → Version → Ghosts S → Held S → Held S → Result (Option AdoptFault) Error → Type 0
+SeesPlaces v g old new result = SeesOver (IsSchemaOf v) g old new result (IsPlaceFound v)
 
 abbrev pub IsFound : Database → Found → Type 0
 IsFound d (Book v) = IsOfBook v d

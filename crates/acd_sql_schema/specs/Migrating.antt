@@ -1,7 +1,9 @@
 -- What a migration makes of version 1, and what a crash leaves of it.
 use Rattle.std.specs.Prelude.{◌≡◌, ◌≢◌, ◌⊎◌, ℕ, true, [], ◌∷◌, Option, IsTrue}
 use Rattle.sqlite_trees.specs.Tree.{Trees}
+use Rattle.sqlite_trees.specs.declared.store.Store.{Ghosts}
 use Rattle.sqlite.specs.Effect.{Database}
+use Rattle.sqlite.specs.Held.{Held, state}
 use Rattle.sqlite.specs.State.{State, HasCleanDisk}
 use Rattle.sqlite.specs.declared.error.Error.{Error}
 use Rattle.acd_sql_columns.specs.declared.meta.Meta.{Meta}
@@ -22,8 +24,12 @@ pub record IsMigration (old new : Trees) : Type 0 where
   pub priorities : new (tree_of table.GroupPriority) ≡ []
 
 -- this holds where the tables were those of version 1, and no disk lied
-abbrev pub IfFirst : State → State → Type 0 → Type 0
-IfFirst old new Fact = HasCleanDisk new → old.now.schema ≡ old_schema → Fact
+abbrev pub IfFirst : {S : Type 0} → Ghosts S → Held S → Held S → (State → State → Type 0) → Type 0
+IfFirst g old new Fact = HasCleanDisk (state g new) → (state g old).now.schema ≡ old_schema → Fact (state g old) (state g new)
+
+-- the same of the states within the transaction
+abbrev pub IfFirstInside : {S : Type 0} → Ghosts S → Held S → Held S → (State → State → Type 0) → Type 0
+IfFirstInside g old new Fact = HasCleanDisk (state g new) → IsTrue (state g old).in_transaction → (state g old).now.schema ≡ old_schema → Fact (state g old) (state g new)
 
 -- inside the transaction
 pub record IsAltered (old new : State) : Type 0 where

@@ -1,5 +1,5 @@
 -- What a crash leaves of the making of the tables, and why they aren't made.
-use Rattle.std.specs.Prelude.{◌≡◌, ◌⊎◌, ℕ, List, Option, Result, IfErr, OnOk}
+use Rattle.std.specs.Prelude.{◌≡◌, ◌⊎◌, ◌++◌, ◌∷◌, [], ℕ, List, Option, Result, IfErr, OnOk}
 use Rattle.std.specs.Borrow.{MutBor}
 use Rattle.sqlite_value.specs.Order.{Row}
 use Rattle.sqlite_trees.specs.Tree.{Trees}
@@ -15,12 +15,17 @@ use Rattle.acd_sql_columns.specs.declared.meta.Meta.{Meta}
 use Rattle.acd_sql_columns.specs.declared.tables.Version.{Version}
 use Rattle.acd_sql_columns.specs.declared.tables.Version.TheVariants as version
 use Rattle.acd_sql_columns.specs.declared.texts.TheConstants.{INSERT_META}
+use Rattle.acd_sql_columns.specs.AnyRows.{schema_of}
 use Rattle.acd_sql_columns.specs.Content.{Encodes}
 use Rattle.acd_sql_columns.specs.Draft.{Works}
-use Rattle.acd_sql_columns.specs.Making.{Builds, HasRows, no_rows}
+use Rattle.acd_sql_columns.specs.Making.{Builds, HasRows, no_rows, plan_schema, state_schema}
 use Rattle.acd_sql_columns.specs.Rows.{meta_values}
-use Rattle.acd_sql_columns.specs.Schema.{book_schema}
+use Rattle.acd_sql_columns.specs.Schema.{book_schema, no_schema}
 use Rattle.acd_sql_statements.specs.Failing.{IsMemory, StoreHasFailed, Refuses}
+
+-- this holds of the states before and behind, where no disk lied
+abbrev pub IfClean : {S : Type 0} → Ghosts S → Held S → Held S → (State → State → Type 0) → Type 0
+IfClean g old new Fact = HasCleanDisk (state g new) → Fact (state g old) (state g new)
 
 -- a crash leaves what it left before, or a book with the limits and nothing else
 abbrev pub MayMake : State → State → Limits → Type 0
@@ -45,6 +50,10 @@ FailsToMake old new e = IsMemory e ⊎ StoreHasFailed old new
 abbrev pub FailsToSetUp : State → State → Limits → Error → Type 0
 FailsToSetUp old new limits e = IsMemory e ⊎ (StoreHasFailed old new ⊎ IsUnstarted old.step_limit limits)
 
+-- a fault has such a cause, where no disk lied
+abbrev pub FailsBy : {S A : Type 0} → Ghosts S → Held S → Held S → Result A Error → (State → State → Error → Type 0) → Type 0
+FailsBy g old new result Cause = IfClean g old new (λ (s t : State). IfErr result (Cause s t))
+
 -- ---- inside the transaction
 
 -- how many tables a version has
@@ -52,9 +61,34 @@ abbrev pub tables_in : Version → ℕ
 tables_in version.First = 9
 tables_in version.Second = 11
 
--- tables with these rows become tables with those, and nothing is committed
-pub record MakesTables {S : Type 0} (g : Ghosts S) (old new : MutBor (Held S)) (result : Result (Unit {0}) Error) (before : Schema) (had : List (List Row)) (after : Schema) (have : List (List Row)) : Type 0 where
+-- tables, and the rows of each
+pub record Stage : Type 0 where
+  pub schema : Schema
+  pub rows : List (List Row)
+
+abbrev pub stage : Schema → List (List Row) → Stage
+stage schema rows = record { schema = schema; rows = rows }
+
+-- without a row: none, those of the plan, with what changes from call to call, and all of a version
+abbrev pub none_made : Stage
+none_made = stage no_schema (no_rows 0)
+
+abbrev pub plan_made : Stage
+plan_made = stage plan_schema (no_rows 4)
+
+abbrev pub state_made : Stage
+state_made = stage state_schema (no_rows 7)
+
+abbrev pub made_of : Version → Stage
+made_of version = stage (schema_of version) (no_rows (tables_in version))
+
+-- the nine tables of version 1 with these rows, and two without one behind them
+abbrev pub eleven_with : List (List Row) → Stage
+eleven_with rows = stage book_schema ((rows ++ [] ∷ []) ++ [] ∷ [])
+
+-- tables with their rows become others, and nothing is committed
+pub record MakesTables {S : Type 0} (g : Ghosts S) (old new : MutBor (Held S)) (result : Result (Unit {0}) Error) (before after : Stage) : Type 0 where
   pub same : new.ghost_name ≡ old.ghost_name
   pub works : Works (state g old.now) (state g new.now)
-  pub made : HasCleanDisk (state g new.now) → OnOk result (Builds (state g old.now) before had → Builds (state g new.now) after have)
-  pub failed : HasCleanDisk (state g new.now) → Builds (state g old.now) before had → IfErr result (FailsToMake (state g old.now) (state g new.now))
+  pub made : HasCleanDisk (state g new.now) → OnOk result (Builds (state g old.now) before.schema before.rows → Builds (state g new.now) after.schema after.rows)
+  pub failed : HasCleanDisk (state g new.now) → Builds (state g old.now) before.schema before.rows → IfErr result (FailsToMake (state g old.now) (state g new.now))

@@ -1,15 +1,14 @@
 //! Makes the tables of a book.
 
-ghost use Rattle.std.specs.Prelude.{◌≡◌, ◌↔◌, ◌++◌, ◌∷◌, [], List, false, IsTrue, IfErr, OnOk};
+ghost use Rattle.std.specs.Prelude.{◌≡◌, ◌↔◌, [], List, false, IsTrue, OnOk};
 ghost use Rattle.sqlite_value.specs.Order.{Row as Values};
 ghost use Rattle.sqlite.specs.State.{HasCleanDisk};
 ghost use Rattle.sqlite.specs.Held.{state};
-ghost use Rattle.acd_sql_columns.specs.Schema.{no_schema, old_schema, book_schema};
+ghost use Rattle.acd_sql_columns.specs.Schema.{no_schema, old_schema};
 ghost use Rattle.acd_sql_columns.specs.AnyRows.{schema_of};
-ghost use Rattle.acd_sql_columns.specs.Making.{Builds, no_rows, plan_schema, state_schema};
-ghost use Rattle.acd_sql_columns.specs.Draft.{Works, HoldsContent, LimitsFit};
+ghost use Rattle.acd_sql_columns.specs.Draft.{HoldsContent, LimitsFit};
 ghost use Rattle.acd_book.specs.Content.{empty_content};
-ghost use Rattle.acd_sql_schema.specs.SettingUp.{MakesTables, MayMake, FailsToMake, FailsToSetUp, tables_in};
+ghost use Rattle.acd_sql_schema.specs.SettingUp.{MakesTables, stage, none_made, plan_made, state_made, made_of, eleven_with, IfClean, MayMake, FailsBy, FailsToMake, FailsToSetUp};
 ghost use Rattle.acd_sql_statements.specs.Between.{IsUp};
 ghost use Rattle.acd_sql_statements.specs.Inside.{RunsText};
 
@@ -40,8 +39,7 @@ fn make<S: Alter>(tx: &mut Transaction<'_, S>, sql: &str) -> Result<(), Error>
 
 // The limits and the plan.
 fn make_plan<S: Alter>(tx: &mut Transaction<'_, S>) -> Result<(), Error>
-    ensures { MakesTables S.Store tx.old.conn tx.new.conn result
-        no_schema (no_rows 0) plan_schema (no_rows 4) }
+    ensures { MakesTables S.Store tx.old.conn tx.new.conn result none_made plan_made }
 {
     make(tx, CREATE_META)?;
     make(tx, CREATE_GROUPS)?;
@@ -51,8 +49,7 @@ fn make_plan<S: Alter>(tx: &mut Transaction<'_, S>) -> Result<(), Error>
 
 // What changes from call to call.
 fn make_state<S: Alter>(tx: &mut Transaction<'_, S>) -> Result<(), Error>
-    ensures { MakesTables S.Store tx.old.conn tx.new.conn result
-        plan_schema (no_rows 4) state_schema (no_rows 7) }
+    ensures { MakesTables S.Store tx.old.conn tx.new.conn result plan_made state_made }
 {
     make(tx, CREATE_CALLS)?;
     make(tx, CREATE_CONNECTIONS)?;
@@ -62,7 +59,7 @@ fn make_state<S: Alter>(tx: &mut Transaction<'_, S>) -> Result<(), Error>
 // The events and the kept replies.
 fn make_log<S: Alter>(tx: &mut Transaction<'_, S>) -> Result<(), Error>
     ensures { MakesTables S.Store tx.old.conn tx.new.conn result
-        state_schema (no_rows 7) old_schema (no_rows 9) }
+        state_made (made_of Version.First) }
 {
     make(tx, CREATE_EVENTS)?;
     make(tx, CREATE_KEPT)
@@ -70,8 +67,7 @@ fn make_log<S: Alter>(tx: &mut Transaction<'_, S>) -> Result<(), Error>
 
 // Makes the nine tables of version 1.
 fn make_nine<S: Alter>(tx: &mut Transaction<'_, S>) -> Result<(), Error>
-    ensures { MakesTables S.Store tx.old.conn tx.new.conn result
-        no_schema (no_rows 0) old_schema (no_rows 9) }
+    ensures { MakesTables S.Store tx.old.conn tx.new.conn result none_made (made_of Version.First) }
 {
     make_plan(tx)?;
     make_state(tx)?;
@@ -80,15 +76,8 @@ fn make_nine<S: Alter>(tx: &mut Transaction<'_, S>) -> Result<(), Error>
 
 /// Makes the two tables of version 2 behind the nine, whatever rows these have.
 pub(crate) fn make_two<S: Alter>(tx: &mut Transaction<'_, S>) -> Result<(), Error>
-    ensures same { tx.new.conn.ghost_name ≡ tx.old.conn.ghost_name }
-    ensures works { Works (state S.Store tx.old.conn.now) (state S.Store tx.new.conn.now) }
-    ensures made { HasCleanDisk (state S.Store tx.new.conn.now) → OnOk result
-        ((rows : List (List Values)) → Builds (state S.Store tx.old.conn.now) old_schema rows
-        → Builds (state S.Store tx.new.conn.now) book_schema ((rows ++ [] ∷ []) ++ [] ∷ [])) }
-    ensures failed { HasCleanDisk (state S.Store tx.new.conn.now)
-        → (rows : List (List Values)) → Builds (state S.Store tx.old.conn.now) old_schema rows
-        → IfErr result (FailsToMake
-        (state S.Store tx.old.conn.now) (state S.Store tx.new.conn.now)) }
+    ensures { (rows : List (List Values)) → MakesTables S.Store tx.old.conn tx.new.conn result
+        (stage old_schema rows) (eleven_with rows) }
 {
     make(tx, CREATE_AGENT_GROUPS)?;
     make(tx, CREATE_GROUP_PRIORITY)
@@ -97,7 +86,7 @@ pub(crate) fn make_two<S: Alter>(tx: &mut Transaction<'_, S>) -> Result<(), Erro
 // Makes the eleven tables.
 fn make_tables<S: Alter>(tx: &mut Transaction<'_, S>) -> Result<(), Error>
     ensures { MakesTables S.Store tx.old.conn tx.new.conn result
-        no_schema (no_rows 0) book_schema (no_rows 11) }
+        none_made (made_of Version.Second) }
 {
     make_nine(tx)?;
     make_two(tx)
@@ -105,8 +94,7 @@ fn make_tables<S: Alter>(tx: &mut Transaction<'_, S>) -> Result<(), Error>
 
 // Makes the tables of the version.
 fn make_version<S: Alter>(tx: &mut Transaction<'_, S>, version: Version) -> Result<(), Error>
-    ensures { MakesTables S.Store tx.old.conn tx.new.conn result
-        no_schema (no_rows 0) (schema_of version) (no_rows (tables_in version)) }
+    ensures { MakesTables S.Store tx.old.conn tx.new.conn result none_made (made_of version) }
 {
     match version {
         Version::First => make_nine(tx),
@@ -122,10 +110,9 @@ pub(crate) fn set_up_empty<S: Alter>(
     requires idle { conn.old.in_transaction ≡ false }
     requires empty { (state S.Store conn.old).now.schema ≡ no_schema }
     ensures idle { conn.new.in_transaction ≡ false }
-    ensures made { HasCleanDisk (state S.Store conn.new)
-        → OnOk result ((state S.Store conn.new).now.schema ≡ schema_of version) }
-    ensures failed { HasCleanDisk (state S.Store conn.new) → IfErr result (FailsToMake
-        (state S.Store conn.old) (state S.Store conn.new)) }
+    ensures made { IfClean S.Store conn.old conn.new
+        (λ old new. OnOk result (new.now.schema ≡ schema_of version)) }
+    ensures failed { FailsBy S.Store conn.old conn.new result FailsToMake }
 {
     let mut tx = conn.transaction();
     make_version(&mut tx, version)?;
@@ -139,14 +126,13 @@ pub fn set_up<S: Alter>(conn: &mut Connection<S>, limits: Limits) -> Result<(), 
     requires fit { LimitsFit limits }
     ensures idle { conn.new.in_transaction ≡ false }
     ensures clean { HasCleanDisk (state S.Store conn.new) → HasCleanDisk (state S.Store conn.old) }
-    ensures made { HasCleanDisk (state S.Store conn.new)
-        → OnOk result (HoldsContent (state S.Store conn.new) (empty_content limits)) }
+    ensures made { IfClean S.Store conn.old conn.new
+        (λ old new. OnOk result (HoldsContent new (empty_content limits))) }
     ensures up { IsUp (state S.Store conn.new) result }
-    ensures stops { HasCleanDisk (state S.Store conn.new)
-        → MayMake (state S.Store conn.old) (state S.Store conn.new) limits }
+    ensures stops { IfClean S.Store conn.old conn.new (λ old new. MayMake old new limits) }
     ensures limit { (state S.Store conn.new).step_limit ≡ (state S.Store conn.old).step_limit }
-    ensures failed { HasCleanDisk (state S.Store conn.new) → IfErr result (FailsToSetUp
-        (state S.Store conn.old) (state S.Store conn.new) limits) }
+    ensures failed { FailsBy S.Store conn.old conn.new result
+        (λ old new. FailsToSetUp old new limits) }
 {
     let meta = Meta {
         limits,

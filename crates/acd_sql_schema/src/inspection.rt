@@ -1,13 +1,11 @@
 //! Whether a database has the tables of a book, of version 1 or 2, with each value in its range.
 
 ghost use Rattle.std.specs.Prelude.{◌≡◌, ◌≢◌, ◌⊎◌, [], true, false, None, Some, IfErr, IfOk, IfSome};
-ghost use Rattle.acd_terms.specs.Lists.{Every};
-ghost use Rattle.sqlite.specs.Effect.{Database};
 ghost use Rattle.sqlite.specs.Held.{state};
 ghost use Rattle.acd_sql_columns.specs.declared.tables.Table.TheVariants as table;
-ghost use Rattle.acd_sql_columns.specs.AnyRows.{is_beside, table_of_log, are_good, schema_of, BeginsAsBook, Covers, IsFiled, TellsGood};
+ghost use Rattle.acd_sql_columns.specs.AnyRows.{is_beside, table_of_log, are_good, schema_of, BeginsAsBook, Covers, IsFiled};
 ghost use Rattle.acd_sql_columns.specs.Content.{number_of};
-ghost use Rattle.acd_sql_schema.specs.Inspecting.{IsNoBook, HasNoRise, IsPageAbove, HasFiled, IsPaged, HasGoodTables, number_if_good, last_good, tables_of, told_by, IsLike, TellsBehind, IsBadOf, IsPageOfLog, IsLogPage, PageFits, IsFound, IsRowFound, IsPlaceFound, IsVersionTold, IsToldIn, IsAdoptStoreFault, adopt_fault_of, BlamesIn};
+ghost use Rattle.acd_sql_schema.specs.Inspecting.{CoversAll, IsSchemaOf, SeesRows, SeesGood, SeesPlaces, HasNoRise, IsPageAbove, HasFiled, IsPaged, HasGoodTables, number_if_good, last_good, tables_of, told_by, IsLike, TellsBehind, IsBadOf, IsPageOfLog, IsLogPage, PageFits, IsFound, IsRowFound, IsPlaceFound, IsVersionTold, IsToldIn, IsAdoptStoreFault, adopt_fault_of, BlamesIn};
 ghost use Rattle.acd_sql_columns.specs.Draft.{Fits};
 ghost use Rattle.acd_sql_columns.specs.Schema.{nine, book_schema, BeginsSchema};
 ghost use Rattle.acd_sql_columns.specs.Seeing.{Sees, HasLooked};
@@ -48,8 +46,7 @@ fn are_connections(rows: &[Row]) -> bool
 
 // Whether the limits and the counters are in their ranges.
 fn is_good_meta<S: Alter>(conn: &mut Connection<S>) -> Result<bool, Error>
-    ensures seen { SeesOver (BeginsSchema nine) S.Store conn.old conn.new result
-        (λ d good. TellsGood table.Meta d.trees good) }
+    ensures seen { SeesGood table.Meta (BeginsSchema nine) S.Store conn.old conn.new result }
     ensures looked { BlamesOver (BeginsSchema nine) [] S.Store conn.old conn.new result }
 {
     let rows = meta_rows(conn)?;
@@ -58,8 +55,7 @@ fn is_good_meta<S: Alter>(conn: &mut Connection<S>) -> Result<bool, Error>
 
 // Whether each value of the connections is in its range.
 fn are_good_connections<S: Alter>(conn: &mut Connection<S>) -> Result<bool, Error>
-    ensures seen { SeesOver (BeginsSchema nine) S.Store conn.old conn.new result
-        (λ d good. TellsGood table.Connections d.trees good) }
+    ensures seen { SeesGood table.Connections (BeginsSchema nine) S.Store conn.old conn.new result }
     ensures looked { BlamesOver (BeginsSchema nine) [] S.Store conn.old conn.new result }
 {
     let rows = unordered_connection_rows(conn)?;
@@ -75,8 +71,7 @@ fn are_further(rows: &[Row]) -> bool
 
 // Whether each value of the further groups is in its range.
 fn are_good_further<S: Alter>(conn: &mut Connection<S>) -> Result<bool, Error>
-    ensures seen { SeesOver (λ s. s ≡ book_schema) S.Store conn.old conn.new result
-        (λ d good. TellsGood table.AgentGroups d.trees good) }
+    ensures seen { SeesGood table.AgentGroups IsBookSchema S.Store conn.old conn.new result }
     ensures looked { BlamesOver IsBookSchema [] S.Store conn.old conn.new result }
 {
     let rows = further_rows(conn)?;
@@ -149,8 +144,8 @@ fn page_behind<S: Alter>(
     number: u64,
 ) -> Result<Page, Error>
     requires number { Fits number }
-    ensures seen { SeesOver (BeginsSchema nine) S.Store conn.old conn.new result
-        (λ d page. IsPageOfLog log number d.trees page) }
+    ensures seen { SeesRows (BeginsSchema nine) S.Store conn.old conn.new result
+        (IsPageOfLog log number) }
     ensures fits { IfOk result (λ page. PageFits page) }
     ensures rises { IfOk result (λ page. IsPageAbove number page) }
     ensures looked { BlamesIn (IsPaged log) S.Store conn.old conn.new result }
@@ -165,8 +160,8 @@ fn are_pages_good<S: Alter>(
     conn: &mut Connection<S>,
     log: Log,
 ) -> Result<bool, Error>
-    ensures seen { SeesOver (BeginsSchema nine) S.Store conn.old conn.new result
-        (λ d good. TellsBehind log d.trees good) }
+    ensures seen { SeesRows (BeginsSchema nine) S.Store conn.old conn.new result
+        (TellsBehind log) }
     ensures looked { BlamesIn (IsPaged log) S.Store conn.old conn.new result }
 {
     let mut number = 0;
@@ -186,8 +181,8 @@ fn is_good_log<S: Alter>(
     conn: &mut Connection<S>,
     log: Log,
 ) -> Result<bool, Error>
-    ensures seen { SeesOver (BeginsSchema nine) S.Store conn.old conn.new result
-        (λ d good. TellsGood (table_of_log log) d.trees good) }
+    ensures seen { SeesGood (table_of_log log) (BeginsSchema nine) S.Store conn.old conn.new
+        result }
     ensures looked { BlamesIn (HasFiled (BeginsSchema nine)) S.Store conn.old conn.new result }
 {
     let low = low_rows(log, conn)?;
@@ -204,8 +199,7 @@ fn is_good_table<S: Alter>(
     conn: &mut Connection<S>,
     table: Table,
 ) -> Result<bool, Error>
-    ensures seen { SeesOver (λ s. Covers s table) S.Store conn.old conn.new result
-        (λ d good. TellsGood table d.trees good) }
+    ensures seen { SeesGood table (λ s. Covers s table) S.Store conn.old conn.new result }
     ensures looked { BlamesIn (HasFiled (λ s. Covers s table)) S.Store conn.old conn.new result }
 {
     match table {
@@ -229,10 +223,9 @@ fn bad_table<S: Alter>(
     conn: &mut Connection<S>,
     tables: &[Table],
 ) -> Result<Option<Table>, Error>
-    ensures seen { SeesOver
-        (λ s. Every (Covers s) tables.now) S.Store conn.old conn.new result (IsBadOf tables.now) }
-    ensures looked { BlamesIn (HasFiled (λ s. Every (Covers s) tables.now))
-        S.Store conn.old conn.new result }
+    ensures seen { SeesOver (CoversAll tables.now) S.Store conn.old conn.new result
+        (IsBadOf tables.now) }
+    ensures looked { BlamesIn (HasFiled (CoversAll tables.now)) S.Store conn.old conn.new result }
 {
     for table in tables {
         let good = is_good_table(kept, conn, *table)?;
@@ -274,8 +267,7 @@ fn misplaced<S: Alter>(
     conn: &mut Connection<S>,
     version: Version,
 ) -> Result<Option<AdoptFault>, Error>
-    ensures seen { SeesOver
-        (λ s. s ≡ schema_of version) S.Store conn.old conn.new result (IsPlaceFound version) }
+    ensures seen { SeesPlaces version S.Store conn.old conn.new result }
     ensures looked { BlamesIn (HasGoodTables version) S.Store conn.old conn.new result }
 {
     match version {
@@ -288,8 +280,7 @@ fn found_misplaced<S: Alter>(
     alloc: Global,
     conn: &mut Connection<S>,
 ) -> Result<Option<AdoptFault>, Error>
-    ensures seen { SeesOver
-        (λ s. s ≡ book_schema) S.Store conn.old conn.new result (IsPlaceFound Version.Second) }
+    ensures seen { SeesPlaces Version.Second S.Store conn.old conn.new result }
     ensures looked { BlamesIn (HasGoodTables Version.Second) S.Store conn.old conn.new result }
 {
     let placed = are_further_placed(alloc, conn)?;
@@ -304,7 +295,7 @@ fn ranks_misplaced<S: Alter>(
     alloc: Global,
     conn: &mut Connection<S>,
 ) -> Result<Option<AdoptFault>, Error>
-    ensures seen { SeesOver (λ s. s ≡ book_schema) S.Store conn.old conn.new result
+    ensures seen { SeesOver IsBookSchema S.Store conn.old conn.new result
         (λ d fault. is_beside d.trees ≡ true → IsPlaceFound Version.Second d fault) }
     ensures looked { BlamesIn (HasGoodTables Version.Second) S.Store conn.old conn.new result }
 {
@@ -321,10 +312,9 @@ fn bad_row<S: Alter>(
     conn: &mut Connection<S>,
     version: Version,
 ) -> Result<Option<AdoptFault>, Error>
-    ensures seen { SeesOver
-        (λ s. s ≡ schema_of version) S.Store conn.old conn.new result (IsRowFound version) }
-    ensures looked { BlamesIn (HasFiled (λ s. s ≡ schema_of version)) S.Store conn.old conn.new
-        result }
+    ensures seen { SeesOver (IsSchemaOf version) S.Store conn.old conn.new result
+        (IsRowFound version) }
+    ensures looked { BlamesIn (HasFiled (IsSchemaOf version)) S.Store conn.old conn.new result }
 {
     let mut kept = KeptReader::new(alloc);
     let bad = bad_table(&mut kept, conn, tables_of(version))?;
@@ -402,9 +392,8 @@ fn compared(alloc: Global, schema: &Schema) -> Result<Likeness, Error>
 
 // Why a database whose first table alone is that of a book isn't taken.
 fn found_in_first<S: Alter>(conn: &mut Connection<S>) -> Result<Found, Error>
-    ensures seen { (d : Database) → BeginsAsBook d.schema → IsNoBook d.schema
-        → Sees d (state S.Store conn.old) (state S.Store conn.new) result
-        (λ found. IsFound d found) }
+    ensures seen { SeesOver (λ s. IsLike s Likeness.First) S.Store conn.old conn.new result
+        IsFound }
     ensures looked { BlamesOver BeginsAsBook [] S.Store conn.old conn.new result }
 {
     match version_told(conn)? {
@@ -419,10 +408,9 @@ fn found_in_rows<S: Alter>(
     conn: &mut Connection<S>,
     version: Version,
 ) -> Result<Found, Error>
-    ensures seen { SeesOver (λ s. s ≡ schema_of version) S.Store conn.old conn.new result
+    ensures seen { SeesOver (IsSchemaOf version) S.Store conn.old conn.new result
         (λ d found. IsToldIn d.trees (Some (number_of version)) → IsFound d found) }
-    ensures looked { BlamesIn (HasFiled (λ s. s ≡ schema_of version)) S.Store conn.old conn.new
-        result }
+    ensures looked { BlamesIn (HasFiled (IsSchemaOf version)) S.Store conn.old conn.new result }
 {
     match bad_row(alloc, conn, version)? {
         Some(fault) => Ok(Found::Fault(fault)),
@@ -436,9 +424,8 @@ fn found_in_whole<S: Alter>(
     conn: &mut Connection<S>,
     version: Version,
 ) -> Result<Found, Error>
-    ensures seen { SeesOver (λ s. s ≡ schema_of version) S.Store conn.old conn.new result IsFound }
-    ensures looked { BlamesIn (HasFiled (λ s. s ≡ schema_of version)) S.Store conn.old conn.new
-        result }
+    ensures seen { SeesOver (IsSchemaOf version) S.Store conn.old conn.new result IsFound }
+    ensures looked { BlamesIn (HasFiled (IsSchemaOf version)) S.Store conn.old conn.new result }
 {
     let told = version_told(conn)?;
     match told {
@@ -451,7 +438,7 @@ fn found_in_whole<S: Alter>(
 // What is found where the store serves.
 fn found_in<S: Alter>(alloc: Global, conn: &mut Connection<S>) -> Result<Found, Error>
     ensures seen { Sees (state S.Store conn.old).now (state S.Store conn.old)
-        (state S.Store conn.new) result (λ found. IsFound (state S.Store conn.old).now found) }
+        (state S.Store conn.new) result (IsFound (state S.Store conn.old).now) }
     ensures looked { BlamesIn IsFiled S.Store conn.old conn.new result }
 {
     if !has_meta(conn.schema()) {

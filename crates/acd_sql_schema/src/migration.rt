@@ -3,9 +3,8 @@
 ghost use Rattle.std.specs.Prelude.{◌≡◌, ◌≤◌, false, IsTrue, IfErr, OnErr, OnOk};
 ghost use Rattle.sqlite.specs.State.{HasCleanDisk};
 ghost use Rattle.sqlite.specs.Held.{state};
-ghost use Rattle.acd_sql_columns.specs.Schema.{old_schema, book_schema};
 ghost use Rattle.acd_sql_columns.specs.Draft.{Works};
-ghost use Rattle.acd_sql_schema.specs.Migrating.{IfFirst, IsAltered, IsMade, IsRestored, MayAlter, FailsToMigrate};
+ghost use Rattle.acd_sql_schema.specs.Migrating.{IfFirst, IfFirstInside, IsAltered, IsMade, IsRestored, MayAlter, FailsToMigrate};
 
 use crate::create::make_two;
 use acd_sql_statements::write::tell_second;
@@ -15,15 +14,10 @@ use sqlite::{Alter, Connection, Error, Transaction};
 fn alter<S: Alter>(tx: &mut Transaction<'_, S>) -> Result<(), Error>
     ensures same { tx.new.conn.ghost_name ≡ tx.old.conn.ghost_name }
     ensures works { Works (state S.Store tx.old.conn.now) (state S.Store tx.new.conn.now) }
-    ensures altered { HasCleanDisk (state S.Store tx.new.conn.now) → OnOk result
-        (IsTrue (state S.Store tx.old.conn.now).in_transaction
-        → (state S.Store tx.old.conn.now).now.schema ≡ old_schema
-        → IsAltered (state S.Store tx.old.conn.now) (state S.Store tx.new.conn.now)) }
-    ensures failed { HasCleanDisk (state S.Store tx.new.conn.now)
-        → IsTrue (state S.Store tx.old.conn.now).in_transaction
-        → (state S.Store tx.old.conn.now).now.schema ≡ old_schema
-        → IfErr result (FailsToMigrate
-        (state S.Store tx.old.conn.now) (state S.Store tx.new.conn.now)) }
+    ensures altered { IfFirstInside S.Store tx.old.conn.now tx.new.conn.now
+        (λ old new. OnOk result (IsAltered old new)) }
+    ensures failed { IfFirstInside S.Store tx.old.conn.now tx.new.conn.now
+        (λ old new. IfErr result (FailsToMigrate old new)) }
 {
     make_two(tx)?;
     tell_second(tx)
@@ -38,17 +32,15 @@ pub fn migrate<S: Alter>(conn: &mut Connection<S>) -> Result<(), Error>
     ensures clean { HasCleanDisk (state S.Store conn.new) → HasCleanDisk (state S.Store conn.old) }
     ensures was { HasCleanDisk (state S.Store conn.new)
         → IsTrue (state S.Store conn.new).is_open → IsTrue (state S.Store conn.old).is_open }
-    ensures made { IfFirst (state S.Store conn.old) (state S.Store conn.new)
-        (OnOk result (IsMade (state S.Store conn.old) (state S.Store conn.new))) }
-    ensures undone { IfFirst (state S.Store conn.old) (state S.Store conn.new)
-        (OnErr result (IsTrue (state S.Store conn.new).is_open
-        → IsRestored (state S.Store conn.old) (state S.Store conn.new))) }
-    ensures stops { IfFirst (state S.Store conn.old) (state S.Store conn.new)
-        (MayAlter (state S.Store conn.old) (state S.Store conn.new)) }
+    ensures made { IfFirst S.Store conn.old conn.new
+        (λ old new. OnOk result (IsMade old new)) }
+    ensures undone { IfFirst S.Store conn.old conn.new
+        (λ old new. OnErr result (IsTrue new.is_open → IsRestored old new)) }
+    ensures stops { IfFirst S.Store conn.old conn.new MayAlter }
     ensures counts { (state S.Store conn.old).faults ≤ (state S.Store conn.new).faults }
     ensures limit { (state S.Store conn.new).step_limit ≡ (state S.Store conn.old).step_limit }
-    ensures failed { IfFirst (state S.Store conn.old) (state S.Store conn.new)
-        (IfErr result (FailsToMigrate (state S.Store conn.old) (state S.Store conn.new))) }
+    ensures failed { IfFirst S.Store conn.old conn.new
+        (λ old new. IfErr result (FailsToMigrate old new)) }
 {
     let mut tx = conn.transaction();
     alter(&mut tx)?;

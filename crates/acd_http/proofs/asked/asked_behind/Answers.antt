@@ -3,28 +3,28 @@ use Rattle.acd_http.specs.declared.wanted.Wanted.TheVariants as want
 use Rattle.acd_http.proofs.Asks.{body_unasked, known_tells, unknown_tells, whole_tells, part_tells}
 use Rattle.acd_http.proofs.asked.asked_behind.Goals as goal
 
-pub returns-in-Ok-Refused-clause-asked : goal.returns-in-Ok-Refused-clause-asked
-returns-in-Ok-Refused-clause-asked g c = λ first read. known_tells first (g.R.Read.remaining c.args.reader.now) c.args.input.now c.as_slice.result.now c.args.len c.head_asked-bodiless.result.0 c.head_asked-bodiless.result.1 c.in-Ok-Refused.field-0 (want.Refused c.in-Ok-Refused.why) _
+pub returns-in-Ok-Refused : goal.returns-in-Ok-Refused
+returns-in-Ok-Refused g c = λ first read. known_tells first (g.R.Read.remaining c.args.reader.now) c.args.input.now c.as_slice.result.now c.args.len c.head_asked-bodiless.result.0 c.head_asked-bodiless.result.1 c.in-Ok-Refused.field-0 (want.Refused c.in-Ok-Refused.why) _
     c.as_slice.ensures c.requires c.head_asked-bodiless.ensures c.in-Ok-Refused.is c.in-Ok-Refused.field-0-is (λ behind. refl) read
 
-pub returns-in-Ok-Look-clause-asked : goal.returns-in-Ok-Look-clause-asked
-returns-in-Ok-Look-clause-asked g c = λ first read. known_tells first (g.R.Read.remaining c.args.reader.now) c.args.input.now c.as_slice.result.now c.args.len c.head_asked-bodiless.result.0 c.head_asked-bodiless.result.1 c.in-Ok-Look.field-0 (want.Look c.in-Ok-Look.question) _
+pub returns-in-Ok-Look : goal.returns-in-Ok-Look
+returns-in-Ok-Look g c = λ first read. known_tells first (g.R.Read.remaining c.args.reader.now) c.args.input.now c.as_slice.result.now c.args.len c.head_asked-bodiless.result.0 c.head_asked-bodiless.result.1 c.in-Ok-Look.field-0 (want.Look c.in-Ok-Look.question) _
     c.as_slice.ensures c.requires c.head_asked-bodiless.ensures c.in-Ok-Look.is c.in-Ok-Look.field-0-is (λ behind. refl) read
 
-pub returns-in-Err-clause-asked : goal.returns-in-Err-clause-asked
-returns-in-Err-clause-asked g c = λ first read. unknown_tells first (g.R.Read.remaining c.args.reader.now) c.args.input.now c.as_slice.result.now c.args.len c.head_asked-bodiless.result.0 c.head_asked-bodiless.result.1 c.in-Err.field-0
+pub returns-in-Err : goal.returns-in-Err
+returns-in-Err g c = λ first read. unknown_tells first (g.R.Read.remaining c.args.reader.now) c.args.input.now c.as_slice.result.now c.args.len c.head_asked-bodiless.result.0 c.head_asked-bodiless.result.1 c.in-Err.field-0
     c.as_slice.ensures c.requires c.head_asked-bodiless.ensures c.in-Err.is read
 
-pub returns-in-Ok-true-clause-asked : goal.returns-in-Ok-true-clause-asked
-returns-in-Ok-true-clause-asked g c = λ first read. whole_tells first (g.R.Read.remaining c.args.reader.now) (g.R.Read.remaining c.read_up_to.new.reader) c.args.input.now c.as_slice.result.now c.read_up_to.new.input c.as_slice-in-Ok-true.result.now c.args.len c.in-Ok-Body.more
+pub returns-in-Ok-true : goal.returns-in-Ok-true
+returns-in-Ok-true g c = λ first read. whole_tells first (g.R.Read.remaining c.args.reader.now) (g.R.Read.remaining c.read_up_to.new.reader) c.args.input.now c.as_slice.result.now c.read_up_to.new.input c.as_slice-in-Ok-true.result.now c.args.len c.in-Ok-Body.more
     c.head_asked-bodiless.result.0 c.in-Ok-true.field-0 c.head_asked-bodiless.result.1 c.in-Ok-Body.field-0 c.body_asked.result c.as_slice.ensures c.requires c.head_asked-bodiless.ensures c.in-Ok-Body.is c.in-Ok-Body.field-0-is
-    read c.in-Ok-true.field-0-test c.in-Ok-true.ensures.found c.as_slice-in-Ok-true.ensures c.body_asked.ensures
+    read c.in-Ok-true.field-0-test c.in-Ok-true.ensures c.as_slice-in-Ok-true.ensures c.body_asked.ensures
 
-pub returns-in-Ok-false-clause-asked : goal.returns-in-Ok-false-clause-asked
-returns-in-Ok-false-clause-asked g c = λ first read. part_tells first (g.R.Read.remaining c.args.reader.now) (g.R.Read.remaining c.read_up_to.new.reader) c.args.input.now c.as_slice.result.now c.read_up_to.new.input c.args.len c.in-Ok-Body.more
+pub returns-in-Ok-false : goal.returns-in-Ok-false
+returns-in-Ok-false g c = λ first read. part_tells first (g.R.Read.remaining c.args.reader.now) (g.R.Read.remaining c.read_up_to.new.reader) c.args.input.now c.as_slice.result.now c.read_up_to.new.input c.args.len c.in-Ok-Body.more
     c.head_asked-bodiless.result.0 c.in-Ok-false.field-0 c.head_asked-bodiless.result.1 c.in-Ok-Body.field-0 c.as_slice.ensures c.requires c.head_asked-bodiless.ensures c.in-Ok-Body.is c.in-Ok-Body.field-0-is
-    read c.in-Ok-false.field-0-test c.in-Ok-false.ensures.found
+    read c.in-Ok-false.field-0-test c.in-Ok-false.ensures
 
-pub returns-in-Err-read_up_to-clause-stopped : goal.returns-in-Err-read_up_to-clause-stopped
-returns-in-Err-read_up_to-clause-stopped g c = λ first read is. body_unasked first (g.R.Read.remaining c.args.reader.now) (g.R.Read.remaining c.read_up_to.new.reader) c.args.input.now c.as_slice.result.now c.read_up_to.new.input c.args.len c.in-Ok-Body.more
-    c.head_asked-bodiless.result.0 c.head_asked-bodiless.result.1 c.in-Ok-Body.field-0 c.as_slice.ensures c.requires c.head_asked-bodiless.ensures c.in-Ok-Body.is c.in-Ok-Body.field-0-is read c.in-Err-read_up_to.ensures.stopped
+pub returns-in-Err-read_up_to : goal.returns-in-Err-read_up_to
+returns-in-Err-read_up_to g c = λ first read. body_unasked first (g.R.Read.remaining c.args.reader.now) (g.R.Read.remaining c.read_up_to.new.reader) c.args.input.now c.as_slice.result.now c.read_up_to.new.input c.args.len c.in-Ok-Body.more
+    c.head_asked-bodiless.result.0 c.head_asked-bodiless.result.1 c.in-Ok-Body.field-0 c.as_slice.ensures c.requires c.head_asked-bodiless.ensures c.in-Ok-Body.is c.in-Ok-Body.field-0-is read c.in-Err-read_up_to.ensures

@@ -1,10 +1,10 @@
 use Rattle.acd_http.proofs.Asks.{head_unasked, no_head_tells}
 use Rattle.acd_http.proofs.asked.asked_by.Goals as goal
 
-pub returns-in-Ok-None-clause-asked : goal.returns-in-Ok-None-clause-asked
-returns-in-Ok-None-clause-asked g c =
+pub returns-in-Ok-None : goal.returns-in-Ok-None
+returns-in-Ok-None g c =
     no_head_tells (g.R.Read.remaining c.args.reader.now) (g.R.Read.remaining c.read_head.new.reader) c.read_head.new.input c.as_slice.result.now c.in-Ok-None.field-0 c.headless.result
-    c.in-Ok-None.field-0-is c.as_slice.ensures c.in-Ok-None.ensures.found c.headless.ensures
+    c.in-Ok-None.field-0-is c.as_slice.ensures c.in-Ok-None.ensures c.headless.ensures
 
-pub returns-in-Err-clause-stopped : goal.returns-in-Err-clause-stopped
-returns-in-Err-clause-stopped g c = λ is. head_unasked (g.R.Read.remaining c.args.reader.now) (g.R.Read.remaining c.read_head.new.reader) c.read_head.new.input c.in-Err.ensures.stopped
+pub returns-in-Err : goal.returns-in-Err
+returns-in-Err g c = head_unasked (g.R.Read.remaining c.args.reader.now) (g.R.Read.remaining c.read_head.new.reader) c.read_head.new.input c.in-Err.ensures

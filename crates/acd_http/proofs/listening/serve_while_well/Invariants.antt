@@ -1,5 +1,6 @@
 use Rattle.acd_desk.specs.Ran.{standing}
-use Rattle.acd_http.specs.Listening.{ServedWell, WasSent}
+use Rattle.acd_io.specs.Sent.{WasSent}
+use Rattle.acd_http.specs.Listening.{ServedWell}
 use Rattle.acd_http.proofs.listening.serve_while_well.Given as goal
 
 abbrev pub invariant-loop-before : goal.invariant-loop-before

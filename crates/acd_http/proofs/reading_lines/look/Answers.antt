@@ -1,5 +1,5 @@
 use Rattle.acd_desk.specs.Ran.{standing}
-use Rattle.acd_lines.specs.Parts.{answered_text}
+use Rattle.acd_lines.specs.Answers.{answered_text}
 use Rattle.acd_http.proofs.ReadingLines.{tells_look}
 use Rattle.acd_http.proofs.reading_lines.look.Goals as goal
 

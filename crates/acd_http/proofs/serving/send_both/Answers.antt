@@ -1,22 +1,17 @@
-use Rattle.std.proofs.Common.{◌++◌, ap, sym}
-use Rattle.httparse.proofs.HeadLemmas.{OnErr-map}
-use Rattle.acd_http.proofs.Exchanges.{first_begun, then_begun, first_broken, then_broken}
+use Rattle.std.proofs.Common.{ℕ, List, ◌++◌, subst}
+use Rattle.acd_io.specs.Sent.{WasSent}
+use Rattle.acd_io.proofs.Sends.{sent_behind, sent_first}
 use Rattle.acd_http.proofs.serving.send_both.Goals as goal
 
-pub returns-in-Ok-clause-err : goal.returns-in-Ok-clause-err
-returns-in-Ok-clause-err g c =
-    let out = sym (ap (λ l. l ++ c.args.body.now) c.as_slice-2.ensures) in
-    OnErr-map c.send-in-Ok.result (then_begun _ _ _ _ c.as_slice-2.result.now c.args.body.now out c.in-Ok.ensures.ok) c.send-in-Ok.ensures.err
+pub returns-in_err-send : goal.returns-in_err-send
+returns-in_err-send g c =
+    let before = g.W.Write.contents c.args.writer.now in
+    let behind = g.W.Write.contents c.send-2.new.writer in
+    subst (λ (head : List ℕ). WasSent c.from_residual.result before behind (head ++ c.args.body.now)) c.as_slice-2.ensures (sent_first c.from_residual.result _ before behind c.as_slice-2.result.now c.args.body.now c.from_residual.ensures.1 c.in_err-send.ensures)
 
-pub returns-in-Ok-clause-short : goal.returns-in-Ok-clause-short
-returns-in-Ok-clause-short g c =
-    let out = sym (ap (λ l. l ++ c.args.body.now) c.as_slice-2.ensures) in
-    OnErr-map c.send-in-Ok.result (then_broken _ _ _ _ c.as_slice-2.result.now c.args.body.now out c.in-Ok.ensures.ok) c.send-in-Ok.ensures.short
-
-pub returns-in-Err-clause-err : goal.returns-in-Err-clause-err
-returns-in-Err-clause-err g c =
-    first_begun _ _ _ c.as_slice-2.result.now c.args.body.now (sym (ap (λ l. l ++ c.args.body.now) c.as_slice-2.ensures)) c.in-Err.ensures.err
-
-pub returns-in-Err-clause-short : goal.returns-in-Err-clause-short
-returns-in-Err-clause-short g c =
-    first_broken _ _ _ c.as_slice-2.result.now c.args.body.now (sym (ap (λ l. l ++ c.args.body.now) c.as_slice-2.ensures)) c.in-Err.ensures.short
+pub returns : goal.returns
+returns g c =
+    let before = g.W.Write.contents c.args.writer.now in
+    let between = g.W.Write.contents c.send-2.new.writer in
+    let behind = g.W.Write.contents c.send-3.new.writer in
+    subst (λ (head : List ℕ). WasSent c.send-3.result before behind (head ++ c.args.body.now)) c.as_slice-2.ensures (sent_behind c.send-3.result before between behind c.as_slice-2.result.now c.args.body.now c.in_ok-send.ensures c.send-3.ensures)

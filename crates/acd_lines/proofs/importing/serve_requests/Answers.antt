@@ -2,8 +2,8 @@ use Rattle.std.proofs.Common.{List, sym, subst, take, ◌+◌}
 use Rattle.acd_terms.specs.declared.command.Request.{Request}
 use Rattle.acd_desk.specs.Ran.{standing}
 use Rattle.acd_lines.specs.Parts.{Imports}
-use Rattle.acd_io.proofs.Sends.{OnErr-is, OnOk-weaker, OnErr-weaker}
-use Rattle.acd_lines.proofs.Plans.{take_more, take_whole, imports_none, imports_more, import_stopped, imports_out, import_stopped_out}
+use Rattle.acd_io.proofs.Sends.{stopped, so_of}
+use Rattle.acd_lines.proofs.Plans.{take_more, take_whole, imports_none, imports_more, import_stopped, imports_out, import_told, import_stopped_out}
 use Rattle.acd_lines.proofs.importing.serve_requests.Goals as goal
 
 pub loop-request-init : goal.loop-request-init
@@ -17,22 +17,24 @@ loop-request-preserved g c =
     subst (λ (l : List Request). Imports (standing g.B.Book) c.args.desk.now l c.serve_request.new.desk (g.W.Write.contents c.args.writer.now) (g.W.Write.contents c.serve_request.new.writer) c.serve_request.new.outbox.waiting.items) (sym more)
     (imports_more (standing g.B.Book) (λ d x clean sound opened stop. g.met.B.Book.settled d.book x clean sound opened stop) c.args.desk.now c.loop-request.desk c.serve_request.new.desk (take i c.args.requests.now) _
     (g.W.Write.contents c.args.writer.now) (g.W.Write.contents c.loop-request.writer) (g.W.Write.contents c.serve_request.new.writer) c.loop-request.outbox.waiting.items c.serve_request.new.outbox.waiting.items
-    c.loop-request.invariant c.in_ok-serve_request.ensures.ok)
+    c.loop-request.invariant c.in_ok-serve_request.ensures)
 
-pub returns-in_err-serve_request-clause-err : goal.returns-in_err-serve_request-clause-err
-returns-in_err-serve_request-clause-err g c =
+pub returns-in_err-serve_request : goal.returns-in_err-serve_request
+returns-in_err-serve_request g c =
     let i = c.loop-request.request-index in
     let more = take_more i c.args.requests.now _ _ c.request-item.is c.loop-request-test.true in
-    OnErr-is c.from_residual.result c.in_err-serve_request.field-0.0 _ c.from_residual.ensures.1
+    stopped c.from_residual.result c.in_err-serve_request.field-0.0 _ _ c.from_residual.ensures.1
     (import_stopped (standing g.B.Book) (λ d x clean sound opened stop. g.met.B.Book.settled d.book x clean sound opened stop) c.args.desk.now c.loop-request.desk c.serve_request.new.desk c.args.requests.now (take i c.args.requests.now) _ (i + 1)
-    (g.W.Write.contents c.args.writer.now) (g.W.Write.contents c.loop-request.writer) (g.W.Write.contents c.serve_request.new.writer) c.loop-request.outbox.waiting.items more c.loop-request.invariant c.in_err-serve_request.ensures.err)
+    (g.W.Write.contents c.args.writer.now) (g.W.Write.contents c.loop-request.writer) (g.W.Write.contents c.serve_request.new.writer) c.loop-request.outbox.waiting.items more c.loop-request.invariant c.in_err-serve_request.ensures)
 
-pub returns-clause-ok : goal.returns-clause-ok
-returns-clause-ok g c =
-    OnOk-weaker c.flush.result _ _ (λ out. imports_out (standing g.B.Book) (λ d x clean sound opened stop. g.met.B.Book.settled d.book x clean sound opened stop) c.args.desk.now c.loop-request.desk (take c.loop-request.request-index c.args.requests.now) c.args.requests.now
-    (g.W.Write.contents c.args.writer.now) (g.W.Write.contents c.loop-request.writer) (g.W.Write.contents c.flush.new.writer) c.loop-request.outbox.waiting.items (take_whole c.loop-request.request-index c.args.requests.now c.loop-request-test.false) c.loop-request.invariant out) c.flush.ensures.ok
-
-pub returns-clause-err : goal.returns-clause-err
-returns-clause-err g c =
-    OnErr-weaker c.flush.result _ _ (λ begun. import_stopped_out (standing g.B.Book) (λ d x clean sound opened stop. g.met.B.Book.settled d.book x clean sound opened stop) c.args.desk.now c.loop-request.desk c.args.requests.now c.loop-request.request-index
-    (g.W.Write.contents c.args.writer.now) (g.W.Write.contents c.loop-request.writer) (g.W.Write.contents c.flush.new.writer) c.loop-request.outbox.waiting.items c.loop-request.invariant begun) c.flush.ensures.err
+pub returns : goal.returns
+returns g c =
+    let before = g.W.Write.contents c.args.writer.now in
+    let between = g.W.Write.contents c.loop-request.writer in
+    let behind = g.W.Write.contents c.flush.new.writer in
+    let taken = take c.loop-request.request-index c.args.requests.now in
+    so_of c.flush.result _ _ _ _
+    (λ out. import_told (standing g.B.Book) (λ d x clean sound opened stop. g.met.B.Book.settled d.book x clean sound opened stop) c.args.desk.now c.loop-request.desk c.args.requests.now before behind
+    (imports_out (standing g.B.Book) (λ d x clean sound opened stop. g.met.B.Book.settled d.book x clean sound opened stop) c.args.desk.now c.loop-request.desk taken c.args.requests.now before between behind c.loop-request.outbox.waiting.items (take_whole c.loop-request.request-index c.args.requests.now c.loop-request-test.false) c.loop-request.invariant out.1))
+    (λ begun. import_stopped_out (standing g.B.Book) (λ d x clean sound opened stop. g.met.B.Book.settled d.book x clean sound opened stop) c.args.desk.now c.loop-request.desk c.args.requests.now c.loop-request.request-index before between behind c.loop-request.outbox.waiting.items c.loop-request.invariant begun)
+    c.flush.ensures

@@ -1,19 +1,12 @@
 use Rattle.std.proofs.Common.{length, sym, ◌∙◌, lit<}
 use Rattle.std.proofs.lemmas.Bool.{eqb-true}
 use Rattle.acd_lines.specs.Input.{asked}
-use Rattle.acd_io.proofs.Sends.{OnOk-weaker, OnErr-weaker}
 use Rattle.acd_lines.proofs.Kept.{by_front, whole_line}
-use Rattle.acd_lines.proofs.Turns.{done_same, stops_same}
+use Rattle.acd_lines.proofs.Turns.{served_same}
 use Rattle.acd_lines.proofs.serve.end_line.Goals as goal
 
-pub returns-then-is_empty-clause-ok : goal.returns-then-is_empty-clause-ok
-returns-then-is_empty-clause-ok g c =
+pub returns-then-is_empty-clause-served : goal.returns-then-is_empty-clause-served
+returns-then-is_empty-clause-served g c =
     let none = eqb-true (length c.args.partial.now) 0 (sym c.is_empty.ensures ∙ c.if-is_empty.true) in
     let line = whole_line (asked g.A.Answering.unmarked g.A.Answering.long g.A.Answering.read) (by_front g.A.Answering.unmarked g.A.Answering.long g.A.Answering.read) 4108 c.args.partial.now c.args.end.now c.without_return.result.now (lit< tt) none c.without_return.ensures in
-    OnOk-weaker c.serve.result _ _ (λ h. done_same (asked g.A.Answering.unmarked g.A.Answering.long g.A.Answering.read) (by_front g.A.Answering.unmarked g.A.Answering.long g.A.Answering.read) g.A.Answering.answers _ _ _ _ _ _ _ _ line h) c.serve.ensures.ok
-
-pub returns-then-is_empty-clause-err : goal.returns-then-is_empty-clause-err
-returns-then-is_empty-clause-err g c =
-    let none = eqb-true (length c.args.partial.now) 0 (sym c.is_empty.ensures ∙ c.if-is_empty.true) in
-    let line = whole_line (asked g.A.Answering.unmarked g.A.Answering.long g.A.Answering.read) (by_front g.A.Answering.unmarked g.A.Answering.long g.A.Answering.read) 4108 c.args.partial.now c.args.end.now c.without_return.result.now (lit< tt) none c.without_return.ensures in
-    OnErr-weaker c.serve.result _ _ (λ h. stops_same (asked g.A.Answering.unmarked g.A.Answering.long g.A.Answering.read) (by_front g.A.Answering.unmarked g.A.Answering.long g.A.Answering.read) g.A.Answering.answers _ _ _ _ _ _ _ line h) c.serve.ensures.err
+    served_same (asked g.A.Answering.unmarked g.A.Answering.long g.A.Answering.read) (by_front g.A.Answering.unmarked g.A.Answering.long g.A.Answering.read) g.A.Answering.answers _ _ _ _ c.serve.result _ line c.serve.ensures

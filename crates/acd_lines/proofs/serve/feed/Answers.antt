@@ -1,7 +1,7 @@
 use Rattle.std.proofs.Common.{[], ◌∷◌, ◌++◌, refl}
 use Rattle.acd_lines.specs.Input.{asked}
 use Rattle.acd_lines.proofs.Kept.{by_front}
-use Rattle.acd_io.proofs.Sends.{OnErr-is, OnOk-both, OnErr-weaker}
+use Rattle.acd_io.proofs.Sends.{stopped, so_of}
 use Rattle.acd_lines.proofs.Turns.{behind_line, feed_none, feed_line, feed_stops, feed_rest, feed_out, feed_out_stops}
 use Rattle.acd_lines.proofs.serve.feed.Goals as goal
 
@@ -16,29 +16,28 @@ loop-end-preserved g c =
       behind_line c.args.chunk.now loop.0 c.loop-end.rest.now c.in-Some.end.now c.in-Some.behind.now loop.1 split.0,
       feed_line (asked g.A.Answering.unmarked g.A.Answering.long g.A.Answering.read) (by_front g.A.Answering.unmarked g.A.Answering.long g.A.Answering.read) g.A.Answering.answers c.args.desk.now c.loop-end.desk c.end_line.new.desk c.args.partial.now c.loop-end.partial c.end_line.new.partial loop.0 c.in-Some.end.now
           (g.W.Write.contents c.args.writer.now) (g.W.Write.contents c.loop-end.writer) (g.W.Write.contents c.end_line.new.writer) c.args.outbox.now.waiting.items c.loop-end.outbox.waiting.items c.end_line.new.outbox.waiting.items
-          loop.2 split.1 c.in_ok-end_line.ensures.ok c.in_ok-end_line.ensures.empty,
+          loop.2 split.1 c.in_ok-end_line.ensures.served c.in_ok-end_line.ensures.empty,
     )
 
-pub returns-in_err-end_line-clause-err : goal.returns-in_err-end_line-clause-err
-returns-in_err-end_line-clause-err g c =
+pub returns-in_err-end_line : goal.returns-in_err-end_line
+returns-in_err-end_line g c =
     let loop = c.loop-end.invariant in
     let split = c.in-Some.ensures in
-    OnErr-is c.from_residual.result c.in_err-end_line.field-0.0 _ c.from_residual.ensures.1 (feed_stops (asked g.A.Answering.unmarked g.A.Answering.long g.A.Answering.read) (by_front g.A.Answering.unmarked g.A.Answering.long g.A.Answering.read) g.A.Answering.answers c.args.desk.now c.loop-end.desk c.end_line.new.desk c.args.partial.now c.loop-end.partial
+    stopped c.from_residual.result c.in_err-end_line.field-0.0 _ _ c.from_residual.ensures.1 (feed_stops (asked g.A.Answering.unmarked g.A.Answering.long g.A.Answering.read) (by_front g.A.Answering.unmarked g.A.Answering.long g.A.Answering.read) g.A.Answering.answers c.args.desk.now c.loop-end.desk c.end_line.new.desk c.args.partial.now c.loop-end.partial
     c.args.chunk.now loop.0 c.loop-end.rest.now c.in-Some.end.now c.in-Some.behind.now (g.W.Write.contents c.args.writer.now) (g.W.Write.contents c.loop-end.writer) (g.W.Write.contents c.end_line.new.writer) c.args.outbox.now.waiting.items c.loop-end.outbox.waiting.items
-    loop.2 split.1 c.in_err-end_line.ensures.err loop.1 split.0)
+    loop.2 split.1 c.in_err-end_line.ensures.served loop.1 split.0)
 
-pub returns-clause-ok : goal.returns-clause-ok
-returns-clause-ok g c =
+pub returns : goal.returns
+returns g c =
     let loop = c.loop-end.invariant in
     let rest = feed_rest (asked g.A.Answering.unmarked g.A.Answering.long g.A.Answering.read) (by_front g.A.Answering.unmarked g.A.Answering.long g.A.Answering.read) g.A.Answering.answers c.args.desk.now c.loop-end.desk c.args.partial.now c.loop-end.partial c.extend.new.self c.args.chunk.now loop.0 c.loop-end.rest.now
     (g.W.Write.contents c.args.writer.now) (g.W.Write.contents c.loop-end.writer) c.args.outbox.now.waiting.items c.loop-end.outbox.waiting.items loop.2 c.in_default.ensures c.extend.ensures loop.1 in
-    OnOk-both c.flush.result _ _ _ (λ out none. feed_out (asked g.A.Answering.unmarked g.A.Answering.long g.A.Answering.read) (by_front g.A.Answering.unmarked g.A.Answering.long g.A.Answering.read) g.A.Answering.answers c.args.desk.now c.loop-end.desk c.args.partial.now c.extend.new.self c.args.chunk.now
-    (g.W.Write.contents c.args.writer.now) (g.W.Write.contents c.loop-end.writer) (g.W.Write.contents c.flush.new.writer) c.args.outbox.now.waiting.items c.loop-end.outbox.waiting.items c.flush.new.self.waiting.items rest out none) c.flush.ensures.ok c.flush.ensures.none
-
-pub returns-clause-err : goal.returns-clause-err
-returns-clause-err g c =
-    let loop = c.loop-end.invariant in
-    let rest = feed_rest (asked g.A.Answering.unmarked g.A.Answering.long g.A.Answering.read) (by_front g.A.Answering.unmarked g.A.Answering.long g.A.Answering.read) g.A.Answering.answers c.args.desk.now c.loop-end.desk c.args.partial.now c.loop-end.partial c.extend.new.self c.args.chunk.now loop.0 c.loop-end.rest.now
-    (g.W.Write.contents c.args.writer.now) (g.W.Write.contents c.loop-end.writer) c.args.outbox.now.waiting.items c.loop-end.outbox.waiting.items loop.2 c.in_default.ensures c.extend.ensures loop.1 in
-    OnErr-weaker c.flush.result _ _ (λ begun. feed_out_stops (asked g.A.Answering.unmarked g.A.Answering.long g.A.Answering.read) (by_front g.A.Answering.unmarked g.A.Answering.long g.A.Answering.read) g.A.Answering.answers c.args.desk.now c.loop-end.desk c.args.partial.now c.extend.new.self c.args.chunk.now
-    (g.W.Write.contents c.args.writer.now) (g.W.Write.contents c.loop-end.writer) (g.W.Write.contents c.flush.new.writer) c.args.outbox.now.waiting.items c.loop-end.outbox.waiting.items rest begun) c.flush.ensures.err
+    so_of c.flush.result _ _ _ _
+    (λ out. (
+      out.0,
+      feed_out (asked g.A.Answering.unmarked g.A.Answering.long g.A.Answering.read) (by_front g.A.Answering.unmarked g.A.Answering.long g.A.Answering.read) g.A.Answering.answers c.args.desk.now c.loop-end.desk c.args.partial.now c.extend.new.self c.args.chunk.now
+          (g.W.Write.contents c.args.writer.now) (g.W.Write.contents c.loop-end.writer) (g.W.Write.contents c.flush.new.writer) c.args.outbox.now.waiting.items c.loop-end.outbox.waiting.items c.flush.new.self.waiting.items rest out.1 out.0,
+    ))
+    (λ begun. feed_out_stops (asked g.A.Answering.unmarked g.A.Answering.long g.A.Answering.read) (by_front g.A.Answering.unmarked g.A.Answering.long g.A.Answering.read) g.A.Answering.answers c.args.desk.now c.loop-end.desk c.args.partial.now c.extend.new.self c.args.chunk.now
+    (g.W.Write.contents c.args.writer.now) (g.W.Write.contents c.loop-end.writer) (g.W.Write.contents c.flush.new.writer) c.args.outbox.now.waiting.items c.loop-end.outbox.waiting.items rest begun)
+    c.flush.ensures

@@ -3,34 +3,30 @@ use Rattle.std.proofs.lemmas.Bool.{eqb-true}
 use Rattle.acd_lines.specs.Input.{asked}
 use Rattle.acd_lines.proofs.Kept.{by_front}
 use Rattle.acd_io.proofs.DigitLemmas.{positive}
-use Rattle.acd_io.proofs.Sends.{OnErr-is, OnOk-weaker, OnErr-weaker}
+use Rattle.acd_io.proofs.Sends.{stopped, so_of}
 use Rattle.acd_lines.proofs.Turns.{finish_empty, finish_empty_stops, finish_line, finish_line_stops, finish_stops}
 use Rattle.acd_lines.proofs.serve.finish.Goals as goal
 
-pub returns-then-is_empty-clause-ok : goal.returns-then-is_empty-clause-ok
-returns-then-is_empty-clause-ok g c =
+pub returns-then-is_empty : goal.returns-then-is_empty
+returns-then-is_empty g c =
     let none = eqb-true (length c.args.partial.now) 0 (sym c.is_empty.ensures ∙ c.if-is_empty.true) in
-    OnOk-weaker c.flush.result _ _ (λ out. finish_empty (asked g.A.Answering.unmarked g.A.Answering.long g.A.Answering.read) (by_front g.A.Answering.unmarked g.A.Answering.long g.A.Answering.read) g.A.Answering.answers c.args.desk.now c.args.partial.now (g.W.Write.contents c.args.writer.now) (g.W.Write.contents c.flush.new.writer) c.args.outbox.now.waiting.items none out) c.flush.ensures.ok
+    so_of c.flush.result _ _ _ _
+    (λ out. finish_empty (asked g.A.Answering.unmarked g.A.Answering.long g.A.Answering.read) (by_front g.A.Answering.unmarked g.A.Answering.long g.A.Answering.read) g.A.Answering.answers c.args.desk.now c.args.partial.now (g.W.Write.contents c.args.writer.now) (g.W.Write.contents c.flush.new.writer) c.args.outbox.now.waiting.items none out.1)
+    (λ begun. finish_empty_stops (asked g.A.Answering.unmarked g.A.Answering.long g.A.Answering.read) (by_front g.A.Answering.unmarked g.A.Answering.long g.A.Answering.read) g.A.Answering.answers c.args.desk.now c.args.partial.now (g.W.Write.contents c.args.writer.now) (g.W.Write.contents c.flush.new.writer) c.args.outbox.now.waiting.items none begun)
+    c.flush.ensures
 
-pub returns-then-is_empty-clause-err : goal.returns-then-is_empty-clause-err
-returns-then-is_empty-clause-err g c =
-    let none = eqb-true (length c.args.partial.now) 0 (sym c.is_empty.ensures ∙ c.if-is_empty.true) in
-    OnErr-weaker c.flush.result _ _ (λ begun. finish_empty_stops (asked g.A.Answering.unmarked g.A.Answering.long g.A.Answering.read) (by_front g.A.Answering.unmarked g.A.Answering.long g.A.Answering.read) g.A.Answering.answers c.args.desk.now c.args.partial.now (g.W.Write.contents c.args.writer.now) (g.W.Write.contents c.flush.new.writer) c.args.outbox.now.waiting.items none begun) c.flush.ensures.err
-
-pub returns-in_err-serve-clause-err : goal.returns-in_err-serve-clause-err
-returns-in_err-serve-clause-err g c =
+pub returns-in_err-serve : goal.returns-in_err-serve
+returns-in_err-serve g c =
     let some = positive (length c.args.partial.now) (sym c.is_empty.ensures ∙ c.if-is_empty.false) in
-    OnErr-is c.from_residual.result c.in_err-serve.field-0.0 _ c.from_residual.ensures.1 (finish_stops (asked g.A.Answering.unmarked g.A.Answering.long g.A.Answering.read) (by_front g.A.Answering.unmarked g.A.Answering.long g.A.Answering.read) g.A.Answering.answers c.args.desk.now c.serve.new.desk c.args.partial.now c.as_slice.result.now
-    (g.W.Write.contents c.args.writer.now) (g.W.Write.contents c.serve.new.writer) c.args.outbox.now.waiting.items some c.as_slice.ensures c.in_err-serve.ensures.err)
+    stopped c.from_residual.result c.in_err-serve.field-0.0 _ _ c.from_residual.ensures.1 (finish_stops (asked g.A.Answering.unmarked g.A.Answering.long g.A.Answering.read) (by_front g.A.Answering.unmarked g.A.Answering.long g.A.Answering.read) g.A.Answering.answers c.args.desk.now c.serve.new.desk c.args.partial.now c.as_slice.result.now
+    (g.W.Write.contents c.args.writer.now) (g.W.Write.contents c.serve.new.writer) c.args.outbox.now.waiting.items some c.as_slice.ensures c.in_err-serve.ensures)
 
-pub returns-clause-ok : goal.returns-clause-ok
-returns-clause-ok g c =
+pub returns : goal.returns
+returns g c =
     let some = positive (length c.args.partial.now) (sym c.is_empty.ensures ∙ c.if-is_empty.false) in
-    OnOk-weaker c.flush-2.result _ _ (λ out. finish_line (asked g.A.Answering.unmarked g.A.Answering.long g.A.Answering.read) (by_front g.A.Answering.unmarked g.A.Answering.long g.A.Answering.read) g.A.Answering.answers c.args.desk.now c.serve.new.desk c.args.partial.now c.as_slice.result.now
-    (g.W.Write.contents c.args.writer.now) (g.W.Write.contents c.serve.new.writer) (g.W.Write.contents c.flush-2.new.writer) c.args.outbox.now.waiting.items c.serve.new.outbox.waiting.items some c.as_slice.ensures c.in_ok-serve.ensures.ok out) c.flush-2.ensures.ok
-
-pub returns-clause-err : goal.returns-clause-err
-returns-clause-err g c =
-    let some = positive (length c.args.partial.now) (sym c.is_empty.ensures ∙ c.if-is_empty.false) in
-    OnErr-weaker c.flush-2.result _ _ (λ begun. finish_line_stops (asked g.A.Answering.unmarked g.A.Answering.long g.A.Answering.read) (by_front g.A.Answering.unmarked g.A.Answering.long g.A.Answering.read) g.A.Answering.answers c.args.desk.now c.serve.new.desk c.args.partial.now c.as_slice.result.now
-    (g.W.Write.contents c.args.writer.now) (g.W.Write.contents c.serve.new.writer) (g.W.Write.contents c.flush-2.new.writer) c.args.outbox.now.waiting.items c.serve.new.outbox.waiting.items some c.as_slice.ensures c.in_ok-serve.ensures.ok begun) c.flush-2.ensures.err
+    so_of c.flush-2.result _ _ _ _
+    (λ out. finish_line (asked g.A.Answering.unmarked g.A.Answering.long g.A.Answering.read) (by_front g.A.Answering.unmarked g.A.Answering.long g.A.Answering.read) g.A.Answering.answers c.args.desk.now c.serve.new.desk c.args.partial.now c.as_slice.result.now
+    (g.W.Write.contents c.args.writer.now) (g.W.Write.contents c.serve.new.writer) (g.W.Write.contents c.flush-2.new.writer) c.args.outbox.now.waiting.items c.serve.new.outbox.waiting.items some c.as_slice.ensures c.in_ok-serve.ensures out.1)
+    (λ begun. finish_line_stops (asked g.A.Answering.unmarked g.A.Answering.long g.A.Answering.read) (by_front g.A.Answering.unmarked g.A.Answering.long g.A.Answering.read) g.A.Answering.answers c.args.desk.now c.serve.new.desk c.args.partial.now c.as_slice.result.now
+    (g.W.Write.contents c.args.writer.now) (g.W.Write.contents c.serve.new.writer) (g.W.Write.contents c.flush-2.new.writer) c.args.outbox.now.waiting.items c.serve.new.outbox.waiting.items some c.as_slice.ensures c.in_ok-serve.ensures begun)
+    c.flush-2.ensures

@@ -35,13 +35,13 @@ loop-preserved g c =
       | in-Ok+in_ok-feed-in-Ok w ↦
           let n = w.in-Ok.n in
           let value = ap (take n) (w.deref.ensures.value ∙ whole) in
-          let step = w.in_ok-feed-in-Ok.ensures.ok c.args.desk.now seen stands.part stands.answers stands.keeps stands.reached in
+          let step = w.in_ok-feed-in-Ok.ensures.1 c.args.desk.now seen stands.part stands.answers stands.keeps stands.reached in
           let after = fed (asked g.A.Answering.unmarked g.A.Answering.long g.A.Answering.read) (by_front g.A.Answering.unmarked g.A.Answering.long g.A.Answering.read) g.A.Answering.answers 4109 c.args.desk.now seen (take n w.deref.result.now) c.loop.partial w.feed.new.partial c.loop.outbox.waiting.items w.feed.new.outbox.waiting.items c.loop.desk w.feed.new.desk
           (g.W.Write.contents c.args.writer.now) (g.W.Write.contents c.loop.writer) (g.W.Write.contents w.feed.new.writer) stands step in (
             room,
             seen ++ take n w.deref.result.now,
             subst (λ l. Consumes (g.R.Read.remaining c.args.reader.now) (g.R.Read.remaining c.read.new.self) (seen ++ l)) (sym value) (Consumes-trans _ _ _ seen (take n buf) loop.2 w.in-Ok.ensures.bytes.0),
-            ap (λ o. o.waiting.items) w.outbox-is ∙ w.in_ok-feed-in-Ok.ensures.none,
+            ap (λ o. o.waiting.items) w.outbox-is ∙ w.in_ok-feed-in-Ok.ensures.0,
             stands_same (asked g.A.Answering.unmarked g.A.Answering.long g.A.Answering.read) (by_front g.A.Answering.unmarked g.A.Answering.long g.A.Answering.read) g.A.Answering.answers 4109 c.args.desk.now (seen ++ take n w.deref.result.now) w.feed.new.partial c.match-read.partial [] [] w.feed.new.outbox.waiting.items c.match-read.outbox.waiting.items w.feed.new.desk c.match-read.desk
                 (g.W.Write.contents c.args.writer.now) (g.W.Write.contents w.feed.new.writer) (g.W.Write.contents c.match-read.writer) w.partial-is (ap (λ o. o.waiting.items) w.outbox-is) w.desk-is (ap g.W.Write.contents w.writer-is) after,
           )
@@ -87,7 +87,7 @@ returns-in-Ok-eq0 g c =
     let bytes = c.in-Ok-eq0.ensures.bytes in
     let size = c.read.auto.buf ∙ ap length c.as_mut_slice.ensures.value in
     let input = input_ended (g.R.Read.remaining c.args.reader.now) (g.R.Read.remaining c.loop.reader) (g.R.Read.remaining c.read.new.self) seen c.read.new.buf c.in-Ok-eq0.field-0 loop.2 bytes.0 c.in-Ok-eq0.field-0-test (bytes.1 c.in-Ok-eq0.field-0-test (omega (arith, size, loop.0))) in
-    let done = c.in_ok-finish-in-Ok-eq0.ensures.ok c.args.desk.now seen stands.part stands.answers stands.keeps stands.reached in
+    let done = c.in_ok-finish-in-Ok-eq0.ensures c.args.desk.now seen stands.part stands.answers stands.keeps stands.reached in
     done_whole (standing g.B.Book) (InTurn (asked g.A.Answering.unmarked g.A.Answering.long g.A.Answering.read) g.A.Answering.answers) c.args.ends (streams g.R.Read.remaining g.W.Write.contents (c.args.reader.now, c.read.new.self) (c.args.writer.now, c.finish.new.writer)) c.args.desk.now c.finish.new.desk
     (all_done (asked g.A.Answering.unmarked g.A.Answering.long g.A.Answering.read) (by_front g.A.Answering.unmarked g.A.Answering.long g.A.Answering.read) g.A.Answering.answers 4109 c.args.desk.now seen c.loop.partial c.loop.outbox.waiting.items c.loop.desk c.finish.new.desk (g.W.Write.contents c.args.writer.now) (g.W.Write.contents c.loop.writer) (g.W.Write.contents c.finish.new.writer) (g.R.Read.remaining c.args.reader.now) stands input done)
 
@@ -99,7 +99,7 @@ returns-in_err-finish-in-Ok-eq0 g c =
     let bytes = c.in-Ok-eq0.ensures.bytes in
     let size = c.read.auto.buf ∙ ap length c.as_mut_slice.ensures.value in
     let input = input_ended (g.R.Read.remaining c.args.reader.now) (g.R.Read.remaining c.loop.reader) (g.R.Read.remaining c.read.new.self) seen c.read.new.buf c.in-Ok-eq0.field-0 loop.2 bytes.0 c.in-Ok-eq0.field-0-test (bytes.1 c.in-Ok-eq0.field-0-test (omega (arith, size, loop.0))) in
-    let done = c.in_err-finish-in-Ok-eq0.ensures.err c.args.desk.now seen stands.part stands.answers stands.keeps stands.reached in
+    let done = c.in_err-finish-in-Ok-eq0.ensures c.args.desk.now seen stands.part stands.answers stands.keeps stands.reached in
     let short = end_stopped (asked g.A.Answering.unmarked g.A.Answering.long g.A.Answering.read) (by_front g.A.Answering.unmarked g.A.Answering.long g.A.Answering.read) g.A.Answering.answers 4109 c.args.desk.now seen c.loop.partial c.loop.outbox.waiting.items c.loop.desk c.finish.new.desk (g.W.Write.contents c.args.writer.now) (g.W.Write.contents c.loop.writer) (g.W.Write.contents c.finish.new.writer) (g.R.Read.remaining c.args.reader.now) stands input done in
     done_by (standing g.B.Book) (InTurn (asked g.A.Answering.unmarked g.A.Answering.long g.A.Answering.read) g.A.Answering.answers) c.args.ends (streams g.R.Read.remaining g.W.Write.contents (c.args.reader.now, c.read.new.self) (c.args.writer.now, c.finish.new.writer)) c.args.desk.now c.finish.new.desk
     c.from_residual-in_err-finish-in-Ok-eq0.result Write Write c.from_residual-in_err-finish-in-Ok-eq0.ensures.1 refl
@@ -114,7 +114,7 @@ returns-in_err-feed-in-Ok g c =
     let size = c.read.auto.buf ∙ ap length c.as_mut_slice.ensures.value in
     let value = ap (take n) (c.deref.ensures.value ∙ chunk_read c.loop.chunk.items c.read.new.buf c.loop.chunk.len size c.loop.chunk.ok.0) in
     let taken = subst (λ l. Consumes (g.R.Read.remaining c.args.reader.now) (g.R.Read.remaining c.read.new.self) (seen ++ l)) (sym value) (Consumes-trans _ _ _ seen (take n c.read.new.buf) loop.2 c.in-Ok.ensures.bytes.0) in
-    let stopped = c.in_err-feed-in-Ok.ensures.err c.args.desk.now seen stands.part stands.answers stands.keeps stands.reached in
+    let stopped = c.in_err-feed-in-Ok.ensures c.args.desk.now seen stands.part stands.answers stands.keeps stands.reached in
     let short = feed_stopped (asked g.A.Answering.unmarked g.A.Answering.long g.A.Answering.read) (by_front g.A.Answering.unmarked g.A.Answering.long g.A.Answering.read) g.A.Answering.answers 4109 c.args.desk.now seen (take n c.deref.result.now) c.loop.partial c.loop.outbox.waiting.items c.loop.desk c.feed.new.desk (g.W.Write.contents c.args.writer.now) (g.W.Write.contents c.loop.writer) (g.W.Write.contents c.feed.new.writer) (g.R.Read.remaining c.args.reader.now) (g.R.Read.remaining c.read.new.self) stands taken stopped in
     done_by (standing g.B.Book) (InTurn (asked g.A.Answering.unmarked g.A.Answering.long g.A.Answering.read) g.A.Answering.answers) c.args.ends (streams g.R.Read.remaining g.W.Write.contents (c.args.reader.now, c.read.new.self) (c.args.writer.now, c.feed.new.writer)) c.args.desk.now c.feed.new.desk
     c.from_residual-in_err-feed-in-Ok.result Write Write c.from_residual-in_err-feed-in-Ok.ensures.1 refl

@@ -1,8 +1,8 @@
-use Rattle.std.proofs.Common.{ℕ, subst, OnOk}
-use Rattle.std.specs.Io.KnownBytes.{Appends}
+use Rattle.std.proofs.Common.{◌≢◌, ◌∙◌, ℕ, Err, ap, sym, subst}
 use Rattle.acd_desk.specs.Standing.{standing}
 use Rattle.acd_io.specs.Sent.{Begins}
 use Rattle.acd_http.specs.Listening.{ServedAll}
+use Rattle.acd_http.specs.declared.listening.ServeFault.TheVariants.{NoMemory}
 use Rattle.acd_program.proofs.Served.{begins_all}
 use Rattle.acd_program.proofs.serving.answer_some.Goals as goal
 
@@ -10,8 +10,14 @@ pub returns-in-Ok : goal.returns-in-Ok
 returns-in-Ok g c =
     let a : _ = g.E.Write.contents c.args.errors.now in
     let b : _ = g.E.Write.contents c.serve_on.new.errors in
-    let desk : _ = c.args.desk.now in
-    let last : _ = c.serve_on.new.desk in
-    let all : ServedAll (standing g.B.Book) c.from.result desk last (Appends a b)
-    = subst (λ (r : _). OnOk r (ServedAll (standing g.B.Book) c.from.result desk last (Appends a b))) c.in-Ok.is c.serve_on.ensures.ok in
-    subst (λ (n : ℕ). ServedAll (standing g.B.Book) n desk last (Begins a b)) c.from.ensures (begins_all (standing g.B.Book) c.from.result desk last a b all)
+    let some : c.serve_on.result ≢ Err NoMemory = λ e. cc (sym c.in-Ok.is ∙ e) in
+    subst (λ (n : ℕ). ServedAll (standing g.B.Book) n c.args.desk.now c.serve_on.new.desk (Begins a b)) c.from.ensures
+    (begins_all (standing g.B.Book) c.from.result c.args.desk.now c.serve_on.new.desk c.serve_on.result a b (c.serve_on.ensures.served some))
+
+pub returns-in-Err-Write : goal.returns-in-Err-Write
+returns-in-Err-Write g c =
+    let a : _ = g.E.Write.contents c.args.errors.now in
+    let b : _ = g.E.Write.contents c.serve_on.new.errors in
+    let some : c.serve_on.result ≢ Err NoMemory = λ e. cc (sym (c.in-Err-Write.is ∙ ap Err c.in-Err-Write.field-0-is) ∙ e) in
+    subst (λ (n : ℕ). ServedAll (standing g.B.Book) n c.args.desk.now c.serve_on.new.desk (Begins a b)) c.from.ensures
+    (begins_all (standing g.B.Book) c.from.result c.args.desk.now c.serve_on.new.desk c.serve_on.result a b (c.serve_on.ensures.served some))

@@ -18,8 +18,7 @@ returns-in-Whole-clause-seen g c = c.found_in_whole.ensures.seen (state g.S.Stor
 
 pub returns-in-First-clause-seen : goal.returns-in-First-clause-seen
 returns-in-First-clause-seen g c =
-    let first = rw (c.in-First.is, c.schema-2.ensures.value) at c.in_ok-likeness.ensures.like in
-    c.found_in_first.ensures.seen (state g.S.Store c.args.conn.now).now first.0 first.1
+    c.found_in_first.ensures.seen (state g.S.Store c.args.conn.now).now (rw (c.in-First.is, c.schema-2.ensures.value) at c.in_ok-likeness.ensures.like)
 
 pub returns-in-Other-clause-seen : goal.returns-in-Other-clause-seen
 returns-in-Other-clause-seen g c =

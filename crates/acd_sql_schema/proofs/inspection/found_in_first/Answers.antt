@@ -8,13 +8,13 @@ use Rattle.acd_sql_statements.proofs.Lookings.{looks_done, looks_as, sees_as}
 use Rattle.acd_sql_schema.proofs.inspection.found_in_first.Goals as goal
 
 pub returns-in_err-fault-clause-seen : goal.returns-in_err-fault-clause-seen
-returns-in_err-fault-clause-seen g c d begins apart = sees_as d (state g.S.Store c.args.conn.now) (state g.S.Store c.version_told.new.conn) c.in_err-fault.field-0.0 c.from_residual.result (search rules) _ (λ f. IsFound d f) (c.in_err-fault.ensures.seen d begins)
+returns-in_err-fault-clause-seen g c d first = sees_as d (state g.S.Store c.args.conn.now) (state g.S.Store c.version_told.new.conn) c.in_err-fault.field-0.0 c.from_residual.result (search rules) _ (λ f. IsFound d f) (c.in_err-fault.ensures.seen d first.0)
 
 pub returns-in-Faulty-clause-seen : goal.returns-in-Faulty-clause-seen
-returns-in-Faulty-clause-seen g c d begins apart = fault_told d (state g.S.Store c.args.conn.now) (state g.S.Store c.version_told.new.conn) c.in-Faulty.fault (rw c.in-Faulty.is at (c.in_ok-fault.ensures.seen d begins))
+returns-in-Faulty-clause-seen g c d first = fault_told d (state g.S.Store c.args.conn.now) (state g.S.Store c.version_told.new.conn) c.in-Faulty.fault (rw c.in-Faulty.is at (c.in_ok-fault.ensures.seen d first.0))
 
 pub returns-in-Of-clause-seen : goal.returns-in-Of-clause-seen
-returns-in-Of-clause-seen g c d begins apart = other_told d (state g.S.Store c.args.conn.now) (state g.S.Store c.version_told.new.conn) _ (λ told. none _ told begins apart) (rw c.in-Of.is at (c.in_ok-fault.ensures.seen d begins))
+returns-in-Of-clause-seen g c d first = other_told d (state g.S.Store c.args.conn.now) (state g.S.Store c.version_told.new.conn) _ (λ told. none _ told first.0 first.1) (rw c.in-Of.is at (c.in_ok-fault.ensures.seen d first.0))
 
 pub returns-in_err-fault-clause-looked : goal.returns-in_err-fault-clause-looked
 returns-in_err-fault-clause-looked g c = looks_as (HasGood BeginsAsBook []) (HasGood BeginsAsBook []) (λ d h. h) (state g.S.Store c.args.conn.now) (state g.S.Store c.version_told.new.conn) c.in_err-fault.field-0.0 c.from_residual.result (search rules) c.in_err-fault.ensures.looked
