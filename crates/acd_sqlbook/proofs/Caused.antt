@@ -24,7 +24,7 @@ use Rattle.acd_sqlbook.specs.Counters.{AreCounters, StopsWith}
 use Rattle.acd_sql_columns.specs.declared.meta.Meta.{Meta}
 use Rattle.acd_sqlbook.specs.Stopping.{AllNumbersFit, Drops, HasAbove, IsBlamedOr, IsUncounted, RefusesInAll, StopsCommit, StopsReplace}
 use Rattle.acd_sqlbook.specs.State.{IsSoundState, fault_of, answered, failures_after}
-use Rattle.acd_sqlbook.specs.Causes.{BookCall, StoreCause, IsCaused, IsUnreadable, RefusesToCommit, create, read, failed, change, replace, shut, unfit, unreadable, occupied, drops, refused}
+use Rattle.acd_sqlbook.specs.Causes.{BookCall, StoreCause, HasCause, IsUnreadable, RefusesToCommit, create, read, failed, change, replace, shut, unfit, unreadable, occupied, drops, refused}
 use Rattle.acd_sqlbook.proofs.BookStates.{held_is}
 use Rattle.acd_sqlbook.proofs.Counting.{parted}
 
@@ -135,5 +135,5 @@ only_store (Err NoMemory) failures next is more = absurd (let same : next ≡ fa
 only_store (Err Store) failures next is more = refl
 
 pub noted_cause : {A : Type 0} (asked : BookCall) (old new : State) (failures next : ℕ) (answer : Result A BookFault) → next ≡ failures_after answer failures
-    → (HasCleanDisk new → IsSoundState old → answer ≡ Err Store → StoreCause asked old new) → IsCaused asked old new failures next answer
+    → (HasCleanDisk new → IsSoundState old → answer ≡ Err Store → StoreCause asked old new) → HasCause asked old new failures next answer
 noted_cause asked old new failures next answer is cause = record { answer = cause; count = λ clean sound more. cause clean sound (only_store answer failures next is more) }

@@ -1,5 +1,7 @@
 -- What a call over a connection between transactions leaves, where the connection may have failed before.
 use Rattle.std.specs.Prelude.{◌≡◌, List, Result, IsTrue, IfOk, OnOk, OnErr}
+use Rattle.sqlite_trees.specs.declared.store.Store.{Ghosts}
+use Rattle.sqlite.specs.Held.{Held, state}
 use Rattle.sqlite.specs.State.{State, HasCleanDisk}
 use Rattle.sqlite.specs.declared.error.Error.{Error}
 use Rattle.acd_terms.specs.declared.rows.Rows.{Rows}
@@ -10,6 +12,10 @@ use Rattle.acd_book.specs.Content.{Content}
 use Rattle.acd_sql_columns.specs.Draft.{HoldsContent, Quiet, NoStop, MayAdd}
 use Rattle.acd_sql_differences.specs.Leading.{rows_differences}
 use Rattle.acd_sql_differences.specs.Transition.{HasTables}
+
+-- a disk that is clean behind a call was so before it
+abbrev pub WasClean : {S : Type 0} → Ghosts S → Held S → Held S → Type 0
+WasClean g old new = HasCleanDisk (state g new) → HasCleanDisk (state g old)
 
 -- while it is open it has a content
 abbrev pub ShowsContent : State → Type 0

@@ -1,6 +1,8 @@
 -- Why a book answers that its store has failed.
 use Rattle.std.specs.Prelude.{◌≡◌, ◌≢◌, ◌⊎◌, ℕ, ◌<◌, false, List, length, None, Some, Result, Err}
 use Rattle.sqlite_disk.specs.Disk.{MoreFaults}
+use Rattle.sqlite_trees.specs.declared.store.Store.{Ghosts}
+use Rattle.sqlite.specs.Held.{state}
 use Rattle.sqlite.specs.State.{State, HasCleanDisk}
 use Rattle.acd_terms.specs.declared.event.Event.{Event}
 use Rattle.acd_terms.specs.declared.rows.Limits.{Limits}
@@ -18,6 +20,7 @@ use Rattle.acd_sql_differences.specs.Leading.{rows_differences}
 use Rattle.acd_sql_statements.specs.InRange.{IsInRange}
 use Rattle.acd_sql_schema.specs.SettingUp.{IsUnstarted}
 use Rattle.acd_sqlbook.specs.State.{IsSoundState}
+use Rattle.acd_sqlbook.specs.View.{BookView}
 use Rattle.acd_sqlbook.specs.Commit.{counted}
 use Rattle.acd_sqlbook.specs.Stopping.{AllNumbersFit, AreCounted, Drops, HasAbove, IsUncounted, RefusesInAll}
 
@@ -82,7 +85,11 @@ pub data StoreCause (asked : BookCall) (old new : State) : Type 0 where
   drops : IsDropping asked old → StoreCause asked old new
   refused : IsRefusedByStore asked old → StoreCause asked old new
 
--- a book that holds a content answers so, and counts a failure, only where there is a cause
-pub record IsCaused {A : Type 0} (asked : BookCall) (old new : State) (failures next : ℕ) (result : Result A BookFault) : Type 0 where
+-- a connection that holds a content answers so, and its failures rise, only where there is a cause
+pub record HasCause {A : Type 0} (asked : BookCall) (old new : State) (failures next : ℕ) (result : Result A BookFault) : Type 0 where
   pub answer : HasCleanDisk new → IsSoundState old → result ≡ Err Store → StoreCause asked old new
   pub count : HasCleanDisk new → IsSoundState old → failures < next → StoreCause asked old new
+
+-- so it is with a book
+abbrev pub IsCaused : {S A : Type 0} → BookCall → Ghosts S → BookView S → BookView S → Result A BookFault → Type 0
+IsCaused asked g old new result = HasCause asked (state g old.conn) (state g new.conn) old.failures new.failures result

@@ -1,6 +1,11 @@
 -- What a commit makes of a content, write by write.
-use Rattle.std.specs.Prelude.{ℕ, ◌+◌, List, [], ◌∷◌, ⊤, IfSome, length, max}
+use Rattle.std.specs.Prelude.{ℕ, ◌+◌, List, [], ◌∷◌, ⊤, IfSome, OnOk, Result, length, max}
+use Rattle.std.specs.Borrow.{MutBor}
 use Rattle.std.specs.Ordering.{nat_cmp}
+use Rattle.sqlite_trees.specs.declared.store.Store.{Ghosts}
+use Rattle.sqlite.specs.Held.{Held, state}
+use Rattle.sqlite.specs.State.{HasCleanDisk}
+use Rattle.sqlite.specs.declared.error.Error.{Error}
 use Rattle.acd_terms.specs.Columns.{columns_of}
 use Rattle.acd_terms.specs.Lists.{put_by}
 use Rattle.acd_terms.specs.declared.event.Event.{Event}
@@ -10,8 +15,8 @@ use Rattle.acd_model.specs.declared.moves.Change.TheVariants.{Nothing, PutGroup,
 use Rattle.acd_book.specs.Content.{Content}
 use Rattle.acd_book.specs.declared.kept.Kept.{Kept}
 use Rattle.acd_sql_columns.specs.declared.meta.Meta.{Meta}
-use Rattle.acd_sql_columns.specs.Relations.{meta_of}
-use Rattle.acd_sql_columns.specs.Draft.{Fits, FiguresFitColumns}
+use Rattle.acd_sql_columns.specs.Relations.{meta_of, relations_of}
+use Rattle.acd_sql_columns.specs.Draft.{Drafts, Fits, FiguresFitColumns}
 
 -- its numbers fit
 abbrev pub ChangeFits : Change → Type 0
@@ -62,6 +67,11 @@ with_meta m c = record c {
 -- the changes, the events, the kept record, and last the counters
 abbrev pub made_by : List Change → List Event → Kept → Meta → Content → Content
 made_by changes events kept meta c = with_meta meta (with_kept (with_events (all_filed c changes) events) kept)
+
+-- a content that the transaction saw is now what `change` makes of it
+abbrev pub LeavesContent : {S : Type 0} → Ghosts S → MutBor (Held S) → MutBor (Held S) → Result (Unit {0}) Error → (Content → Content) → Type 0
+LeavesContent g old new result change =
+    HasCleanDisk (state g new.now) → OnOk result ((c : Content) → Drafts (state g old.now) (relations_of c) → Drafts (state g new.now) (relations_of (change c)))
 
 -- ---- the counters of a commit
 

@@ -1,6 +1,9 @@
 -- Why a part of a commit isn't written, inside a transaction that saw a content, on a connection without a limit of steps.
 use Rattle.std.specs.Prelude.{◌≡◌, ◌⊎◌, ℕ, ◌≤◌, ◌∷◌, [], List, length, Option, None, Some, Result, IfErr, OnOk}
+use Rattle.std.specs.Borrow.{MutBor}
+use Rattle.sqlite_trees.specs.declared.store.Store.{Ghosts}
 use Rattle.sqlite.specs.declared.error.Error.{Error}
+use Rattle.sqlite.specs.Held.{Held, state}
 use Rattle.sqlite.specs.State.{State, HasCleanDisk}
 use Rattle.acd_terms.specs.Lists.{Every}
 use Rattle.acd_terms.specs.declared.event.Event.{Event}
@@ -114,6 +117,10 @@ FailsToFile Stops c old new e = IsMemory e ⊎ (StoreHasFailed old new ⊎ Stops
 -- it fails by this alone
 abbrev pub IsStopped : {A : Type 0} → (Content → Type 0) → State → State → Result A Error → Type 0
 IsStopped Stops old new result = HasCleanDisk new → (c : Content) → Drafts old (relations_of c) → IfErr result (FailsToFile Stops c old new)
+
+-- so it is with the connection of a transaction
+abbrev pub FailsAt : {S A : Type 0} → Ghosts S → MutBor (Held S) → MutBor (Held S) → Result A Error → (Content → Type 0) → Type 0
+FailsAt g old new result Stops = IsStopped Stops (state g old.now) (state g new.now) result
 
 -- of a whole commit, on a connection that holds a content
 abbrev pub IsUndone : {A : Type 0} → (Content → Type 0) → State → State → Result A Error → Type 0

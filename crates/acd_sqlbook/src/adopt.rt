@@ -8,6 +8,8 @@ ghost use Rattle.acd_sql_columns.specs.Schema.{old_schema, book_schema};
 ghost use Rattle.acd_sql_schema.specs.Inspecting.{IsAdoptStoreFault};
 ghost use Rattle.acd_sql_schema.specs.Migrating.{IsMade};
 ghost use Rattle.acd_sqlbook.specs.Adopting.{AdoptCause, HasAllColumns, IsAdopted, IsHandedBack, IsUntouched, MayMigrate};
+ghost use Rattle.acd_sql_schema.specs.SettingUp.{IfClean};
+ghost use Rattle.acd_sqlbook.specs.Calls.{WasClean};
 ghost use Rattle.acd_sqlbook.specs.Noting.{IsBlank};
 ghost use Rattle.acd_sqlbook.specs.State.{book_state};
 
@@ -34,37 +36,30 @@ impl<S: Alter> SqlBook<S> {
         ensures adopted { IfOk result (λ b. HasCleanDisk (state S.Store b.conn)
             → IsAdopted (state S.Store conn).now (book_state (state S.Store conn) 0)
             (book_state (state S.Store b.conn) b.failures)) }
-        ensures untouched { IfOk result (λ b. HasCleanDisk (state S.Store b.conn)
-            → (state S.Store conn).now.schema ≡ book_schema
-            → IsUntouched (state S.Store conn) (state S.Store b.conn)) }
-        ensures migrated { IfOk result (λ b. HasCleanDisk (state S.Store b.conn)
-            → (state S.Store conn).now.schema ≡ old_schema
-            → IsMade (state S.Store conn) (state S.Store b.conn)) }
-        ensures leaves { IfOk result (λ b. HasCleanDisk (state S.Store b.conn)
-            → MayMigrate (state S.Store conn) (state S.Store b.conn)) }
+        ensures untouched { IfOk result (λ b. IfClean S.Store conn b.conn
+            (λ old new. old.now.schema ≡ book_schema → IsUntouched old new)) }
+        ensures migrated { IfOk result (λ b. IfClean S.Store conn b.conn
+            (λ old new. old.now.schema ≡ old_schema → IsMade old new)) }
+        ensures leaves { IfOk result (λ b. IfClean S.Store conn b.conn MayMigrate) }
         ensures filed { IfOk result (λ b. HasCleanDisk (state S.Store b.conn)
             → (S.Store.view conn.store).is_broken ≡ false
             → HasAllColumns (state S.Store conn).now → IsFiled (state S.Store conn).now) }
         ensures counted { IfOk result (λ b. b.failures ≡ 0) }
         ensures unnoted { IfOk result (λ b. IsBlank b.noted) }
         ensures unlimited { IfOk result (λ b. b.conn.step_limit ≡ None) }
-        ensures clean { IfOk result
-            (λ b. HasCleanDisk (state S.Store b.conn) → HasCleanDisk (state S.Store conn)) }
+        ensures clean { IfOk result (λ b. WasClean S.Store conn b.conn) }
         ensures idle { IfErr result (λ e. e.1.in_transaction ≡ false) }
         ensures limit { IfErr result (λ e. e.1.step_limit ≡ None) }
-        ensures doubted { IfErr result
-            (λ e. HasCleanDisk (state S.Store e.1) → HasCleanDisk (state S.Store conn)) }
+        ensures doubted { IfErr result (λ e. WasClean S.Store conn e.1) }
         ensures handed_back { IfErr result (λ e. HasCleanDisk (state S.Store e.1)
             → IsHandedBack (state S.Store conn).now (book_state (state S.Store conn) 0)
             (book_state (state S.Store e.1) 0) e.0) }
-        ensures left_alone { IfErr result (λ e. HasCleanDisk (state S.Store e.1)
-            → ((state S.Store conn).now.schema ≢ old_schema) ⊎ (¬ (IsAdoptStoreFault e.0))
-            → IsUntouched (state S.Store conn) (state S.Store e.1)) }
-        ensures leaves_refused { IfErr result (λ e. HasCleanDisk (state S.Store e.1)
-            → MayMigrate (state S.Store conn) (state S.Store e.1)) }
-        ensures caused { IfErr result (λ e. HasCleanDisk (state S.Store e.1)
-            → IsFiled (state S.Store conn).now → e.0 ≡ AdoptFault.Store
-            → AdoptCause (state S.Store conn) (state S.Store e.1)) }
+        ensures left_alone { IfErr result (λ e. IfClean S.Store conn e.1
+            (λ old new. (old.now.schema ≢ old_schema) ⊎ (¬ (IsAdoptStoreFault e.0))
+            → IsUntouched old new)) }
+        ensures leaves_refused { IfErr result (λ e. IfClean S.Store conn e.1 MayMigrate) }
+        ensures caused { IfErr result (λ e. IfClean S.Store conn e.1
+            (λ old new. IsFiled old.now → e.0 ≡ AdoptFault.Store → AdoptCause old new)) }
     {
         conn.set_step_limit(None);
         match look_over(alloc, &mut conn) {

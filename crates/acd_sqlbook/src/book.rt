@@ -5,10 +5,11 @@ ghost use Rattle.sqlite.specs.State.{HasCleanDisk};
 ghost use Rattle.sqlite.specs.Held.{state};
 ghost use Rattle.acd_sql_columns.specs.Schema.{no_schema};
 ghost use Rattle.acd_sql_columns.specs.Draft.{LimitsFit};
+ghost use Rattle.acd_sqlbook.specs.Calls.{WasClean};
 ghost use Rattle.acd_sqlbook.specs.State.{book_state, IsNewBook, fault_of, answered, failures_after};
 ghost use Rattle.acd_sqlbook.specs.Noting.{IsBlank};
 ghost use Rattle.acd_sqlbook.specs.View.{book_of};
-ghost use Rattle.acd_sql_schema.specs.SettingUp.{MayMake};
+ghost use Rattle.acd_sql_schema.specs.SettingUp.{IfClean, MayMake};
 ghost use Rattle.acd_sqlbook.specs.Causes.{StoreCause, IsCaused, create as creating, read as reading, change as changing, replace as replacing};
 ghost use Rattle.acd_book.specs.Content.{IsKeptAfter, events_behind, events_of_monitor, kept_of, Follows, committed, FollowsBy, committed_by};
 ghost use Rattle.acd_book.specs.State.{Reads, Commits};
@@ -101,20 +102,18 @@ impl<S: Alter> SqlBook<S> {
         ensures counted { IfOk result (λ b. b.failures ≡ 0) }
         ensures unnoted { IfOk result (λ b. IsBlank b.noted) }
         ensures unlimited { IfOk result (λ b. b.conn.step_limit ≡ None) }
-        ensures clean { IfOk result
-            (λ b. HasCleanDisk (state S.Store b.conn) → HasCleanDisk (state S.Store conn)) }
+        ensures clean { IfOk result (λ b. WasClean S.Store conn b.conn) }
         ensures refused { ¬ (LimitsFit limits) → result ≡ Err (BookFault.Store, conn) }
         ensures occupied { (state S.Store conn).now.schema ≢ no_schema
             → result ≡ Err (BookFault.Store, conn) }
         ensures handed_back { IfErr result (λ e. e.1.in_transaction ≡ false) }
         ensures limit { LimitsFit limits → (state S.Store conn).now.schema ≡ no_schema
             → IfErr result (λ e. e.1.step_limit ≡ None) }
-        ensures doubted { IfErr result
-            (λ e. HasCleanDisk (state S.Store e.1) → HasCleanDisk (state S.Store conn)) }
-        ensures stops { IfErr result (λ e. HasCleanDisk (state S.Store e.1)
-            → MayMake (state S.Store conn) (state S.Store e.1) limits) }
-        ensures caused { IfErr result (λ e. HasCleanDisk (state S.Store e.1) → e.0 ≡ BookFault.Store
-            → StoreCause (creating limits) (state S.Store conn) (state S.Store e.1)) }
+        ensures doubted { IfErr result (λ e. WasClean S.Store conn e.1) }
+        ensures stops { IfErr result
+            (λ e. IfClean S.Store conn e.1 (λ old new. MayMake old new limits)) }
+        ensures caused { IfErr result (λ e. IfClean S.Store conn e.1
+            (λ old new. e.0 ≡ BookFault.Store → StoreCause (creating limits) old new)) }
     {
         if !limits_fit(&limits) {
             return Err((BookFault::Store, conn));
@@ -178,9 +177,7 @@ impl<S: Alter> Book for SqlBook<S> {
     fn limits(&mut self) -> Result<Limits, BookFault>
         ensures reads { Reads (book_of S.Store self.old) (book_of S.Store self.new) result
             (λ c found. found ≡ c.rows.limits) }
-        ensures caused { IsCaused reading
-            (state S.Store self.old.conn) (state S.Store self.new.conn)
-            self.old.failures self.new.failures result }
+        ensures caused { IsCaused reading S.Store self.old self.new result }
     {
         let found = self.ready.limits();
         noted(found, &mut self.ready.fresh, &mut self.failures)
@@ -189,9 +186,7 @@ impl<S: Alter> Book for SqlBook<S> {
     fn rows(&mut self) -> Result<Rows, BookFault>
         ensures reads { Reads (book_of S.Store self.old) (book_of S.Store self.new) result
             (λ c found. found ≡ c.rows) }
-        ensures caused { IsCaused reading
-            (state S.Store self.old.conn) (state S.Store self.new.conn)
-            self.old.failures self.new.failures result }
+        ensures caused { IsCaused reading S.Store self.old self.new result }
     {
         let found = self.ready.rows(self.alloc);
         noted(found, &mut self.ready.fresh, &mut self.failures)
@@ -200,9 +195,7 @@ impl<S: Alter> Book for SqlBook<S> {
     fn kept(&mut self, requester: &Requester, invoke: Invoke) -> Result<Option<Kept>, BookFault>
         ensures reads { Reads (book_of S.Store self.old) (book_of S.Store self.new) result
             (λ c found. found ≡ kept_of c.kept requester.now invoke) }
-        ensures caused { IsCaused reading
-            (state S.Store self.old.conn) (state S.Store self.new.conn)
-            self.old.failures self.new.failures result }
+        ensures caused { IsCaused reading S.Store self.old self.new result }
     {
         let found = self.ready.kept(self.alloc, requester, invoke);
         noted(found, &mut self.ready.fresh, &mut self.failures)
@@ -211,9 +204,7 @@ impl<S: Alter> Book for SqlBook<S> {
     fn kept_after(&mut self, stamp: u64) -> Result<Option<Kept>, BookFault>
         ensures reads { Reads (book_of S.Store self.old) (book_of S.Store self.new) result
             (λ c found. IsKeptAfter c.kept stamp found) }
-        ensures caused { IsCaused reading
-            (state S.Store self.old.conn) (state S.Store self.new.conn)
-            self.old.failures self.new.failures result }
+        ensures caused { IsCaused reading S.Store self.old self.new result }
     {
         let found = kept_followed(self.alloc, &mut self.ready, &mut self.notes.ahead, stamp);
         noted(found, &mut self.ready.fresh, &mut self.failures)
@@ -222,9 +213,7 @@ impl<S: Alter> Book for SqlBook<S> {
     fn events_after(&mut self, number: u64, limit: usize) -> Result<Vec<Event>, BookFault>
         ensures reads { Reads (book_of S.Store self.old) (book_of S.Store self.new) result
             (λ c found. found.items ≡ events_behind c.events number limit) }
-        ensures caused { IsCaused reading
-            (state S.Store self.old.conn) (state S.Store self.new.conn)
-            self.old.failures self.new.failures result }
+        ensures caused { IsCaused reading S.Store self.old self.new result }
     {
         let found = self.ready.events_after(self.alloc, number, limit);
         noted(found, &mut self.ready.fresh, &mut self.failures)
@@ -238,9 +227,7 @@ impl<S: Alter> Book for SqlBook<S> {
     ) -> Result<Vec<Event>, BookFault>
         ensures reads { Reads (book_of S.Store self.old) (book_of S.Store self.new) result
             (λ c found. found.items ≡ events_of_monitor c monitor number limit) }
-        ensures caused { IsCaused reading
-            (state S.Store self.old.conn) (state S.Store self.new.conn)
-            self.old.failures self.new.failures result }
+        ensures caused { IsCaused reading S.Store self.old self.new result }
     {
         let found = page_followed(
             self.alloc,
@@ -258,8 +245,7 @@ impl<S: Alter> Book for SqlBook<S> {
             (Follows rows.now events.now kept.now)
             (committed rows.now events.now kept.now) }
         ensures caused { IsCaused (replacing rows.now events.now kept.now)
-            (state S.Store self.old.conn) (state S.Store self.new.conn)
-            self.old.failures self.new.failures result }
+            S.Store self.old self.new result }
     {
         self.notes.forget();
         let done = commit_rows(self.alloc, &mut self.ready, rows, events, kept);
@@ -278,9 +264,7 @@ impl<S: Alter> Book for SqlBook<S> {
         // It counts from what is noted: so the book is sound with its notes, as `commits` asks too. A new or an adopted
         // one is, and each call leaves it so.
         ensures caused { (book_of S.Store self.old).is_sound
-            → IsCaused (changing changes.now events.now kept.now)
-            (state S.Store self.old.conn) (state S.Store self.new.conn)
-            self.old.failures self.new.failures result }
+            → IsCaused (changing changes.now events.now kept.now) S.Store self.old self.new result }
     {
         let counters = &mut self.notes.counters;
         let done = self

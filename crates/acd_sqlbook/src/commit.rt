@@ -7,12 +7,14 @@ ghost use Rattle.acd_codec.specs.RequestTexts.{request_text};
 ghost use Rattle.acd_terms.specs.Lists.{Every, IsAscending};
 ghost use Rattle.acd_model.specs.Rules.Plan.{connection_order};
 ghost use Rattle.acd_book.specs.Content.{Content};
+ghost use Rattle.acd_sql_schema.specs.SettingUp.{IfClean};
+ghost use Rattle.acd_sqlbook.specs.Calls.{WasClean};
 ghost use Rattle.acd_sqlbook.specs.Choosing.{written, is_taken_away, IsWrittenNext, IsNextPart, puts_the_same, is_put_once, is_above, is_new};
-ghost use Rattle.acd_sqlbook.specs.Commit.{ChangeFits, EventFits, filed, all_filed, with_events, made_by, top_call, top_monitor, last_call, last_monitor, counted};
-ghost use Rattle.acd_sqlbook.specs.Stopping.{HasAbove, RefusesChange, StopsAtChange, StopsInChanges, StopsAtEvents, StopsInEvents, StopsInAll, IsStopped, IsUndone};
+ghost use Rattle.acd_sqlbook.specs.Commit.{LeavesContent, ChangeFits, EventFits, filed, all_filed, with_events, made_by, top_call, top_monitor, last_call, last_monitor, counted};
+ghost use Rattle.acd_sqlbook.specs.Stopping.{HasAbove, RefusesChange, StopsAtChange, StopsInChanges, StopsAtEvents, StopsInEvents, StopsInAll, FailsAt, IsUndone};
 ghost use Rattle.acd_sql_statements.specs.Refusing.{RefusesAgent, IsBlamed};
 ghost use Rattle.acd_sql_columns.specs.Relations.{relations_of};
-ghost use Rattle.acd_sql_columns.specs.Draft.{Drafts, Works, HoldsContent, AddsStop, Fits, FiguresFitColumns, MetaFits};
+ghost use Rattle.acd_sql_columns.specs.Draft.{Works, HoldsContent, AddsStop, Fits, FiguresFitColumns, MetaFits};
 
 use acd_book::Kept;
 use acd_model::Change;
@@ -74,10 +76,8 @@ fn file_agent<S: Alter>(tx: &mut Transaction<'_, S>, agent: &AgentRecord) -> Res
     requires { Fits agent.now.stamp }
     ensures same { tx.new.conn.ghost_name ≡ tx.old.conn.ghost_name }
     ensures works { Works (state S.Store tx.old.conn.now) (state S.Store tx.new.conn.now) }
-    ensures put { HasCleanDisk (state S.Store tx.new.conn.now) → OnOk result ((c : Content)
-        → Drafts (state S.Store tx.old.conn.now) (relations_of c)
-        → Drafts (state S.Store tx.new.conn.now)
-        (relations_of (filed c (Change.PutAgent agent.now)))) }
+    ensures put { LeavesContent S.Store tx.old.conn tx.new.conn result
+        (λ c. filed c (Change.PutAgent agent.now)) }
     ensures failed { IsBlamed (RefusesAgent agent.now)
         (state S.Store tx.old.conn.now) (state S.Store tx.new.conn.now) result }
 {
@@ -95,12 +95,10 @@ fn make_change<S: Alter>(
     requires free { (state S.Store tx.old.conn.now).step_limit ≡ None }
     ensures same { tx.new.conn.ghost_name ≡ tx.old.conn.ghost_name }
     ensures works { Works (state S.Store tx.old.conn.now) (state S.Store tx.new.conn.now) }
-    ensures put { HasCleanDisk (state S.Store tx.new.conn.now) → OnOk result ((c : Content)
-        → Drafts (state S.Store tx.old.conn.now) (relations_of c)
-        → Drafts (state S.Store tx.new.conn.now)
-        (relations_of (filed c change.now))) }
-    ensures failed { IsStopped (λ c. RefusesChange (IsTrue is_new) change.now (relations_of c))
-        (state S.Store tx.old.conn.now) (state S.Store tx.new.conn.now) result }
+    ensures put { LeavesContent S.Store tx.old.conn tx.new.conn result
+        (λ c. filed c change.now) }
+    ensures failed { FailsAt S.Store tx.old.conn tx.new.conn result
+        (λ c. RefusesChange (IsTrue is_new) change.now (relations_of c)) }
 {
     match change {
         Change::Nothing => Ok(()),
@@ -126,12 +124,10 @@ fn write_change<S: Alter>(
     requires { (state S.Store tx.old.conn.now).step_limit ≡ None }
     ensures same { tx.new.conn.ghost_name ≡ tx.old.conn.ghost_name }
     ensures works { Works (state S.Store tx.old.conn.now) (state S.Store tx.new.conn.now) }
-    ensures put { HasCleanDisk (state S.Store tx.new.conn.now) → OnOk result ((c : Content)
-        → Drafts (state S.Store tx.old.conn.now) (relations_of c)
-        → Drafts (state S.Store tx.new.conn.now)
-        (relations_of (filed c change.now))) }
-    ensures failed { IsStopped (StopsAtChange (IsTrue is_new) change.now)
-        (state S.Store tx.old.conn.now) (state S.Store tx.new.conn.now) result }
+    ensures put { LeavesContent S.Store tx.old.conn tx.new.conn result
+        (λ c. filed c change.now) }
+    ensures failed { FailsAt S.Store tx.old.conn tx.new.conn result
+        (StopsAtChange (IsTrue is_new) change.now) }
 {
     if !change_fits(change) {
         return Err(too_large());
@@ -241,12 +237,10 @@ fn write_changes<S: Alter>(
     requires { (state S.Store tx.old.conn.now).step_limit ≡ None }
     ensures same { tx.new.conn.ghost_name ≡ tx.old.conn.ghost_name }
     ensures works { Works (state S.Store tx.old.conn.now) (state S.Store tx.new.conn.now) }
-    ensures put { HasCleanDisk (state S.Store tx.new.conn.now) → OnOk result ((c : Content)
-        → Drafts (state S.Store tx.old.conn.now) (relations_of c)
-        → Drafts (state S.Store tx.new.conn.now)
-        (relations_of (all_filed c changes.now))) }
-    ensures failed { IsStopped (λ c. StopsInChanges (HasAbove last c) (written changes.now) c)
-        (state S.Store tx.old.conn.now) (state S.Store tx.new.conn.now) result }
+    ensures put { LeavesContent S.Store tx.old.conn tx.new.conn result
+        (λ c. all_filed c changes.now) }
+    ensures failed { FailsAt S.Store tx.old.conn tx.new.conn result
+        (λ c. StopsInChanges (HasAbove last c) (written changes.now) c) }
 {
     let mut rest = changes;
     while let Some((change, behind)) = next_written(rest) {
@@ -286,12 +280,10 @@ fn write_some<S: Alter>(tx: &mut Transaction<'_, S>, events: &[Event]) -> Result
     requires few { length events.now ≤ 4 }
     ensures same { tx.new.conn.ghost_name ≡ tx.old.conn.ghost_name }
     ensures works { Works (state S.Store tx.old.conn.now) (state S.Store tx.new.conn.now) }
-    ensures put { HasCleanDisk (state S.Store tx.new.conn.now) → OnOk result ((c : Content)
-        → Drafts (state S.Store tx.old.conn.now) (relations_of c)
-        → Drafts (state S.Store tx.new.conn.now)
-        (relations_of (with_events c events.now))) }
-    ensures failed { IsStopped (StopsAtEvents events.now)
-        (state S.Store tx.old.conn.now) (state S.Store tx.new.conn.now) result }
+    ensures put { LeavesContent S.Store tx.old.conn tx.new.conn result
+        (λ c. with_events c events.now) }
+    ensures failed { FailsAt S.Store tx.old.conn tx.new.conn result
+        (StopsAtEvents events.now) }
 {
     if !events_fit(events) {
         return Err(too_large());
@@ -303,12 +295,10 @@ fn write_events<S: Alter>(tx: &mut Transaction<'_, S>, events: &[Event]) -> Resu
     requires { (state S.Store tx.old.conn.now).step_limit ≡ None }
     ensures same { tx.new.conn.ghost_name ≡ tx.old.conn.ghost_name }
     ensures works { Works (state S.Store tx.old.conn.now) (state S.Store tx.new.conn.now) }
-    ensures put { HasCleanDisk (state S.Store tx.new.conn.now) → OnOk result ((c : Content)
-        → Drafts (state S.Store tx.old.conn.now) (relations_of c)
-        → Drafts (state S.Store tx.new.conn.now)
-        (relations_of (with_events c events.now))) }
-    ensures failed { IsStopped (StopsInEvents events.now)
-        (state S.Store tx.old.conn.now) (state S.Store tx.new.conn.now) result }
+    ensures put { LeavesContent S.Store tx.old.conn tx.new.conn result
+        (λ c. with_events c events.now) }
+    ensures failed { FailsAt S.Store tx.old.conn tx.new.conn result
+        (StopsInEvents events.now) }
 {
     let mut rest = events;
     while let Some((some, behind)) = next_events(rest) {
@@ -390,13 +380,10 @@ fn write_all<S: Alter>(
     requires free { (state S.Store tx.old.conn.now).step_limit ≡ None }
     ensures same { tx.new.conn.ghost_name ≡ tx.old.conn.ghost_name }
     ensures works { Works (state S.Store tx.old.conn.now) (state S.Store tx.new.conn.now) }
-    ensures put { HasCleanDisk (state S.Store tx.new.conn.now) → OnOk result ((c : Content)
-        → Drafts (state S.Store tx.old.conn.now) (relations_of c)
-        → Drafts (state S.Store tx.new.conn.now)
-        (relations_of (made_by changes.now events.now kept.now meta.now c))) }
-    ensures failed { IsStopped
-        (λ c. StopsInAll (HasAbove last c) changes.now events.now kept.now meta.now c)
-        (state S.Store tx.old.conn.now) (state S.Store tx.new.conn.now) result }
+    ensures put { LeavesContent S.Store tx.old.conn tx.new.conn result
+        (made_by changes.now events.now kept.now meta.now) }
+    ensures failed { FailsAt S.Store tx.old.conn tx.new.conn result
+        (λ c. StopsInAll (HasAbove last c) changes.now events.now kept.now meta.now c) }
 {
     write_changes(tx, last, changes)?;
     write_events(tx, events)?;
@@ -422,21 +409,18 @@ pub(crate) fn commit_all<S: Alter>(
     requires idle { conn.old.in_transaction ≡ false }
     requires unlimited { conn.old.step_limit ≡ None }
     ensures idle { conn.new.in_transaction ≡ false }
-    ensures done { HasCleanDisk (state S.Store conn.new) → OnOk result ((c : Content)
-        → HoldsContent (state S.Store conn.old) c
-        → HoldsContent (state S.Store conn.new)
-        (made_by changes.now events.now kept.now meta.now c)) }
-    ensures clean { HasCleanDisk (state S.Store conn.new) → HasCleanDisk (state S.Store conn.old) }
+    ensures done { IfClean S.Store conn.old conn.new (λ old new. OnOk result ((c : Content)
+        → HoldsContent old c
+        → HoldsContent new (made_by changes.now events.now kept.now meta.now c))) }
+    ensures clean { WasClean S.Store conn.old conn.new }
     ensures up { HasCleanDisk (state S.Store conn.new) → OnOk result
         (IsTrue (state S.Store conn.old).is_open × IsTrue (state S.Store conn.new).is_open) }
     ensures was { HasCleanDisk (state S.Store conn.new)
         → IsTrue (state S.Store conn.new).is_open → IsTrue (state S.Store conn.old).is_open }
-    ensures undone { HasCleanDisk (state S.Store conn.new) → OnErr result ((c : Content)
-        → HoldsContent (state S.Store conn.old) c
-        → IsTrue (state S.Store conn.new).is_open → HoldsContent (state S.Store conn.new) c) }
-    ensures stops { HasCleanDisk (state S.Store conn.new)
-        → AddsStop (state S.Store conn.old) (state S.Store conn.new)
-        (made_by changes.now events.now kept.now meta.now) }
+    ensures undone { IfClean S.Store conn.old conn.new (λ old new. OnErr result ((c : Content)
+        → HoldsContent old c → IsTrue new.is_open → HoldsContent new c)) }
+    ensures stops { IfClean S.Store conn.old conn.new
+        (λ old new. AddsStop old new (made_by changes.now events.now kept.now meta.now)) }
     ensures limit { (state S.Store conn.new).step_limit ≡ (state S.Store conn.old).step_limit }
     ensures failed { IsUndone
         (λ c. StopsInAll (HasAbove last c) changes.now events.now kept.now meta.now c)

@@ -11,6 +11,8 @@ ghost use Rattle.acd_sqlbook.specs.Counters.{AreCounters, StopsWith};
 ghost use Rattle.acd_sql_columns.specs.Finding.{kept_behind};
 ghost use Rattle.acd_sql_columns.specs.Relations.{meta_of};
 ghost use Rattle.acd_sql_columns.specs.Draft.{HoldsContent, Quiet, NoStop, Fits, LimitsFit, MetaFits};
+ghost use Rattle.acd_sql_schema.specs.SettingUp.{IfClean};
+ghost use Rattle.acd_sql_statements.specs.Between.{IsUp};
 ghost use Rattle.acd_sql_statements.specs.Reading.{Blames};
 ghost use Rattle.acd_sqlbook.specs.Stopping.{BlamesOr, IsBlamedOr, IsUncounted, StopsCommit};
 
@@ -88,11 +90,9 @@ impl<S: Alter> Ready<S> {
     /// Tries the store where it isn't known to serve, as it isn't from here on until a call has succeeded.
     pub(crate) fn serve(&mut self) -> Result<(), Error>
         ensures doubted { self.new.fresh ≡ false }
-        ensures up { HasCleanDisk (state S.Store self.new.conn)
-            → OnOk result (IsTrue (state S.Store self.new.conn).is_open) }
+        ensures up { IsUp (state S.Store self.new.conn) result }
         ensures quiet { Quiet (state S.Store self.old.conn) (state S.Store self.new.conn) }
-        ensures stops { HasCleanDisk (state S.Store self.new.conn)
-            → NoStop (state S.Store self.old.conn) (state S.Store self.new.conn) }
+        ensures stops { IfClean S.Store self.old.conn self.new.conn NoStop }
         ensures blamed { Blames (state S.Store self.old.conn) (state S.Store self.new.conn) result }
     {
         if self.fresh {
