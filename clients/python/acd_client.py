@@ -22,7 +22,7 @@ from collections.abc import Iterator
 from typing import Any, NamedTuple, NotRequired, TypedDict, cast
 from urllib.parse import SplitResult, unquote, urlsplit
 
-__all__ = ["AnotherHistory", "Answer", "Client", "Event", "Missed", "Page", "Request", "Snapshot", "Stopped", "Unanswered"]
+__all__ = ["AnotherHistory", "Answer", "Client", "Event", "ExecutedRequest", "Missed", "Page", "Request", "RequestsPage", "Snapshot", "Stopped", "Unanswered"]
 
 Request = dict[str, Any]
 
@@ -49,6 +49,19 @@ class Event(TypedDict):
 class Page(TypedDict):
     events: list[Event]
     last: int
+
+
+class ExecutedRequest(TypedDict):
+    moment: int
+    reply: dict[str, Any]
+    request: Request
+    stamp: int
+    status: int
+
+
+class RequestsPage(TypedDict):
+    last: int
+    requests: list[ExecutedRequest]
 
 
 class Snapshot(TypedDict):
@@ -226,6 +239,10 @@ class Client:
     def snapshot(self) -> Snapshot | None:
         """The whole desk, all of one state; None from a desk that has no snapshots. Events behind its `last` are followed from there."""
         return cast(Snapshot | None, self.read("/snapshot"))
+
+    def requests(self, after: int = 0) -> RequestsPage | None:
+        """The first thousand executed requests above the stamp `after`; None from a desk that tells none, or behind nginx, which lets nobody read them."""
+        return cast(RequestsPage | None, self.read(f"/requests?after={after}"))
 
     def follow(self, after: int, poll: float = 0.5) -> Iterator[list[Event]]:
         """The events above `after`, page by page, each once and in order, until the client is stopped."""

@@ -453,6 +453,19 @@ class LongPage(TypedDict):
     last: Figure
 
 
+class RequestsPage(TypedDict):
+    last: Figure
+    requests: list[ExecutedRequest]
+
+
+class ExecutedRequest(TypedDict):
+    moment: Moment
+    reply: KeptReply
+    request: ServiceRequest
+    stamp: Stamp
+    status: Literal[200, 409]
+
+
 class Snapshot(TypedDict):
     agents: list[SnapshotAgent]
     calls: list[SnapshotCall]
@@ -608,5 +621,6 @@ RefusalError = Union[UnknownDevice, UnknownAgent, UnknownCall, UnknownConnection
     NotStation, NotGroup, DestinationBusy, SameDevice, StationTaken, StationBusy, TooManyCalls, PlanFull, UnknownMonitor, CallerPlanned]
 UnavailableError = Union[NoMemory, StoreFault]
 PlannedDevice = Union[Group, Station]
+KeptReply = Union[Reply, RefusalReply]
 EventReport = Union[ServiceInitiated, Originated, Queued, Delivered, Diverted, Established, Held, Retrieved, Transferred, Failed, ConnectionCleared,
     CallCleared, AgentLoggedOn, AgentLoggedOff, AgentNotReady, AgentReady, AgentBusy, AgentWorkingAfterCall]

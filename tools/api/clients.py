@@ -19,7 +19,8 @@ PAGE = """<!DOCTYPE html><html><body><div id="ui"></div><script src="swagger-ui-
 # behind the requests that are the description's examples: operation, parameters, and the target that is the same
 READS = [("getAgent", ["agent=7"], "/agents/7"), ("getCall", ["call=1"], "/calls/1"), ("getDevice", ["device=201"], "/devices/201"),
          ("getQueue", ["group=100"], "/queues/100"), ("getEvents", ["after=2"], "/events?after=2"), ("getMonitorEvents", ["monitor=1"], "/monitors/1/events"),
-         ("getQueueReport", [], "/reports/queues"), ("getSnapshot", [], "/snapshot"), ("getHistory", ["after=1"], "/history?after=1")]
+         ("getQueueReport", [], "/reports/queues"), ("getSnapshot", [], "/snapshot"), ("getHistory", ["after=1"], "/history?after=1"),
+         ("getRequests", ["after=1"], "/requests?after=1")]
 WRONG = [("sendRequest", ["-c", '{"requester":"desk","invoke":90,"service":"parkCall","call":1}']),
          ("sendRequest", ["-c", '{"requester":"desk","invoke":0,"service":"tick"}']), ("getAgent", ["-p", "agent=x"])]
 

@@ -152,13 +152,19 @@ class Description:
 
     # what comes up in a reply
 
+    def chosen(self, schema, value):
+        """Which schema of a oneOf the value is of."""
+        if "discriminator" in schema:
+            return choice(schema, value)
+        return next(each["$ref"] for each in schema["oneOf"] if not self.errors(each, value, True))
+
     def uses(self, schema, value, place):
         """Each fixed text and each member that may be left out, as the value has it: facts of the description that were seen."""
         if "$ref" in schema:
             name = schema["$ref"][len(SCHEMAS):]
             yield from self.uses(self.closed["components"]["schemas"][name], value, name)
         elif "oneOf" in schema:
-            yield from self.uses({"$ref": choice(schema, value)}, value, place)
+            yield from self.uses({"$ref": self.chosen(schema, value)}, value, place)
         elif "enum" in schema:
             yield place, "is", value
         elif schema.get("type") == "array":

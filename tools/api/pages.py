@@ -152,8 +152,9 @@ class Comparison:
         return set(schema.get("properties", {})) | {name for key, value in schema.items() if key != "discriminator" for name in self.names_in(value, known)}
 
     def compare_routes(self):
-        """Each route; and each member that a row shows in a text of JSON is one of the reply, each of a reply that isn't an event's is in its row."""
-        events = self.names_in({"$ref": f"{SCHEMAS}EventReport"}, frozenset())
+        """Each route; and each member that a row shows in a text of JSON is one of the reply, and each of the reply is in its row, but for those of
+        events, requests and their replies."""
+        others = frozenset(f"{SCHEMAS}{name}" for name in ("EventReport", "ServiceRequest", "KeptReply"))
         shown, route = {}, None
         for first, _, body in rows(self.page, "| method and path | asks for | body of the reply |"):
             route = re.sub(r"\{\w+\}", "{}", texts(first)[0].partition("?")[0]) if first else route
@@ -165,7 +166,7 @@ class Comparison:
             if content and "{" in body:
                 names = self.names_in(content["schema"], frozenset())
                 self.same(f"members of {route} that it has not", set(re.findall(r'"(\w+)":', body)) - names, set())
-                self.same(f"members of {route} that aren't told", {name for name in names - events if not re.search(rf"\b{name}\b", body)}, set())
+                self.same(f"members of {route} that aren't told", {name for name in self.names_in(content["schema"], others) if not re.search(rf"\b{name}\b", body)}, set())
 
     def compare_snapshot(self):
         """The snapshot's lists, and what an item of each has besides the members of the single read."""

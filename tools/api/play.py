@@ -14,10 +14,10 @@ from bodies import edges, mutated
 
 TOOLS = Path(__file__).resolve().parents[1]
 OFFICE = TOOLS.parent / "tests/office.py"
-READS = ("/agents/7", "/calls/1", "/devices/100", "/queues/100", "/events", "/monitors/1/events", "/reports/queues", "/snapshot", "/history")
+READS = ("/agents/7", "/calls/1", "/devices/100", "/queues/100", "/events", "/monitors/1/events", "/reports/queues", "/snapshot", "/history", "/requests")
 METHODS = ("GET", "HEAD", "POST", "PUT", "DELETE", "OPTIONS", "PATCH")
 BAD = ["/events?after=x", "/events?after=1&after=2", "/events?after=1234567890123456", "/events?after=", "/events?after=-1", "/events?after=007&other=x",
-       "/history?after=x", "/history?after=1&after=2", "/monitors/1/events?after=", "/nothing", "/", "/agents/", "/agents/x", "/agents/1234567890", "/agents/7/",
+       "/history?after=x", "/history?after=1&after=2", "/requests?after=x", "/requests?after=1&after=2", "/requests/", "/monitors/1/events?after=", "/nothing", "/", "/agents/", "/agents/x", "/agents/1234567890", "/agents/7/",
        "/calls/0", "/calls/01", "/calls/9999999999", "/calls/12345678901", "/calls/-1", "/devices/1234567890123456", "/devices/%31", "/queues/", "/queues/x",
        "/csta", "/csta?x=1", "/reports/queues?x=1", "/reports", "/monitors/0/events", "/monitors/x/events", "/snapshot?after=x", "/snapshot/", "/Events"]
 
@@ -43,7 +43,7 @@ class Things:
         agent, device = chance.choice(sorted(self.agents)), chance.choice(sorted(self.devices))
         call, monitor = max(1, max(self.calls) - chance.randrange(40)), chance.choice(sorted(self.monitors))
         return chance.choice([f"/agents/{agent}", f"/devices/{device}", f"/queues/{device}", f"/calls/{call}", "/reports/queues", "/snapshot",
-                              f"/events?after={chance.randrange(20000)}", "/events", f"/history?after={chance.randrange(20000)}",
+                              f"/events?after={chance.randrange(20000)}", "/events", f"/history?after={chance.randrange(20000)}", f"/requests?after={chance.randrange(10000)}",
                               f"/monitors/{monitor}/events?after={chance.randrange(100)}", f"/monitors/{monitor}/events"])
 
     def reads(self):
@@ -84,7 +84,7 @@ def ask_heads(desk):
 
 
 def ask_all_pages(desk, route, size):
-    last = json.loads(desk.ask("GET", "/events").reply)["last"]
+    last = json.loads(desk.ask("GET", route).reply)["last"]
     for after in range(0, last + size, size):
         yield desk.ask("GET", f"{route}?after={after}")
 
@@ -147,6 +147,7 @@ def exchanges(program, description, faults):
             yield "members at their edges", (desk.ask("POST", "/csta", body) for body in edges(description))
             yield "mutated requests", (desk.ask("POST", "/csta", body) for body in mutated(bodies, faults))
             yield "bad paths, methods and heads", ask_heads(desk)
+            yield "all requests of these", ask_all_pages(desk, "/requests", 1000)
         # over HTTP the moment is the clock's, so that no tick finds anything overdue
         subprocess.run([program, "lines", "--file", f"{folder}/day.db"], input=lines, text=True, stdout=subprocess.DEVNULL, check=True)
         with Desk(program, f"{folder}/day.db", room=4096, connections=1000) as desk:
@@ -154,6 +155,7 @@ def exchanges(program, description, faults):
         with Desk(program, f"{folder}/day.db") as desk:
             yield "a day at its own moments, in pages", ask_all_pages(desk, "/events", 100)
             yield "in long pages", ask_all_pages(desk, "/history", 1000)
+            yield "its requests", ask_all_pages(desk, "/requests", 1000)
             yield "reads of all that it named", (desk.ask("GET", target) for target in [*things.reads(), "/snapshot", "/reports/queues"])
         narrow(f"{folder}/day.db")
         with Desk(program, f"{folder}/day.db") as desk:

@@ -82,6 +82,19 @@ class AgainstADesk(unittest.TestCase):
             snapshot = client.snapshot()
             self.assertTrue(snapshot is None or snapshot["last"] == 0)
 
+    def test_executed_requests(self) -> None:
+        """What was asked behind the plan's three requests, once each and with the first reply."""
+        with Client(self.desk.address, requester="pbx") as client:
+            call = client.ask("arriveCall", caller="0301234", called="100")
+            refused = client.ask("holdCall", call=9, device="201")
+            client.insist({"requester": "pbx", "invoke": 1, "service": "arriveCall", "caller": "0301234", "called": "100"})
+            page = client.requests(after=3)
+            assert page is not None
+            self.assertEqual(page["last"], 5)
+            self.assertEqual([(each["stamp"], each["status"], each["request"]["service"], each["reply"]) for each in page["requests"]],
+                             [(4, 200, "arriveCall", call.body), (5, 409, "holdCall", refused.body)])
+            self.assertEqual(client.requests(after=5), {"last": 5, "requests": []})
+
     def test_a_requester_of_its_own(self) -> None:
         for _ in range(2):
             with Client(self.desk.address) as client:

@@ -38,6 +38,10 @@ abbrev pub IsKeptAfter : List Kept → ℕ → Option Kept → Type 0
 IsKeptAfter kept stamp None = Every (λ (other : Kept). other.stamp ≤ stamp) kept
 IsKeptAfter kept stamp (Some k) = Among k kept × (stamp < k.stamp) × Every (λ (other : Kept). stamp < other.stamp → k.stamp ≤ other.stamp) kept
 
+-- the first kept records above a stamp
+abbrev pub kept_behind : List Kept → ℕ → ℕ → List Kept
+kept_behind kept stamp limit = take limit (filter (λ (k : Kept). nat_lt stamp k.stamp) kept)
+
 -- the event is at the device, where one is named
 abbrev pub is_at : Option ℕ → Event → Bool
 is_at None e = true

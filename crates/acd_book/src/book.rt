@@ -1,7 +1,7 @@
 //! What a desk asks of a store.
 
 ghost use Rattle.std.specs.Prelude.{◌≡◌};
-ghost use Rattle.acd_book.specs.Content.{Content, committed, kept_of, IsKeptAfter, events_behind, events_of_monitor, Follows, FollowsBy, committed_by};
+ghost use Rattle.acd_book.specs.Content.{Content, committed, kept_of, IsKeptAfter, kept_behind, events_behind, events_of_monitor, Follows, FollowsBy, committed_by};
 ghost use Rattle.acd_book.specs.State.{BookState, Reads, Commits};
 
 use crate::fault::BookFault;
@@ -40,6 +40,11 @@ pub trait Book {
     fn kept_after(&mut self, stamp: u64) -> Result<Option<Kept>, BookFault>
         ensures { Reads (state self.old) (state self.new) result
             (λ c found. IsKeptAfter c.kept stamp found) };
+
+    /// The first `limit` kept records above a stamp.
+    fn requests_after(&mut self, stamp: u64, limit: usize) -> Result<Vec<Kept>, BookFault>
+        ensures { Reads (state self.old) (state self.new) result
+            (λ c found. found.items ≡ kept_behind c.kept stamp limit) };
 
     /// The first `limit` events above a number.
     fn events_after(&mut self, number: u64, limit: usize) -> Result<Vec<Event>, BookFault>

@@ -2,7 +2,7 @@
 
 ghost use Rattle.std.specs.Prelude.{◌≡◌, ◌≤◌, ◌<◌, ◌+◌, Some, IfOk, OnOk, OnErr, take, length};
 ghost use Rattle.acd_model.specs.Scans.{monitor_of};
-ghost use Rattle.acd_book.specs.Content.{empty_content, kept_of, IsKeptAfter, events_behind, events_of_monitor, committed, committed_by};
+ghost use Rattle.acd_book.specs.Content.{empty_content, kept_of, IsKeptAfter, kept_behind, events_behind, events_of_monitor, committed, committed_by};
 
 use crate::kept::Kept;
 use crate::ledger::Ledger;
@@ -59,6 +59,13 @@ impl Contents {
             Some(kept) => Ok(Some(kept.clone()?)),
             None => Ok(None),
         }
+    }
+
+    pub(crate) fn requests_after(&self, stamp: u64, limit: usize) -> Result<Vec<Kept>, AllocError>
+        ensures { IfOk result
+            (λ found. found.items ≡ kept_behind (content_of self.now).kept stamp limit) }
+    {
+        first_kept(self.alloc, self.replies.behind(stamp), limit)
     }
 
     pub(crate) fn events_after(&self, number: u64, limit: usize) -> Result<Vec<Event>, AllocError>
@@ -148,4 +155,12 @@ fn first(alloc: Global, events: &[Event], limit: usize) -> Result<Vec<Event>, Al
 {
     let end = limit.min(events.len());
     events[..end].to_vec(alloc)
+}
+
+// The same of kept records.
+fn first_kept(alloc: Global, records: &[Kept], limit: usize) -> Result<Vec<Kept>, AllocError>
+    ensures { IfOk result (λ found. found.items ≡ take limit records.now) }
+{
+    let end = limit.min(records.len());
+    records[..end].to_vec(alloc)
 }

@@ -75,6 +75,10 @@ impl Book for MemoryBook {
         Ok(self.contents.kept_after(stamp)?)
     }
 
+    fn requests_after(&mut self, stamp: u64, limit: usize) -> Result<Vec<Kept>, BookFault> {
+        Ok(self.contents.requests_after(stamp, limit)?)
+    }
+
     fn events_after(&mut self, number: u64, limit: usize) -> Result<Vec<Event>, BookFault> {
         Ok(self.contents.events_after(number, limit)?)
     }

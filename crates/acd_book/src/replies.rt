@@ -1,6 +1,6 @@
 //! The kept records of a book in memory.
 
-ghost use Rattle.std.specs.Prelude.{◌≡◌, ◌++◌, ◌∷◌, [], true, slice_get, option_copied, OnOk, OnErr};
+ghost use Rattle.std.specs.Prelude.{◌≡◌, ◌++◌, ◌∷◌, [], true, drop, slice_get, option_copied, OnOk, OnErr};
 ghost use Rattle.acd_book.specs.Content.{kept_of, IsKeptAfter};
 ghost use Rattle.acd_book.specs.Memory.{is_numbered, stamp_of, HasSamePlaces, HasPlaces, IsPlacedNew};
 
@@ -46,6 +46,14 @@ impl Replies {
         ensures { IsKeptAfter self.now.records.items stamp (option_copied result) }
     {
         record_at(&self.records, stamp as usize)
+    }
+
+    /// The records above a stamp.
+    pub(crate) fn behind(&self, stamp: u64) -> &[Kept]
+        ensures { result.now ≡ drop stamp self.now.records.items }
+    {
+        let place = (stamp as usize).min(self.records.len());
+        &self.records[place..]
     }
 
     /// Adds a record. One whose stamp doesn't go on or whose key is there is refused as if there were no

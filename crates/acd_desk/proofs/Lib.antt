@@ -33,6 +33,10 @@ pub mod OldOffers
 pub mod OldRuns
 pub mod Recast
 pub mod Following
+pub mod Rebuilding
+pub mod TextSizes
+pub mod Outcomes
+pub mod PageSizes
 pub mod GroupLines
 pub mod Ahead
 pub mod ReadsAhead

@@ -14,6 +14,7 @@ pub mod Opening
 pub mod DeskLaws
 pub mod Ran
 pub mod Attended
+pub mod RequestPages
 pub mod Tells
 pub mod Told
 pub mod AnswerTexts
@@ -26,6 +27,8 @@ pub mod OldChoice
 pub mod OldStep
 pub mod OldSound
 pub mod Following
+pub mod Rebuilding
+pub mod PageSizes
 pub mod GroupStates
 pub mod Pages
 pub mod Noting

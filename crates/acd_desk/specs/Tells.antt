@@ -24,7 +24,9 @@ use Rattle.acd_codec.specs.declared.snapshots.LiveCall.{LiveCall}
 use Rattle.acd_codec.specs.declared.snapshots.Snapshot.{Snapshot}
 use Rattle.acd_reports.specs.QueueReport.{queue_report}
 use Rattle.acd_reports.specs.Export.{events_csv, records_text}
-use Rattle.acd_book.specs.Content.{Content, events_behind, events_of_monitor}
+use Rattle.acd_book.specs.declared.kept.Kept.{Kept}
+use Rattle.acd_book.specs.Content.{Content, events_behind, kept_behind, events_of_monitor}
+use Rattle.acd_desk.specs.RequestPages.{requests_text}
 use Rattle.acd_desk.specs.declared.question.Question.{Question}
 use Rattle.acd_desk.specs.declared.question.Question.TheVariants as ask
 
@@ -124,6 +126,18 @@ abbrev pub monitor_read : Content → MonitorId → EventNumber → Option (List
 monitor_read c monitor after =
     if is_some (monitor_of c.rows monitor) then Some (page_text (events_of_monitor c monitor after page_size) c.rows.last_event) else None
 
+-- a page of executed requests has at most so many
+abbrev pub requests_size : ℕ
+requests_size = 1000
+
+-- the first executed requests above a stamp
+abbrev pub requests_page : Content → ℕ → List Kept
+requests_page c after = kept_behind c.kept after requests_size
+
+-- these, beside the stamp of the last one of all
+abbrev pub requests_read : Content → ℕ → Option (List ℕ)
+requests_read c after = Some (requests_text (requests_page c after) c.rows.last_stamp)
+
 -- what is told of a content to a question at a moment, if there is such a thing
 abbrev pub told_of : Content → ℕ → Question → Option (List ℕ)
 told_of c moment (ask.Agent agent) = agent_read c.rows agent
@@ -133,6 +147,7 @@ told_of c moment (ask.Queue group) = queue_read c.rows group
 told_of c moment (ask.Events after) = events_read c after
 told_of c moment (ask.History after) = history_read c after
 told_of c moment (ask.MonitorEvents monitor after) = monitor_read c monitor after
+told_of c moment (ask.Requests after) = requests_read c after
 told_of c moment ask.Report = report_read c.rows moment
 told_of c moment ask.Snapshot = snapshot_read c.rows
 
@@ -145,6 +160,7 @@ is_plain (ask.Queue group) = false
 is_plain (ask.Events after) = false
 is_plain (ask.History after) = false
 is_plain (ask.MonitorEvents monitor after) = false
+is_plain (ask.Requests after) = false
 is_plain ask.Report = true
 is_plain ask.Snapshot = false
 

@@ -6,6 +6,8 @@ ghost use Rattle.acd_desk.specs.Feeding.{AgainAddsNothing, FedHoldsTheLog, Desks
 ghost use Rattle.acd_desk.specs.AuditLaws.{HasOneAudit, SoundIsOrdered, SoundAgrees};
 ghost use Rattle.acd_desk.specs.OldSound.{OldSoundIsSound};
 ghost use Rattle.acd_desk.specs.Following.{SnapshotLeadsOn};
+ghost use Rattle.acd_desk.specs.Rebuilding.{PagesRebuild};
+ghost use Rattle.acd_desk.specs.PageSizes.{PagesAreShort, SoundIsReplied};
 ghost use Rattle.acd_desk.specs.NameLaws.{ContentIgnoresNames, AnswersIgnoreNames};
 ghost use Rattle.acd_desk.specs.CarriedLaws.{CarriedGoesOn, CarriedIsRunOfAll, CarriedAgain, CarriedOpens, CarriedRuns};
 ghost use Rattle.acd_desk.specs.WithArchive.{AuditsWithArchive, AuditsLinkByLink};
@@ -71,6 +73,19 @@ pub fn old_sound_is_sound()
 /// who takes a snapshot and then follows the events misses none, and is told none twice.
 pub fn snapshot_leads_on()
     ensures { SnapshotLeadsOn }
+{}
+
+/// What is read of a sound content page by page, each from the stamp of the last request of the one before, makes a beginning of the run:
+/// the same requests at the same moments, with the same replies. Where a page is empty, or the last stamp that was read is the
+/// last one, it makes the whole content.
+pub fn pages_rebuild()
+    ensures { PagesRebuild }
+{}
+
+/// A page of executed requests has at most 600,000 bytes, where what is kept are replies of the desk. So they are in a sound content.
+pub fn pages_are_short()
+    ensures short { PagesAreShort }
+    ensures sound { SoundIsReplied }
 {}
 
 /// Lists of arrivals that differ in names alone leave the same events and replies, and rows that differ in names alone;

@@ -29,6 +29,7 @@ mod page;
 mod question;
 mod reads;
 mod replay;
+mod request_pages;
 mod requests;
 mod same;
 mod session;

@@ -19,6 +19,8 @@ pub enum Question {
     History(u64),
     /// The events of a running monitor, by its number, with a number above the second.
     MonitorEvents(u64, u64),
+    /// The executed requests with a stamp above this.
+    Requests(u64),
     /// The queue report.
     Report,
     /// All records.

@@ -9,16 +9,17 @@ ghost use Rattle.acd_book.specs.Content.{events_behind, events_of_monitor};
 ghost use Rattle.acd_desk.specs.Stands.{IsSound};
 ghost use Rattle.acd_desk.specs.Standing.{standing};
 ghost use Rattle.acd_desk.specs.Told.{DeskTold, DeskTells};
-ghost use Rattle.acd_desk.specs.Tells.{told, agent_read, call_read, device_read, queue_read, report_read, snapshot_read, page_read, events_read, history_read, monitor_read, page_size, told_of};
+ghost use Rattle.acd_desk.specs.Tells.{told, agent_read, call_read, device_read, queue_read, report_read, snapshot_read, page_read, events_read, history_read, monitor_read, page_size, requests_page, requests_read, told_of};
 
 use crate::desk::Desk;
 use crate::fault::DeskFault;
 use crate::question::Question;
+use crate::request_pages::requests_text;
 use crate::table_reads::{
     agent_read, call_read, device_read, queue_read, report_read, snapshot_read,
 };
 use crate::working::Working;
-use acd_book::Book;
+use acd_book::{Book, Kept};
 use acd_codec::page_text;
 use acd_tables::Tables;
 use acd_terms::{AgentId, DeviceId, Event};
@@ -29,6 +30,9 @@ const PAGE: usize = 100;
 
 // Events in a page of history.
 const HISTORY_PAGE: usize = 1000;
+
+// Executed requests in a page.
+const REQUESTS_PAGE: usize = 1000;
 
 #[tactic(auto, using(crate::proofs::Telling::told_made))]
 impl<B: Book> Desk<B> {
@@ -175,6 +179,20 @@ impl<B: Book> Desk<B> {
         }
     }
 
+    // The first executed requests above a stamp.
+    fn first_requests(&mut self, after: u64) -> Result<Vec<Kept>, DeskFault>
+        ensures { DeskTold B.Book self.old self.new result (λ c found.
+            found.items ≡ requests_page c after) }
+    {
+        if let Working::Failed = self.working {
+            return Err(DeskFault::StoreFault);
+        }
+        match self.book.requests_after(after, REQUESTS_PAGE) {
+            Ok(kept) => Ok(kept),
+            Err(fault) => Err(self.failed(fault)),
+        }
+    }
+
     // The first events above a number, so many at most, beside the number of the last one.
     fn page(&mut self, after: u64, size: usize) -> Result<Option<String>, DeskFault>
         ensures { DeskTells B.Book self.old self.new result (λ c. page_read c after size) }
@@ -210,6 +228,17 @@ impl<B: Book> Desk<B> {
         Ok(Some(page_text(self.alloc, &events, last)?))
     }
 
+    /// A page of the executed requests in JSON: the first ones above a stamp, at most 1000, with their executed moments, their
+    /// replies and statuses, beside the stamp of the last one. There always is one. It is JSON where the replies that are
+    /// kept are.
+    pub fn requests(&mut self, after: u64) -> Result<Option<String>, DeskFault>
+        ensures { DeskTells B.Book self.old self.new result (λ c. requests_read c after) }
+    {
+        let last = self.last_stamp()?;
+        let kept = self.first_requests(after)?;
+        Ok(Some(requests_text(self.alloc, &kept, last)?))
+    }
+
     /// What is told to a question at a moment (in seconds), which counts for a report alone. None where there is no such thing.
     pub fn read(&mut self, moment: u32, question: Question) -> Result<Option<String>, DeskFault>
         ensures { DeskTells B.Book self.old self.new result (λ c. told_of c moment question) }
@@ -222,6 +251,7 @@ impl<B: Book> Desk<B> {
             Question::Events(after) => self.events(after),
             Question::History(after) => self.history(after),
             Question::MonitorEvents(monitor, after) => self.monitor_events(monitor, after),
+            Question::Requests(after) => self.requests(after),
             Question::Report => self.report(moment),
             Question::Snapshot => self.snapshot(),
         }

@@ -14,7 +14,7 @@ use Rattle.acd_http.specs.declared.refused.Allow.TheVariants as allow
 use Rattle.acd_http.specs.Target.{path_of, query_of}
 use Rattle.acd_http.specs.Routing.{route_of}
 use Rattle.acd_http.specs.declared.routes.Route.{Route}
-use Rattle.acd_http.specs.declared.routes.Route.TheVariants.{Services, Agent, Call, Device, Queue, Events, History, MonitorEvents, Report, Snapshot}
+use Rattle.acd_http.specs.declared.routes.Route.TheVariants.{Services, Agent, Call, Device, Queue, Events, History, MonitorEvents, Report, Snapshot, Requests}
 
 -- what stands behind the front of a route, and what stands before its end
 abbrev pub behind : List ℕ → List ℕ → List ℕ
@@ -46,6 +46,11 @@ abbrev pub found_or : Option Question → Result Question Refused
 found_or (Some x) = Ok x
 found_or None = Err refused.NotFound
 
+-- nor is a page read above a number that isn't well formed
+abbrev pub paged : Option Question → Result Question Refused
+paged (Some x) = Ok x
+paged None = Err (refused.Malformed part.After)
+
 -- a malformed `after` is found first
 abbrev pub with_after : Option ℕ → (ℕ → Option Question) → Result Question Refused
 with_after None look = Err (refused.Malformed part.After)
@@ -59,8 +64,9 @@ look_up (Some Agent) path query = found_or (option_map ask.Agent (agent_in path)
 look_up (Some Call) path query = found_or (option_map ask.Call (serial_of (behind (codes "/calls/") path)))
 look_up (Some Device) path query = found_or (option_map ask.Device (device_in (codes "/devices/") path))
 look_up (Some Queue) path query = found_or (option_map ask.Queue (device_in (codes "/queues/") path))
-look_up (Some Events) path query = with_after (after_of query) (λ (after : ℕ). Some (ask.Events after))
-look_up (Some History) path query = with_after (after_of query) (λ (after : ℕ). Some (ask.History after))
+look_up (Some Events) path query = paged (option_map ask.Events (after_of query))
+look_up (Some History) path query = paged (option_map ask.History (after_of query))
+look_up (Some Requests) path query = paged (option_map ask.Requests (after_of query))
 look_up (Some MonitorEvents) path query = with_after (after_of query) (λ (after : ℕ). option_map (λ (monitor : ℕ). ask.MonitorEvents monitor after) (monitor_in path))
 look_up (Some Report) path query = Ok ask.Report
 look_up (Some Snapshot) path query = Ok ask.Snapshot

@@ -8,7 +8,7 @@ use Rattle.matchit.specs.Router.{RouteOf, route_from}
 use Rattle.matchit.specs.Seek.{first}
 use Rattle.matchit.specs.declared.error.InsertError.{InsertError}
 use Rattle.acd_http.specs.declared.routes.Route.{Route}
-use Rattle.acd_http.specs.declared.routes.Route.TheVariants.{Services, Agent, Call, Device, Queue, Events, History, MonitorEvents, Report, Snapshot}
+use Rattle.acd_http.specs.declared.routes.Route.TheVariants.{Services, Agent, Call, Device, Queue, Events, History, MonitorEvents, Report, Snapshot, Requests}
 
 -- it leads to the services, and not to a read
 abbrev pub is_services : Route → Bool
@@ -22,6 +22,7 @@ is_services History = false
 is_services MonitorEvents = false
 is_services Report = false
 is_services Snapshot = false
+is_services Requests = false
 
 abbrev pub scanned : Result Scan InsertError → Route → RowsOf (RouteOf Route) → RowsOf (RouteOf Route)
 scanned (Ok s) value old = let r = route_from s value in placed (r.pattern, r) old
@@ -34,7 +35,8 @@ add text value old = scanned (parse_route text) value old
 -- all routes
 unfoldable pub table : RowsOf (RouteOf Route)
 table =
-    add (codes "/history") History
+    add (codes "/requests") Requests
+    (add (codes "/history") History
     (add (codes "/snapshot") Snapshot
     (add (codes "/reports/queues") Report
     (add (codes "/monitors/{id}/events") MonitorEvents
@@ -43,7 +45,7 @@ table =
     (add (codes "/devices/{id}") Device
     (add (codes "/calls/{id}") Call
     (add (codes "/agents/{id}") Agent
-    (add (codes "/csta") Services [])))))))))
+    (add (codes "/csta") Services []))))))))))
 
 -- where a path leads, as matchit matches it
 abbrev pub matched : List ℕ → Option Route

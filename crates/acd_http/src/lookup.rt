@@ -1,7 +1,7 @@
 //! What a GET or HEAD looks up.
 
 ghost use Rattle.std.specs.Prelude.{◌≡◌, ◌-◌, IfOk, length, take, drop, option_map, codes};
-ghost use Rattle.acd_http.specs.Lookups.{behind, before, is_serial, serial_of, agent_in, device_in, monitor_in, look_up, target_looked, found_or};
+ghost use Rattle.acd_http.specs.Lookups.{behind, before, is_serial, serial_of, agent_in, device_in, monitor_in, look_up, target_looked, found_or, paged};
 
 use crate::query::after_of;
 use crate::refused::{Allow, Part, Refused};
@@ -86,6 +86,15 @@ fn found_or(question: Option<Question>) -> Result<Question, Refused>
     }
 }
 
+fn paged(question: Option<Question>) -> Result<Question, Refused>
+    ensures { result ≡ paged question }
+{
+    match question {
+        Some(question) => Ok(question),
+        None => Err(Refused::Malformed(Part::After)),
+    }
+}
+
 // What a read looks up. A malformed `after` is answered before an identifier that isn't well formed.
 fn look_up(
     alloc: Global,
@@ -104,14 +113,9 @@ fn look_up(
         Some(Route::Queue) => Ok(found_or(device_in(path, b"/queues/").map(Question::Queue))),
         Some(Route::Report) => Ok(Ok(Question::Report)),
         Some(Route::Snapshot) => Ok(Ok(Question::Snapshot)),
-        Some(Route::Events) => match after_of(alloc, query)? {
-            Some(after) => Ok(Ok(Question::Events(after))),
-            None => Ok(Err(Refused::Malformed(Part::After))),
-        },
-        Some(Route::History) => match after_of(alloc, query)? {
-            Some(after) => Ok(Ok(Question::History(after))),
-            None => Ok(Err(Refused::Malformed(Part::After))),
-        },
+        Some(Route::Events) => Ok(paged(after_of(alloc, query)?.map(Question::Events))),
+        Some(Route::History) => Ok(paged(after_of(alloc, query)?.map(Question::History))),
+        Some(Route::Requests) => Ok(paged(after_of(alloc, query)?.map(Question::Requests))),
         Some(Route::MonitorEvents) => match after_of(alloc, query)? {
             Some(after) => match monitor_in(path) {
                 Some(monitor) => Ok(Ok(Question::MonitorEvents(monitor, after))),

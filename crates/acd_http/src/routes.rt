@@ -19,6 +19,7 @@ pub(crate) enum Route {
     MonitorEvents,
     Report,
     Snapshot,
+    Requests,
 }
 
 impl Route {
@@ -33,7 +34,7 @@ impl Route {
 }
 
 /// The routes of a desk: `/csta`, `/agents/{id}`, `/calls/{id}`, `/devices/{id}`, `/queues/{id}`, `/events`, `/history`,
-/// `/monitors/{id}/events`, `/reports/queues` and `/snapshot`.
+/// `/monitors/{id}/events`, `/reports/queues`, `/requests` and `/snapshot`.
 #[derive(Drop)]
 pub struct Routes {
     router: Router<Route>,
@@ -61,6 +62,7 @@ fn known_routes(alloc: Global) -> Result<Router<Route>, InsertError>
     add(&mut router, "/reports/queues", Route::Report)?;
     add(&mut router, "/snapshot", Route::Snapshot)?;
     add(&mut router, "/history", Route::History)?;
+    add(&mut router, "/requests", Route::Requests)?;
     Ok(router)
 }
 

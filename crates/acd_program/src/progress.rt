@@ -145,6 +145,10 @@ impl<'a, B: Book> Book for Watched<'a, B> {
         self.inner.kept_after(stamp)
     }
 
+    fn requests_after(&mut self, stamp: u64, limit: usize) -> Result<Vec<Kept>, BookFault> {
+        self.inner.requests_after(stamp, limit)
+    }
+
     fn events_after(&mut self, number: u64, limit: usize) -> Result<Vec<Event>, BookFault> {
         self.inner.events_after(number, limit)
     }

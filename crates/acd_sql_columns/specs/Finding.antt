@@ -20,10 +20,6 @@ pub record Finds {A E : Type 0} (old new : State) (result : Result A E) (IsAnswe
   pub stops : HasCleanDisk new → (c : Content) → HoldsContent old c → NoStop old new
   pub answer : HasCleanDisk new → IfOk result (λ (found : A). (c : Content) → HoldsContent old c → IsAnswer c found)
 
--- the first kept records above a stamp
-abbrev pub kept_behind : List Kept → ℕ → ℕ → List Kept
-kept_behind kept stamp limit = take limit (filter (λ (k : Kept). nat_lt stamp k.stamp) kept)
-
 -- the state of these counters and lists
 abbrev pub joined_rows : Meta → List GroupRecord → List StationRecord → List AgentRecord → List CallRecord → List ConnectionRecord → List MonitorRecord → Rows
 joined_rows m groups stations agents calls connections monitors = record {

@@ -9,12 +9,12 @@ use Rattle.acd_terms.specs.Lists.{Every, find_by}
 use Rattle.acd_terms.specs.declared.event.Event.{Event}
 use Rattle.acd_terms.specs.declared.record.MonitorRecord.{MonitorRecord}
 use Rattle.acd_model.specs.Scans.{at_monitor, monitor_of}
-use Rattle.acd_book.specs.Content.{Content, is_told, watched_by, events_of_monitor}
+use Rattle.acd_book.specs.Content.{Content, is_told, watched_by, events_of_monitor, kept_behind}
 use Rattle.acd_book.specs.declared.kept.Kept.{Kept}
 use Rattle.acd_sql_columns.specs.declared.tables.Table.TheVariants as table
 use Rattle.acd_sql_columns.specs.Rows.{IsReadable, monitor_values}
 use Rattle.acd_sql_columns.specs.Draft.{HoldsContent}
-use Rattle.acd_sql_columns.specs.Finding.{Finds, kept_behind}
+use Rattle.acd_sql_columns.specs.Finding.{Finds}
 use Rattle.acd_sql_columns.specs.Ranges.{monitor_in}
 use Rattle.acd_sql_statements.proofs.Chained.{finds_on, behind}
 use Rattle.acd_sql_columns.proofs.Records.{monitor_exact}

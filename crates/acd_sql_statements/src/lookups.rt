@@ -5,10 +5,9 @@
 
 ghost use Rattle.std.specs.Prelude.{◌≡◌, ◌⊎◌, ◌-◌, ◌^◌, ◌<◌, [], length, map, take, filter, Some, IfErr, IfOk, OnOk};
 ghost use Rattle.acd_model.specs.Scans.{monitor_of};
-ghost use Rattle.acd_book.specs.Content.{events_behind, events_of_monitor, is_told, kept_of};
+ghost use Rattle.acd_book.specs.Content.{events_behind, events_of_monitor, is_told, kept_of, kept_behind};
 ghost use Rattle.acd_sql_columns.specs.Rows.{event_values, kept_values};
 ghost use Rattle.acd_sql_columns.specs.Draft.{Fits};
-ghost use Rattle.acd_sql_columns.specs.Finding.{kept_behind};
 ghost use Rattle.acd_sql_statements.specs.Failing.{IsMemory};
 ghost use Rattle.acd_sql_statements.specs.Reading.{HasFitting};
 ghost use Rattle.acd_sql_statements.specs.Between.{LooksUp};

@@ -3,14 +3,14 @@
 ghost use Rattle.std.specs.Prelude.{◌≡◌, [], Some, map, take, filter, option_to_list, IsPermutation};
 ghost use Rattle.sqlite.specs.Held.{state};
 ghost use Rattle.acd_model.specs.Scans.{monitor_of};
-ghost use Rattle.acd_book.specs.Content.{events_behind, is_told, kept_of};
+ghost use Rattle.acd_book.specs.Content.{events_behind, is_told, kept_of, kept_behind};
 ghost use Rattle.acd_sql_columns.specs.Relations.{further_in};
 ghost use Rattle.acd_sql_columns.specs.Rows.{further_values, connection_values, monitor_values, event_values, kept_values};
 ghost use Rattle.acd_sql_columns.specs.declared.tables.Log.TheVariants as log;
 ghost use Rattle.acd_sql_columns.specs.declared.tables.Table.TheVariants as table;
 ghost use Rattle.acd_sql_columns.specs.AnyRows.{rows_in, IsPageRows};
 ghost use Rattle.acd_sql_columns.specs.Draft.{Fits};
-ghost use Rattle.acd_sql_columns.specs.Finding.{Finds, kept_behind};
+ghost use Rattle.acd_sql_columns.specs.Finding.{Finds};
 ghost use Rattle.acd_sql_columns.specs.Schema.{nine, BeginsSchema};
 ghost use Rattle.acd_sql_statements.specs.Reading.{Blames};
 ghost use Rattle.acd_sql_statements.specs.Between.{LooksUp, SeesOf};

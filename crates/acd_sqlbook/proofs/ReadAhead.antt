@@ -10,11 +10,10 @@ use Rattle.acd_terms.specs.Lists.{Every, AllAfter}
 use Rattle.acd_terms.proofs.Numbers.{less_is, no_less}
 use Rattle.acd_lemmas.proofs.Lists.{head_is, tail_is}
 use Rattle.acd_lemmas.proofs.Numbers.{below_is}
-use Rattle.acd_book.specs.Content.{Content, IsKeptAfter}
+use Rattle.acd_book.specs.Content.{Content, IsKeptAfter, kept_behind}
 use Rattle.acd_book.specs.declared.kept.Kept.{Kept}
 use Rattle.acd_book.proofs.Numbered.{kept_after_more}
 use Rattle.acd_sql_columns.specs.Draft.{HoldsContent}
-use Rattle.acd_sql_columns.specs.Finding.{kept_behind}
 use Rattle.acd_sql_columns.specs.declared.tables.Table.TheVariants as table
 use Rattle.acd_sqlbook.specs.Ahead.{Ascend, IsAhead}
 use Rattle.acd_sqlbook.specs.Calls.{HasRead}

@@ -2,8 +2,8 @@
 use Rattle.std.specs.Prelude.{◌≡◌, List, length, reverse}
 use Rattle.std.specs.Ordering.{nat_cmp}
 use Rattle.acd_terms.specs.Lists.{IsAscending}
+use Rattle.acd_book.specs.Content.{kept_behind}
 use Rattle.acd_book.specs.declared.kept.Kept.{Kept}
-use Rattle.acd_sql_columns.specs.Finding.{kept_behind}
 use Rattle.acd_sqlbook.specs.declared.ahead.Ahead.{Ahead}
 
 -- in the order of their stamps

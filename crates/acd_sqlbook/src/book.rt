@@ -11,7 +11,7 @@ ghost use Rattle.acd_sqlbook.specs.Noting.{IsBlank};
 ghost use Rattle.acd_sqlbook.specs.View.{book_of};
 ghost use Rattle.acd_sql_schema.specs.SettingUp.{IfClean, MayMake};
 ghost use Rattle.acd_sqlbook.specs.Causes.{StoreCause, IsCaused, create as creating, read as reading, change as changing, replace as replacing};
-ghost use Rattle.acd_book.specs.Content.{IsKeptAfter, events_behind, events_of_monitor, kept_of, Follows, committed, FollowsBy, committed_by};
+ghost use Rattle.acd_book.specs.Content.{IsKeptAfter, events_behind, kept_behind, events_of_monitor, kept_of, Follows, committed, FollowsBy, committed_by};
 ghost use Rattle.acd_book.specs.State.{Reads, Commits};
 
 use crate::following::kept_followed;
@@ -207,6 +207,17 @@ impl<S: Alter> Book for SqlBook<S> {
         ensures caused { IsCaused reading S.Store self.old self.new result }
     {
         let found = kept_followed(self.alloc, &mut self.ready, &mut self.notes.ahead, stamp);
+        noted(found, &mut self.ready.fresh, &mut self.failures)
+    }
+
+    fn requests_after(&mut self, stamp: u64, limit: usize) -> Result<Vec<Kept>, BookFault>
+        ensures reads { Reads (book_of S.Store self.old) (book_of S.Store self.new) result
+            (λ c found. found.items ≡ kept_behind c.kept stamp limit) }
+        ensures caused { IsCaused reading
+            (state S.Store self.old.conn) (state S.Store self.new.conn)
+            self.old.failures self.new.failures result }
+    {
+        let found = self.ready.kept_behind(self.alloc, stamp, limit);
         noted(found, &mut self.ready.fresh, &mut self.failures)
     }
 

@@ -4,11 +4,10 @@
 ghost use Rattle.std.specs.Prelude.{◌≡◌, ◌↔◌, false, None, Some, IsTrue, IfOk, IfErr, OnOk, OnErr};
 ghost use Rattle.sqlite.specs.State.{HasCleanDisk};
 ghost use Rattle.sqlite.specs.Held.{state};
-ghost use Rattle.acd_book.specs.Content.{Content, events_behind, kept_of};
+ghost use Rattle.acd_book.specs.Content.{Content, events_behind, kept_of, kept_behind};
 ghost use Rattle.acd_sqlbook.specs.Calls.{HasRead, HasReplaced};
 ghost use Rattle.acd_sqlbook.specs.Commit.{counted, counters_of, written_by};
 ghost use Rattle.acd_sqlbook.specs.Counters.{AreCounters, StopsWith};
-ghost use Rattle.acd_sql_columns.specs.Finding.{kept_behind};
 ghost use Rattle.acd_sql_columns.specs.Relations.{meta_of};
 ghost use Rattle.acd_sql_columns.specs.Draft.{HoldsContent, Quiet, NoStop, Fits, LimitsFit, MetaFits};
 ghost use Rattle.acd_sql_schema.specs.SettingUp.{IfClean};

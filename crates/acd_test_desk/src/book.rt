@@ -172,6 +172,11 @@ impl Book for FailingBook {
         self.inner.kept_after(stamp)
     }
 
+    fn requests_after(&mut self, stamp: u64, limit: usize) -> Result<Vec<Kept>, BookFault> {
+        self.call()?;
+        self.inner.requests_after(stamp, limit)
+    }
+
     fn events_after(&mut self, number: u64, limit: usize) -> Result<Vec<Event>, BookFault> {
         self.call()?;
         self.inner.events_after(number, limit)

@@ -21,6 +21,8 @@ mod look_ups;
 #[cfg(test)]
 mod many_events;
 #[cfg(test)]
+mod many_requests;
+#[cfg(test)]
 mod player;
 #[cfg(test)]
 mod reads;

@@ -27,7 +27,7 @@ fn monitor_events<B: Book>(
 }
 
 /// What the desk tells of what is asked: `agent 7`, `call 1`, `device 201`, `queue 100`, `events 10`,
-/// `history 10`, `monitor 1 9`, `report 40`, `snapshot all` or `export all`.
+/// `history 10`, `monitor 1 9`, `requests 10`, `report 40`, `snapshot all` or `export all`.
 pub fn told<B: Book>(rt: &impl Abort, desk: &mut Desk<B>, asked: &str) -> Option<String> {
     let (what, of) = halves(rt, asked);
     let told = if what == "agent" {
@@ -44,6 +44,8 @@ pub fn told<B: Book>(rt: &impl Abort, desk: &mut Desk<B>, asked: &str) -> Option
         desk.history(number(rt, of))
     } else if what == "monitor" {
         monitor_events(rt, desk, of)
+    } else if what == "requests" {
+        desk.requests(number(rt, of))
     } else if what == "report" {
         desk.report(moment(rt, of))
     } else if what == "snapshot" {

@@ -117,6 +117,7 @@ head_of_queue
 ready_agents_in_order
 snapshot_of_an_answered_call
 snapshot_of_each_kind_of_record
+executed_requests
 closed_between_requests
 answered_call_stops
 migration_stops

@@ -1,11 +1,11 @@
 //! All scenes.
 
-use crate::many_events;
 use crate::scenes::{
     self, agents, calls, corrections, limits, morning, office, priorities, refusals, told,
 };
 use crate::script::Script;
 use crate::texts::same_text;
+use crate::{many_events, many_requests};
 
 #[test]
 fn all_scenes(rt: HostRuntime) {
@@ -27,6 +27,7 @@ fn offices(rt: HostRuntime) {
     script.play(&rt, morning::last_lines());
     same_text(&rt, script.told(), "office\nmorning\n");
     many_events::export_of_many_events(&rt, rt.alloc());
+    many_requests::pages_of_many_requests(&rt, rt.alloc());
 }
 
 #[test]

@@ -77,6 +77,22 @@ fn stamp_after<B: Book>(rt: &(impl Abort + AllocGlobal), book: &mut B, stamp: u6
     stamp_of(rt, book.kept_after(stamp).expect(rt, "memory"))
 }
 
+// How many records are found above a stamp, so many at most. Each has the stamp that follows the one before.
+fn count_after<B: Book>(
+    rt: &(impl Abort + AllocGlobal),
+    book: &mut B,
+    stamp: u64,
+    limit: usize,
+) -> usize {
+    let found = book.requests_after(stamp, limit).expect(rt, "memory");
+    let mut last = stamp;
+    for kept in &found {
+        last = last.saturating_add(1);
+        same(rt, kept, &record(rt, last, last));
+    }
+    found.len()
+}
+
 // The numbers of the first and the last of these.
 fn ends(events: &[Event]) -> Option<(u64, u64)> {
     match (events.first(), events.last()) {
@@ -116,6 +132,19 @@ fn expect_filled<B: Book>(rt: &(impl Abort + AllocGlobal), book: &mut B) {
     ] {
         same(rt, &stamp_under(rt, book, number), &under);
         same(rt, &stamp_after(rt, book, number), &after);
+    }
+    for (stamp, limit, count) in [
+        (0, 0, 0),
+        (0, 1, 1),
+        (0, 300, 300),
+        (0, 1000, 300),
+        (290, 100, 10),
+        (299, 1, 1),
+        (300, 100, 0),
+        (301, 100, 0),
+        (u64::MAX, 100, 0),
+    ] {
+        same(rt, &count_after(rt, book, stamp, limit), &count);
     }
 }
 

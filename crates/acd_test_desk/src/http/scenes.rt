@@ -110,10 +110,20 @@ Allow: GET, HEAD\r
 Connection: close\r
 \r
 {"error":{"code":36,"name":"methodNotAllowed"}}
+> http POST /requests HTTP/1.1\r\nHost: desk\r\n\r\n
+HTTP/1.1 405 Method Not Allowed\r
+Content-Type: application/json\r
+Content-Length: 47\r
+Allow: GET, HEAD\r
+Connection: close\r
+\r
+{"error":{"code":36,"name":"methodNotAllowed"}}
 > # paths that are none
 > json GET /snapshot/ HTTP/1.0\r\n\r\n
 404 Not Found: {"error":{"code":35,"name":"notFound"}}
 > json GET /history/1 HTTP/1.0\r\n\r\n
+404 Not Found: {"error":{"code":35,"name":"notFound"}}
+> json GET /requests/ HTTP/1.0\r\n\r\n
 404 Not Found: {"error":{"code":35,"name":"notFound"}}
 > # no length, and lengths before a body that isn't there
 > json POST /csta HTTP/1.1\r\nHost: desk\r\n\r\n{}
@@ -148,6 +158,10 @@ scene targets
 200 OK: {"events":[],"last":0}
 > json GET http:///events HTTP/1.0\r\nContent-Length: 5\r\n\r\n
 200 OK: {"events":[],"last":0}
+> json GET /requests HTTP/1.0\r\nContent-Length: 5\r\n\r\n
+200 OK: {"last":0,"requests":[]}
+> json GET /requests?after=999999999999999 HTTP/1.0\r\nContent-Length: 5\r\n\r\n
+200 OK: {"last":0,"requests":[]}
 > # targets of no number
 > json GET /events?after= HTTP/1.0\r\nContent-Length: 5\r\n\r\n
 400 Bad Request: {"error":{"code":30,"member":"after","name":"malformed"}}
@@ -156,6 +170,8 @@ scene targets
 > json GET /events?after=0000000000000001 HTTP/1.0\r\nContent-Length: 5\r\n\r\n
 400 Bad Request: {"error":{"code":30,"member":"after","name":"malformed"}}
 > json GET /history?after=x HTTP/1.0\r\nContent-Length: 5\r\n\r\n
+400 Bad Request: {"error":{"code":30,"member":"after","name":"malformed"}}
+> json GET /requests?after=1&after=1 HTTP/1.0\r\nContent-Length: 5\r\n\r\n
 400 Bad Request: {"error":{"code":30,"member":"after","name":"malformed"}}
 > json GET /events?%61fter=x HTTP/1.0\r\nContent-Length: 5\r\n\r\n
 400 Bad Request: {"error":{"code":30,"member":"after","name":"malformed"}}
@@ -326,6 +342,20 @@ Connection: close\r
 200 OK: {"events":[{"agent":"7","device":"201","event":"agentLoggedOff","moment":40,"number":11}],"last":11}
 > json GET /history?after=10 HTTP/1.1\r\nHost: desk\r\n\r\n
 200 OK: {"events":[{"agent":"7","device":"201","event":"agentLoggedOff","moment":40,"number":11}],"last":11}
+> http GET /requests?after=9 HTTP/1.1\r\nHost: desk\r\n\r\n
+HTTP/1.1 200 OK\r
+Content-Type: application/json\r
+Content-Length: 210\r
+Connection: close\r
+\r
+{"last":10,"requests":[{"moment":40,"reply":{"invoke":2,"requester":"pbx","result":{}},"request":{"call":1,"device":"0301234","invoke":2,"requester":"pbx","service":"clearConnection"},"stamp":10,"status":200}]}
+> http HEAD /requests?after=9 HTTP/1.1\r\nHost: desk\r\n\r\n
+HTTP/1.1 200 OK\r
+Content-Type: application/json\r
+Content-Length: 210\r
+Connection: close\r
+\r
+
 > json GET /monitors/1/events HTTP/1.1\r\nHost: desk\r\n\r\n
 200 OK: {"events":[{"call":1,"device":"201","event":"connectionCleared","moment":40,"number":9},{"agent":"7","device":"201","event":"agentLoggedOff","moment":40,"number":11}],"last":11}
 > http GET /reports/queues HTTP/1.1\r\nHost: desk\r\n\r\n

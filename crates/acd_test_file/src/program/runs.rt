@@ -35,6 +35,8 @@ fn reads_in_lines() -> &'static str {
 > 15 GET /reports/queues
 > 5 GET /events?after=0
 > 5 GET /events?after=x
+> 5 GET /requests?after=1
+> 5 GET /requests?after=-1
 > 5 GET /calls/2
 > 5 GET /nowhere
 > 5 GET /csta
@@ -48,6 +50,8 @@ fn reads_in_lines() -> &'static str {
 < 200 {"call":1,"called":"100","caller":"0301234","connections":[{"device":"100","state":"queued"},{"device":"0301234","state":"connected"}],"since":10}
 < 200 "group           waiting ringing    entered   answered  abandoned      moved    average    longest name\n100                   1       0          1          0          0          0          -          5 Billing\n"
 < 200 {"events":[{"call":1,"cause":"newCall","device":"100","event":"queued","moment":10,"number":1}],"last":1}
+< 400 {"error":{"code":30,"member":"after","name":"malformed"}}
+< 200 {"last":2,"requests":[{"moment":10,"reply":{"invoke":1,"requester":"pbx","result":{"call":1}},"request":{"called":"100","caller":"0301234","invoke":1,"requester":"pbx","service":"arriveCall"},"stamp":2,"status":200}]}
 < 400 {"error":{"code":30,"member":"after","name":"malformed"}}
 < 404 {"error":{"code":35,"name":"notFound"}}
 < 404 {"error":{"code":35,"name":"notFound"}}

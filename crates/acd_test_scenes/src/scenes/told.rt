@@ -114,6 +114,27 @@ part of_the_empty_state
 # A desk that has executed nothing.
 ? snapshot all
 . {"agents":[],"calls":[],"groups":[],"last":0,"moment":0,"monitors":[],"stations":[]}
+? requests 0
+. {"last":0,"requests":[]}
+
+part of_executed_requests
+# Behind the plan a refusal, which is sent again, and a request that comes at an earlier moment and in another form.
+> 30 {"call":9,"device":"0201","invoke":1,"requester":"desk","service":"holdCall"}
+< 409 {"error":{"code":3,"name":"unknownCall"},"invoke":1,"requester":"desk"}
+> 40 {"call":9,"device":"0201","invoke":1,"requester":"desk","service":"holdCall"}
+< 409 {"error":{"code":3,"name":"unknownCall"},"invoke":1,"requester":"desk"}
+> 20 {"service":"tick", "requester":"clock", "invoke":1, "of":"nobody"}
+< 200 {"invoke":1,"requester":"clock","result":{}}
+? requests 4
+. {"last":7,"requests":[{"moment":0,"reply":{"invoke":5,"requester":"plan","result":{}},"request":{"agent":"8","invoke":5,"name":"Ben","requester":"plan","service":"addAgent"},"stamp":5,"status":200},{"moment":30,"reply":{"error":{"code":3,"name":"unknownCall"},"invoke":1,"requester":"desk"},"request":{"call":9,"device":"0201","invoke":1,"requester":"desk","service":"holdCall"},"stamp":6,"status":409},{"moment":30,"reply":{"invoke":1,"requester":"clock","result":{}},"request":{"invoke":1,"requester":"clock","service":"tick"},"stamp":7,"status":200}]}
+? requests 6
+. {"last":7,"requests":[{"moment":30,"reply":{"invoke":1,"requester":"clock","result":{}},"request":{"invoke":1,"requester":"clock","service":"tick"},"stamp":7,"status":200}]}
+? requests 7
+. {"last":7,"requests":[]}
+? requests 8
+. {"last":7,"requests":[]}
+? requests 18446744073709551615
+. {"last":7,"requests":[]}
 
 part of_all_beside_an_answered_call
 ? snapshot all
@@ -171,6 +192,7 @@ scene head_of_queue: plan no_answer of_a_queue
 scene ready_agents_in_order: plan of_ready_agents
 scene snapshot_of_an_answered_call: of_the_empty_state plan call_arrives ana_becomes_ready ana_answers of_all_beside_an_answered_call
 scene snapshot_of_each_kind_of_record: plan claims of_each_kind_of_record
+scene executed_requests: plan of_executed_requests
 
 # A desk over files that is closed and opened between any two requests.
 

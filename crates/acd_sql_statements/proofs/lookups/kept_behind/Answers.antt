@@ -3,9 +3,8 @@ use Rattle.acd_sql_statements.proofs.Chained.{finds_failed}
 use Rattle.acd_sql_columns.proofs.Recorded.{recorded_good}
 use Rattle.acd_sql_statements.proofs.FirstFound.{page_readable}
 use Rattle.std.proofs.Common.{nat_lt, map, refl, rules}
-use Rattle.acd_book.specs.Content.{Content}
+use Rattle.acd_book.specs.Content.{Content, kept_behind}
 use Rattle.acd_book.specs.declared.kept.Kept.{Kept}
-use Rattle.acd_sql_columns.specs.Finding.{kept_behind}
 use Rattle.acd_sql_columns.specs.Ranges.{kept_in}
 use Rattle.acd_sql_columns.specs.Rows.{IsReadable, kept_values}
 use Rattle.acd_sql_columns.proofs.Reported.{kept_exact}

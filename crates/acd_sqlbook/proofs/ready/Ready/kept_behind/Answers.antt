@@ -1,7 +1,7 @@
 use Rattle.sqlite.specs.Held.{state}
+use Rattle.acd_book.specs.Content.{kept_behind}
 use Rattle.acd_sqlbook.proofs.Standing.{reads_behind}
 use Rattle.std.proofs.Common.{◌≡◌, rules}
-use Rattle.acd_sql_columns.specs.Finding.{kept_behind}
 use Rattle.acd_sql_statements.proofs.Blamed.{blames_as, blames_behind}
 use Rattle.acd_sqlbook.proofs.ready.Ready.kept_behind.Goals as goal
 
