@@ -1,11 +1,9 @@
 use Rattle.std.proofs.Common.{◌≡◌, ◌++◌, drop}
 use Rattle.std.specs.Prelude.{filter}
 use Rattle.acd_model.specs.Tick.{is_rested}
-use Rattle.acd_tables.specs.Indexed.{is_working}
-use Rattle.acd_switch.proofs.tick.rested_in.Given as goal
+use Rattle.acd_switch.proofs.tick.rested_among.Given as goal
 
 abbrev pub invariant-loop-agent : goal.invariant-loop-agent
 invariant-loop-agent l = record {
   done : l.rested.items ++ filter (is_rested l.tables l.moment) (drop l.agent-index l.agent-items) ≡ filter (is_rested l.tables l.moment) l.agent-items;
-  all : l.agent-items ≡ filter is_working l.tables.agents;
 }
