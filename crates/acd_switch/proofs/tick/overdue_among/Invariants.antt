@@ -5,5 +5,5 @@ use Rattle.acd_switch.proofs.tick.overdue_among.Given as goal
 
 abbrev pub invariant-loop-connection : goal.invariant-loop-connection
 invariant-loop-connection l = record {
-  done : l.overdue.items ++ filter (is_overdue l.tables l.moment) (drop l.connection-index l.connection-items) ≡ filter (is_overdue l.tables l.moment) l.connection-items;
+  done : l.overdue.items ++ filter (is_overdue l.tables l.moment) (drop l.connection-index l.ringing) ≡ filter (is_overdue l.tables l.moment) l.ringing;
 }

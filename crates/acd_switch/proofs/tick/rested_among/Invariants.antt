@@ -5,5 +5,5 @@ use Rattle.acd_switch.proofs.tick.rested_among.Given as goal
 
 abbrev pub invariant-loop-agent : goal.invariant-loop-agent
 invariant-loop-agent l = record {
-  done : l.rested.items ++ filter (is_rested l.tables l.moment) (drop l.agent-index l.agent-items) ≡ filter (is_rested l.tables l.moment) l.agent-items;
+  done : l.rested.items ++ filter (is_rested l.tables l.moment) (drop l.agent-index l.working) ≡ filter (is_rested l.tables l.moment) l.working;
 }
