@@ -3,6 +3,7 @@
 //! Each law is the contract of a function with an empty body, stated in `specs/`. Nothing stands on this crate.
 #![tactic(auto)]
 
+ghost use Rattle.acd_bounds.specs.StarvingLaws.{LowPriorityMayStarve};
 ghost use Rattle.acd_bounds.specs.TimeLaws.{TickBoundsAnswers, RunBoundsAnswers};
 
 /// Behind a tick of rows that break no rule each offer is younger than the ring that its group had at that tick, and the time since it; so is
@@ -14,4 +15,10 @@ pub fn tick_bounds_answers()
 /// So it is in every run, behind each of its ticks, at each state from there on.
 pub fn run_bounds_answers()
     ensures { RunBoundsAnswers }
+{}
+
+/// For each number of rounds there is a run in which a call of a group of low priority waits before and behind each request, while an agent of
+/// both groups answers a call of the other in each round.
+pub fn low_priority_may_starve()
+    ensures { LowPriorityMayStarve }
 {}
