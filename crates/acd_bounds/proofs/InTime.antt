@@ -1,24 +1,24 @@
 -- Behind a tick nothing is overdue by the rings and wraps of that tick: a tick ends what is, and what begins later begins later.
-use Rattle.std.proofs.Common.{◌≡◌, ℕ, ◌+◌, ◌-◌, ◌<◌, ◌≤◌, ◌⊎◌, inl, inr, Bool, true, false, not, ◌&&◌, cond, max, map, List, [], ◌∷◌, ◌++◌, length, Option, Some, None, refl, sym, ◌∙◌, ap, subst, arith, append_assoc}
-use Rattle.std.specs.Prelude.{◌==◌, nat_le, is_some, option_map}
+use Rattle.std.proofs.Common.{◌≡◌, ℕ, ◌+◌, ◌<◌, ◌≤◌, ◌⊎◌, inl, inr, true, false, not, ◌&&◌, cond, map, List, [], ◌∷◌, ◌++◌, Option, Some, None, refl, sym, ◌∙◌, ap, subst, arith}
+use Rattle.std.specs.Prelude.{◌==◌, option_map}
 use Rattle.std.proofs.lemmas.Bool.{and_right, cases_Bool, not-true, and_parts, eqb-true, false_from_ne_true}
 use Rattle.std.proofs.lemmas.Bool.Decides.{nat_tests}
 use Rattle.acd_terms.specs.Groups.{least_group, is_choice}
 use Rattle.acd_terms.specs.declared.command.Turn.{Turn}
 use Rattle.acd_terms.specs.declared.state.AgentState.TheVariants as A
 use Rattle.acd_terms.specs.declared.command.Command.TheVariants.{Tick}
-use Rattle.acd_lemmas.proofs.Words.{Rows, Limits, GroupRecord, AgentRecord, ConnectionRecord, AgentState, Cause, Change, Command, Ending, Event, Move, Among, Every, IsAscending, find_by, put_by, remove_by, at_group, at_agent, at_connection, is_working_after_call, is_alerting, is_distributed, state_wanted, agent_of, group_of, connection_of, is_group, other_of, empty_rows, with_group, with_station, with_agent, with_call, with_connection, with_monitor, without_call, without_connection, without_monitor, with_last, agent_order, connection_order, reported, silent, changed, moved, events_of}
+use Rattle.acd_lemmas.proofs.Words.{Rows, GroupRecord, AgentRecord, ConnectionRecord, AgentState, Cause, Change, Command, Ending, Event, Move, Among, Every, IsAscending, find_by, remove_by, at_group, at_agent, at_connection, is_working_after_call, is_alerting, state_wanted, agent_of, group_of, connection_of, other_of, empty_rows, with_group, with_station, with_agent, with_call, with_connection, with_monitor, without_call, without_connection, without_monitor, with_last, agent_order, connection_order, changed, moved, events_of}
 use Rattle.acd_model.specs.declared.moves.Change.TheVariants.{Nothing, PutGroup, PutStation, PutAgent, PutCall, PutConnection, PutMonitor, RemoveCall, RemoveConnection, RemoveMonitor}
 use Rattle.acd_model.specs.declared.moves.Ending.TheVariants.{NoAnswer}
 use Rattle.acd_terms.specs.declared.event.Cause.TheVariants.{NewCall, Deflected, Transferred}
 use Rattle.acd_model.specs.CallMoves.{arrive, ringing, queueing}
 use Rattle.acd_model.specs.AgentMoves.{in_state, go_from}
 use Rattle.acd_model.specs.Release.{release, ending_of}
-use Rattle.acd_model.specs.Services.{next_call, occupy, clear_other, release_other}
+use Rattle.acd_model.specs.Services.{next_call, clear_other, release_other}
 use Rattle.acd_model.specs.Figures.{counting, with_figures}
 use Rattle.acd_model.specs.Distribution.{distribution}
 use Rattle.acd_model.specs.Tick.{is_over, ring_of, wrap_of, is_overdue_offer, is_overdue, overdue_in, return_to, return_moves, is_over_in, is_rested, rested_in, rest_moves, each, returns as all_returns, rests as all_rests, tick}
-use Rattle.acd_model.specs.Step.{step, next_turn, executed_moment}
+use Rattle.acd_model.specs.Step.{step, next_turn}
 use Rattle.acd_model.specs.Run.{TimedCommand, run}
 use Rattle.acd_model.proofs.MoveLemmas.{moved_append}
 use Rattle.acd_lemmas.proofs.Facts.{Rules, AgentRule, IsPlannedStation, ArePlannedGroups, SeatedAs, ConnectionRule, HasColumns, AlertingColumns}
@@ -28,7 +28,7 @@ use Rattle.acd_lemmas.proofs.States.{alerting_is}
 use Rattle.acd_lemmas.proofs.Keyed.{eqb_self, cmp_self}
 use Rattle.acd_laws.proofs.MoveKinds.{AgentMove, stays, remains, tells, Arrival, queues, alerts, fails, arrival_of, releases, occupies, goes_from, released_by, agent_connections, agent_others}
 use Rattle.acd_laws.proofs.Deeds.{Deed, nothing, adds_group, adds_station, adds_agent, watches, unwatches, arrives, makes, goes_out, answers, holds, retrieves, clears, deflects, transfers, logs_on, rejects, renames, waits, goes, Regroups, refuses, puts, Round, offers, returns, rests}
-use Rattle.acd_laws.proofs.Offers.Distributing.{Kept, Back, ReturnKeeps, return_stays, other_call, overdue_back, returned}
+use Rattle.acd_laws.proofs.Offers.Distributing.{Back, return_stays, other_call, overdue_back, returned}
 use Rattle.acd_laws.proofs.Rules.RulesKept.{RoundKeeps, rules_serve, by_rounds, by_tick, by_deeds}
 use Rattle.acd_laws.proofs.Rules.KeptEnds.{kept_return_to}
 use Rattle.acd_laws.proofs.Rules.KeptPlan.{kept_rest_moves}

@@ -1,19 +1,19 @@
 -- A round in which a call of the group that is served first is answered, computed over numbers that grow; call 1 stays where it is.
-use Rattle.std.proofs.Common.{◌≡◌, ℕ, zero, suc, ◌+◌, ◌-◌, ◌*◌, ◌<◌, ◌≤◌, Bool, true, false, ◌&&◌, max, List, [], ◌∷◌, ◌++◌, length, Option, Some, None, refl, sym, ◌∙◌, ap, subst, arith}
+use Rattle.std.proofs.Common.{◌≡◌, ℕ, zero, suc, ◌+◌, ◌-◌, ◌*◌, ◌≤◌, true, false, max, List, [], ◌∷◌, ◌++◌, length, Some, None, refl, sym, ◌∙◌, ap, subst, arith}
 use Rattle.std.specs.Prelude.{◌==◌, ◌≢◌, codes, nat_lt}
 use Rattle.std.specs.Ordering.{nat_cmp}
-use Rattle.std.specs.declared.cmp.Ordering.TheVariants.{Less, Equal, Greater}
+use Rattle.std.specs.declared.cmp.Ordering.TheVariants.{Equal, Greater}
 use Rattle.std.proofs.lemmas.Bool.{ne_eqb, le-ltb}
 use Rattle.std.proofs.lemmas.Bool.Decides.{nat_tests}
 use Rattle.acd_terms.specs.Limits.{greatest_limits}
 use Rattle.acd_terms.specs.declared.state.AgentState.TheVariants as A
-use Rattle.acd_terms.specs.declared.state.ConnectionState.TheVariants.{Alerting, Connected, Queued}
+use Rattle.acd_terms.specs.declared.state.ConnectionState.TheVariants.{Connected}
 use Rattle.acd_terms.specs.declared.command.Command.TheVariants.{ArriveCall, AnswerCall, ClearConnection, SetAgentState}
 use Rattle.acd_terms.specs.declared.command.Requested.TheVariants.{State}
 use Rattle.acd_terms.specs.declared.state.Pending.TheVariants as pending
 use Rattle.acd_terms.specs.declared.answer.Outcome.TheVariants.{Done}
 use Rattle.acd_terms.specs.declared.answer.Answer.TheVariants as answer
-use Rattle.acd_lemmas.proofs.Words.{Rows, GroupRecord, AgentRecord, AgentState, CallRecord, ConnectionRecord, Figures, empty_rows}
+use Rattle.acd_lemmas.proofs.Words.{Rows, AgentRecord, AgentState, CallRecord, ConnectionRecord, Figures}
 use Rattle.acd_lemmas.proofs.Keyed.{cmp_self, eqb_self}
 use Rattle.acd_model.specs.CallMoves.{plain, queueing, talking, ringing}
 use Rattle.acd_terms.specs.declared.event.Cause.TheVariants.{NewCall, Distributed}
@@ -23,14 +23,14 @@ use Rattle.acd_terms.specs.declared.event.Event.{Event}
 use Rattle.acd_model.specs.Figures.{sum_of_figures}
 use Rattle.acd_model.specs.Step.{step}
 use Rattle.acd_model.specs.Run.{TimedCommand, AfterRun, run, then_run}
-use Rattle.acd_model.specs.Examples.Words.{billing, claims, first_station, second_station, ana, ben, caller, second_caller, at, asks_for}
+use Rattle.acd_model.specs.Examples.Words.{billing, claims, first_station, second_station, ana, ben, caller, second_caller}
 use Rattle.acd_model.proofs.OnLiterals.{switch_on_literals}
 use Rattle.acd_model.specs.Scans.{agent_of, connection_of}
 use Rattle.acd_terms.specs.Columns.{columns_of}
 use Rattle.acd_terms.specs.declared.answer.Outcome.{Outcome}
 use Rattle.acd_lemmas.proofs.Lists.{count-append, every-append}
 use Rattle.acd_lemmas.proofs.Words.{count, Every}
-use Rattle.acd_bounds.specs.StarvingLaws.{begun, first_requests, round_of, rounds_from, Waits, WaitsThrough, IsDone, IsAnother, is_answered_there, Starves}
+use Rattle.acd_bounds.specs.StarvingLaws.{begun, rounds_from, Waits, WaitsThrough, IsDone, IsAnother, is_answered_there, Starves}
 
 -- the numbers that grow: the last stamp, moment, call and event, and the figures of claims
 record Numbers : Type 0 where

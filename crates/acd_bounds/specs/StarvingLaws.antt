@@ -1,9 +1,9 @@
 -- A call of low priority may wait for ever: for each number of rounds a run in which an agent of two groups answers a call of the other in each.
-use Rattle.std.specs.Prelude.{◌≡◌, ◌≢◌, ℕ, zero, suc, ◌+◌, ◌*◌, Bool, true, false, ◌&&◌, ◌==◌, List, [], ◌∷◌, ◌++◌, length, Option, Some, None}
+use Rattle.std.specs.Prelude.{◌≡◌, ◌≢◌, ℕ, zero, suc, ◌+◌, ◌*◌, Bool, false, ◌&&◌, ◌==◌, List, [], ◌∷◌, ◌++◌, length, Option, Some, None}
 use Rattle.acd_terms.specs.Lists.{count, Every}
 use Rattle.acd_terms.specs.Limits.{greatest_limits}
 use Rattle.acd_terms.specs.Rows.{empty_rows}
-use Rattle.acd_terms.specs.Numbers.{Device, CallId, Moment, Stamp}
+use Rattle.acd_terms.specs.Numbers.{CallId, Stamp}
 use Rattle.acd_terms.specs.Columns.{columns_of}
 use Rattle.acd_terms.specs.declared.rows.Rows.{Rows}
 use Rattle.acd_terms.specs.declared.record.AgentRecord.{AgentRecord}
@@ -18,7 +18,7 @@ use Rattle.acd_terms.specs.declared.state.Pending.TheVariants as pending
 use Rattle.acd_model.specs.Scans.{agent_of, connection_of}
 use Rattle.acd_model.specs.CallMoves.{queueing}
 use Rattle.acd_model.specs.Step.{step}
-use Rattle.acd_model.specs.Run.{TimedCommand, AfterRun, run}
+use Rattle.acd_model.specs.Run.{TimedCommand, run}
 use Rattle.acd_model.specs.Examples.Words.{billing, claims, first_station, ana, caller, second_caller, at, asks_for}
 use Rattle.acd_model.specs.Examples.Priorities.{two_groups}
 
