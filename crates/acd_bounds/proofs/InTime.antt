@@ -399,8 +399,7 @@ tick_holds s turn r =
     let v : Rows = moved s (all_returns s turn) in
     let back = returned (GroupsAre s.groups) turn (λ t es x g rt h own alerting group. return_groups t turn x g ∙ h) s [] r refl in
     let joined : moved s (all_returns s turn ++ all_rests v turn) ≡ moved v (all_rests v turn) = moved_append s (all_returns s turn) (all_rests v turn) in
-    let wraps : (g : ℕ) → wrap_of (group_of s g) ≡ wrap_of (group_of v g) = λ g. wrap_by s v g (sym back.1) in
-    (
+    let wraps : (g : ℕ) → wrap_of (group_of s g) ≡ wrap_of (group_of v g) = λ g. wrap_by s v g (sym back.1) in (
       subst (λ xs. Every (Rings s turn.moment) xs) (sym (ap (λ (w : Rows). w.connections) joined ∙ rest_connections v turn v (rested_in v turn.moment))) (every_from (Rings s turn.moment) v.connections (none_overdue s turn r)),
       subst (λ (w : Rows). Every (Works s turn.moment) w.agents) (sym joined) (every_from (Works s turn.moment) (moved v (all_rests v turn)).agents (λ a i. rested_same s v turn.moment a wraps ∙ none_rested v turn back.0 a i)),
     )
