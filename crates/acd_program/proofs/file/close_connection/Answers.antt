@@ -1,7 +1,7 @@
 use Rattle.acd_program.proofs.file.close_connection.Goals as goal
 
-pub returns-in-Ok : goal.returns-in-Ok
-returns-in-Ok g c = record {
+pub returns-in-Ok-clause-laid : goal.returns-in-Ok-clause-laid
+returns-in-Ok-clause-laid g c = record {
   pair = c.in-Ok.field-0;
   store = c.in-Ok.ensures.ok.0;
   of_store = c.in-Ok.ensures.ok.1;

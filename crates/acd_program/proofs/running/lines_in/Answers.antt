@@ -5,9 +5,9 @@ use Rattle.acd_program.proofs.Inputs.{both_so}
 use Rattle.acd_program.proofs.LinesOver.{answered_made}
 use Rattle.acd_program.proofs.running.lines_in.Goals as goal
 
-pub returns : goal.returns
-returns g c =
-    both_so c.done_and_closed.result c.database_lines-conn.result.0 c.close_connection.result _ _ _ c.done_and_closed.ensures c.database_lines-conn.ensures.done c.close_connection.ensures
+pub returns-clause-answered : goal.returns-clause-answered
+returns-clause-answered g c =
+    both_so c.done_and_closed.result c.database_lines-conn.result.0 c.close_connection.result _ _ _ c.done_and_closed.ensures c.database_lines-conn.ensures.done c.close_connection.ensures.laid
     (λ answered closed. record {
       conn = c.in_ok-conn.conn;
       last = c.database_lines-conn.result.1;

@@ -7,4 +7,4 @@ returns-clause-worked g c =
     let between : _ = g.W.Write.contents c.over_database-done.new.writer in
     let behind : _ = g.W.Write.contents c.print_done.new.writer in
     worked_over c.print_done.result c.args.work c.args.makes c.args.conn c.over_database-done.result.1 c.over_database-done.result.0 c.close_connection.result before between behind
-    c.over_database-done.ensures c.close_connection.ensures c.print_done.ensures.printed
+    c.over_database-done.ensures.over c.close_connection.ensures.laid c.print_done.ensures.printed
