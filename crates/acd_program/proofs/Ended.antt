@@ -4,7 +4,11 @@ use Rattle.std.proofs.lemmas.Result.{on_err_weaker}
 use Rattle.std.specs.Io.KnownBytes.{Appends}
 use Rattle.sqlite_disk.specs.declared.Disk.{Ghosts}
 use Rattle.sqlite_store.specs.declared.store.FileStore.{FileStore}
-use Rattle.sqlite.specs.Held.{Held}
+use Rattle.sqlite.specs.Held.{Held, state}
+use Rattle.sqlite.specs.State.{State}
+use Rattle.sqlite_trees.specs.declared.store.Store.{Ghosts as Stores}
+use Rattle.acd_desk.specs.declared.desk.Desk.{Desk}
+use Rattle.acd_sqlbook.specs.View.{BookView}
 use Rattle.sqlite.specs.Files.{file_state}
 use Rattle.acd_book.specs.State.{BookState}
 use Rattle.acd_io.specs.Sent.{Begins}
@@ -12,15 +16,19 @@ use Rattle.acd_lines.specs.Lines.{Streams, Untouched}
 use Rattle.acd_log.specs.declared.ending.Ending.{Ending}
 use Rattle.acd_program.specs.Ended.{OnlyReads, PrintedOf, IsShut, ReadOver, WasCut}
 use Rattle.acd_program.specs.Found.{IsFindingOf}
+use Rattle.acd_program.specs.Desks.{in_database}
+use Rattle.acd_program.specs.LinesOver.{LinesIn, LinesTold}
 use Rattle.acd_program.specs.Over.{OverConnection, Unserved}
 use Rattle.acd_program.specs.Work.{WorkDone, text_left}
 use Rattle.acd_program.specs.Tasks.{IsOpenedFrom, IsSomeEnding, ReadIn, WholeRead, InputEnded, TaskEnded}
+use Rattle.acd_program.specs.declared.fault.Fault.{Fault}
 use Rattle.acd_program.specs.declared.desk.Work.{Work}
 use Rattle.acd_program.specs.declared.desk.Work.TheVariants as book
 use Rattle.acd_program.specs.declared.desk.Done.{Done}
 use Rattle.acd_program.specs.declared.task.Task.{Task}
 use Rattle.acd_program.specs.declared.task.Task.TheVariants as task
 use Rattle.acd_program.proofs.InFiles.{over_makes}
+use Rattle.acd_program.proofs.LinesOver.{over_made}
 use Rattle.acd_program.proofs.Taking.{unserved_makes}
 
 -- what was written whole is a beginning of itself
@@ -61,6 +69,12 @@ module _ {D : Type 0} {g : Ghosts D} where
   pub read_from : {F : Type 0} (IsFresh : Bool → D → Type 0) (r : Result ℕ F) (is_new makes : Bool) (work : Work) (conn : Held (FileStore D g)) (before behind : Option (List ℕ)) → IsOpenedFrom g IsFresh conn → (is_new ≡ true → makes ≡ true)
       → OnErr r (ReadOver is_new work conn before behind) → OnErr r (ReadIn g IsFresh makes work before behind)
   read_from IsFresh r is_new makes work conn before behind opened may h = on_err_weaker r (λ over. inr (conn, opened, read_makes is_new makes work conn before behind may over)) h
+
+-- that a new book may be made was known
+pub lines_made : {S : Type 0} (store : Stores S) (T : Desk (BookView S) → Desk (BookView S) → List (List ℕ) → List (List ℕ) → Type 0) (is_new makes ends : Bool) (io : Streams) (s : State) (r : Result (Unit {0}) Fault) (conn : Held S) → (is_new ≡ true → makes ≡ true)
+    → LinesIn store T is_new ends io s r conn → LinesIn store T makes ends io s r conn
+lines_made store T is_new makes ends io s r conn may (inl none) = inl (record { why = none.why; told = none.told; unserved = unserved_makes is_new makes s (state store conn) may none.unserved; untouched = none.untouched })
+lines_made store T is_new makes ends io s r conn may (inr some) = inr (over_made store is_new makes (LinesTold (in_database store) T ends io r) s conn may some)
 
 -- ---- by what the command line asks for
 

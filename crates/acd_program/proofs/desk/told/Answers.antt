@@ -12,4 +12,4 @@ returns-in-Ok-text_of-clause-kept g c =
 
 pub returns-in-Err-text_of-clause-kept : goal.returns-in-Err-text_of-clause-kept
 returns-in-Err-text_of-clause-kept g c =
-    subst (λ (b : _). OnlyAsked (g.B.Book.state c.args.book) (g.B.Book.state b)) (sym c.close-2.ensures) (only_told (g.B.Book.state c.args.book) _ _ _ _ c.in-Ok.ensures c.in-Err-text_of.ensures)
+    subst (λ (b : _). OnlyAsked (g.B.Book.state c.args.book) (g.B.Book.state b)) (sym c.close-in-Err-text_of.ensures) (only_told (g.B.Book.state c.args.book) _ _ _ _ c.in-Ok.ensures c.in-Err-text_of.ensures)

@@ -8,3 +8,9 @@ returns-in-Ok-clause-laid g c = record {
   closed = c.in-Ok.ensures.ok.2;
   copied = c.in-Ok.ensures.copied;
 }
+
+pub returns-in-Ok-clause-shut : goal.returns-in-Ok-clause-shut
+returns-in-Ok-clause-shut g c = (c.in-Ok.ensures.ok.0, c.in-Ok.ensures.ok.2)
+
+pub returns-in-Err-clause-shut : goal.returns-in-Err-clause-shut
+returns-in-Err-clause-shut g c = (c.in-Err.store, c.in-Err.ensures.err.0)
