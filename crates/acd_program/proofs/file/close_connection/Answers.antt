@@ -12,5 +12,5 @@ returns-in-Ok-clause-laid g c = record {
 pub returns-in-Ok-clause-shut : goal.returns-in-Ok-clause-shut
 returns-in-Ok-clause-shut g c = (c.in-Ok.ensures.ok.0, c.in-Ok.ensures.ok.2)
 
-pub returns-in-Err-clause-shut : goal.returns-in-Err-clause-shut
-returns-in-Err-clause-shut g c = (c.in-Err.store, c.in-Err.ensures.err.0)
+pub returns-clause-shut : goal.returns-clause-shut
+returns-clause-shut g c = (c.in-Err.store, c.in-Err.ensures.err.0)
