@@ -1,5 +1,5 @@
 -- A replay goes on record by record, and ends where the content is sound or differs.
-use Rattle.std.proofs.Common.{◌≡◌, ℕ, ◌+◌, ◌<◌, ◌≤◌, List, [], ◌∷◌, ◌++◌, length, take, drop, refl, sym, ap, ap₂, subst, ◌∙◌, arith, append_assoc, append-nil, Bool, true, false, cond, nat_lt, filter, find, Option, Some, None, is_some, option_map, inl, inr, ◌⊎◌, true≢false, lt-ltb, ltb-true, ltb-false}
+use Rattle.std.proofs.Common.{◌≡◌, ℕ, ◌+◌, ◌<◌, ◌≤◌, List, [], ◌∷◌, ◌++◌, length, take, drop, refl, sym, ap, ap₂, subst, ◌∙◌, arith, append_assoc, append-nil, Bool, true, false, cond, nat_lt, filter, find, Option, Some, None, is_some, option_map, inl, inr, true≢false, lt-ltb, ltb-true, ltb-false}
 use Rattle.std.specs.Option.{option_or}
 use Rattle.std.proofs.Math.Seq.{take-append_seam, take-append-add}
 use Rattle.std.proofs.lemmas.Bool.{le-ltb}
@@ -7,7 +7,7 @@ use Rattle.std.proofs.lemmas.List.{map-append, length-append, append_cancel_left
 use Rattle.std.proofs.lemmas.List.Elements.{filter-append}
 use Rattle.std.proofs.lemmas.List.Folds.{find-append}
 use Rattle.acd_terms.specs.Limits.{limits_fit}
-use Rattle.acd_terms.specs.Lists.{Every, Among}
+use Rattle.acd_terms.specs.Lists.{Every}
 use Rattle.acd_terms.specs.Rows.{empty_rows}
 use Rattle.acd_terms.specs.declared.rows.Limits.{Limits}
 use Rattle.acd_terms.specs.declared.rows.Rows.{Rows}
@@ -22,6 +22,7 @@ use Rattle.acd_desk.specs.Replies.{after}
 use Rattle.acd_desk.specs.Stands.{arrivals_of, IsSound}
 use Rattle.acd_desk.specs.Audit.{replayed, Agrees, AgreesBefore, IsFirstDifference}
 use Rattle.acd_desk.specs.Replay.{again, Splits, Replays, Matches, IsEnd}
+use Rattle.acd_desk.proofs.NextRecords.{not_both, none_left, next_left}
 use Rattle.acd_desk.proofs.Steps.{step_stamp, step_event, step_numbers}
 use Rattle.acd_desk.proofs.Runs.{run-limits, after_firsts, executes}
 use Rattle.acd_desk.proofs.Counting.{counted_run}
@@ -38,58 +39,6 @@ rises_after last [] left go rise = subst (λ (n : ℕ). Rises number_of n left) 
 rises_after last (e ∷ es) left go rise =
     let next : Rises number_of (last + 1) (es ++ left) = subst (λ (n : ℕ). Rises number_of n (es ++ left)) go.0 rise.1 in
     subst (λ (n : ℕ). Rises number_of n left) (omega arith) (rises_after (last + 1) es left go.1 next)
-
-among_every : {T : Type 0} (P : T → Type 0) (x : T) (xs : List T) → Every P xs → Among x xs → P x
-among_every P x [] h at = absurd at
-among_every P x (y ∷ ys) h at = elim at [
-  | inl same ↦ subst P (sym same) h.0
-  | inr rest ↦ among_every P x ys h.1 rest
-]
-
-every_left : {T : Type 0} (P : T → Type 0) (xs ys : List T) → Every P (xs ++ ys) → Every P ys
-every_left P [] ys h = h
-every_left P (x ∷ xs) ys h = every_left P xs ys h.1
-
-among_cases : {T : Type 0} (x : T) (xs ys : List T) → Among x (xs ++ ys) → Among x xs ⊎ Among x ys
-among_cases x [] ys at = inr at
-among_cases x (y ∷ xs) ys at = elim at [
-  | inl same ↦ inl (inl same)
-  | inr rest ↦ elim (among_cases x xs ys rest) [
-    | inl here ↦ inl (inr here)
-    | inr there ↦ inr there
-  ]
-]
-
-rises_above : (n : ℕ) (x : Kept) (xs : List Kept) → Rises stamp_of n xs → Among x xs → n < x.stamp
-rises_above n x [] rise at = absurd at
-rises_above n x (y ∷ ys) rise at = elim at [
-  | inl same ↦ subst (λ (k : Kept). n < k.stamp) (sym same) rise.0
-  | inr rest ↦ let first : n < y.stamp = rise.0 in let more : y.stamp < x.stamp = rises_above y.stamp x ys rise.1 rest in omega (arith, first, more)
-]
-
-not_both : (a b : ℕ) → a < b → b ≤ a → ⊥
-not_both a b lt le = omega (arith, lt, le)
-
--- no record is left where none has a greater stamp
-pub none_left : (n : ℕ) (past left : List Kept) → Rises stamp_of n left → IsKeptAfter (past ++ left) n None → left ≡ []
-none_left n past [] rise h = refl
-none_left n past (k ∷ left) rise h = absurd (not_both n k.stamp rise.0 (every_left (λ (other : Kept). other.stamp ≤ n) past (k ∷ left) h).0)
-
--- the record of the least greater stamp is the next
-pub next_left : (n : ℕ) (past left : List Kept) (k : Kept) → Every (λ (other : Kept). other.stamp ≤ n) past → Rises stamp_of n left → IsKeptAfter (past ++ left) n (Some k)
-    → (tail : List Kept) × (left ≡ k ∷ tail)
-next_left n past [] k h rise found = elim (among_cases k past [] found.0) [
-  | inl here ↦ absurd (not_both n k.stamp found.1 (among_every (λ (other : Kept). other.stamp ≤ n) k past h here))
-  | inr there ↦ absurd there
-]
-next_left n past (x ∷ left) k h rise found = elim (among_cases k past (x ∷ left) found.0) [
-  | inl here ↦ absurd (not_both n k.stamp found.1 (among_every (λ (other : Kept). other.stamp ≤ n) k past h here))
-  | inr there ↦ elim there [
-    | inl same ↦ (left, ap (λ (y : Kept). y ∷ left) (sym same))
-    | inr behind ↦ absurd (not_both x.stamp k.stamp (rises_above x.stamp k left rise.1 behind)
-        ((every_left (λ (other : Kept). n < other.stamp → k.stamp ≤ other.stamp) past (x ∷ left) found.2).0 rise.0))
-  ]
-]
 
 every_find : (P : Kept → Type 0) (p : Kept → Bool) (xs : List Kept) (x : Kept) → Every P xs → find p xs ≡ Some x → P x
 every_find P p [] x h is = absurd (some_none x (sym is))

@@ -1,0 +1,224 @@
+-- The records that a content has in common with its archive, compared step by step.
+use Rattle.std.proofs.Common.{◌≡◌, ℕ, ◌+◌, ◌<◌, ◌≤◌, Bool, true, false, List, [], ◌∷◌, ◌++◌, length, Option, Some, None, Result, Ok, IfSome, refl, sym, ap, subst, ◌∙◌, arith}
+use Rattle.acd_terms.specs.Lists.{Every}
+use Rattle.acd_terms.specs.declared.rows.Rows.{Rows}
+use Rattle.acd_terms.specs.declared.event.Event.{Event}
+use Rattle.acd_book.specs.declared.kept.Kept.{Kept}
+use Rattle.acd_book.specs.declared.fault.BookFault.{BookFault}
+use Rattle.acd_book.specs.Content.{Content, kept_behind, events_behind}
+use Rattle.acd_book.specs.Memory.{stamp_of, number_of}
+use Rattle.acd_book.specs.Order.{Rises, IsOrdered}
+use Rattle.acd_book.specs.State.{BookState, Reads}
+use Rattle.acd_desk.specs.declared.overlap.Next.{Next}
+use Rattle.acd_desk.specs.declared.overlap.Next.TheVariants.{Same, Other, Over}
+use Rattle.acd_desk.specs.declared.overlap.Pages.{Pages}
+use Rattle.acd_desk.specs.declared.pair.PairFault.{PairFault}
+use Rattle.acd_desk.specs.Pages.{IsPageOf, ReadsIfOpen}
+use Rattle.acd_desk.specs.Pairs.{of_own, ReadsBoth}
+use Rattle.acd_desk.specs.Sharing.{IsSplit, Begins, cut_before}
+use Rattle.acd_desk.specs.Carried.{Archive}
+use Rattle.acd_desk.specs.WithArchive.{IsCut}
+use Rattle.acd_desk.specs.AuditWith.{HoldsArchive}
+use Rattle.acd_desk.specs.Overlap.{AreInOrder, cut_stamp, cut_number, KeepsArchive, TellsArchive, IsNextOf, IsOtherPlace, IsOther, IsOtherUpTo, IsFirstUpTo, IsCleanCut}
+use Rattle.acd_desk.proofs.BothReads.{both_known, both_own, both_ok, both_then}
+use Rattle.acd_desk.proofs.ReadsAhead.{by_read}
+use Rattle.acd_desk.proofs.SharedLists.{Shares, shares_nothing, cut_rises, next_shares, other_shares, other_low, over_first, reached, split_there, split_once, next_above}
+
+-- ---- records ----
+
+-- so far both have the same records, at least as many as the loop has come past
+abbrev pub SharesRecords : ℕ → ℕ → ℕ → ℕ → Content → Content → Unit {0} → Type 0
+SharesRecords above last count stamp a c u = AreInOrder a c → last ≡ a.rows.last_stamp → above ≡ cut_stamp a c → Shares stamp_of (cut_stamp a c) stamp a.kept c.kept × (count ≤ stamp)
+
+abbrev pub FindsRecord : ℕ → ℕ → Content → Content → Option ℕ → Type 0
+FindsRecord above last a c found = AreInOrder a c → last ≡ a.rows.last_stamp → above ≡ cut_stamp a c → IsOtherUpTo last (KeepsArchive a c) found
+
+abbrev pub IsNextRecord : ℕ → Content → Content → Next → Type 0
+IsNextRecord stamp a c found = IsNextOf stamp_of (kept_behind a.kept stamp 1) (kept_behind c.kept stamp 1) found × IsOtherPlace stamp_of (kept_behind a.kept stamp 1) found
+
+same_number : (n : ℕ) → n ≤ n
+same_number n = omega arith
+
+pub records_start : (a c : BookState) (above last : ℕ) → ReadsBoth a a c c (Ok tt) (SharesRecords above last above above)
+records_start a c above last =
+    both_known (SharesRecords above last above above) a c tt
+    (λ x z order is_last is_cut. (
+      subst (λ (n : ℕ). Shares stamp_of (cut_stamp x z) n x.kept z.kept) (sym is_cut)
+          (shares_nothing stamp_of (cut_stamp x z) x.kept z.kept order.archive.ordered.kept (cut_rises stamp_of x.rows.last_stamp z.kept order.own.kept)),
+      same_number above,
+    ))
+
+pub records_next : (a b e c d f : BookState) (above last count stamp next : ℕ) (found : Next) → found ≡ Same next → ReadsBoth a b c d (Ok tt) (SharesRecords above last count stamp) → ReadsBoth b e d f (Ok found) (IsNextRecord stamp)
+    → ReadsBoth a e c f (Ok tt) (SharesRecords above last (count + 1) next)
+records_next a b e c d f above last count stamp next found is so_far read =
+    both_ok (SharesRecords above last (count + 1) next) a e c f found tt
+    (both_then (λ (x z : Content) (y : Next). SharesRecords above last count stamp x z tt × IsNextRecord stamp x z y) a b e c d f tt (Ok found) so_far read (λ x z shares y told. (shares, told)))
+    (λ x z both order is_last is_cut.
+    let now = both.0 order is_last is_cut in
+    next_shares stamp_of (cut_stamp x z) stamp count next x.kept z.kept now.0 now.1 (subst (λ (y : Next). IsNextOf stamp_of (kept_behind x.kept stamp 1) (kept_behind z.kept stamp 1) y) is both.1.0))
+
+pub records_other : (a b e c d f : BookState) (above last count stamp place : ℕ) (found : Next) → found ≡ Other place → ReadsBoth a b c d (Ok tt) (SharesRecords above last count stamp) → ReadsBoth b e d f (Ok found) (IsNextRecord stamp)
+    → ReadsBoth a e c f (Ok (Some place)) (FindsRecord above last)
+records_other a b e c d f above last count stamp place found is so_far read =
+    both_ok (FindsRecord above last) a e c f found (Some place)
+    (both_then (λ (x z : Content) (y : Next). SharesRecords above last count stamp x z tt × IsNextRecord stamp x z y) a b e c d f tt (Ok found) so_far read (λ x z shares y told. (shares, told)))
+    (λ x z both order is_last is_cut.
+    let now = both.0 order is_last is_cut in
+    let told : IsNextRecord stamp x z (Other place) = subst (IsNextRecord stamp x z) is both.1 in (
+      subst (λ (n : ℕ). place ≤ n) (sym is_last) (other_low stamp_of (cut_stamp x z) stamp x.rows.last_stamp place x.kept z.kept now.0 order.archive.counted.kept told.1),
+      other_shares stamp_of (cut_stamp x z) stamp x.rows.last_stamp place x.kept z.kept now.0 told.0,
+    ))
+
+other_up_to : (last : ℕ) (P : Type 0) (found : Option ℕ) → IsOther P found → IfSome found (λ place. place ≤ last) → IsOtherUpTo last P found
+other_up_to last P None h within = h
+other_up_to last P (Some place) h within = (within, h)
+
+pub records_over : (a b e c d f g : BookState) (above last count stamp : ℕ) (found : Next) (r : Result (Option ℕ) BookFault) (result : Result (Option ℕ) PairFault) → found ≡ Over
+    → ReadsBoth a b c d (Ok tt) (SharesRecords above last count stamp) → ReadsBoth b e d f (Ok found) (IsNextRecord stamp)
+    → Reads f g r (λ (z : Content) (own : Option ℕ). IsFirstUpTo stamp_of last (kept_behind z.kept stamp 1) own × IfSome own (λ place. place ≤ last)) → result ≡ of_own r
+    → ReadsBoth a e c g result (FindsRecord above last)
+records_over a b e c d f g above last count stamp found r result is so_far read own is_own =
+    both_then (FindsRecord above last) a e e c f g found result
+    (both_then (λ (x z : Content) (y : Next). SharesRecords above last count stamp x z tt × IsNextRecord stamp x z y) a b e c d f tt (Ok found) so_far read (λ x z shares y told. (shares, told)))
+    (both_own (λ (x z : Content) (own : Option ℕ). IsFirstUpTo stamp_of last (kept_behind z.kept stamp 1) own × IfSome own (λ place. place ≤ last)) e f g r result
+    (by_read (λ (z : Content) (own : Option ℕ). IsFirstUpTo stamp_of last (kept_behind z.kept stamp 1) own × IfSome own (λ place. place ≤ last)) f g r own (λ z y told. told)) is_own (λ x z y told. told))
+    (λ x z both y told order is_last is_cut.
+    let now = both.0 order is_last is_cut in
+    let over : IsNextRecord stamp x z Over = subst (IsNextRecord stamp x z) is both.1 in
+    other_up_to last (KeepsArchive x z) y
+    (over_first stamp_of (cut_stamp x z) stamp x.rows.last_stamp x.kept z.kept now.0 y over.0 (subst (λ (n : ℕ). IsFirstUpTo stamp_of n (kept_behind z.kept stamp 1) y) is_last told.0)) told.1)
+
+pub records_all : (a b c d : BookState) (above last count stamp : ℕ) → last ≤ count → ReadsBoth a b c d (Ok tt) (SharesRecords above last count stamp) → ReadsBoth a b c d (Ok None) (FindsRecord above last)
+records_all a b c d above last count stamp all so_far =
+    both_ok (FindsRecord above last) a b c d tt None so_far
+    (λ x z shares order is_last is_cut.
+    let now = shares order is_last is_cut in
+    reached stamp_of (cut_stamp x z) stamp x.rows.last_stamp x.kept z.kept now.0 (subst (λ (n : ℕ). n ≤ stamp) is_last (beyond last count stamp all now.1)) order.archive.counted.kept)
+  where
+    beyond : (n m k : ℕ) → n ≤ m → m ≤ k → n ≤ k
+    beyond n m k le more = omega (arith, le, more)
+
+-- ---- events ----
+
+abbrev pub ArePagesOf : Content → Content → Pages → Type 0
+ArePagesOf a c pages = IsPageOf a pages.archive × IsPageOf c pages.own
+
+abbrev pub SharesEvents : ℕ → ℕ → ℕ → ℕ → Pages → Content → Content → Unit {0} → Type 0
+SharesEvents above last count number pages a c u =
+    ArePagesOf a c pages × (AreInOrder a c → last ≡ a.rows.last_event → above ≡ cut_number a c → Shares number_of (cut_number a c) number a.events c.events × (count ≤ number))
+
+abbrev pub FindsEvent : ℕ → ℕ → Content → Content → Option ℕ → Type 0
+FindsEvent above last a c found = AreInOrder a c → last ≡ a.rows.last_event → above ≡ cut_number a c → IsOther (TellsArchive a c) found
+
+abbrev pub IsNextEvent : ℕ → Content → Content → Next → Type 0
+IsNextEvent number a c found = IsNextOf number_of (events_behind a.events number 1) (events_behind c.events number 1) found
+
+abbrev pub ReadsNextEvent : ℕ → Pages → Pages → Content → Content → Next → Type 0
+ReadsNextEvent number old new a c found = IsPageOf a old.archive → IsPageOf c old.own → IsPageOf a new.archive × IsPageOf c new.own × IsNextEvent number a c found
+
+pub events_start : (a c : BookState) (above last : ℕ) (pages : Pages) → ((x : Content) → IsPageOf x pages.archive) → ((x : Content) → IsPageOf x pages.own) → ReadsBoth a a c c (Ok tt) (SharesEvents above last above above pages)
+events_start a c above last pages archive own =
+    both_known (SharesEvents above last above above pages) a c tt
+    (λ x z. (
+      (archive x, own z),
+      λ order is_last is_cut. (
+        subst (λ (n : ℕ). Shares number_of (cut_number x z) n x.events z.events) (sym is_cut)
+            (shares_nothing number_of (cut_number x z) x.events z.events order.archive.ordered.events (cut_rises number_of x.rows.last_event z.events order.own.events)),
+        same_number above,
+      ),
+    ))
+
+-- the pages are of both again, and this is next
+events_read : (a b e c d f : BookState) (above last count number : ℕ) (old new : Pages) (found : Next) → ReadsBoth a b c d (Ok tt) (SharesEvents above last count number old) → ReadsBoth b e d f (Ok found) (ReadsNextEvent number old new)
+    → ReadsBoth a e c f (Ok found) (λ (x z : Content) (y : Next). SharesEvents above last count number new x z tt × IsNextEvent number x z y)
+events_read a b e c d f above last count number old new found so_far read =
+    both_then (λ (x z : Content) (y : Next). SharesEvents above last count number new x z tt × IsNextEvent number x z y) a b e c d f tt (Ok found) so_far read
+    (λ x z shares y told. let all = told shares.0.0 shares.0.1 in (((all.0, all.1), shares.1), all.2))
+
+pub events_next : (a b e c d f : BookState) (above last count number next : ℕ) (old new : Pages) (found : Next) → found ≡ Same next → ReadsBoth a b c d (Ok tt) (SharesEvents above last count number old)
+    → ReadsBoth b e d f (Ok found) (ReadsNextEvent number old new) → ReadsBoth a e c f (Ok tt) (SharesEvents above last (count + 1) next new)
+events_next a b e c d f above last count number next old new found is so_far read =
+    both_ok (SharesEvents above last (count + 1) next new) a e c f found tt (events_read a b e c d f above last count number old new found so_far read)
+    (λ x z both. (
+      both.0.0,
+      λ order is_last is_cut.
+          let now = both.0.1 order is_last is_cut in
+          next_shares number_of (cut_number x z) number count next x.events z.events now.0 now.1 (subst (IsNextEvent number x z) is both.1),
+    ))
+
+pub events_other : (a b e c d f : BookState) (above last count number moment : ℕ) (old new : Pages) (found : Next) → found ≡ Other moment → ReadsBoth a b c d (Ok tt) (SharesEvents above last count number old)
+    → ReadsBoth b e d f (Ok found) (ReadsNextEvent number old new) → ReadsBoth a e c f (Ok (Some moment)) (FindsEvent above last)
+events_other a b e c d f above last count number moment old new found is so_far read =
+    both_ok (FindsEvent above last) a e c f found (Some moment) (events_read a b e c d f above last count number old new found so_far read)
+    (λ x z both order is_last is_cut.
+    let now = both.0.1 order is_last is_cut in
+    other_shares number_of (cut_number x z) number x.rows.last_event moment x.events z.events now.0 (subst (IsNextEvent number x z) is both.1))
+
+pub events_over : (a b e c d f g : BookState) (above last count number : ℕ) (old new : Pages) (found : Next) (r : Result (Option ℕ) BookFault) (result : Result (Option ℕ) PairFault) → found ≡ Over
+    → ReadsBoth a b c d (Ok tt) (SharesEvents above last count number old) → ReadsBoth b e d f (Ok found) (ReadsNextEvent number old new)
+    → Reads f g r (λ (z : Content) (own : Option ℕ). IsFirstUpTo number_of last (events_behind z.events number 1) own) → result ≡ of_own r → ReadsBoth a e c g result (FindsEvent above last)
+events_over a b e c d f g above last count number old new found r result is so_far read own is_own =
+    both_then (FindsEvent above last) a e e c f g found result (events_read a b e c d f above last count number old new found so_far read)
+    (both_own (λ (x z : Content) (own : Option ℕ). IsFirstUpTo number_of last (events_behind z.events number 1) own) e f g r result
+    (by_read (λ (z : Content) (own : Option ℕ). IsFirstUpTo number_of last (events_behind z.events number 1) own) f g r own (λ z y told. told)) is_own (λ x z y told. told))
+    (λ x z both y told order is_last is_cut.
+    let now = both.0.1 order is_last is_cut in
+    over_first number_of (cut_number x z) number x.rows.last_event x.events z.events now.0 y (subst (IsNextEvent number x z) is both.1)
+    (subst (λ (n : ℕ). IsFirstUpTo number_of n (events_behind z.events number 1) y) is_last told))
+
+pub events_all : (a b c d : BookState) (above last count number : ℕ) (pages : Pages) → last ≤ count → ReadsBoth a b c d (Ok tt) (SharesEvents above last count number pages) → ReadsBoth a b c d (Ok None) (FindsEvent above last)
+events_all a b c d above last count number pages all so_far =
+    both_ok (FindsEvent above last) a b c d tt None so_far
+    (λ x z shares order is_last is_cut.
+    let now = shares.1 order is_last is_cut in
+    reached number_of (cut_number x z) number x.rows.last_event x.events z.events now.0 (subst (λ (n : ℕ). n ≤ number) is_last (beyond last count number all now.1)) order.archive.counted.events)
+  where
+    beyond : (n m k : ℕ) → n ≤ m → m ≤ k → n ≤ k
+    beyond n m k le more = omega (arith, le, more)
+
+-- ---- both together ----
+
+pub holds_both : (a c : Content) → KeepsArchive a c → TellsArchive a c → IsCleanCut a (cut_stamp a c) (cut_number a c) → HoldsArchive a c
+holds_both a c keeps tells clean =
+    let left : Archive = record { events = tells.past; kept = keeps.past } in
+    let carried : Content = record { rows = a.rows; events = tells.carried; kept = keeps.carried } in
+    let whole : Rows → List Event → List Kept → Content = λ x y z. record { rows = x; events = y; kept = z } in
+    record {
+      left = left;
+      carried = carried;
+      cut = record {
+        whole = ap (λ (y : List Event). whole a.rows y a.kept) tells.split.whole ∙ ap (λ (z : List Kept). whole a.rows (tells.past ++ tells.carried) z) keeps.split.whole;
+        events = clean keeps.past keeps.carried tells.past tells.carried keeps.split tells.split;
+      };
+      kept_left = keeps.rest;
+      events_left = tells.rest;
+      kept = keeps.mine;
+      events = tells.mine;
+      kept_rise = keeps.newer;
+      events_rise = tells.newer;
+    }
+
+kept_split : (a c : Content) (h : HoldsArchive a c) → AreInOrder a c → IsSplit stamp_of (cut_stamp a c) a.kept h.left.kept h.carried.kept
+kept_split a c h order =
+    split_there stamp_of a.rows.last_stamp a.kept c.kept h.left.kept h.carried.kept h.kept_left (ap (λ (x : Content). x.kept) h.cut.whole) h.kept order.archive.ordered.kept order.archive.counted.kept h.kept_rise
+
+events_split : (a c : Content) (h : HoldsArchive a c) → AreInOrder a c → IsSplit number_of (cut_number a c) a.events h.left.events h.carried.events
+events_split a c h order =
+    split_there number_of a.rows.last_event a.events c.events h.left.events h.carried.events h.events_left (ap (λ (x : Content). x.events) h.cut.whole) h.events order.archive.ordered.events order.archive.counted.events h.events_rise
+
+pub holds_keeps : (a c : Content) → AreInOrder a c → HoldsArchive a c → KeepsArchive a c
+holds_keeps a c order h =
+    record { past = h.left.kept; carried = h.carried.kept; rest = h.kept_left; split = kept_split a c h order; mine = h.kept; newer = h.kept_rise }
+
+pub holds_tells : (a c : Content) → AreInOrder a c → HoldsArchive a c → TellsArchive a c
+holds_tells a c order h =
+    record { past = h.left.events; carried = h.carried.events; rest = h.events_left; split = events_split a c h order; mine = h.events; newer = h.events_rise }
+
+pub holds_clean : (a c : Content) → AreInOrder a c → HoldsArchive a c → IsCleanCut a (cut_stamp a c) (cut_number a c)
+holds_clean a c order h past carried left reported kept_two events_two =
+    let mine = kept_split a c h order in
+    let told = events_split a c h order in
+    let once = split_once stamp_of (cut_stamp a c) h.left.kept h.carried.kept past carried (sym mine.whole ∙ kept_two.whole) mine.below kept_two.below mine.above kept_two.above in
+    let also = split_once number_of (cut_number a c) h.left.events h.carried.events left reported (sym told.whole ∙ events_two.whole) told.below events_two.below told.above events_two.above in
+    subst (λ (ks : List Kept). Every (λ (e : Event). Every (λ (k : Kept). e.moment < k.moment) ks) left) once.1
+    (subst (λ (es : List Event). Every (λ (e : Event). Every (λ (k : Kept). e.moment < k.moment) h.carried.kept) es) also.0 h.cut.events)
