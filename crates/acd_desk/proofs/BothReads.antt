@@ -179,3 +179,13 @@ pub both_then_fault : {T S V : Type 0} {P : Content → Content → T → Type 0
     → ReadsBoth a b c d (Ok x) P → ReadsBoth {T = S} b e d f (Err fault) Q → r ≡ Err fault → ReadsBoth a e c f r R
 both_then_fault {S = S} {Q = Q} R a b e c d f x fault r one two is =
     both_fault {T = S} R a e c f fault r (both_then {S = S} (λ (p q : Content) (y : S). Unit {0}) a b e c d f x (Err fault) one two (λ p q u y v. tt)) is
+
+-- what was read of the book, as it was found
+pub own_read : {T : Type 0} {P : Content → T → Type 0} (a c d : BookState) (r : Result T BookFault) (result known : Result T PairFault) → Reads c d r P → result ≡ of_own r → result ≡ known → ReadsBoth a a c d known (λ (x z : Content) (y : T). P z y)
+own_read {T = T} {P = P} a c d r result known read is found =
+    both_own (λ (x z : Content) (y : T). P z y) a c d r known (by_read P c d r read (λ z y told. told)) (sym found ∙ is) (λ x z y told. told)
+
+-- and of the archive
+pub archive_read : {T : Type 0} {P : Content → T → Type 0} (a b c : BookState) (r : Result T BookFault) (result known : Result T PairFault) → Reads a b r P → result ≡ of_archive r → result ≡ known → ReadsBoth a b c c known (λ (x z : Content) (y : T). P x y)
+archive_read {T = T} {P = P} a b c r result known read is found =
+    both_archive (λ (x z : Content) (y : T). P x y) a b c r known (by_read P a b r read (λ z y told. told)) (sym found ∙ is) (λ x z y told. told)

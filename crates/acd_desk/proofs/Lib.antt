@@ -50,3 +50,4 @@ pub mod BothReads
 pub mod NewerRuns
 pub mod Overlaps
 pub mod StepsWith
+pub mod CleanCuts

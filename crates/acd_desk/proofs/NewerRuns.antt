@@ -148,7 +148,19 @@ after_cases c a =
     cases (is_some (kept_of c.kept a.request.requester a.request.invoke)) (nat_lt c.rows.last_stamp c.rows.limits.requests) refl refl
 
 grows_room : (c d : Content) (n m : ℕ) → n ≤ m → Grows c d n → Grows c d m
-grows_room c d n m le g = record g { few = within (length g.more) n m g.few le }
+grows_room c d n m le g = record {
+  more = g.more;
+  reported = g.reported;
+  kept = g.kept;
+  events = g.events;
+  kept_rise = g.kept_rise;
+  events_rise = g.events_rise;
+  kept_low = g.kept_low;
+  events_low = g.events_low;
+  stamps = g.stamps;
+  numbers = g.numbers;
+  few = within (length g.more) n m g.few le;
+}
 
 led_grows : (c : Content) (l : List Arrival) → Grows c (led c l) (length l)
 led_grows c [] = grows_none c 0

@@ -8,6 +8,10 @@ use Rattle.acd_terms.specs.declared.command.Request.{Request}
 use Rattle.acd_book.specs.declared.kept.Kept.{Kept}
 use Rattle.acd_book.specs.Content.{Content, kept_of, IsKeptAfter, events_behind}
 use Rattle.acd_book.specs.State.{BookState}
+use Rattle.acd_desk.specs.declared.audit.Audit.{Audit}
+use Rattle.acd_desk.specs.declared.audit.Audit.TheVariants.{Sound, Differs}
+use Rattle.acd_desk.specs.declared.overlap.Cut.{Cut}
+use Rattle.acd_desk.specs.declared.pair.PairFault.{PairFault}
 use Rattle.acd_desk.specs.declared.noted.Noted.{Noted}
 use Rattle.acd_desk.specs.declared.page.Page.{Page}
 use Rattle.acd_desk.specs.declared.replay.Course.{Course}
@@ -17,10 +21,13 @@ use Rattle.acd_desk.specs.Firsts.{stepped, executed}
 use Rattle.acd_desk.specs.Noting.{IsNoted}
 use Rattle.acd_desk.specs.Replay.{again, rows_of, IsFirstOfKey, IsEnd, IsAll, TellsKeys, Knows, GoesOn, IsReplayed, CountsOne}
 use Rattle.acd_desk.specs.WithArchive.{IsSoundWith}
-use Rattle.acd_desk.specs.AuditWith.{RunsOn, RunsTo, MatchesWith, IsNewerDifference, IsDifferenceWith}
+use Rattle.acd_desk.specs.AuditWith.{HoldsArchive, RunsOn, RunsTo, MatchesWith, IsNewerDifference, IsDifferenceWith, IsAuditWith}
+use Rattle.acd_desk.specs.Overlap.{AreInOrder, IsLast, IsOtherUpTo}
+use Rattle.acd_desk.specs.Pairs.{ReadsBoth}
 use Rattle.acd_desk.specs.Pages.{IsPageOf}
 use Rattle.acd_desk.specs.ReplayWith.{KnowsWith, GoesWith, BeginsWith, IsReplayedWith, IsStepWith}
-use Rattle.acd_desk.proofs.NewerRuns.{runs_start, runs_next, runs_sound, runs_above, sound_matches, sound_ends, carried_rows, newer_first}
+use Rattle.acd_desk.proofs.BothReads.{both_known, both_ok, both_then}
+use Rattle.acd_desk.proofs.NewerRuns.{sound_holds, runs_start, runs_next, runs_sound, runs_above, sound_matches, sound_ends, carried_rows, newer_first}
 use Rattle.acd_desk.proofs.NextRecords.{none_left, next_left}
 
 -- ---- what is next ----
@@ -151,3 +158,176 @@ knows_newer a c r k g at =
       tells = λ none new. newer_first a c g.runs.ran k left.0 g.runs.kept_left g.runs.events_left g.runs.runs left.1 r.keys g.noted none new;
       page = g.page;
     }
+
+-- ---- what the steps are told ----
+
+-- the record behind this stamp was asked for
+abbrev pub IsNextOwn : ℕ → Content → Content → Option Kept → Type 0
+IsNextOwn n a c found = IsKeptAfter c.kept n found
+
+abbrev pub PlaysWith : Course → Kept → Content → Content → Option Course → Type 0
+PlaysWith r k a c found = KnowsWith a c r.keys r.page k → IsReplayedWith a c r k found
+
+abbrev pub StepsOn : Rows → Kept → Option Course → Type 0
+StepsOn s k played = IfSome played (λ (next : Course). rows_of next ≡ (stepped s (again k)).rows)
+
+abbrev pub StepOf : Course → Content → Content → Step → Type 0
+StepOf r a c found = IsStepWith a c r found
+
+next_at : (c : Content) (n m : ℕ) (found known : Option Kept) → n ≡ m → found ≡ known → IsKeptAfter c.kept n found → IsKeptAfter c.kept m known
+next_at c n m found known behind is next = subst (λ (o : Option Kept). IsKeptAfter c.kept m o) is (subst (λ (x : ℕ). IsKeptAfter c.kept x found) behind next)
+
+-- two reads tell what follows from both
+pub both_told : {T S V : Type 0} {P : Content → Content → T → Type 0} {Q : Content → Content → S → Type 0} (R : Content → Content → V → Type 0) (a b e c d f : BookState) (x : T) (y : S) (v : V)
+    → ReadsBoth a b c d (Ok x) P → ReadsBoth b e d f (Ok y) Q → ((p q : Content) → P p q x → Q p q y → R p q v) → ReadsBoth a e c f (Ok v) R
+both_told {S = S} {P = P} {Q = Q} R a b e c d f x y v one two tells =
+    both_ok R a e c f y v (both_then (λ (p q : Content) (z : S). P p q x × Q p q z) a b e c d f x (Ok y) one two (λ p q told z more. (told, more))) (λ p q both. tells p q both.0 both.1)
+
+pub step_replayed : (a b e c d f : BookState) (r : Course) (n : ℕ) (found : Option Kept) (k : Kept) (played : Option Course) (next : Course) → n ≡ (rows_of r).last_stamp → found ≡ Some k → played ≡ Some next
+    → ReadsBoth a b c d (Ok found) (IsNextOwn n) → ReadsBoth b e d f (Ok played) (PlaysWith r k) → StepsOn (rows_of r) k played → (rows_of r).last_stamp < (rows_of r).limits.requests
+    → ReadsBoth a e c f (Ok (step.Replayed next)) (StepOf r)
+step_replayed a b e c d f r n found k played next behind is_next is_played one two goes room =
+    both_told (StepOf r) a b e c d f found played (step.Replayed next) one two
+    (λ p q told plays g.
+    let at = next_at q n (rows_of r).last_stamp found (Some k) behind is_next told in
+    let both = subst (IsReplayedWith p q r k) is_played (plays (knows_newer p q r k g at)) in
+    newer_next p q r next k g at both.0 both.1 (subst (StepsOn (rows_of r) k) is_played goes) room)
+
+pub step_differs : (a b e c d f : BookState) (r : Course) (n : ℕ) (found : Option Kept) (k : Kept) (played : Option Course) → n ≡ (rows_of r).last_stamp → found ≡ Some k → played ≡ None
+    → ReadsBoth a b c d (Ok found) (IsNextOwn n) → ReadsBoth b e d f (Ok played) (PlaysWith r k) → ReadsBoth a e c f (Ok step.Differs) (StepOf r)
+step_differs a b e c d f r n found k played behind is_next is_played one two =
+    both_told (StepOf r) a b e c d f found played step.Differs one two
+    (λ p q told plays g.
+    let at = next_at q n (rows_of r).last_stamp found (Some k) behind is_next told in
+    newer_unlike p q r k g at (subst (IsReplayedWith p q r k) is_played (plays (knows_newer p q r k g at))))
+
+last_is : (a c : Content) (r : Course) → IsKeptAfter c.kept (rows_of r).last_stamp None → (w : Bool) → Decides w (IsEnd c (rows_of r)) → IsStepWith a c r (cond w step.Ended step.Differs)
+last_is a c r found true told = λ g. newer_sound a c r g found (told.0 refl)
+last_is a c r found false told = λ g. newer_rest a c r g found (λ ended. true≢false (sym (told.1 ended)))
+
+pub step_last : (a b e c d f : BookState) (r : Course) (s : Rows) (n : ℕ) (found : Option Kept) (whole : Bool) (last : Step) → s ≡ rows_of r → n ≡ (rows_of r).last_stamp → found ≡ None → ReadsBoth a b c d (Ok found) (IsNextOwn n)
+    → ReadsBoth b e d f (Ok whole) (λ (p q : Content) (w : Bool). Decides w (IsEnd q s)) → last ≡ cond whole step.Ended step.Differs → ReadsBoth a e c f (Ok last) (StepOf r)
+step_last a b e c d f r s n found whole last same behind is_next one two is =
+    both_told (StepOf r) a b e c d f found whole last one two
+    (λ p q told ended. subst (IsStepWith p q r) (sym is)
+    (last_is p q r (next_at q n (rows_of r).last_stamp found None behind is_next told) whole (subst (λ (x : Rows). Decides whole (IsEnd q x)) same ended)))
+
+-- ---- a record is replayed, where the archive doesn't have its key ----
+
+none_of : (o : Option Kept) → is_some o ≡ false → o ≡ None
+none_of None h = refl
+none_of (Some k) h = absurd (true≢false h)
+
+known_not : (o : Option Kept) → is_some o ≡ true → o ≡ None → ⊥
+known_not o some none = true≢false (sym some ∙ ap is_some none)
+
+abbrev pub IsKnownIn : Kept → Content → Content → Bool → Type 0
+IsKnownIn k a c found = found ≡ is_some (kept_of a.kept k.request.requester k.request.invoke)
+
+pub replayed_not : (a b c d : BookState) (r : Course) (k : Kept) (found : Bool) → found ≡ true → ReadsBoth a b c d (Ok found) (IsKnownIn k) → ReadsBoth a b c d (Ok None) (PlaysWith r k)
+replayed_not a b c d r k found is read =
+    both_ok (PlaysWith r k) a b c d found None read
+    (λ p q told knows matches. known_not (kept_of p.kept k.request.requester k.request.invoke) (sym told ∙ is) matches.older)
+
+played_as : (a c : Content) (r : Course) (k : Kept) (y : Option Course) → kept_of a.kept k.request.requester k.request.invoke ≡ None → IsReplayed c r k y → IsReplayedWith a c r k y
+played_as a c r k None none unlike = λ m. unlike m.own
+played_as a c r k (Some next) none both = (record { own = both.0; older = none }, both.1)
+
+pub replayed_own : (a b e c d f : BookState) (r : Course) (k : Kept) (found : Bool) (played : Result (Option Course) PairFault) → found ≡ false → ReadsBoth a b c d (Ok found) (IsKnownIn k)
+    → ReadsBoth b e d f played (λ (p q : Content) (y : Option Course). Knows q r.keys r.page k → IsReplayed q r k y) → ReadsBoth a e c f played (PlaysWith r k)
+replayed_own a b e c d f r k found played is one two =
+    both_then (PlaysWith r k) a b e c d f found played one two
+    (λ p q told y plays knows.
+    let none = none_of (kept_of p.kept k.request.requester k.request.invoke) (sym told ∙ is) in
+    played_as p q r k y none (plays (record { tells = knows.tells none; page = knows.page })))
+
+-- ---- step by step ----
+
+-- a replay has come so far
+abbrev pub SeenWith : Course → Course → Content → Content → Unit {0} → Type 0
+SeenWith first r a c u = BeginsWith a c first → GoesWith a c r
+
+pub newer_begun : (a c : BookState) (first : Course) → ReadsBoth a a c c (Ok tt) (SeenWith first first)
+newer_begun a c first = both_known (SeenWith first first) a c tt (λ p q begins. newer_start p q first begins)
+
+pub newer_more : (a b e c d f : BookState) (first r : Course) (taken : Step) (next : Course) → taken ≡ step.Replayed next → ReadsBoth a b c d (Ok tt) (SeenWith first r) → ReadsBoth b e d f (Ok taken) (StepOf r)
+    → ReadsBoth a e c f (Ok tt) (SeenWith first next)
+newer_more a b e c d f first r taken next is seen read =
+    both_told (SeenWith first next) a b e c d f tt taken tt seen read (λ p q before goes_on begins. subst (IsStepWith p q r) is goes_on (before begins))
+
+abbrev pub AuditOf : Course → Content → Content → Audit → Type 0
+AuditOf first a c found = BeginsWith a c first → IsAuditWith a c found
+
+pub newer_differs : (a b e c d f : BookState) (first r : Course) (taken : Step) (count : ℕ) → taken ≡ step.Differs → (rows_of r).last_stamp ≡ count → ReadsBoth a b c d (Ok tt) (SeenWith first r) → ReadsBoth b e d f (Ok taken) (StepOf r)
+    → ReadsBoth a e c f (Ok (Differs (count + 1))) (AuditOf first)
+newer_differs a b e c d f first r taken count is stamp seen read =
+    both_told (AuditOf first) a b e c d f tt taken (Differs (count + 1)) seen read
+    (λ p q before goes_on begins. subst (λ (n : ℕ). IsDifferenceWith p q (n + 1)) stamp (subst (IsStepWith p q r) is goes_on (before begins)))
+
+pub newer_ended : (a b e c d f : BookState) (first r : Course) (taken : Step) → taken ≡ step.Ended → ReadsBoth a b c d (Ok tt) (SeenWith first r) → ReadsBoth b e d f (Ok taken) (StepOf r)
+    → ReadsBoth a e c f (Ok Sound) (AuditOf first)
+newer_ended a b e c d f first r taken is seen read =
+    both_told (AuditOf first) a b e c d f tt taken Sound seen read (λ p q before goes_on begins. subst (IsStepWith p q r) is goes_on (before begins))
+
+-- the limit of executed requests is reached
+pub newer_all : (a b e c d f : BookState) (first r : Course) (s : Rows) (all : Bool) → s ≡ rows_of r → all ≡ true → ReadsBoth a b c d (Ok tt) (SeenWith first r) → ReadsBoth b e d f (Ok all) (λ (p q : Content) (w : Bool). IsAll q s w)
+    → ReadsBoth a e c f (Ok Sound) (AuditOf first)
+newer_all a b e c d f first r s all same is seen read =
+    both_told (AuditOf first) a b e c d f tt all Sound seen read
+    (λ p q before told begins.
+    let whole : IsAll q (rows_of r) true = subst (λ (x : Rows). IsAll q x true) same (subst (IsAll q s) is told) in
+    newer_sound p q r (before begins) whole.0 whole.1)
+
+pub newer_left : (a b e c d f : BookState) (first r : Course) (s : Rows) (all : Bool) (n : ℕ) → s ≡ rows_of r → all ≡ false → n ≡ (rows_of r).last_stamp + 1 → (rows_of r).limits.requests ≤ (rows_of r).last_stamp
+    → ReadsBoth a b c d (Ok tt) (SeenWith first r) → ReadsBoth b e d f (Ok all) (λ (p q : Content) (w : Bool). IsAll q s w) → ReadsBoth a e c f (Ok (Differs n)) (AuditOf first)
+newer_left a b e c d f first r s all n same is place full seen read =
+    both_told (AuditOf first) a b e c d f tt all (Differs n) seen read
+    (λ p q before told begins.
+    let rest : IsAll q (rows_of r) false = subst (λ (x : Rows). IsAll q x false) same (subst (IsAll q s) is told) in
+    subst (IsDifferenceWith p q) (sym place)
+    (elim rest [
+      | inl more ↦ newer_full p q r more.0 (before begins) more.1 full
+      | inr none ↦ newer_rest p q r (before begins) none.0 none.1
+    ]))
+
+-- ---- the whole ----
+
+-- the content isn't as the archive
+differs_older : (a c : Content) (n : ℕ) → n ≤ a.rows.last_stamp → ¬ HoldsArchive a c → IsDifferenceWith a c n
+differs_older a c n le none = record {
+  unsound = λ goes. none (sound_holds a c goes);
+  older = λ within. none;
+  newer = λ above. absurd (not_both n a.rows.last_stamp le above);
+}
+  where
+    not_both : (n m : ℕ) → n ≤ m → m < n → ⊥
+    not_both n m le lt = omega (arith, le, lt)
+
+abbrev pub PlaceOf : Cut → Content → Content → Option ℕ → Type 0
+PlaceOf last a c found = AreInOrder a c → IsLast a last → IsOtherUpTo last.stamp (HoldsArchive a c) found
+
+abbrev pub WholeOf : Content → Content → Audit → Type 0
+WholeOf a c found = AreInOrder a c → IsAuditWith a c found
+
+abbrev pub IsLoaded : Rows → Content → Content → Unit {0} → Type 0
+IsLoaded s a c u = s ≡ a.rows
+
+pub whole_differs : (a b e c d f : BookState) (s : Rows) (last : Cut) (found : Option ℕ) (place : ℕ) → last.stamp ≡ s.last_stamp → last.number ≡ s.last_event → found ≡ Some place → ReadsBoth a b c d (Ok tt) (IsLoaded s)
+    → ReadsBoth b e d f (Ok found) (PlaceOf last) → ReadsBoth a e c f (Ok (Differs place)) WholeOf
+whole_differs a b e c d f s last found place stamp number is one two =
+    both_told WholeOf a b e c d f tt found (Differs place) one two
+    (λ p q rows told order.
+    let is_last : IsLast p last = record { stamp = stamp ∙ ap (λ (x : Rows). x.last_stamp) rows; number = number ∙ ap (λ (x : Rows). x.last_event) rows } in
+    let other = subst (IsOtherUpTo last.stamp (HoldsArchive p q)) is (told order is_last) in
+    differs_older p q place (subst (λ (n : ℕ). place ≤ n) is_last.stamp other.0) other.1)
+
+-- all is as the archive's up to its last stamp, and the rest is replayed
+pub whole_newer : (a b e g c d f h : BookState) (s : Rows) (last : Cut) (found : Option ℕ) (first : Course) (result : Result Audit PairFault) → last.stamp ≡ s.last_stamp → last.number ≡ s.last_event → found ≡ None → rows_of first ≡ s
+    → ((x : Content) → IsPageOf x first.page) → ReadsBoth a b c d (Ok tt) (IsLoaded s) → ReadsBoth b e d f (Ok found) (PlaceOf last) → ReadsBoth e g f h result (AuditOf first) → ReadsBoth a g c h result WholeOf
+whole_newer a b e g c d f h s last found first result stamp number is rows page one two three =
+    both_then WholeOf a e g c f h tt result
+    (both_told (λ (p q : Content) (u : Unit {0}). AreInOrder p q → BeginsWith p q first) a b e c d f tt found tt one two
+    (λ p q loaded told order.
+    let is_last : IsLast p last = record { stamp = stamp ∙ ap (λ (x : Rows). x.last_stamp) loaded; number = number ∙ ap (λ (x : Rows). x.last_event) loaded } in
+    record { order = order; holds = subst (IsOtherUpTo last.stamp (HoldsArchive p q)) is (told order is_last); rows = rows ∙ loaded; page = page q }))
+    three (λ p q begins y told order. told (begins order))

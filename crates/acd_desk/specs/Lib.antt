@@ -40,3 +40,4 @@ pub mod AuditWith
 pub mod Pairs
 pub mod Overlap
 pub mod ReplayWith
+pub mod AuditedWith

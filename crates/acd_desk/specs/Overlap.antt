@@ -58,6 +58,11 @@ abbrev pub IsCleanCut : Content → ℕ → ℕ → Type 0
 IsCleanCut a stamp number = (past carried : List Kept) (left reported : List Event) → IsSplit stamp_of stamp a.kept past carried → IsSplit number_of number a.events left reported
     → Every (λ (e : Event). Every (λ (k : Kept). e.moment < k.moment) carried) left
 
+-- the first event, where it has this number, is before a moment
+abbrev pub IsBefore : List Event → ℕ → ℕ → Type 0
+IsBefore [] number moment = Unit {0}
+IsBefore (e ∷ es) number moment = e.number ≡ number → e.moment < moment
+
 -- the first of a list, where it isn't above the last place
 abbrev pub IsFirstUpTo : {T : Type 0} → (T → ℕ) → ℕ → List T → Option ℕ → Type 0
 IsFirstUpTo {T} f last own None = (x : T) (xs : List T) → own ≡ x ∷ xs → last < f x

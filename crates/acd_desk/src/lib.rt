@@ -41,7 +41,7 @@ mod taken;
 mod working;
 
 pub use answer_text::AnswerText;
-pub use audit::Audit;
+pub use audit::{Audit, AuditFault};
 pub use desk::Desk;
 pub use fault::DeskFault;
 pub use open_fault::OpenFault;

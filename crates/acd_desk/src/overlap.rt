@@ -10,7 +10,7 @@ ghost use Rattle.acd_desk.specs.Pages.{IsPageOf};
 ghost use Rattle.acd_desk.specs.Pairs.{ReadsBoth};
 ghost use Rattle.acd_desk.specs.Sharing.{cut_before};
 ghost use Rattle.acd_desk.specs.AuditWith.{StandsInTime, HoldsArchive};
-ghost use Rattle.acd_desk.specs.Overlap.{AreInOrder, cut_stamp, cut_number, KeepsArchive, TellsArchive, IsNextOf, IsOtherPlace, IsOther, IsOtherUpTo, IsCleanCut, IsFirstUpTo, IsLast, earlier};
+ghost use Rattle.acd_desk.specs.Overlap.{AreInOrder, cut_stamp, cut_number, KeepsArchive, TellsArchive, IsNextOf, IsOtherPlace, IsOther, IsOtherUpTo, IsCleanCut, IsBefore, IsFirstUpTo, IsLast, earlier};
 
 use crate::page::Page;
 use crate::pair::{PairFault, of_archive, of_own};
@@ -78,7 +78,9 @@ fn cut_number<B: Book>(book: &mut B, last: u64) -> Result<u64, BookFault>
 }
 
 // Whether the event of a number, where it comes first of these, is before a moment.
-fn is_before(events: &[Event], number: u64, moment: u32) -> bool {
+fn is_before(events: &[Event], number: u64, moment: u32) -> bool
+    ensures { Decides result (IsBefore events.now number moment) }
+{
     match events {
         [event, ..] if event.number == number => event.moment < moment,
         _ => true,
