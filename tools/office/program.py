@@ -93,8 +93,9 @@ class Program(Office):
         self.expect(f"{what}, by a pipe", self.acd(*words)[1], f"{line}\n")
 
     def try_files(self):
-        other, text, sheet = f"{STATE}/other.db", f"{STATE}/notes.txt", f"{STATE}/plan.csv"
-        self.done("runuser", "-u", "acd", "--", "python3", "-c", f"import sqlite3; book = sqlite3.connect('{other}'); book.execute('CREATE TABLE t (n)'); book.commit()")
+        other, meta, text, sheet = f"{STATE}/other.db", f"{STATE}/meta.db", f"{STATE}/notes.txt", f"{STATE}/plan.csv"
+        for path, table in ((other, "t"), (meta, "meta")):
+            self.done("runuser", "-u", "acd", "--", "python3", "-c", f"import sqlite3; book = sqlite3.connect('{path}'); book.execute('CREATE TABLE {table} (n)'); book.commit()")
         self.done("runuser", "-u", "acd", "--", "sh", "-c", f"echo 'a list of what is to be done' > {text}")
         self.done("chown", "acd:acd", sheet)
         for what, pattern, file, line, *prepared in (
@@ -105,6 +106,7 @@ class Program(Office):
                 ("a plan", "no database", sheet, "cannot open"),
                 ("in no folder", "isn't there", f"{STATE}/none/desk.db", "cannot open"),
                 ("another program's database", "another|no desk", other, "wrong version 0"),
+                ("one with a table meta", "another", meta, "store fault"),
                 ("a log without its file", "log", FILE, "cannot open", ("mv", FILE, f"{HOME}/x")),
                 ("a second name", "name", FILE, "cannot open", ("ln", FILE, f"{STATE}/second")),
                 ("a disk to be read only", "read-only|read only", "/srv/only/desk.db", "cannot open", ("sh", "-c", f"mkdir /srv/only && cp -p {FILE}* /srv/only && mount --bind /srv/only /srv/only && mount -o remount,ro,bind /srv/only"))):

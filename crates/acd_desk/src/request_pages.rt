@@ -12,7 +12,8 @@ use std::fmt::Write;
 // Writes a request, with its reply as it is kept.
 #[tactic(auto, unfolding(crate::specs::RequestPages::executed_text))]
 fn put_executed(alloc: Global, page: &mut String, kept: &Kept) -> Result<(), AllocError>
-    ensures { OnOk result (string_bytes page.new ≡ string_bytes page.old ++ executed_text kept.now) }
+    ensures { OnOk result
+        (string_bytes page.new ≡ string_bytes page.old ++ executed_text kept.now) }
 {
     let request = request_text(alloc, &kept.request)?;
     write!(
@@ -28,7 +29,8 @@ fn put_executed(alloc: Global, page: &mut String, kept: &Kept) -> Result<(), All
 
 // Writes requests behind another.
 fn put_further(alloc: Global, page: &mut String, kept: &[Kept]) -> Result<(), AllocError>
-    ensures { OnOk result (string_bytes page.new ≡ string_bytes page.old ++ further_texts kept.now) }
+    ensures { OnOk result
+        (string_bytes page.new ≡ string_bytes page.old ++ further_texts kept.now) }
 {
     for next in kept {
         page.push_str(",")?;

@@ -7,8 +7,9 @@ use crate::plan::bytes_from;
 use crate::plan_lines::{first_line, form_of, line_of};
 use crate::task::Task;
 use acd_reports::PlanFault;
+use std::alloc::Global;
 use std::fs::{self, Metadata, OpenOptions};
-use std::io::{ErrorKind, IsTerminal, Read};
+use std::io::{self, ErrorKind, IsTerminal, Read};
 use std::os::unix::fs::MetadataExt;
 
 // What each database begins with.
@@ -16,6 +17,26 @@ const DATABASE: &[u8; 16] = b"SQLite format 3\0";
 
 // The bytes of a first page, which a stop may leave alone.
 const FIRST_PAGE: u64 = 1024;
+
+// What the list of a database's tables has of any of them, and of one that each desk has.
+const ANY_TABLE: &[u8; 7] = b"CREATE ";
+
+const DESK_TABLE: &[u8; 23] = b"CREATE TABLE acd_groups";
+
+// So much of a database is looked at: of a desk's the list lies there, with pages of any size.
+const LISTED: u64 = 65_536;
+
+// The byte of a database that tells how its texts are written: 2 and 3 are UTF-16, which a desk's never are.
+const ENCODING: usize = 59;
+
+const ANOTHER: &str = "it is another program's database";
+
+// Whose tables a database lists.
+#[derive(Clone, Copy)]
+enum Owner {
+    Desk,
+    Another,
+}
 
 // What kept a call for a path from it.
 fn of_kind(kind: ErrorKind) -> Option<&'static str> {
@@ -30,6 +51,54 @@ fn of_kind(kind: ErrorKind) -> Option<&'static str> {
 
 fn is_lone(rt: &HostRuntime, path: &str) -> bool {
     matches!(holds_log(rt, path), Ok(true))
+}
+
+fn has(bytes: &[u8], text: &[u8]) -> bool {
+    !text.is_empty() && bytes.windows(text.len()).any(|part| part == text)
+}
+
+// Whose tables these first bytes of a database list, where that can be told.
+fn owner_in(bytes: &[u8]) -> Option<Owner> {
+    if has(bytes, DESK_TABLE) {
+        return Some(Owner::Desk);
+    }
+    let is_wide = match bytes.get(ENCODING) {
+        Some(byte) => *byte == 2 || *byte == 3,
+        None => false,
+    };
+    if is_wide || has(bytes, ANY_TABLE) {
+        return Some(Owner::Another);
+    }
+    None
+}
+
+fn first_bytes<R: Read + Drop>(alloc: Global, reader: R) -> io::Result<Vec<u8>> {
+    let mut bytes = Vec::new(alloc);
+    reader.take(LISTED).read_to_end(&mut bytes)?;
+    Ok(bytes)
+}
+
+// Whose tables the database at a path lists. While its log holds a commit that may be told there alone.
+fn owner_at(rt: &HostRuntime, path: &str) -> Option<Owner> {
+    match holds_log(rt, path) {
+        Ok(false) => {}
+        _ => return None,
+    }
+    let Ok(file) = fs::open(rt, path) else {
+        return None;
+    };
+    match first_bytes(rt.alloc(), file) {
+        Ok(bytes) => owner_in(&bytes),
+        Err(_) => None,
+    }
+}
+
+// Why a database is no desk, where it is another program's.
+fn of_owner(rt: &HostRuntime, path: &str) -> Option<&'static str> {
+    match owner_at(rt, path) {
+        Some(Owner::Another) => Some(ANOTHER),
+        _ => None,
+    }
 }
 
 // What there is beside a database that this user may write.
@@ -79,7 +148,9 @@ fn of_found(rt: &HostRuntime, path: &str, found: &Metadata) -> Option<&'static s
         return Some("it has a second name (a hard link)");
     }
     match OpenOptions::new().read(true).write(true).open(rt, path) {
-        Ok(mut file) => of_bytes(&mut file).or(of_log(rt, path)),
+        Ok(mut file) => of_bytes(&mut file)
+            .or(of_owner(rt, path))
+            .or(of_log(rt, path)),
         Err(error) => of_kind(error.kind()),
     }
 }
@@ -107,12 +178,21 @@ fn of_reading(rt: &HostRuntime, path: &str) -> Option<&'static str> {
     }
 }
 
+// Why a file of some bytes has no version.
+fn of_tables(owner: Option<Owner>, len: u64) -> &'static str {
+    match owner {
+        Some(Owner::Desk) => "it has a desk's tables, but no version: put the last copy back",
+        Some(Owner::Another) => ANOTHER,
+        None if len > FIRST_PAGE => ANOTHER,
+        None => "it has no desk in it: its first start was stopped",
+    }
+}
+
 // Why a file has no version.
 fn of_no_version(rt: &HostRuntime, path: &str) -> Option<&'static str> {
     match fs::metadata(rt, path) {
-        Ok(found) if found.len() > FIRST_PAGE => Some("it is another program's database"),
         Ok(found) if found.len() == 0 => Some("it has no bytes"),
-        Ok(_) => Some("it has no desk in it: its first start was stopped"),
+        Ok(found) => Some(of_tables(owner_at(rt, path), found.len())),
         Err(_) => None,
     }
 }
@@ -195,6 +275,7 @@ pub(crate) fn explain(rt: &HostRuntime, task: Task<'_>, fault: Fault<'_>) {
         (Fault::CannotOpen(path), _) if is_plan(task, path) => tell(rt, of_reading(rt, path)),
         (Fault::CannotOpen(path), _) => tell(rt, of_opening(rt, path)),
         (Fault::WrongVersion(0), Some(file)) => tell(rt, of_no_version(rt, file)),
+        (Fault::Store, Some(file)) => tell(rt, of_owner(rt, file)),
         (Fault::Plan(fault), _) => tell_plan(rt, task, fault),
         _ => {}
     }

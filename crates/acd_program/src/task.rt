@@ -42,7 +42,7 @@ pub(crate) enum Task<'a> {
 }
 
 /// What `acd --version` tells behind the program's name: the version, and the toolchain that proved it.
-const VERSION: &str = "1.10 (rattle-kit-13f)";
+const VERSION: &str = "1.11 (rattle-kit-13f)";
 
 const FILE: &str = "file";
 

@@ -39,5 +39,5 @@ mod single_step_transfer;
 pub use agent_moves::go_from;
 pub use call_moves::{divert, offer};
 pub use make::change;
-pub use returning::return_moves;
+pub use returning::{return_moves, return_to};
 pub use serving::{decide, serve};

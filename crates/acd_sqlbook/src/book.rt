@@ -213,9 +213,7 @@ impl<S: Alter> Book for SqlBook<S> {
     fn requests_after(&mut self, stamp: u64, limit: usize) -> Result<Vec<Kept>, BookFault>
         ensures reads { Reads (book_of S.Store self.old) (book_of S.Store self.new) result
             (λ c found. found.items ≡ kept_behind c.kept stamp limit) }
-        ensures caused { IsCaused reading
-            (state S.Store self.old.conn) (state S.Store self.new.conn)
-            self.old.failures self.new.failures result }
+        ensures caused { IsCaused reading S.Store self.old self.new result }
     {
         let found = self.ready.kept_behind(self.alloc, stamp, limit);
         noted(found, &mut self.ready.fresh, &mut self.failures)

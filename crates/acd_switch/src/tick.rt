@@ -1,12 +1,12 @@
 //! tick: offers that rang too long go back, and after-call work that lasted long enough ends.
 
-ghost use Rattle.std.specs.Prelude.{◌≡◌, OnOk, IfOk};
+ghost use Rattle.std.specs.Prelude.{◌≡◌, OnOk, IfOk, filter};
 ghost use Rattle.acd_model.specs.Scans.{group_of};
 ghost use Rattle.acd_model.specs.Tick.{is_over, ring_of, wrap_of, is_overdue, overdue_in, return_moves, is_rested, rested_in, rest_moves, returns, rests, tick};
 ghost use Rattle.acd_switch.specs.CarryingOut.{CarriesOut};
 
 use crate::journal::Journal;
-use acd_services::{go_from, return_moves};
+use acd_services::{go_from, return_to};
 use acd_tables::Tables;
 use acd_terms::{AgentRecord, AgentState, ConnectionRecord, DeviceId, Turn};
 use std::alloc::{AllocError, Global};
@@ -65,8 +65,26 @@ fn is_rested(tables: &Tables, moment: u32, agent: &AgentRecord) -> bool
     }
 }
 
-// The offers that rang too long, in ascending call number.
+// Those of the offers that rang too long.
 #[inline(never)]
+fn overdue_among(
+    alloc: Global,
+    tables: &Tables,
+    moment: u32,
+    ringing: &[ConnectionRecord],
+) -> Result<Vec<ConnectionRecord>, AllocError>
+    ensures { IfOk result (λ v. v.items ≡ filter (is_overdue tables.now moment) ringing.now) }
+{
+    let mut overdue = Vec::new(alloc);
+    for connection in ringing {
+        if is_overdue(tables, moment, connection) {
+            overdue.push(*connection)?;
+        }
+    }
+    Ok(overdue)
+}
+
+// The offers that rang too long, in ascending call number.
 #[tactic(auto, unfolding(acd_model::specs::Tick::overdue_in))]
 fn overdue_in(
     alloc: Global,
@@ -75,30 +93,42 @@ fn overdue_in(
 ) -> Result<Vec<ConnectionRecord>, AllocError>
     ensures { IfOk result (λ v. v.items ≡ overdue_in tables.now moment) }
 {
-    let mut overdue = Vec::new(alloc);
     let ringing = tables.ringing()?;
-    for connection in ringing.as_slice() {
-        if is_overdue(tables, moment, connection) {
-            overdue.push(*connection)?;
-        }
+    if ringing.is_empty() {
+        return Ok(ringing);
     }
-    Ok(overdue)
+    overdue_among(alloc, tables, moment, ringing.as_slice())
 }
 
-// The agents whose after-call work lasted long enough, in ascending number.
+// Those of the agents in after-call work that did it long enough.
 #[inline(never)]
-#[tactic(auto, unfolding(acd_model::specs::Tick::rested_in))]
-fn rested_in(alloc: Global, tables: &Tables, moment: u32) -> Result<Vec<AgentRecord>, AllocError>
-    ensures { IfOk result (λ v. v.items ≡ rested_in tables.now moment) }
+fn rested_among(
+    alloc: Global,
+    tables: &Tables,
+    moment: u32,
+    working: &[AgentRecord],
+) -> Result<Vec<AgentRecord>, AllocError>
+    ensures { IfOk result (λ v. v.items ≡ filter (is_rested tables.now moment) working.now) }
 {
     let mut rested = Vec::new(alloc);
-    let working = tables.working()?;
-    for agent in working.as_slice() {
+    for agent in working {
         if is_rested(tables, moment, agent) {
             rested.push(*agent)?;
         }
     }
     Ok(rested)
+}
+
+// The agents whose after-call work lasted long enough, in ascending number.
+#[tactic(auto, unfolding(acd_model::specs::Tick::rested_in))]
+fn rested_in(alloc: Global, tables: &Tables, moment: u32) -> Result<Vec<AgentRecord>, AllocError>
+    ensures { IfOk result (λ v. v.items ≡ rested_in tables.now moment) }
+{
+    let working = tables.working()?;
+    if working.is_empty() {
+        return Ok(working);
+    }
+    rested_among(alloc, tables, moment, working.as_slice())
 }
 
 // The call goes back to the group that offered it, and the agent is released.
@@ -112,8 +142,11 @@ fn take_back(
         at.moment (return_moves tables.old at connection.now)
         tables.old journal.old tables.new journal.new) }
 {
-    let moves = return_moves(tables, at, connection);
-    journal.make_all(tables, at.moment, moves.as_slice())
+    let Some(group) = connection.group else {
+        return Ok(());
+    };
+    let moves = return_to(tables, at, connection, group);
+    journal.make_all(tables, at.moment, &moves)
 }
 
 // The agent's after-call work ends.

@@ -128,10 +128,10 @@ fn help() -> &'static str {
 < once its store has failed. A file that isn't there, or has no bytes, is made.
 
 0 acd --version
-< acd 1.10 (rattle-kit-13f)
+< acd 1.11 (rattle-kit-13f)
 
 0 acd -V
-< acd 1.10 (rattle-kit-13f)
+< acd 1.11 (rattle-kit-13f)
 
 2 acd report
 ! error: the following required arguments were not provided:

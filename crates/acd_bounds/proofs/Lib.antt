@@ -1,0 +1,2 @@
+pub mod InTime
+pub mod Starved
