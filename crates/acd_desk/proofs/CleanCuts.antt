@@ -11,7 +11,7 @@ use Rattle.acd_desk.specs.Sharing.{IsSplit}
 use Rattle.acd_desk.specs.AuditWith.{Ascends, StandsInTime}
 use Rattle.acd_desk.specs.Overlap.{IsCleanCut, IsBefore}
 use Rattle.acd_desk.proofs.NextRecords.{none_left, next_left as next_record}
-use Rattle.acd_desk.proofs.SharedLists.{every_both, every_back, every_upto, split_at, split_once, next_left}
+use Rattle.acd_desk.proofs.SharedLists.{every_both, every_front, every_back, every_upto, split_at, split_once, next_left}
 
 -- ---- moments that don't go back ----
 
@@ -21,11 +21,11 @@ within a m n h le = omega (arith, h, le)
 same_number : (n : ℕ) → n ≤ n
 same_number n = omega arith
 
-ascends_lower : {T : Type 0} (f : T → ℕ) (m n : ℕ) (xs : List T) → m ≤ n → Ascends f n xs → Ascends f m xs
+pub ascends_lower : {T : Type 0} (f : T → ℕ) (m n : ℕ) (xs : List T) → m ≤ n → Ascends f n xs → Ascends f m xs
 ascends_lower f m n [] le h = tt
 ascends_lower f m n (x ∷ xs) le h = (within m n (f x) le h.0, h.1)
 
-ascends_back : {T : Type 0} (f : T → ℕ) (m : ℕ) (xs ys : List T) → Ascends f m (xs ++ ys) → Ascends f m ys
+pub ascends_back : {T : Type 0} (f : T → ℕ) (m : ℕ) (xs ys : List T) → Ascends f m (xs ++ ys) → Ascends f m ys
 ascends_back f m [] ys h = h
 ascends_back f m (x ∷ xs) ys h = ascends_lower f m (f x) ys h.0 (ascends_back f (f x) xs ys h.1)
 
@@ -84,10 +84,6 @@ positive (e ∷ es) n h = (above n e.number h.0, positive es e.number h.1)
   where
     above : (n m : ℕ) → n < m → 0 < m
     above n m h = omega (arith, h)
-
-every_front : {T : Type 0} (P : T → Type 0) (xs ys : List T) → Every P (xs ++ ys) → Every P xs
-every_front P [] ys h = tt
-every_front P (x ∷ xs) ys h = (h.0, every_front P xs ys h.1)
 
 -- ---- the two records ----
 

@@ -51,3 +51,4 @@ pub mod NewerRuns
 pub mod Overlaps
 pub mod StepsWith
 pub mod CleanCuts
+pub mod InTime

@@ -1,5 +1,6 @@
 -- The records that a content has in common with its archive, compared step by step.
-use Rattle.std.proofs.Common.{◌≡◌, ℕ, ◌+◌, ◌<◌, ◌≤◌, Bool, true, false, List, [], ◌∷◌, ◌++◌, length, Option, Some, None, Result, Ok, IfSome, refl, sym, ap, subst, ◌∙◌, arith}
+use Rattle.std.proofs.Common.{◌≡◌, ℕ, ◌+◌, ◌<◌, ◌≤◌, Bool, true, false, List, [], ◌∷◌, ◌++◌, length, min, Option, Some, None, is_some, Result, Ok, Err, IfSome, refl, sym, ap, subst, ◌∙◌, arith, true≢false}
+use Rattle.std.specs.Bool.{Decides}
 use Rattle.acd_terms.specs.Lists.{Every}
 use Rattle.acd_terms.specs.declared.rows.Rows.{Rows}
 use Rattle.acd_terms.specs.declared.event.Event.{Event}
@@ -9,6 +10,7 @@ use Rattle.acd_book.specs.Content.{Content, kept_behind, events_behind}
 use Rattle.acd_book.specs.Memory.{stamp_of, number_of}
 use Rattle.acd_book.specs.Order.{Rises, IsOrdered}
 use Rattle.acd_book.specs.State.{BookState, Reads}
+use Rattle.acd_desk.specs.declared.overlap.Cut.{Cut}
 use Rattle.acd_desk.specs.declared.overlap.Next.{Next}
 use Rattle.acd_desk.specs.declared.overlap.Next.TheVariants.{Same, Other, Over}
 use Rattle.acd_desk.specs.declared.overlap.Pages.{Pages}
@@ -18,11 +20,11 @@ use Rattle.acd_desk.specs.Pairs.{of_own, ReadsBoth}
 use Rattle.acd_desk.specs.Sharing.{IsSplit, Begins, cut_before}
 use Rattle.acd_desk.specs.Carried.{Archive}
 use Rattle.acd_desk.specs.WithArchive.{IsCut}
-use Rattle.acd_desk.specs.AuditWith.{HoldsArchive}
-use Rattle.acd_desk.specs.Overlap.{AreInOrder, cut_stamp, cut_number, KeepsArchive, TellsArchive, IsNextOf, IsOtherPlace, IsOther, IsOtherUpTo, IsFirstUpTo, IsCleanCut}
-use Rattle.acd_desk.proofs.BothReads.{both_known, both_own, both_ok, both_then}
+use Rattle.acd_desk.specs.AuditWith.{HoldsArchive, StandsInTime}
+use Rattle.acd_desk.specs.Overlap.{AreInOrder, cut_stamp, cut_number, KeepsArchive, TellsArchive, IsNextOf, IsOtherPlace, IsOther, IsOtherUpTo, IsFirstUpTo, IsCleanCut, IsLast, earlier}
+use Rattle.acd_desk.proofs.BothReads.{both_known, both_own, both_ok, both_then, both_then_fault}
 use Rattle.acd_desk.proofs.ReadsAhead.{by_read}
-use Rattle.acd_desk.proofs.SharedLists.{Shares, shares_nothing, cut_rises, next_shares, other_shares, other_low, over_first, reached, split_there, split_once, next_above}
+use Rattle.acd_desk.proofs.SharedLists.{Shares, shares_nothing, cut_rises, cut_within, next_shares, other_shares, other_low, over_first, reached, split_there, split_once, next_above}
 
 -- ---- records ----
 
@@ -222,3 +224,96 @@ holds_clean a c order h past carried left reported kept_two events_two =
     let also = split_once number_of (cut_number a c) h.left.events h.carried.events left reported (sym told.whole ∙ events_two.whole) told.below events_two.below told.above events_two.above in
     subst (λ (ks : List Kept). Every (λ (e : Event). Every (λ (k : Kept). e.moment < k.moment) ks) left) once.1
     (subst (λ (es : List Event). Every (λ (e : Event). Every (λ (k : Kept). e.moment < k.moment) h.carried.kept) es) also.0 h.cut.events)
+
+-- ---- the first place where they differ ----
+
+abbrev pub DecidesClean : ℕ → ℕ → Content → Content → Bool → Type 0
+DecidesClean stamp number a c clean = StandsInTime a → number ≤ a.rows.last_event → Decides clean (IsCleanCut a stamp number)
+
+abbrev pub FindsMoment : Cut → ℕ → Content → Content → Option ℕ → Type 0
+FindsMoment cut last a c found = AreInOrder a c → last ≡ a.rows.last_event → cut.number ≡ cut_number a c → IsOther (IsCleanCut a cut.stamp cut.number × TellsArchive a c) found
+
+number_within : (a c : Content) (n : ℕ) → n ≡ cut_number a c → n ≤ a.rows.last_event
+number_within a c n is = subst (λ (m : ℕ). m ≤ a.rows.last_event) (sym is) (cut_within number_of a.rows.last_event c.events)
+
+pub moment_unclean : (a b c d : BookState) (cut : Cut) (last : ℕ) (clean : Bool) → clean ≡ false → ReadsBoth a b c d (Ok clean) (DecidesClean cut.stamp cut.number) → ReadsBoth a b c d (Ok (Some 0)) (FindsMoment cut last)
+moment_unclean a b c d cut last clean is read =
+    both_ok (FindsMoment cut last) a b c d clean (Some 0) read
+    (λ x z decides order is_last is_cut both. true≢false (sym ((decides order.archive (number_within x z cut.number is_cut)).1 both.0) ∙ is))
+
+clean_and : (P Q : Type 0) (found : Option ℕ) → P → IsOther Q found → IsOther (P × Q) found
+clean_and P Q None p h = (p, h)
+clean_and P Q (Some place) p h = λ both. h both.1
+
+pub moment_clean : (a b e c d f : BookState) (cut : Cut) (last : ℕ) (clean : Bool) (result : Result (Option ℕ) PairFault) → clean ≡ true → ReadsBoth a b c d (Ok clean) (DecidesClean cut.stamp cut.number)
+    → ReadsBoth b e d f result (FindsEvent cut.number last) → ReadsBoth a e c f result (FindsMoment cut last)
+moment_clean a b e c d f cut last clean result is read events =
+    both_then (FindsMoment cut last) a b e c d f clean result read events
+    (λ x z decides y told order is_last is_cut.
+    clean_and (IsCleanCut x cut.stamp cut.number) (TellsArchive x z) y ((decides order.archive (number_within x z cut.number is_cut)).0 is) (told order is_last is_cut))
+
+abbrev pub FindsAbove : Cut → Cut → Content → Content → Option ℕ → Type 0
+FindsAbove cut last a c found = AreInOrder a c → IsLast a last → (cut.stamp ≡ cut_stamp a c) × (cut.number ≡ cut_number a c) → IsOtherUpTo last.stamp (HoldsArchive a c) found
+
+abbrev pub FindsPlace : Cut → Content → Content → Option ℕ → Type 0
+FindsPlace last a c found = AreInOrder a c → IsLast a last → IsOtherUpTo last.stamp (HoldsArchive a c) found
+
+clean_at : (a c : Content) (cut : Cut) → (cut.stamp ≡ cut_stamp a c) × (cut.number ≡ cut_number a c) → IsCleanCut a cut.stamp cut.number → IsCleanCut a (cut_stamp a c) (cut_number a c)
+clean_at a c cut is clean = subst (λ (n : ℕ). IsCleanCut a n (cut_number a c)) is.0 (subst (λ (n : ℕ). IsCleanCut a cut.stamp n) is.1 clean)
+
+clean_there : (a c : Content) (cut : Cut) → (cut.stamp ≡ cut_stamp a c) × (cut.number ≡ cut_number a c) → IsCleanCut a (cut_stamp a c) (cut_number a c) → IsCleanCut a cut.stamp cut.number
+clean_there a c cut is clean = subst (λ (n : ℕ). IsCleanCut a n cut.number) (sym is.0) (subst (λ (n : ℕ). IsCleanCut a (cut_stamp a c) n) (sym is.1) clean)
+
+-- an event is found where a moment is
+no_event : (event moment : Option ℕ) → is_some event ≡ is_some moment → event ≡ None → moment ≡ None
+no_event event None same none = refl
+no_event event (Some m) same none = absurd (true≢false (sym same ∙ ap is_some none))
+
+some_event : (moment : Option ℕ) (place : ℕ) (event : Option ℕ) → is_some event ≡ is_some moment → event ≡ Some place → (m : ℕ) × (moment ≡ Some m)
+some_event None place event same is = absurd (true≢false (sym (ap is_some is) ∙ same))
+some_event (Some m) place event same is = (m, refl)
+
+least_within : (n m last : ℕ) → n ≤ last → min n m ≤ last
+least_within n m last h = omega (arith, h)
+
+above_found : (a c : Content) (cut last : Cut) → AreInOrder a c → (cut.stamp ≡ cut_stamp a c) × (cut.number ≡ cut_number a c) → (record_at moment event : Option ℕ)
+    → IsOtherUpTo last.stamp (KeepsArchive a c) record_at → IsOther (IsCleanCut a cut.stamp cut.number × TellsArchive a c) moment → is_some event ≡ is_some moment → IfSome event (λ place. place ≤ last.stamp)
+    → IsOtherUpTo last.stamp (HoldsArchive a c) (earlier record_at event)
+above_found a c cut last order is None moment None kept told same within =
+    let both = subst (IsOther (IsCleanCut a cut.stamp cut.number × TellsArchive a c)) (no_event None moment same refl) told in
+    holds_both a c kept both.1 (clean_at a c cut is both.0)
+above_found a c cut last order is None moment (Some place) kept told same within =
+    let some = some_event moment place (Some place) same refl in
+    let not_both = subst (IsOther (IsCleanCut a cut.stamp cut.number × TellsArchive a c)) some.1 told in
+    (within, λ holds. not_both (clean_there a c cut is (holds_clean a c order holds), holds_tells a c order holds))
+above_found a c cut last order is (Some stamp) moment None kept told same within = (kept.0, λ holds. kept.1 (holds_keeps a c order holds))
+above_found a c cut last order is (Some stamp) moment (Some place) kept told same within =
+    (least_within stamp place last.stamp kept.0, λ holds. kept.1 (holds_keeps a c order holds))
+
+pub above_all : (a b e g c d f h : BookState) (cut last : Cut) (record_at moment event result : Option ℕ) → ReadsBoth a b c d (Ok record_at) (FindsRecord cut.stamp last.stamp) → ReadsBoth b e d f (Ok moment) (FindsMoment cut last.number)
+    → ReadsBoth e g f h (Ok event) (λ (x z : Content) (y : Option ℕ). Unit {0}) → is_some event ≡ is_some moment → IfSome event (λ place. place ≤ last.stamp) → result ≡ earlier record_at event
+    → ReadsBoth a g c h (Ok result) (FindsAbove cut last)
+above_all a b e g c d f h cut last record_at moment event result one two three same within is =
+    both_ok (FindsAbove cut last) a g c h event result
+    (both_then (λ (x z : Content) (y : Option ℕ). FindsRecord cut.stamp last.stamp x z record_at × FindsMoment cut last.number x z moment) a e g c f h moment (Ok event)
+    (both_then (λ (x z : Content) (y : Option ℕ). FindsRecord cut.stamp last.stamp x z record_at × FindsMoment cut last.number x z y) a b e c d f record_at (Ok moment) one two (λ x z told y more. (told, more)))
+    three (λ x z both y more. both))
+    (λ x z both order is_last is_cut.
+    subst (IsOtherUpTo last.stamp (HoldsArchive x z)) (sym is)
+    (above_found x z cut last order is_cut record_at moment event (both.0 order is_last.stamp is_cut.0) (both.1 order is_last.number is_cut.1) same within))
+
+-- a fault behind the first two
+pub above_fault : (a b e g c d f h : BookState) (cut last : Cut) (record_at moment : Option ℕ) (fault : PairFault) (result : Result (Option ℕ) PairFault) → ReadsBoth a b c d (Ok record_at) (FindsRecord cut.stamp last.stamp)
+    → ReadsBoth b e d f (Ok moment) (FindsMoment cut last.number) → ReadsBoth {T = Option ℕ} e g f h (Err fault) (λ (x z : Content) (y : Option ℕ). Unit {0}) → result ≡ Err fault → ReadsBoth a g c h result (FindsAbove cut last)
+above_fault a b e g c d f h cut last record_at moment fault result one two three is =
+    both_then_fault (FindsAbove cut last) a e g c f h moment fault result
+    (both_then (λ (x z : Content) (y : Option ℕ). Unit {0}) a b e c d f record_at (Ok moment) one two (λ x z told y more. tt)) three is
+
+pub place_told : (a b c d e : BookState) (cut last : Cut) (result : Result (Option ℕ) PairFault)
+    → ReadsBoth a a c d (Ok cut) (λ (x z : Content) (y : Cut). IsOrdered z → (y.stamp ≡ cut_before stamp_of last.stamp z.kept) × (y.number ≡ cut_before number_of last.number z.events))
+    → ReadsBoth a b d e result (FindsAbove cut last) → ReadsBoth a b c e result (FindsPlace last)
+place_told a b c d e cut last result one two =
+    both_then (FindsPlace last) a a b c d e cut result one two
+    (λ x z cuts y told order is_last.
+    let at = cuts order.own in
+    told order is_last (at.0 ∙ ap (λ (n : ℕ). cut_before stamp_of n z.kept) is_last.stamp, at.1 ∙ ap (λ (n : ℕ). cut_before number_of n z.events) is_last.number))

@@ -38,7 +38,7 @@ every_upto f m n (x ∷ xs) le h = (within (f x) m n h.0 le, every_upto f m n xs
     within a m n h le = omega (arith, h, le)
 
 -- what is left behind the front
-rises_back : {T : Type 0} (f : T → ℕ) (m : ℕ) (xs ys : List T) → Rises f m (xs ++ ys) → Rises f m ys
+pub rises_back : {T : Type 0} (f : T → ℕ) (m : ℕ) (xs ys : List T) → Rises f m (xs ++ ys) → Rises f m ys
 rises_back f m [] ys h = h
 rises_back f m (x ∷ xs) ys h = rises_lower f m (f x) ys (weaker m (f x) h.0) (rises_back f (f x) xs ys h.1)
   where

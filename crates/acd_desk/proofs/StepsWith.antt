@@ -29,6 +29,7 @@ use Rattle.acd_desk.specs.ReplayWith.{KnowsWith, GoesWith, BeginsWith, IsReplaye
 use Rattle.acd_desk.proofs.BothReads.{both_known, both_ok, both_then}
 use Rattle.acd_desk.proofs.NewerRuns.{sound_holds, runs_start, runs_next, runs_sound, runs_above, sound_matches, sound_ends, carried_rows, newer_first}
 use Rattle.acd_desk.proofs.NextRecords.{none_left, next_left}
+use Rattle.acd_desk.proofs.Overlaps.{FindsPlace}
 
 -- ---- what is next ----
 
@@ -303,9 +304,6 @@ differs_older a c n le none = record {
     not_both : (n m : ℕ) → n ≤ m → m < n → ⊥
     not_both n m le lt = omega (arith, le, lt)
 
-abbrev pub PlaceOf : Cut → Content → Content → Option ℕ → Type 0
-PlaceOf last a c found = AreInOrder a c → IsLast a last → IsOtherUpTo last.stamp (HoldsArchive a c) found
-
 abbrev pub WholeOf : Content → Content → Audit → Type 0
 WholeOf a c found = AreInOrder a c → IsAuditWith a c found
 
@@ -313,7 +311,7 @@ abbrev pub IsLoaded : Rows → Content → Content → Unit {0} → Type 0
 IsLoaded s a c u = s ≡ a.rows
 
 pub whole_differs : (a b e c d f : BookState) (s : Rows) (last : Cut) (found : Option ℕ) (place : ℕ) → last.stamp ≡ s.last_stamp → last.number ≡ s.last_event → found ≡ Some place → ReadsBoth a b c d (Ok tt) (IsLoaded s)
-    → ReadsBoth b e d f (Ok found) (PlaceOf last) → ReadsBoth a e c f (Ok (Differs place)) WholeOf
+    → ReadsBoth b e d f (Ok found) (FindsPlace last) → ReadsBoth a e c f (Ok (Differs place)) WholeOf
 whole_differs a b e c d f s last found place stamp number is one two =
     both_told WholeOf a b e c d f tt found (Differs place) one two
     (λ p q rows told order.
@@ -323,7 +321,7 @@ whole_differs a b e c d f s last found place stamp number is one two =
 
 -- all is as the archive's up to its last stamp, and the rest is replayed
 pub whole_newer : (a b e g c d f h : BookState) (s : Rows) (last : Cut) (found : Option ℕ) (first : Course) (result : Result Audit PairFault) → last.stamp ≡ s.last_stamp → last.number ≡ s.last_event → found ≡ None → rows_of first ≡ s
-    → ((x : Content) → IsPageOf x first.page) → ReadsBoth a b c d (Ok tt) (IsLoaded s) → ReadsBoth b e d f (Ok found) (PlaceOf last) → ReadsBoth e g f h result (AuditOf first) → ReadsBoth a g c h result WholeOf
+    → ((x : Content) → IsPageOf x first.page) → ReadsBoth a b c d (Ok tt) (IsLoaded s) → ReadsBoth b e d f (Ok found) (FindsPlace last) → ReadsBoth e g f h result (AuditOf first) → ReadsBoth a g c h result WholeOf
 whole_newer a b e g c d f h s last found first result stamp number is rows page one two three =
     both_then WholeOf a e g c f h tt result
     (both_told (λ (p q : Content) (u : Unit {0}). AreInOrder p q → BeginsWith p q first) a b e c d f tt found tt one two

@@ -45,7 +45,8 @@ fn replayed_with<A: Book, B: Book>(
     ensures stepped { IfOk result (λ found. IfSome found (λ next.
         next.loaded.switch.value ≡ (stepped course.loaded.switch.value (again kept.now)).rows)) }
 {
-    if of_archive(is_known(archive, kept))? {
+    let known = of_archive(is_known(archive, kept))?;
+    if known {
         return Ok(None);
     }
     of_own(replayed(alloc, book, course, kept))
@@ -93,7 +94,8 @@ fn audited_newer<A: Book, B: Book>(
             Step::Ended => return Ok(Audit::Sound),
         }
     }
-    if of_own(is_all(book, &course.loaded.switch))? {
+    let is_all = of_own(is_all(book, &course.loaded.switch))?;
+    if is_all {
         Ok(Audit::Sound)
     } else {
         Ok(Audit::Differs(course.loaded.switch.last_stamp() + 1))
@@ -130,7 +132,8 @@ pub(crate) fn audited_with<A: Book, B: Book>(
         stamp: loaded.switch.last_stamp(),
         number: loaded.switch.tables().last_event(),
     };
-    if let Some(place) = other_place(alloc, archive, book, last)? {
+    let other = other_place(alloc, archive, book, last)?;
+    if let Some(place) = other {
         return Ok(Audit::Differs(place));
     }
     let first = coursed(alloc, loaded)?;

@@ -143,7 +143,7 @@ fn stamp_up_to(records: &[Kept], last: u64) -> Option<u64>
 
 // The stamp of the book's next record, where it isn't above the last one.
 fn record_up_to<B: Book>(book: &mut B, stamp: u64, last: u64) -> Result<Option<u64>, BookFault>
-    ensures told { Reads (B.state book.old) (B.state book.new) result
+    ensures { Reads (B.state book.old) (B.state book.new) result
         (λ c found. IsFirstUpTo stamp_of last (kept_behind c.kept stamp 1) found
         × IfSome found (λ place. place ≤ last)) }
 {
@@ -298,10 +298,11 @@ fn other_moment<A: Book, B: Book>(
         → cut.number ≡ cut_number a c
         → IsOther (IsCleanCut a cut.stamp cut.number × TellsArchive a c) found) }
 {
-    if of_archive(is_clean_cut(archive, cut.stamp, cut.number))? {
-        return other_event(alloc, archive, book, cut.number, last);
+    let clean = of_archive(is_clean_cut(archive, cut.stamp, cut.number))?;
+    if !clean {
+        return Ok(Some(0));
     }
-    Ok(Some(0))
+    other_event(alloc, archive, book, cut.number, last)
 }
 
 // The stamp that belongs to a moment, where there is one.
