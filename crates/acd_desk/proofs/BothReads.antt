@@ -189,3 +189,16 @@ own_read {T = T} {P = P} a c d r result known read is found =
 pub archive_read : {T : Type 0} {P : Content → T → Type 0} (a b c : BookState) (r : Result T BookFault) (result known : Result T PairFault) → Reads a b r P → result ≡ of_archive r → result ≡ known → ReadsBoth a b c c known (λ (x z : Content) (y : T). P x y)
 archive_read {T = T} {P = P} a b c r result known read is found =
     both_archive (λ (x z : Content) (y : T). P x y) a b c r known (by_read P a b r read (λ z y told. told)) (sym found ∙ is) (λ x z y told. told)
+
+-- what holds of what was read of the book holds of what was found
+pub if_own : {T : Type 0} (P : T → Type 0) (r : Result T BookFault) (result : Result T PairFault) → result ≡ of_own r → IfOk r P → IfOk result P
+if_own {T = T} P (Ok found) result is holds = subst (λ (r : Result T PairFault). IfOk r P) (sym is) holds
+if_own {T = T} P (Err fault) result is holds = subst (λ (r : Result T PairFault). IfOk r P) (sym is) tt
+
+-- no memory for what would have been asked
+pub both_no_memory : {T : Type 0} (Q : Content → Content → T → Type 0) (a c : BookState) → ReadsBoth {T = T} a a c c (Err (Own book.NoMemory)) Q
+both_no_memory {T = T} Q a c = record {
+  archive = none_alone {C = T} Anything a (Err book.NoMemory) refl;
+  own = none_alone {C = T} Anything c (Err book.NoMemory) refl;
+  value = λ clean sound own_clean own_sound opened own_opened. tt;
+}

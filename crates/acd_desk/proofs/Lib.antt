@@ -52,3 +52,4 @@ pub mod Overlaps
 pub mod StepsWith
 pub mod CleanCuts
 pub mod InTime
+pub mod AuditedWith

@@ -5,6 +5,9 @@ use Rattle.acd_terms.specs.Lists.{Every}
 use Rattle.acd_terms.specs.declared.rows.Rows.{Rows}
 use Rattle.acd_terms.specs.declared.event.Event.{Event}
 use Rattle.acd_terms.specs.declared.command.Request.{Request}
+use Rattle.acd_model.specs.Rules.First.{BreaksNoRule}
+use Rattle.acd_lemmas.proofs.Changes.{requests_few}
+use Rattle.acd_laws.proofs.Rules.DecidedAll.{keeps_read, requests_read}
 use Rattle.acd_book.specs.declared.kept.Kept.{Kept}
 use Rattle.acd_book.specs.Content.{Content, kept_of, IsKeptAfter, events_behind}
 use Rattle.acd_book.specs.State.{BookState}
@@ -329,3 +332,11 @@ whole_newer a b e g c d f h s last found first result stamp number is rows page 
     let is_last : IsLast p last = record { stamp = stamp ∙ ap (λ (x : Rows). x.last_stamp) loaded; number = number ∙ ap (λ (x : Rows). x.last_event) loaded } in
     record { order = order; holds = subst (IsOtherUpTo last.stamp (HoldsArchive p q)) is (told order is_last); rows = rows ∙ loaded; page = page q }))
     three (λ p q begins y told order. told (begins order))
+
+-- no last stamp is near the end of its type
+pub few_stamps : (s : Rows) → BreaksNoRule s → s.last_stamp ≤ 1000000000
+few_stamps s rules =
+    let kept = keeps_read s rules in
+    let few = requests_few s.limits kept.sizes.limits in
+    let within = requests_read s rules in
+    omega (arith, few, within)

@@ -65,13 +65,20 @@ fn next_newer<A: Book, B: Book>(
     ensures counts { IfOk result (CountsOne course.loaded.switch.value) }
 {
     let Some(kept) = of_own(book.kept_after(course.loaded.switch.last_stamp()))? else {
-        let is_whole = of_own(is_whole(book, &course.loaded.switch))?;
-        return Ok(last_step(is_whole));
+        let whole = of_own(is_whole(book, &course.loaded.switch))?;
+        return Ok(last_step(whole));
     };
     match replayed_with(alloc, archive, book, course, &kept)? {
         Some(next) => Ok(Step::Replayed(next)),
         None => Ok(Step::Differs),
     }
+}
+
+// The stamp behind the last one. The limit of requests is far below the end of its type.
+fn next_stamp(loaded: &LoadedSwitch) -> u64
+    ensures { result ≡ loaded.now.switch.value.last_stamp + 1 }
+{
+    loaded.switch.last_stamp() + 1
 }
 
 // Replays all that is newer than the archive, from its state on.
@@ -94,11 +101,11 @@ fn audited_newer<A: Book, B: Book>(
             Step::Ended => return Ok(Audit::Sound),
         }
     }
-    let is_all = of_own(is_all(book, &course.loaded.switch))?;
-    if is_all {
+    let all = of_own(is_all(book, &course.loaded.switch))?;
+    if all {
         Ok(Audit::Sound)
     } else {
-        Ok(Audit::Differs(course.loaded.switch.last_stamp() + 1))
+        Ok(Audit::Differs(next_stamp(&course.loaded)))
     }
 }
 
@@ -117,6 +124,17 @@ fn archive_switch<A: Book>(alloc: Global, archive: &mut A) -> Result<LoadedSwitc
     }
 }
 
+// The counters of a switch.
+fn last_of(loaded: &LoadedSwitch) -> Cut
+    ensures stamp { result.stamp ≡ loaded.now.switch.value.last_stamp }
+    ensures number { result.number ≡ loaded.now.switch.value.last_event }
+{
+    Cut {
+        stamp: loaded.switch.last_stamp(),
+        number: loaded.switch.tables().last_event(),
+    }
+}
+
 /// Compares the records of a book up to its archive's last stamp with the archive's own, and replays the newer ones from the archive's
 /// state on.
 pub(crate) fn audited_with<A: Book, B: Book>(
@@ -128,11 +146,7 @@ pub(crate) fn audited_with<A: Book, B: Book>(
         (B.state book.new) result (λ a c found. AreInOrder a c → IsAuditWith a c found) }
 {
     let loaded = of_opening(archive_switch(alloc, archive))?;
-    let last = Cut {
-        stamp: loaded.switch.last_stamp(),
-        number: loaded.switch.tables().last_event(),
-    };
-    let other = other_place(alloc, archive, book, last)?;
+    let other = other_place(alloc, archive, book, last_of(&loaded))?;
     if let Some(place) = other {
         return Ok(Audit::Differs(place));
     }
