@@ -9,6 +9,7 @@ use Rattle.acd_desk.specs.declared.open_fault.OpenFault.{OpenFault}
 use Rattle.acd_desk.specs.declared.open_fault.OpenFault.TheVariants as open_fault
 use Rattle.acd_desk.specs.declared.pair.PairFault.{PairFault}
 use Rattle.acd_desk.specs.declared.pair.PairFault.TheVariants.{Own, Archive}
+use Rattle.acd_desk.specs.Opening.{by_book}
 use Rattle.acd_desk.specs.Pages.{ReadsIfOpen}
 use Rattle.acd_desk.specs.Pairs.{of_own, of_archive, of_opening, by_opening, own_part, archive_part, ReadsBoth}
 use Rattle.acd_desk.proofs.ReadsAhead.{known, by_read, told_ok, told_fault, told_then, none_alone, told_more}
@@ -202,3 +203,14 @@ both_no_memory {T = T} Q a c = record {
   own = none_alone {C = T} Anything c (Err book.NoMemory) refl;
   value = λ clean sound own_clean own_sound opened own_opened. tt;
 }
+
+-- what was found in the archive is what was read of it
+pub if_archive : {T : Type 0} (P : T → Type 0) (r : Result T BookFault) (found : T) → Ok found ≡ of_archive r → IfOk r P → P found
+if_archive {T = T} P (Ok x) found is holds = subst P (sym (same found x is)) holds
+  where
+    same : (a b : T) → ◌≡◌ {A = Result T PairFault} (Ok a) (Ok b) → a ≡ b
+    same a b e = cc
+if_archive {T = T} P (Err fault) found is holds = absurd (other found (Archive (by_book fault)) is)
+  where
+    other : (a : T) (f : PairFault) → ◌≡◌ {A = Result T PairFault} (Ok a) (Err f) → ⊥
+    other a f e = cc

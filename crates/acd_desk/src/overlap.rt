@@ -357,10 +357,10 @@ fn other_above<A: Book, B: Book>(
         → (cut.stamp ≡ cut_stamp a c) × (cut.number ≡ cut_number a c)
         → IsOtherUpTo last.stamp (HoldsArchive a c) found) }
 {
-    let record = other_record(archive, book, cut.stamp, last.stamp)?;
+    let kept = other_record(archive, book, cut.stamp, last.stamp)?;
     let moment = other_moment(alloc, archive, book, cut, last.number)?;
     let event = of_archive(stamp_of_moment(archive, cut.stamp, last.stamp, moment))?;
-    Ok(earlier(record, event))
+    Ok(earlier(kept, event))
 }
 
 /// The first stamp up to the archive's last one at which the book isn't as the archive: by its record, or by an event of it, which has its

@@ -36,7 +36,7 @@ returns-in-Ended g c =
 pub returns-in_err-next : goal.returns-in_err-next
 returns-in_err-next g c =
     both_then_fault (AuditOf c.args.first) (g.A.Book.state c.args.archive.now) (g.A.Book.state c.loop-count.archive) (g.A.Book.state c.next_newer.new.archive) (g.B.Book.state c.args.book.now) (g.B.Book.state c.loop-count.book)
-    (g.B.Book.state c.next_newer.new.book) tt c.in_err-next.field-0.0 c.from_residual-in_err-next.result c.loop-count.invariant.seen c.in_err-next.ensures.told (search rules)
+    (g.B.Book.state c.next_newer.new.book) tt c.in_err-next.field-0.0 c.from_residual.result c.loop-count.invariant.seen c.in_err-next.ensures.told (search rules)
 
 pub returns-in_err-all : goal.returns-in_err-all
 returns-in_err-all g c =

@@ -24,7 +24,7 @@ returns-in-Over g c =
 
 pub returns : goal.returns
 returns g c =
-    events_all (g.A.Book.state c.args.archive.now) (g.A.Book.state c.loop.archive) (g.B.Book.state c.args.book.now) (g.B.Book.state c.loop.book) c.args.above c.args.last c.loop.counter c.loop.number c.loop.pages ? c.loop.invariant
+    events_all (g.A.Book.state c.args.archive.now) (g.A.Book.state c.loop.archive) (g.B.Book.state c.args.book.now) (g.B.Book.state c.loop.book) c.args.above c.args.last c.loop.counter c.loop.number c.loop.pages c.loop-test.false c.loop.invariant
 
 pub returns-in_err-next : goal.returns-in_err-next
 returns-in_err-next g c =
