@@ -9,11 +9,16 @@ use Rattle.acd_desk.specs.declared.audit.Audit.{Audit}
 use Rattle.acd_desk.specs.declared.fault.DeskFault.{DeskFault}
 use Rattle.acd_desk.specs.declared.fault.DeskFault.TheVariants.{NoMemory, StoreFault}
 use Rattle.acd_desk.specs.declared.working.Working.{Working}
+use Rattle.acd_desk.specs.declared.pair.PairFault.{PairFault}
+use Rattle.acd_desk.specs.declared.pair.PairFault.TheVariants as pair
+use Rattle.acd_desk.specs.AuditedWith.{desk_part, archive_part, audit_fault, left_by_pair, IsAuditedWith}
+use Rattle.acd_desk.specs.Pairs.{ReadsBoth}
 use Rattle.acd_desk.specs.Faults.{fault_of, left_by}
 use Rattle.acd_desk.specs.Pages.{ReadsIfOpen}
 use Rattle.acd_desk.specs.Standing.{Standing, InStep, switch_of, is_failed, Mirrors}
 use Rattle.acd_desk.specs.Told.{Told}
 use Rattle.acd_desk.proofs.DeskSteps.{works}
+use Rattle.acd_desk.proofs.StepsWith.{WholeOf}
 use Rattle.acd_desk.proofs.Telling.{stands, without_memory, store_failed}
 use Rattle.acd_terms.proofs.Results.{ok_err, same_error}
 
@@ -42,3 +47,18 @@ told_not {S = S} b d w faults.Store read working = store_failed b d w (Anything 
 -- the archive told nothing
 pub told_other : {T S : Type 0} (b d : BookState) (w : Working) → ReadsIfOpen {A = T} b d (Err faults.NoMemory) Anything → is_failed w ≡ false → Told {A = S} (stands b w) (stands d w) (Err NoMemory) Anything
 told_other {S = S} b d w read working = without_memory b d w (Anything {T = S}) read.step read.unchanged (λ h. (let same = same_error h in absurd cc)) working
+
+-- neither told anything: what that is to the desk, and to the archive
+pub told_neither : (a e b d : BookState) (w : Working) (f : PairFault) (P : Content → Content → Audit → Type 0) → ReadsBoth a e b d (Err f) P → is_failed w ≡ false
+    → Told {A = Audit} (stands b w) (stands d (left_by_pair f w)) (desk_part (Err (audit_fault f))) Anything
+told_neither a e b d w (pair.Own f) P read working = told_not {T = Audit} b d w f read.own working
+told_neither a e b d w (pair.Archive f) P read working = told_other {T = Audit} b d w read.own working
+
+pub archive_neither : (a e b d : BookState) (f : PairFault) (P : Content → Content → Audit → Type 0) → ReadsBoth a e b d (Err f) P → ReadsIfOpen {A = Audit} a e (archive_part (Err (audit_fault f))) Anything
+archive_neither a e b d (pair.Own f) P read = read.archive
+archive_neither a e b d (pair.Archive f) P read = read.archive
+
+-- the audit is that of both contents
+pub audited_both : (a e b d : BookState) (found : Audit) → ReadsBoth a e b d (Ok found) WholeOf → IsAuditedWith a e b d (Ok found)
+audited_both a e b d found read = λ clean sound own_clean own_sound opened own_opened stands ordered.
+    read.value clean sound own_clean own_sound opened own_opened (record { archive = stands; own = ordered })

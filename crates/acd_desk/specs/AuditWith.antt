@@ -10,7 +10,7 @@ use Rattle.acd_book.specs.Order.{Rises, IsOrdered}
 use Rattle.acd_book.specs.State.{BookState, IfHonest}
 use Rattle.acd_desk.specs.declared.audit.Audit.{Audit}
 use Rattle.acd_desk.specs.declared.audit.Audit.TheVariants.{Sound, Differs}
-use Rattle.acd_desk.specs.Stands.{arrivals_of}
+use Rattle.acd_desk.specs.Stands.{arrivals_of, IsSound}
 use Rattle.acd_desk.specs.Leads.{led}
 use Rattle.acd_desk.specs.Replay.{Matches}
 use Rattle.acd_desk.specs.Carried.{Archive, together}
@@ -91,3 +91,7 @@ pub record IsDifferenceWith (a c : Content) (n : ℕ) : Type 0 where
 abbrev pub IsAuditWith : Content → Content → Audit → Type 0
 IsAuditWith a c Sound = IsSoundWith a c
 IsAuditWith a c (Differs n) = IsDifferenceWith a c n
+
+-- what is sound, by itself or with an archive of its own, stands in time
+abbrev pub SoundStandsInTime : Type 0
+SoundStandsInTime = (p : Archive) (a : Content) → IsSound (together p a) → StandsInTime a

@@ -9,7 +9,11 @@ use Rattle.acd_desk.specs.declared.audit.AuditFault.{AuditFault}
 use Rattle.acd_desk.specs.declared.audit.AuditFault.TheVariants.{Desk, Archive}
 use Rattle.acd_desk.specs.declared.fault.DeskFault.{DeskFault}
 use Rattle.acd_desk.specs.declared.fault.DeskFault.TheVariants as desk
+use Rattle.acd_desk.specs.declared.pair.PairFault.{PairFault}
+use Rattle.acd_desk.specs.declared.pair.PairFault.TheVariants as pair
+use Rattle.acd_desk.specs.declared.working.Working.{Working}
 use Rattle.acd_desk.specs.AuditWith.{StandsInTime, IsAuditWith}
+use Rattle.acd_desk.specs.Faults.{fault_of, left_by}
 use Rattle.acd_desk.specs.Pairs.{by_opening}
 
 -- what it is to the desk: where the archive told nothing, the desk has told no fault of its store
@@ -23,6 +27,15 @@ abbrev pub archive_part : {T : Type 0} → Result T AuditFault → Result T Book
 archive_part (Ok found) = Ok found
 archive_part (Err (Desk fault)) = Err book.NoMemory
 archive_part {T = T} (Err (Archive fault)) = by_opening {T = T} (Err fault)
+
+-- what a fault of either is to the audit, and what it leaves of the desk
+abbrev pub audit_fault : PairFault → AuditFault
+audit_fault (pair.Own fault) = Desk (fault_of fault)
+audit_fault (pair.Archive fault) = Archive fault
+
+abbrev pub left_by_pair : PairFault → Working → Working
+left_by_pair (pair.Own fault) w = left_by fault w
+left_by_pair (pair.Archive fault) w = w
 
 -- an answer is the audit of what the open book holds, with what the open archive holds: an archive that stands in time, and a content in order
 abbrev pub IsAuditedWith : BookState → BookState → BookState → BookState → Result Audit AuditFault → Type 0

@@ -4,7 +4,8 @@ ghost use Rattle.acd_desk.specs.Standing.{book_of};
 ghost use Rattle.acd_desk.specs.Told.{DeskTold};
 ghost use Rattle.acd_desk.specs.Audit.{IsAudited, TellsSound};
 ghost use Rattle.acd_desk.specs.Pages.{ReadsIfOpen};
-ghost use Rattle.acd_desk.specs.AuditedWith.{desk_part, archive_part, IsAuditedWith};
+ghost use Rattle.std.specs.Prelude.{◌≡◌};
+ghost use Rattle.acd_desk.specs.AuditedWith.{desk_part, archive_part, audit_fault, left_by_pair, IsAuditedWith};
 
 use crate::desk::Desk;
 use crate::fault::DeskFault;
@@ -55,6 +56,7 @@ impl<B: Book> Desk<B> {
             Err(fault) => Err(self.failed(fault)),
         }
     }
+
     /// The same of a desk that was carried over, with the archive that it goes on from: up to the archive's last stamp its records have to be
     /// the archive's own, and what is newer is run again from the archive's state on. It changes nothing in either.
     pub fn audit_with<A: Book>(&mut self, archive: &mut A) -> Result<Audit, AuditFault>
@@ -64,13 +66,23 @@ impl<B: Book> Desk<B> {
         ensures audited { IsAuditedWith (A.state archive.old) (A.state archive.new)
             (B.state (book_of self.old)) (B.state (book_of self.new)) result }
     {
-        if let Working::Failed = self.working {
+        if self.has_failed() {
             return Err(AuditFault::Desk(DeskFault::StoreFault));
         }
         match audited_with(self.alloc, archive, &mut self.book) {
             Ok(audit) => Ok(audit),
-            Err(PairFault::Own(fault)) => Err(AuditFault::Desk(self.failed(fault))),
-            Err(PairFault::Archive(fault)) => Err(AuditFault::Archive(fault)),
+            Err(fault) => Err(self.told_not(fault)),
+        }
+    }
+
+    // What a fault of either is to the audit: where the desk's store has failed, the desk has.
+    fn told_not(&mut self, fault: PairFault) -> AuditFault
+        ensures fault { result ≡ audit_fault fault }
+        ensures left { self.new ≡ record self.old { working = left_by_pair fault self.old.working } }
+    {
+        match fault {
+            PairFault::Own(fault) => AuditFault::Desk(self.failed(fault)),
+            PairFault::Archive(fault) => AuditFault::Archive(fault),
         }
     }
 }

@@ -1,6 +1,6 @@
 //! The requests of a book that are newer than its archive run again, from the archive's state on.
 
-ghost use Rattle.std.specs.Prelude.{◌≡◌, ◌<◌, is_some, IfOk, IfSome};
+ghost use Rattle.std.specs.Prelude.{◌≡◌, ◌+◌, ◌<◌, is_some, IfOk, IfSome};
 ghost use Rattle.acd_book.specs.Content.{kept_of};
 ghost use Rattle.acd_book.specs.State.{Reads};
 ghost use Rattle.acd_desk.specs.Firsts.{stepped};

@@ -28,7 +28,7 @@ by_its_rows a b x row.NoMemory made is read = subst (λ (y : OpenFault). ReadsIf
 
 pub returns-in-Err : goal.returns-in-Err
 returns-in-Err g c =
-    by_its_fault (g.A.Book.state c.args.archive.now) (g.A.Book.state c.rows.new.self) c.in-Err.fault c.from-in-Err.result c.from-in-Err.ensures
+    by_its_fault (g.A.Book.state c.args.archive.now) (g.A.Book.state c.rows.new.self) c.in-Err.fault c.from.result c.from.ensures
     (by_read _ (g.A.Book.state c.args.archive.now) (g.A.Book.state c.rows.new.self) (Err c.in-Err.fault) c.in-Err.ensures (λ a x told. told))
 
 pub returns-in-Ok-from_rows : goal.returns-in-Ok-from_rows
