@@ -145,6 +145,9 @@ above_it n m lt other =
     equal : (n m : ℕ) → n - 1 < m → m ≤ n → m ≡ n
     equal n m lt le = omega (arith, lt, le)
 
+not_empty : (x : Event) (l : List Event) → x ∷ l ≡ [] → ⊥
+not_empty x l h = cc
+
 -- what is left behind, by the event that comes first above the number before
 clean_left : (a : Content) (number moment : ℕ) (past rest left reported : List Event) (carried : List Kept) → StandsInTime a → number ≤ a.rows.last_event → IsSplit number_of (number - 1) a.events past rest → IsSplit number_of number a.events left reported
     → IsBefore (take 1 rest) number moment → Every (λ (k : Kept). moment ≤ k.moment) carried → Every (IsEarlier carried) left
@@ -157,9 +160,6 @@ clean_left a number moment past [] left reported carried stands within_last one 
     no_front : (xs ys : List Event) → xs ++ ys ≡ [] → [] ≡ xs
     no_front [] ys h = refl
     no_front (x ∷ xs) ys h = absurd (not_empty x (xs ++ ys) h)
-      where
-        not_empty : (x : Event) (l : List Event) → x ∷ l ≡ [] → ⊥
-        not_empty x l h = cc
 clean_left a number moment past (e ∷ rest) left reported carried stands within_last one two before late =
     let parts : past ++ e ∷ rest ≡ left ++ reported = sym one.whole ∙ two.whole in
     let cases : (b c : Bool) → nat_lt number e.number ≡ b → nat_lt e.number number ≡ c → Every (IsEarlier carried) left
