@@ -214,3 +214,8 @@ if_archive {T = T} P (Err fault) found is holds = absurd (other found (Archive (
   where
     other : (a : T) (f : PairFault) → ◌≡◌ {A = Result T PairFault} (Ok a) (Err f) → ⊥
     other a f e = cc
+
+-- the same, where nothing may have been read
+pub archive_told : {T : Type 0} {P : Content → T → Type 0} (a b c : BookState) (r : Result T BookFault) (result known : Result T PairFault) → ReadsIfOpen a b r P → result ≡ of_archive r → result ≡ known
+    → ReadsBoth a b c c known (λ (x z : Content) (y : T). P x y)
+archive_told {T = T} {P = P} a b c r result known read is found = both_archive (λ (x z : Content) (y : T). P x y) a b c r known read (sym found ∙ is) (λ x z y told. told)

@@ -35,13 +35,13 @@ step_moment s m c = refl
 same_number : (n : ℕ) → n ≤ n
 same_number n = omega arith
 
+event_at : (m : ℕ) (report : Option Report) (es : List Event) → Every (λ (e : Event). e.moment ≡ m) es → Every (λ (e : Event). e.moment ≡ m) (with_event m report es)
+event_at m None es h = h
+event_at m (Some report) es h = (refl, h)
+
 events_at : (m : ℕ) (moves : List Move) → Every (λ (e : Event). e.moment ≡ m) (events_of m moves)
 events_at m [] = tt
-events_at m (move ∷ moves) = at_report move.report
-  where
-    at_report : (report : Option Report) → Every (λ (e : Event). e.moment ≡ m) (with_event m report (events_of m moves))
-    at_report None = events_at m moves
-    at_report (Some report) = (refl, events_at m moves)
+events_at m (move ∷ moves) = event_at m move.report (events_of m moves) (events_at m moves)
 
 numbered_at : (m n : ℕ) (es : List Event) → Every (λ (e : Event). e.moment ≡ m) es → Every (λ (e : Event). e.moment ≡ m) (numbered n es)
 numbered_at m n [] h = tt

@@ -23,7 +23,7 @@ use Rattle.acd_desk.specs.WithArchive.{IsCut}
 use Rattle.acd_desk.specs.AuditWith.{HoldsArchive, StandsInTime}
 use Rattle.acd_desk.specs.Overlap.{AreInOrder, cut_stamp, cut_number, KeepsArchive, TellsArchive, IsNextOf, IsOtherPlace, IsOther, IsOtherUpTo, IsFirstUpTo, IsCleanCut, IsLast, earlier}
 use Rattle.acd_desk.proofs.BothReads.{both_known, both_own, both_ok, both_then, both_then_fault}
-use Rattle.acd_desk.proofs.ReadsAhead.{by_read}
+use Rattle.acd_desk.proofs.ReadsAhead.{by_read, told_ok, told_fault, told_then}
 use Rattle.acd_desk.proofs.SharedLists.{Shares, shares_nothing, cut_rises, cut_within, next_shares, other_shares, other_low, over_first, reached, split_there, split_once, next_above}
 
 -- ---- records ----
@@ -224,6 +224,21 @@ holds_clean a c order h past carried left reported kept_two events_two =
     let also = split_once number_of (cut_number a c) h.left.events h.carried.events left reported (sym told.whole ∙ events_two.whole) told.below events_two.below told.above events_two.above in
     subst (λ (ks : List Kept). Every (λ (e : Event). Every (λ (k : Kept). e.moment < k.moment) ks) left) once.1
     (subst (λ (es : List Event). Every (λ (e : Event). Every (λ (k : Kept). e.moment < k.moment) h.carried.kept) es) also.0 h.cut.events)
+
+-- ---- reads of the archive alone, whatever they find ----
+
+abbrev Anything : {T : Type 0} → Content → T → Type 0
+Anything c found = Unit {0}
+
+pub read_on : {T S : Type 0} {P : Content → T → Type 0} (a b d : BookState) (x : T) (y : S) → ReadsIfOpen {A = Unit {0}} a b (Ok tt) (λ (c : Content) (u : Unit {0}). Unit {0}) → Reads b d (Ok x) P
+    → ReadsIfOpen {A = S} a d (Ok y) (λ (c : Content) (z : S). Unit {0})
+read_on {T = T} {S = S} {P = P} a b d x y one two =
+    told_ok {A = T} {C = S} Anything a d x y (told_then {A = Unit {0}} {C = T} Anything a b d tt (Ok x) one (by_read Anything b d (Ok x) two (λ c z told. tt)) (λ c u z v. tt)) (λ c u. tt)
+
+pub fault_on : {T S : Type 0} {P : Content → T → Type 0} (a b d : BookState) (f : BookFault) (r : Result S BookFault) → ReadsIfOpen {A = Unit {0}} a b (Ok tt) (λ (c : Content) (u : Unit {0}). Unit {0}) → Reads {A = T} b d (Err f) P → r ≡ Err f
+    → ReadsIfOpen {A = S} a d r (λ (c : Content) (z : S). Unit {0})
+fault_on {T = T} {S = S} {P = P} a b d f r one two is =
+    told_fault {A = T} {C = S} Anything a d f r (told_then {A = Unit {0}} {C = T} Anything a b d tt (Err f) one (by_read Anything b d (Err f) two (λ c z told. tt)) (λ c u z v. tt)) is
 
 -- ---- the first place where they differ ----
 

@@ -6,7 +6,7 @@ ghost use Rattle.acd_book.specs.Content.{Content, kept_behind, events_behind};
 ghost use Rattle.acd_book.specs.Memory.{stamp_of, number_of};
 ghost use Rattle.acd_book.specs.Order.{IsOrdered};
 ghost use Rattle.acd_book.specs.State.{Reads};
-ghost use Rattle.acd_desk.specs.Pages.{IsPageOf};
+ghost use Rattle.acd_desk.specs.Pages.{IsPageOf, ReadsIfOpen};
 ghost use Rattle.acd_desk.specs.Pairs.{ReadsBoth};
 ghost use Rattle.acd_desk.specs.Sharing.{cut_before};
 ghost use Rattle.acd_desk.specs.AuditWith.{StandsInTime, HoldsArchive};
@@ -266,7 +266,8 @@ fn stamp_at<A: Book>(
     last: u64,
     moment: u64,
 ) -> Result<u64, BookFault>
-    ensures told { Reads (A.state archive.old) (A.state archive.new) result (λ a found. Unit {0}) }
+    ensures told { ReadsIfOpen (A.state archive.old) (A.state archive.new) result
+        (λ a found. Unit {0}) }
     ensures within { IfOk result (λ found. found ≤ last) }
 {
     let mut stamp = above;
@@ -312,7 +313,8 @@ fn stamp_of_moment<A: Book>(
     last: u64,
     moment: Option<u64>,
 ) -> Result<Option<u64>, BookFault>
-    ensures told { Reads (A.state archive.old) (A.state archive.new) result (λ a found. Unit {0}) }
+    ensures told { ReadsIfOpen (A.state archive.old) (A.state archive.new) result
+        (λ a found. Unit {0}) }
     ensures same { IfOk result (λ found. is_some found ≡ is_some moment) }
     ensures within { IfOk result (λ found. IfSome found (λ stamp. stamp ≤ last)) }
 {

@@ -4,7 +4,7 @@ use Rattle.acd_desk.proofs.Overlaps.{FindsEvent, events_start, events_next, even
 use Rattle.acd_desk.proofs.overlap.other_event.Goals as goal
 
 pub loop-init : goal.loop-init
-loop-init g c = events_start (g.A.Book.state c.args.archive.now) (g.B.Book.state c.args.book.now) c.args.above c.args.last _ c.empty.ensures c.empty-2.ensures
+loop-init g c = events_start (g.A.Book.state c.args.archive.now) (g.B.Book.state c.args.book.now) c.args.above c.args.last (record { archive = c.empty.result; own = c.empty-2.result }) c.empty.ensures c.empty-2.ensures
 
 pub loop-preserved : goal.loop-preserved
 loop-preserved g c =
