@@ -110,9 +110,9 @@ all_whole a b d s n found whole behind is_next one two =
     (λ c told w whole_told. all_is c s (next_at c n s.last_stamp found None behind is_next told) w whole_told)
 
 -- a replay that has come to the limit of executed requests
-pub seen_all : (a b d : BookState) (r : Course) (s : Rows) (most : ℕ) (all : Bool) → s ≡ rows_of r → all ≡ true → Reads a b (Ok tt) (Seen r) → Reads b d (Ok all) (λ (c : Content) (found : Bool). IsAll c s found)
+pub seen_all : (a b d : BookState) (r : Course) (s : Rows) (all : Bool) → s ≡ rows_of r → all ≡ true → Reads a b (Ok tt) (Seen r) → Reads b d (Ok all) (λ (c : Content) (found : Bool). IsAll c s found)
     → Reads a d (Ok Sound) (λ (c : Content) (found : Audit). IsOrdered c → IsAudit c found)
-seen_all a b d r s most all same is seen read =
+seen_all a b d r s all same is seen read =
     then_told (λ (c : Content) (found : Audit). IsOrdered c → IsAudit c found) a b d tt all Sound seen read
     (λ c before told ordered.
     let whole : IsAll c (rows_of r) true = subst (λ (x : Rows). IsAll c x true) same (subst (IsAll c s) is told) in

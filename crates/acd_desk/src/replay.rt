@@ -298,7 +298,8 @@ pub(crate) fn audited<B: Book>(alloc: Global, book: &mut B) -> Result<Audit, Boo
             Step::Ended => return Ok(Audit::Sound),
         }
     }
-    if is_all(book, &course.loaded.switch)? {
+    let all = is_all(book, &course.loaded.switch)?;
+    if all {
         Ok(Audit::Sound)
     } else {
         Ok(Audit::Differs(most + 1))
