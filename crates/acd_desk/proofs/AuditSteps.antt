@@ -1,5 +1,5 @@
 -- The reads of an audit, and what they tell of the replay.
-use Rattle.std.proofs.Common.{◌≡◌, ℕ, ◌<◌, ◌≤◌, Bool, true, false, ◌&&◌, cond, Option, Some, None, Result, Ok, IfSome, refl, sym, ap, subst, ◌∙◌, true≢false, take, arith, inl, inr, ◌⊎◌}
+use Rattle.std.proofs.Common.{◌≡◌, ℕ, ◌+◌, ◌<◌, ◌≤◌, Bool, true, false, ◌&&◌, cond, Option, Some, None, Result, Ok, IfSome, refl, sym, ap, subst, ◌∙◌, true≢false, take, arith, inl, inr, ◌⊎◌}
 use Rattle.std.specs.Bool.{Decides}
 use Rattle.acd_terms.specs.Limits.{limits_fit}
 use Rattle.acd_terms.specs.Lists.{Every}

@@ -340,3 +340,6 @@ few_stamps s rules =
     let few = requests_few s.limits kept.sizes.limits in
     let within = requests_read s rules in
     omega (arith, few, within)
+
+pub few_behind : (n : ℕ) (lent own : Rows) → BreaksNoRule own → n ≡ lent.last_stamp → lent ≡ own → n ≤ 1000000000
+few_behind n lent own rules is same = subst (λ (m : ℕ). m ≤ 1000000000) (sym (is ∙ ap (λ (x : Rows). x.last_stamp) same)) (few_stamps own rules)

@@ -21,14 +21,14 @@ pub returns-in-Ok-clause-audited : goal.returns-in-Ok-clause-audited
 returns-in-Ok-clause-audited g c =
     audited_both (g.A.Book.state c.args.archive.now) (g.A.Book.state c.audited_with.new.archive) (g.B.Book.state c.args.self.now.book) (g.B.Book.state c.audited_with.new.book) c.in-Ok.audit c.in-Ok.ensures
 
-pub returns-clause-told : goal.returns-clause-told
-returns-clause-told g c =
+pub returns-in-Err-clause-told : goal.returns-in-Err-clause-told
+returns-in-Err-clause-told g c =
     subst (λ (x : AuditFault). Told {A = Audit} (standing g.B.Book c.args.self.now) (standing g.B.Book c.told_not.new.self) (desk_part (Err x)) (λ (k : Content) (found : Audit). Unit {0})) (sym c.told_not.ensures.fault)
     (subst (λ (d : Desk _). Told {A = Audit} (standing g.B.Book c.args.self.now) (standing g.B.Book d) (desk_part (Err _)) (λ (k : Content) (found : Audit). Unit {0})) (sym c.told_not.ensures.left)
     (told_neither (g.A.Book.state c.args.archive.now) (g.A.Book.state c.audited_with.new.archive) (g.B.Book.state c.args.self.now.book) (g.B.Book.state c.audited_with.new.book) c.args.self.now.working c.in-Err.fault WholeOf c.in-Err.ensures
     (sym c.has_failed.ensures ∙ c.if-has_failed.false)))
 
-pub returns-clause-archive : goal.returns-clause-archive
-returns-clause-archive g c =
+pub returns-in-Err-clause-archive : goal.returns-in-Err-clause-archive
+returns-in-Err-clause-archive g c =
     subst (λ (x : AuditFault). ReadsIfOpen {A = Audit} (g.A.Book.state c.args.archive.now) (g.A.Book.state c.audited_with.new.archive) (archive_part (Err x)) (λ (k : Content) (found : Audit). Unit {0})) (sym c.told_not.ensures.fault)
     (archive_neither (g.A.Book.state c.args.archive.now) (g.A.Book.state c.audited_with.new.archive) (g.B.Book.state c.args.self.now.book) (g.B.Book.state c.audited_with.new.book) c.in-Err.fault WholeOf c.in-Err.ensures)
