@@ -8,8 +8,8 @@ use Rattle.acd_desk.proofs.newer.audited_newer.Goals as goal
 
 pub loop-count-init : goal.loop-count-init
 loop-count-init g c = record {
-  stamp = ?;
-  limit = ?;
+  stamp = sym (c.last_stamp-start.ensures ∙ ap (λ (r : Rows). r.last_stamp) c.deref.ensures);
+  limit = sym (ap (λ (l : Limits). l.requests) (c.limits-most.ensures ∙ ap (λ (r : Rows). r.limits) (c.tables.ensures ∙ c.deref-2.ensures)));
   seen = newer_begun (g.A.Book.state c.args.archive.now) (g.B.Book.state c.args.book.now) c.args.first;
 }
 

@@ -2,8 +2,7 @@ use Rattle.std.proofs.Common.{Ok, Err, sym, subst, ◌∙◌}
 use Rattle.acd_book.specs.Content.{Content}
 use Rattle.acd_desk.specs.declared.audit.Audit.{Audit}
 use Rattle.acd_desk.specs.declared.audit.AuditFault.{AuditFault}
-use Rattle.acd_desk.specs.declared.desk.Desk.{Desk}
-use Rattle.acd_desk.specs.AuditedWith.{desk_part, archive_part}
+use Rattle.acd_desk.specs.AuditedWith.{desk_part, archive_part, audit_fault}
 use Rattle.acd_desk.specs.Pages.{ReadsIfOpen}
 use Rattle.acd_desk.specs.Standing.{standing}
 use Rattle.acd_desk.specs.Told.{Told}
@@ -24,7 +23,7 @@ returns-in-Ok-clause-audited g c =
 pub returns-in-Err-clause-told : goal.returns-in-Err-clause-told
 returns-in-Err-clause-told g c =
     subst (λ (x : AuditFault). Told {A = Audit} (standing g.B.Book c.args.self.now) (standing g.B.Book c.told_not.new.self) (desk_part (Err x)) (λ (k : Content) (found : Audit). Unit {0})) (sym c.told_not.ensures.fault)
-    (subst (λ (d : Desk _). Told {A = Audit} (standing g.B.Book c.args.self.now) (standing g.B.Book d) (desk_part (Err _)) (λ (k : Content) (found : Audit). Unit {0})) (sym c.told_not.ensures.left)
+    (subst (λ (d : _). Told {A = Audit} (standing g.B.Book c.args.self.now) (standing g.B.Book d) (desk_part (Err (audit_fault c.in-Err.fault))) (λ (k : Content) (found : Audit). Unit {0})) (sym c.told_not.ensures.left)
     (told_neither (g.A.Book.state c.args.archive.now) (g.A.Book.state c.audited_with.new.archive) (g.B.Book.state c.args.self.now.book) (g.B.Book.state c.audited_with.new.book) c.args.self.now.working c.in-Err.fault WholeOf c.in-Err.ensures
     (sym c.has_failed.ensures ∙ c.if-has_failed.false)))
 
