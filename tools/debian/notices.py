@@ -63,7 +63,7 @@ def filled(words, end):
     return textwrap.fill(", ".join(words) + end, 78, break_on_hyphens=False, break_long_words=False)
 
 
-def notices(kit, crates, kit_name):
+def notices(kit, crates, logic):
     """The crates, and then their notices, each text once."""
     texts, apache, silent = {}, [], []
     for crate in crates:
@@ -77,7 +77,7 @@ def notices(kit, crates, kit_name):
                 apache.append(f"{crate} ({', '.join([file.name] + owners)})")
             else:
                 texts.setdefault(text, []).append(f"{crate} ({file.name})")
-    lines = [f"The program acd has these crates of its toolchain, {kit_name}, linked in:", "", filled(crates, "."), "",
+    lines = [f"The program acd has these crates of its toolchain, {logic}, linked in:", "", filled(crates, "."), "",
              "What follows are their notices, as the toolchain has them, each text once. A crate with several licences has each of them here.", ""]
     for text, owners in sorted(texts.items(), key=lambda item: item[1]):
         lines += [RULE, filled(owners, ":"), "", text, ""]
@@ -103,7 +103,7 @@ def main():
         kit = Path(told("rt", "doc").strip()).parent
         crates = linked_crates(kit)
         check_symbols(sys.argv[1], crates)
-        sys.stdout.write(notices(kit, crates, told("rt", "version").split()[0]))
+        sys.stdout.write(notices(kit, crates, told("rt", "version").strip().partition(" ")[2]))
     except (Fault, OSError, subprocess.CalledProcessError) as fault:
         sys.exit(f"tools/debian/notices.py: {fault}")
 
