@@ -24,6 +24,16 @@ Promise.all([
 REACHED = "desk reached, gate reached, etcd reached"
 REFUSED = "desk refused, gate refused, etcd refused"
 
+# connects to the desk, and asks it once it is told to
+LATE = """import pathlib, socket, time
+with socket.create_connection(("127.0.0.1", 8080)) as desk:
+    print("connected", flush=True)
+    while not pathlib.Path("/srv/ask").exists():
+        time.sleep(0.1)
+    desk.sendall(b"GET /none HTTP/1.1\\r\\nHost: desk\\r\\n\\r\\n")
+    print(desk.recv(12).decode(), flush=True)
+"""
+
 
 class Users(Cases):
     def try_all(self):
@@ -32,6 +42,7 @@ class Users(Cases):
         self.container.put("/srv/page/index.html", "a page")
         self.try_services()
         self.try_members()
+        self.try_open_connection()
         self.try_addresses()
         self.try_impostor()
         self.try_other_tables()
@@ -73,9 +84,32 @@ class Users(Cases):
         self.expect("out of the group", self.eventually(lambda: self.curl(DESK, user="cem"), 0), 0)
         self.done("adduser", "--quiet", "cem", "acd-local")
         self.expect("in it again", self.eventually(lambda: self.curl(DESK, user="cem"), 404), 404)
-        number = self.done("id", "-u", "cem").strip()
+        number = self.number("cem")
         self.done("userdel", "--remove", "cem")
-        self.expect("out of the machine", self.eventually(lambda: bool(re.search(rf"skuid != {{[^}}]*\b{number}\b", self.run(*TABLE)[1])), False), False)
+        self.expect("out of the machine", self.eventually(lambda: self.is_let_in(number), False), False)
+
+    def number(self, user):
+        return self.done("id", "-u", user).strip()
+
+    def is_let_in(self, number):
+        """Whether the table names the user of this number."""
+        return bool(re.search(rf"skuid != {{[^}}]*\b{number}\b", self.run(*TABLE)[1]))
+
+    def try_open_connection(self):
+        """Who leaves the group within a connection is answered there, and nowhere else. Cut off on one side alone, it would hold the desk without an end."""
+        self.done("useradd", "dan")
+        self.done("adduser", "--quiet", "dan", "acd-local")
+        number = self.number("dan")
+        self.expect("in the group", self.eventually(lambda: self.is_let_in(number), True), True)
+        self.container.put("/srv/late.py", LATE)
+        self.done("systemd-run", "--quiet", "--collect", "--unit=late", "--uid=dan", "python3", "/srv/late.py")
+        self.expect("it is connected", self.eventually(lambda: "connected" in self.journal("late"), True), True)
+        self.done("deluser", "--quiet", "dan", "acd-local")
+        self.expect("out of the group", self.eventually(lambda: self.is_let_in(number), False), False)
+        self.container.put("/srv/ask", "")
+        self.expect("the open connection is answered", self.eventually(lambda: "HTTP/1.1 404" in self.journal("late"), True), True)
+        self.expect("the desk goes on, and no other one is let in", (self.eventually(lambda: self.curl(DESK), 404), self.curl(DESK, user="dan")), (404, 0))
+        self.done("userdel", "dan")
 
     def try_addresses(self):
         """The other addresses of this machine: those of IPv6, and one of a network."""
@@ -159,7 +193,7 @@ class Users(Cases):
 
     def browse(self, user, address):
         """What a user's browser makes of a page: its text, once its scripts have had their time. One that hangs, as on a busy machine, is started again."""
-        number = int(self.done("id", "-u", user))
+        number = int(self.number(user))
         with tempfile.TemporaryDirectory() as home:
             os.chown(home, number, number)
             words = ["nsenter", "--target", str(self.container.leader), "--net", "setpriv", "--reuid", str(number), "--regid", str(number), "--clear-groups",
