@@ -186,11 +186,11 @@ class Machines:
         done = subprocess.run(["etcdctl", f"--endpoints={','.join(ends)}", *files, *words], input=told, stdout=subprocess.PIPE, stderr=subprocess.STDOUT, env={**os.environ, "ETCDCTL_API": "3"})
         return done.returncode == 0
 
-    def everything(self):
-        """All that was ever put as an entry, as etcd keeps it; what was deleted is empty."""
+    def everything(self, begin=1):
+        """All that was put as an entry from this place on, as etcd keeps it; what was deleted is empty."""
         last = max([int(kv["mod_revision"]) for kv in self.etcd_call(1, "/v3/kv/range", {"key": LINE}).get("kvs", [])], default=0)
-        connection, place, found = self.connect(self.clients[1], 60), 0, []
-        connection.request("POST", "/v3/watch", json.dumps({"create_request": {"key": LINE, "start_revision": "1"}}))
+        connection, place, found = self.connect(self.clients[1], 60), begin - 1, []
+        connection.request("POST", "/v3/watch", json.dumps({"create_request": {"key": LINE, "start_revision": str(begin)}}))
         answer = connection.getresponse()
         while place < last:
             for event in json.loads(answer.readline())["result"].get("events", []):
@@ -199,9 +199,9 @@ class Machines:
         connection.close()
         return found
 
-    def log(self):
-        """The entries of the log, without their tokens."""
-        return [entry.split(b" ", 1)[1] for entry in self.everything() if is_entry(entry)]
+    def log(self, begin=1):
+        """The entries of the log from this place on, without their tokens."""
+        return [entry.split(b" ", 1)[1] for entry in self.everything(begin) if is_entry(entry)]
 
     def compact(self, place):
         """Whether the log forgets its entries up to this place."""
