@@ -1,8 +1,6 @@
 // What a supervisor has to know at once: who waits too long, goals that are missed by far, callers and nobody there, a desk whose ticks or clock fail. No document, no network.
+import {GRACE} from './state.js';
 
-
-// a tick comes each ten seconds, so what is this much overdue nobody ends
-const GRACE = 25;
 // clocks that are so many seconds apart are no fault
 const APART = 60;
 // of fewer calls a share says nothing

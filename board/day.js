@@ -1,5 +1,4 @@
 // The figures of a day, by steps of a quarter of an hour, and of each agent, counted from event reports. No document, no network.
-
 import {kept} from './state.js';
 
 export const STEP = 900;
@@ -101,7 +100,6 @@ export class Day {
     };
   }
 
-  // The lines in which a group is counted.
   /** @param {string} group */
   lines(group) { return this.own(group) ? [this.line(group), this.all] : [this.line(group)]; }
 
@@ -149,7 +147,6 @@ function add(sums, more, names = Object.keys(more)) {
   for (const name of /** @type {(keyof Sums)[]} */ (names)) sums[name] = name === 'longest' ? Math.max(sums.longest, more.longest ?? 0) : sums[name] + (more[name] ?? 0);
 }
 
-// The figures of steps together.
 /** @param {Sums[]} steps */
 export function sumOf(steps) {
   const sum = noSums();

@@ -6,43 +6,48 @@ const GREY = 10000, SVG = 'http://www.w3.org/2000/svg', ISOLATED = new RegExp(`(
 
 // What is in an element stays as it is.
 export const AS_IT_IS = Symbol('as it is');
+// what an element was given and what it says, since it is quicker to remember than to ask for
+const GIVEN = Symbol('given'), SAYS = Symbol('says');
 
 /** @param {string} id @returns {any} */
 export function byId(id) { return document.getElementById(id); }
 
 // An element as it should be: a `data-key` tells it from its neighbours, wherever it stands.
-/** @param {string} tag @param {Attributes} [attributes] @param {Part[]} parts @returns {Made} */
+/** @param {string} tag @param {Attributes} [attributes] @param {Part[]} parts */
 export const make = (tag, attributes = {}, ...parts) => ({tag, attributes, parts});
 
 // Gives an element attributes, without a value where it is true; takes away what is false or nothing. A function is what is done at an event.
 /** @param {Place} place @param {Attributes} attributes */
 export function set(place, attributes) {
-  const element = typeof place === 'string' ? byId(place) : place;
+  const element = typeof place === 'string' ? byId(place) : place, given = element[GIVEN] ??= {};
   for (const [name, value] of Object.entries(attributes)) {
-    const text = value === true ? '' : String(value);
+    if (name in given && given[name] === value) continue;
+    given[name] = value;
     if (typeof value === 'function') element[name] = value;
     else if (value === false || value === undefined) element.removeAttribute(name);
-    else if (element.getAttribute(name) !== text) element.setAttribute(name, text);
+    else element.setAttribute(name, value === true ? '' : value);
   }
 }
 
 // Writes what is in an element: texts, where names that are isolated become <bdi>, numbers, and elements; what is false or nothing is left out.
 /** @param {Place} place @param {Part[]} parts */
 export function put(place, ...parts) {
-  if (parts[0] === AS_IT_IS) return;
-  const element = typeof place === 'string' ? byId(place) : place;
+  const element = typeof place === 'string' ? byId(place) : place, one = parts.length === 1 ? parts[0] : undefined;
+  if (one === AS_IT_IS || (one !== undefined && one === element[SAYS])) return;
+  element[SAYS] = one;
   const wanted = parts.flatMap(part => typeof part === 'number' ? number(part) : typeof part === 'string' ? texts(part, element) : part ? /** @type {Made} */ (part) : []);
   const keys = new Set(wanted.flatMap(part => typeof part === 'string' ? [] : part.attributes['data-key'] ?? [])), had = new Map();
   if (keys.size) for (const one of [...element.children]) if (keys.has(one.dataset.key)) had.set(one.dataset.key, one); else one.remove();
-  wanted.forEach((part, place) => {
-    const there = element.childNodes[place], isText = typeof part === 'string', fits = isText ? there instanceof Text : !keys.size && there?.localName === part.tag;
+  let there = element.firstChild;
+  for (const part of wanted) {
+    const isText = typeof part === 'string', fits = isText ? there instanceof Text : !keys.size && there?.localName === part.tag;
     const node = !isText && had.get(part.attributes['data-key']) || (fits ? there : isText ? new Text() : created(part.tag, element));
-    if (node !== there) element.insertBefore(node, there ?? null);
+    if (node === there) there = there.nextSibling; else element.insertBefore(node, there);
     if (!isText) {
       set(node, part.attributes);
       put(node, ...part.parts);
     } else if (node.data !== part) node.data = part;
-  });
+  }
   while (element.childNodes.length > wanted.length) element.lastChild.remove();
 }
 
@@ -50,8 +55,9 @@ export function put(place, ...parts) {
 const created = (tag, within) => document.createElementNS(tag === 'svg' ? SVG : within.namespaceURI, tag);
 
 // A text and its names; an option can only have a text.
-/** @param {string} text @param {Element} within @returns {(string|Made)[]} */
-const texts = (text, within) => within.localName === 'option' ? [text] : text.split(ISOLATED).filter(Boolean).map(part => part.startsWith(OPENS) ? make('bdi', {}, plain(part)) : part);
+/** @param {string} text @param {Element} within */
+const texts = (text, within) => !text.includes(OPENS) || within.localName === 'option' ? text || [] :
+  text.split(ISOLATED).filter(Boolean).map(part => part.startsWith(OPENS) ? make('bdi', {}, plain(part)) : part);
 
 // How what is seen stands to the desk. What changes each second is beside what a screen reader is told.
 /** @param {string} kind @param {number} known when the desk was known last, in milliseconds; 0 where it never was @param {string} why @param {number} moment of the server's clock @param {string} [reading] how much of the day has been read */
@@ -64,7 +70,6 @@ export function drawStatus(kind, known, why, moment, reading) {
   put('clock', `${timeOfDay(moment)} ${zoneOf(moment)}`);
 }
 
-// A name with its number, as text.
 /** @param {{id:string, name:string}} one */
 export const withNumber = ({id, name}) => name && name !== id ? `${named(name)} (${id})` : id;
 

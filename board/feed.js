@@ -2,12 +2,13 @@
 import * as net from './net.js';
 import {refusal, word} from './words.js';
 
-const EVERY = 1000, LONGEST = 5000, FULL = 1000, SEVERAL = 6;
+// RENEW: after so many milliseconds a snapshot is read anew, for what no event tells
+const EVERY = 1000, RENEW = 30000, FULL = 1000, SEVERAL = 6;
 
 // A request of a desk. The server's clock less this one's, in milliseconds, is told on the way.
-/** @param {string} address @param {(offset:number) => void} [clock] */
-export async function ask(address, clock) {
-  const {status, date, received, text} = await net.ask(address).catch(({message}) => { throw new Error(word(`lost.${message}`)); });
+/** @param {string} path @param {(offset:number) => void} [clock] */
+export async function ask(path, clock) {
+  const {status, date, received, text} = await net.ask(path).catch(({message}) => { throw new Error(word(`lost.${message}`)); });
   if (date) clock?.(date + 500 - received);
   if (status !== 200) throw Object.assign(new Error(refusal(status, text)), {status});
   return JSON.parse(text);
@@ -22,19 +23,15 @@ export class Feed {
   losses = 0;
   wake = () => {};
 
-  /** @param {string} base the desk's address @param {number} renew after how many milliseconds a snapshot is read anew, for what no event tells @param {Follower} owner */
-  constructor(base, renew, owner) {
-    this.base = base;
-    this.renew = renew;
-    this.owner = owner;
-  }
+  /** @param {Follower} owner */
+  constructor(owner) { this.owner = owner; }
 
   /** @param {string} path */
-  get(path) { return ask(this.base + path, this.owner.clock); }
+  get(path) { return ask(path, this.owner.clock); }
 
   async run() {
     for (;;) try {
-      if (!this.begun || Date.now() - this.renewed > this.renew) await this.takeSnapshot();
+      if (!this.begun || Date.now() - this.renewed > RENEW) await this.takeSnapshot();
       const more = this.begun && await this.poll();
       if (this.begun) {
         this.losses = 0;
@@ -44,7 +41,7 @@ export class Feed {
     } catch (error) {
       const {status, message} = /** @type {any} */ (error);
       this.owner.tell({kind: 'lost', status, why: message});
-      await this.wait(Math.min(LONGEST, EVERY * 2 ** this.losses++) * (0.75 + Math.random() / 2));
+      await this.wait(net.pause(this.losses++));
     }
   }
 
@@ -97,12 +94,12 @@ export class Feed {
 }
 
 // The number of the last event before a moment, looked for at several places at once; where the file hasn't those before it, that before the first one there.
-/** @param {string} base @param {number} last @param {number} moment */
-export async function lastBefore(base, last, moment) {
+/** @param {number} last @param {number} moment */
+export async function lastBefore(last, moment) {
   let low = 0, high = last;
   while (low < high) {
     const places = new Set(Array.from({length: SEVERAL}, (_, part) => low + Math.floor((high - low) * part / SEVERAL)));
-    const pages = await Promise.all([...places].map(async after => ({after, .../** @type {Page} */ (await ask(`${base}/events?after=${after}`))})));
+    const pages = await Promise.all([...places].map(async after => ({after, .../** @type {Page} */ (await ask(`/events?after=${after}`))})));
     for (const {after, events} of pages) {
       const first = events.findIndex(event => event.moment >= moment);
       if (first > 0) return events[first - 1].number;
@@ -115,17 +112,17 @@ export async function lastBefore(base, last, moment) {
 }
 
 // Whether the event is there, and with it all behind it: over a file that was carried over those before its first one aren't. Before the first of all is nothing.
-/** @param {string} base @param {number} number */
-export const has = async (base, number) => number === 0 || (await ask(`${base}/events?after=${number - 1}`)).events[0]?.number === number;
+/** @param {number} number */
+export const has = async number => number === 0 || (await ask(`/events?after=${number - 1}`)).events[0]?.number === number;
 
 // All events behind one, in their order and a page at a time, several pages being asked for at once; up to the last that there is by then.
-/** @param {string} base @param {number} after @param {number} last @param {(events:Report[]) => boolean} take says whether to go on */
-export async function history(base, after, last, take) {
+/** @param {number} after @param {number} last @param {(events:Report[]) => boolean} take says whether to go on */
+export async function history(after, last, take) {
   /** @type {Promise<Page>[]} */ const asked = [];
   let next = after;
   const more = () => {
     if (next >= last) return;
-    const page = ask(`${base}/history?after=${next}`);
+    const page = ask(`/history?after=${next}`);
     page.catch(() => {});   // told where it is awaited
     asked.push(page);
     next += FULL;

@@ -23,11 +23,9 @@ import * as wall from './views/wall.js';
 
 /** @type {Record<string, View>} */
 const VIEWS = {wall, queues, agents, calls, day, events};
-const OLD = 5000, RENEW = 30000, RECENT = 4000, ASKING = 8;
+const OLD = 5000, RECENT = 4000, ASKING = 8;
 
 const usual = settingsOf(Object.entries(office.limits)), settings = settingsOf(new URLSearchParams(location.search), usual), lead = new Lead();
-// an address may have a name and password in it, and what is asked for relative to that is refused
-const base = location.origin;
 let view = 'wall', state = new State(), counting = new Day(0), counted = false;
 /** @type {Report[]} */ let recent = [];
 /** @type {Map<number, {day:Day, whole:boolean, lacks:boolean}>} */ const others = new Map();
@@ -50,7 +48,7 @@ function rename() {
   for (const kind of /** @type {const} */ (['groups', 'agents'])) for (const [id, name] of Object.entries(office.names[kind])) { const one = state[kind].get(id); if (one) one.name = name; }
 }
 
-const feed = new Feed(base, RENEW, {
+const feed = new Feed({
   begin(snapshot) {
     const anew = state.last === 0;
     state = new State(snapshot, state);
@@ -95,11 +93,11 @@ const newDay = (back = 0) => new Day(begins(back), group => settings[`limit.${gr
 
 // Behind which event a day begins, with those before it that tell since when calls wait.
 /** @param {Day} of */
-const before = of => lastBefore(base, feed.last, of.begin - greatestLimit(settings) - 1);
+const before = of => lastBefore(feed.last, of.begin - greatestLimit(settings) - 1);
 
 // Counts what is of a day of the events that the feed has, behind the last that it counted, a page at a time.
 /** @param {Day} day @param {(report:Report) => boolean} isOf @param {(counted:Report[]) => boolean} goesOn */
-const read = (day, isOf, goesOn) => history(base, day.last, feed.last, reports => {
+const read = (day, isOf, goesOn) => history(day.last, feed.last, reports => {
   const found = reports.filter(isOf);
   for (const report of found) day.apply(report);
   return goesOn(found) && found.length === reports.length;
@@ -141,7 +139,7 @@ async function readPast(back) {
   try {
     day.last = await before(day);
     // a day whose beginning lies in an archive isn't shown beside this one
-    mine.lacks = !await has(base, day.last);
+    mine.lacks = !await has(day.last);
     if (!mine.lacks) await read(day, ({moment}) => moment < end, () => others.get(back) === mine);
     mine.whole = true;
     redraw();
@@ -154,7 +152,7 @@ async function learn(calls) {
   const mine = asked, wanted = calls.filter(call => !mine.has(call)).slice(0, ASKING);
   for (const call of wanted) mine.add(call);
   for (const call of wanted) try {
-    const {caller} = await ask(`${base}/calls/${call}`), known = mine === asked && state.calls.get(call);
+    const {caller} = await ask(`/calls/${call}`), known = mine === asked && state.calls.get(call);
     if (known) known.caller = caller;
   } catch { /* it has ended, or the desk is gone: a snapshot tells */ }
 }
@@ -166,11 +164,8 @@ function schedule() {
   requestAnimationFrame(() => { due = false; draw(false); });
 }
 
-/** @param {string} text */
-function empty(text) {
-  put('empty', text);
-  set('empty', {hidden: !text});
-}
+/** @type {Drawn['empty']} */
+const empty = text => put('empty', text);
 
 const redraw = () => draw(true);
 
@@ -195,7 +190,6 @@ function drawTop() {
   const age = Date.now() - answered, lost = told.kind === 'lost', why = 'why' in told ? told.why : '';
   drawStatus(told.kind === 'live' && age > OLD ? 'late' : told.kind, answered, why, serverClock(), counted ? '' : `${Math.floor(100 * share)} %`);
   put('band', lost && `■ ${answered ? word('band.old', {clock: clock(age / 1000)}) : word('status.none', {why})}`);
-  set('band', {hidden: !lost});
   document.title = `${lost ? `■ ${word('title.lost')} – ` : unseen ? `■ ${word('title.alarms', {n: unseen})} – ` : ''}${title()}: ${word(`view.${view}`)}`;
 }
 
@@ -278,7 +272,6 @@ put('filters', ...FILTERS.map(([views, ...setting]) => labelled(setting, {'data-
   make('label', {'data-for': 'events'}, make('input', {type: 'checkbox', id: 'events-hold'}), make('span', {}, word('filter.hold'))),
   make('div', {id: 'states', role: 'group', 'aria-label': word('filter.states'), 'data-for': 'agents'}));
 put('fault', fault && word('fault.office', {what: fault}));
-set('fault', {hidden: !fault});
 set('skip', {onclick: (/** @type {Event} */ event) => { event.preventDefault(); byId('main').focus(); }});
 set('csv', {onclick: () => { if (drawn) save(`${view}-${new Date(serverClock() * 1000).toISOString().slice(0, 16).replace(/[:T]/g, '-')}.csv`, VIEWS[view].file(drawn)); }});
 soundWhere(() => Boolean(settings.tone));

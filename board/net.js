@@ -1,16 +1,22 @@
 // Requests over HTTP that are given up where no answer comes. No document, so that a worker asks by it too.
 
-const PATIENCE = 10000;
+const PATIENCE = 10000, LONGEST = 5000;
+// an address may have a name and password in it, and what is asked for relative to that is refused
+export const base = location.origin;
 
 /** @param {number} milliseconds */
 export const sleep = milliseconds => new Promise(done => setTimeout(done, milliseconds));
 
+/** For how many milliseconds to wait behind so many losses: longer each time, and not all pages alike.
+ * @param {number} losses */
+export const pause = losses => Math.min(LONGEST, 1000 * 2 ** losses) * (0.75 + Math.random() / 2);
+
 /** A reply with its text, and the server's time and this one's of it; an error `silent` where none came in time, `server` where nobody is there.
- * @param {string} address @param {RequestInit} [how] @param {number} [patience] in milliseconds @param {AbortController} [giving] by which somebody else gives it up */
-export async function ask(address, how, patience = PATIENCE, giving = new AbortController()) {
+ * @param {string} path @param {RequestInit} [how] @param {number} [patience] in milliseconds @param {AbortController} [giving] by which somebody else gives it up */
+export async function ask(path, how, patience = PATIENCE, giving = new AbortController()) {
   const timer = setTimeout(() => giving.abort(), patience);
   try {
-    const reply = await fetch(address, {cache: 'no-store', ...how, signal: giving.signal}), received = Date.now();
+    const reply = await fetch(base + path, {cache: 'no-store', ...how, signal: giving.signal}), received = Date.now();
     return {status: reply.status, date: Date.parse(reply.headers.get('date') ?? ''), received, text: await reply.text()};
   } catch { throw new Error(giving.signal.aborted ? 'silent' : 'server'); } finally { clearTimeout(timer); }
 }
@@ -19,7 +25,7 @@ export async function ask(address, how, patience = PATIENCE, giving = new AbortC
  * @param {string} body */
 export async function post(body) {
   try {
-    const reply = await ask(`${location.origin}/csta`, {method: 'POST', body, headers: {'content-type': 'application/json'}});
+    const reply = await ask('/csta', {method: 'POST', body, headers: {'content-type': 'application/json'}});
     return [429, 500, 502, 503, 504].includes(reply.status) ? null : reply;
   } catch { return null; }
 }

@@ -28,5 +28,5 @@ function officeOf(text) {
   };
 }
 
-const said = await ask(`${location.origin}/board/board.json`, {cache: 'no-cache'}, PATIENCE).catch(() => null);
+const said = await ask('/board/board.json', {cache: 'no-cache'}, PATIENCE).catch(() => null);
 export const {office, fault} = officeOf(said?.status === 200 ? said.text : '{}');

@@ -8,7 +8,6 @@ const FAR = 15;
 
 export const noCounts = () => ({ready: 0, ringing: 0, busy: 0, hold: 0, own: 0, workingAfterCall: 0, notReady: 0, null: 0});
 
-// What an agent does.
 /** @param {State} state @param {Agent} agent */
 export const doing = (state, agent) => doingAt(agent, state.at(agent.station));
 

@@ -1,14 +1,13 @@
 // Who is logged in, and the session of a browser: that it is used, and that it ends.
 import {set} from './draw.js';
 import {ask} from './feed.js';
-import {sleep} from './net.js';
+import {base, sleep} from './net.js';
 
-const USED_EVERY = 60000, AGAIN = 5000, base = location.origin;
+const USED_EVERY = 60000, AGAIN = 5000;
 
 // The page of log-in, which comes back to where one was.
 export const logIn = () => location.assign(`${base}/board/login/?next=${location.pathname}${location.search}${location.hash}`);
 
-// Ends the session of this browser.
 export async function logOut() {
   await fetch(`${base}/logout`, {method: 'POST'});
   location.replace(`${base}/board/login/`);
@@ -18,7 +17,7 @@ export async function logOut() {
 /** @param {() => void} leave what the button does @param {(why:string) => void} [late] @returns {Promise<Who>} */
 export async function openSession(leave, late) {
   /** @type {Who|undefined} */ let who;
-  while (!who) try { who = /** @type {Who} */ (await ask(`${base}/session`)); } catch (error) {
+  while (!who) try { who = /** @type {Who} */ (await ask('/session')); } catch (error) {
     const {status, message} = /** @type {any} */ (error);
     if ([401, 403, 404].includes(status)) return {};
     late?.(message);

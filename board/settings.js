@@ -51,14 +51,12 @@ export function searchOf(settings, usual) {
   return text && `?${text}`;
 }
 
-// What counts for a group.
 /** @param {Settings} settings @param {string} group */
 export function limitsOf(settings, group) {
   const of = (/** @type {keyof typeof LIMITS} */ name) => settings[`${name}.${group}`] ?? settings[name], long = of('long');
   return {limit: of('limit'), goal: of('goal'), lost: of('lost'), long, bad: Math.max(long, of('bad'))};
 }
 
-// The greatest limit of the service level, of any group.
 /** @param {Settings} settings */
 export const greatestLimit = settings => Math.max(...Object.entries(settings).flatMap(([name, value]) => /^limit\b/.test(name) ? Number(value) : []));
 

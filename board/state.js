@@ -3,6 +3,8 @@
 
 // A snapshot ranks by stamps, of at most 1000000000. Less this they come before all numbers of events, which rank what follows.
 const EARLIER = 2000000000;
+// a tick comes each ten seconds, so what is this many seconds overdue nobody ends
+export const GRACE = 25;
 
 /** @type {Record<string,AgentState>} */
 const STATE_AFTER = {
@@ -215,7 +217,6 @@ export class State {
   /** @param {Agent} agent */
   isEligible(agent) { return agent.state === 'ready' && this.at(agent.station).every(connection => connection.state === 'fail'); }
 
-  // The connections at a station.
   /** @param {string|null} device */
   at(device) {
     const place = device ?? '';

@@ -158,7 +158,6 @@ export function word(key, values = {}) {
   return text.replace(/\{(\w+)\}/g, (all, name) => { const value = values[name] ?? all; return typeof value === 'number' ? number(value) : value; });
 }
 
-// Whether there is such a key.
 /** @param {string} key */
 export const isWord = key => key in table;
 
@@ -171,7 +170,6 @@ export const named = text => OPENS + text.replace(/[\u202a-\u202e\u2066-\u2069]/
 /** @type {Texts} */
 export const plain = text => text.replaceAll(OPENS, '').replaceAll(CLOSES, '');
 
-// Writes the words that stand in a page.
 export function translate() {
   for (const element of /** @type {Iterable<HTMLElement>} */ (document.querySelectorAll('[data-word], [data-label], [data-title]'))) {
     const {word: text, label, title} = element.dataset;
@@ -188,8 +186,9 @@ export const number = value => figures.format(value);
 export const percent = share => share === null ? '–' : shares.format(share);
 
 // Seconds as 0:07, 12:34 or 1:02:03.
-/** @type {Numbers} */
+/** @param {number|null} seconds */
 export const clock = seconds => {
+  if (seconds === null) return '–';
   const whole = Math.max(0, Math.floor(seconds)), hour = Math.floor(whole / 3600), minute = String(Math.floor(whole / 60) % 60), second = String(whole % 60).padStart(2, '0');
   return hour ? `${hour}:${minute.padStart(2, '0')}:${second}` : `${minute}:${second}`;
 };
@@ -214,11 +213,9 @@ export const CONNECTION = signed('connection', {queued: '●', alerting: '◆', 
 
 /** @type {Record<Severity, string>} */
 export const SIGN = {none: '○', calm: '●', long: '▲', bad: '■'};
-// How long callers wait.
 /** @param {{severity:Severity}} line */
 export const waits = ({severity}) => `${SIGN[severity]} ${word(`waits.${severity}`)}`;
 
-// What a refusal means.
 /** @param {number} status @param {string} text the reply's body */
 export function refusal(status, text) {
   try {

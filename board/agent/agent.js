@@ -13,7 +13,6 @@ import {beat, ring} from './ring.js';
 // milliseconds: until what is seen is late, what was done goes, what was refused goes, a click is no second one
 const OLD = 6000, FLEETING = 5000, REFUSED = 30000, SECOND = 400;
 
-const base = location.origin;
 let id = new URLSearchParams(location.search).get('agent') ?? '', acts = false, leaves = false, begun = false;
 /** @type {Who} */ let who = {};
 /** @type {Mine|null} */ let mine = null;
@@ -227,7 +226,6 @@ function end() {
   });
 }
 
-// What clicks do.
 function listen() {
   const field = byId('tone'), offerNotices = () => set('notify', {hidden: !('Notification' in window) || Notification.permission !== 'default'});
   logOn.askBy((device, groups) => ask('loggedOn', {device, ...(groups.length === 1 ? {group: groups[0]} : {groups})}), refuse);
@@ -273,7 +271,7 @@ async function begin() {
   requests = new Requests(id, who.login, {isLive, logOn: () => mine?.agent.logOn ?? null, tell, ask: askAbout});
   const worker = new Worker(new URL('listening.js', import.meta.url), {type: 'module'});
   worker.onmessage = ({data}) => hear(data);
-  worker.postMessage(`${base}/mine?agent=${id}`);
+  worker.postMessage(`/mine?agent=${id}`);
 }
 begin();
 Object.assign(window, {agent: {mine: () => mine, requests: () => requests}});

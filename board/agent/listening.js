@@ -1,18 +1,18 @@
 // Asks the gate what is new of an agent's own. It is a worker, since a browser slows down the clock of a page that isn't seen.
-import {ask, sleep} from '../net.js';
+import {ask, pause, sleep} from '../net.js';
 
 // seconds: for which the gate may hold a question, so that a lost connection is seen soon; without an answer; between two beats, beyond which the machine slept
-const HOLD = 4, PATIENCE = 9, SLEPT = 5, LONGEST_PAUSE = 5;
+const HOLD = 4, PATIENCE = 9, SLEPT = 5;
 let after = 0, names = 0, losses = 0, beaten = Date.now(), giving = new AbortController();
 
 /** @param {Heard} heard */
 const tell = heard => postMessage(heard);
 
-/** @param {string} address */
-async function listen(address) {
+/** @param {string} path */
+async function listen(path) {
   giving = new AbortController();
   try {
-    const {status, text, date, received} = await ask(`${address}&after=${after}&names=${names}&hold=${HOLD}`, {}, 1000 * PATIENCE, giving);
+    const {status, text, date, received} = await ask(`${path}&after=${after}&names=${names}&hold=${HOLD}`, {}, 1000 * PATIENCE, giving);
     if (status !== 200) return lose(status, text);
     const mine = JSON.parse(text);
     after = mine.number;
@@ -25,7 +25,7 @@ async function listen(address) {
 /** @param {number} status @param {string} text */
 function lose(status, text) {
   tell({kind: 'lost', status, text});
-  return sleep(1000 * Math.min(LONGEST_PAUSE, 2 ** losses++) * (0.75 + Math.random() / 2));
+  return sleep(pause(losses++));
 }
 
 setInterval(() => {

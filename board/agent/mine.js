@@ -1,8 +1,7 @@
 // What an agent's own tells and allows: states, calls, where calls can go. No document, no network.
-import {doingAt} from '../state.js';
+import {doingAt, GRACE} from '../state.js';
 
-// a tick comes each ten seconds, so what is this many seconds overdue nobody ends
-const GRACE = 25, MOST = 8;
+const MOST = 8;
 
 // A call's connection at the own station.
 /** @type {OfCall<Side|undefined>} */

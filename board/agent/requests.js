@@ -1,10 +1,10 @@
 // Sends requests one after the other, each until it is answered. One that isn't is kept in the browser and sent again, the same bytes, so that it acts once: for a minute, in
 // the same log-on. Behind that it is asked about, since nobody may want any more what was clicked then.
-import {post, requesterOf, sleep} from '../net.js';
+import {pause, post, requesterOf, sleep} from '../net.js';
 import {refusal, word} from '../words.js';
 
-// milliseconds: between two tries at most, of all tries, by which a clock may go back, until what was done is told, in which a click is a second one
-const LONGEST_PAUSE = 5000, FRESH = 60000, BACK = 5000, SETTLES = 300, TWICE = 3000;
+// milliseconds: of all tries, by which a clock may go back, until what was done is told, in which a click is a second one
+const FRESH = 60000, BACK = 5000, SETTLES = 300, TWICE = 3000;
 // what a second click is refused by, behind a first one that was granted
 const SECOND = ['wrongConnectionState', 'unknownConnection', 'unknownCall', 'wrongAgentState'];
 
@@ -62,7 +62,7 @@ export class Requests {
         return this.answered(one, reply.status, reply.text);
       }
       this.page.tell({kind: 'waits', words: word('agent.again', {what: one.words})});
-      await sleep(Math.min(LONGEST_PAUSE, 1000 * 2 ** times));
+      await sleep(pause(times));
       // which log-on it is, is known where the desk answers
       while (!this.page.isLive() && this.isFresh(one)) await sleep(SETTLES);
     }

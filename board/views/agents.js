@@ -48,7 +48,6 @@ export function draw(drawn) {
   if (byId('agents-details').open) days.draw(lines(drawn, shown));
 }
 
-// The own agents, with what each does.
 /** @param {Drawn} drawn */
 const people = drawn => ownAgents(drawn).map(agent => ({id: agent.id, name: agent.name, ...doing(drawn.state, agent)}));
 /** @typedef {ReturnType<typeof people>[0]} Shown */

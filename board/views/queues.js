@@ -17,7 +17,7 @@ const filed = (value, text, parts) => ({
   file: line => { const found = line.counted ? value(line) : null; return found === null ? null : Math.round(parts * found) / parts; },
 });
 /** @type {(value:Figure) => Told} */
-export const seconds = value => filed(value, found => found === null ? '–' : clock(found), 1);
+export const seconds = value => filed(value, clock, 1);
 /** @type {(value:Figure, sign?:(line:any) => string) => Told} */
 export const share = (value, sign = () => '') => filed(value, (found, line) => sign(line) + percent(found), 1e4);
 // A share with the sign of what it means, where that is nothing good.
@@ -31,7 +31,7 @@ const judged = name => {
 const FIRST = [
   {head: 'state', kind: 'state', text: waits},
   {head: 'waiting'},
-  {head: 'longest', text: line => line.wait === null ? '–' : clock(line.wait), file: line => line.wait && Math.round(line.wait)},
+  {head: 'longest', text: line => clock(line.wait), file: line => line.wait && Math.round(line.wait)},
 ];
 /** @type {Column} */
 const READY = {head: 'ready', text: line => `${line.counts.ready} / ${line.loggedOn}`, file: line => line.counts.ready, severity: line => line.waiting && !line.loggedOn ? 'bad' : ''};
