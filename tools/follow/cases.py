@@ -10,9 +10,17 @@ import threading
 import time
 from pathlib import Path
 
-from ground import Between, Desk, Follower, ask, certificate, copied, day, held, is_beginning, judge, last_of, state_in, until
+from ground import Between, Desk, Follower, ask, certificate, copied, day, held, is_beginning, judge, last_of, log_of, state_in, until
 
 FAULT, REFUSED, DIFFERS, LACKS = 1, 2, 3, 4
+# what it makes a file at
+HALF = ".copy.db.acd-follow"
+# a desk's program that is killed at its first start, where the new file has a head alone
+KILLED_PROGRAM = """#!/bin/sh
+[ -e {note} ] && exec {program} "$@"
+: >{note}
+exec strace -qq -o /dev/null -e trace=pwrite64 -e inject=pwrite64:signal=KILL:when=9 {program} "$@"
+"""
 # a desk's program that is another one at some lines, by the environment: what stands in its place is Python
 ODD_PROGRAM = """#!/usr/bin/python3
 import os, subprocess, sys, time
@@ -185,6 +193,36 @@ class Cases:
         for status, name in ((404, "notFound"), (403, "forbidden"), (401, "unauthorized"), (400, "malformed")):
             body = b'{"error":{"code":35,"name":"%s"}}' % name.encode()
             self.follow(f"{status}", Between(self.desk, lambda *_: (status, body)).address, self.new_file(), FAULT, f"answered {status} {name}")
+
+    # a file that isn't there yet
+
+    def made(self):
+        """A desk that is killed as it makes the file; what a killed acd-follow left; a log whose file is gone."""
+        file, program = self.new_file(), self.folder / "killed"
+        program.write_text(KILLED_PROGRAM.format(note=self.folder / "killed-once", program=self.ground.program))
+        program.chmod(0o755)
+        self.follow("a desk that is killed amid the making", self.desk.address, file, 0, words=("--desk", program))
+        judge(self.ground, "a desk that is killed amid the making", file, self.desk)
+
+        for whole in (False, True):
+            file = self.whole() if whole else self.new_file()
+            for part in (HALF, f"{HALF}-wal"):
+                (file.parent / part).write_text("a part of what was to be one")
+            self.follow("what a killed one left", self.desk.address, file, 0)
+            judge(self.ground, "what a killed one left", file, self.desk)
+            self.expect("what a killed one left: it goes", [*file.parent.glob(".*")], [])
+
+        file = self.whole()
+        file.unlink()
+        self.follow("an empty log alone", self.desk.address, file, 0)
+        judge(self.ground, "an empty log alone", file, self.desk)
+
+        other = Desk(self.ground, self.whole()).start()
+        ask(other.port, "/csta", b'{"requester":"other","invoke":1,"service":"tick"}')
+        other.kill()
+        other.file.unlink()
+        self.follow("a log alone", self.desk.address, other.file, FAULT, f"{other.file} can't be opened")
+        self.expect("a log alone: it stays so", [*other.file.parent.iterdir()], [log_of(other.file)])
 
     # another history
 
@@ -419,5 +457,5 @@ class Cases:
         self.desk.kill()
 
 
-ORDER = ("anew", "again", "rests", "empty", "copy_of_it", "silent", "nobody", "refusals", "told_otherwise", "told_twice", "left_out", "planted", "shorter",
-         "clocks", "carried", "its_desk", "signals", "terminal", "soon", "disk", "held_elsewhere", "programs", "login", "command_lines")
+ORDER = ("anew", "again", "made", "rests", "empty", "copy_of_it", "silent", "nobody", "refusals", "told_otherwise", "told_twice", "left_out", "planted",
+         "shorter", "clocks", "carried", "its_desk", "signals", "terminal", "soon", "disk", "held_elsewhere", "programs", "login", "command_lines")

@@ -134,6 +134,8 @@ class Desk:
         return self
 
     def kill(self):
+        """It served until now: a desk that ended by itself said why on standard error."""
+        self.ground.expect(f"{self.address} still served", self.process.poll(), None)
         self.process.kill()
         self.process.wait()
 
@@ -253,20 +255,34 @@ def day(seed, requests, repeats=0):
     return office.Office(office.DAY._replace(seed=seed, requests=requests, repeats=repeats, reused=repeats // 10, wanted={}, named=set())).day().given
 
 
+def endless_day(seed):
+    """Such lines, as many as are asked for."""
+    busy, told = office.Office(office.DAY._replace(seed=seed)), 0
+    busy.open()
+    while True:
+        yield from busy.given[told:]
+        told = len(busy.given)
+        busy.work()
+
+
 class Load:
     """Requests one after the other, each once more at times; each is sent until it is answered."""
 
     def __init__(self, port, lines, chance, pause=0.005):
-        self.port, self.requests, self.chance, self.pause = port, [line.partition(" ")[2] for line in lines], chance, pause
+        self.port, self.lines, self.chance, self.pause = port, lines, chance, pause
         self.goes_on, self.sent = True, 0
         self.thread = threading.Thread(target=self.work, daemon=True)
         self.thread.start()
 
     def work(self):
-        for number, request in enumerate(self.requests):
-            self.insist(request)
+        requests = []
+        for line in self.lines:
+            requests.append(line.partition(" ")[2])
+            self.insist(requests[-1])
             if self.chance.random() < 0.05:
-                self.insist(self.requests[self.chance.randrange(number + 1)])
+                self.insist(self.chance.choice(requests))
+            if not self.goes_on:
+                return
 
     def insist(self, request):
         while self.goes_on:

@@ -1,18 +1,18 @@
 """acd-follow and the copy's desk are killed before each call of the system that sends or writes, as strace counts them: the copy then has a beginning of
-what the desk has, and the same command again ends it."""
+what the desk has, and the same command again ends it. The copy's desk is started twice where there is no file yet, and killed the first time or the second."""
 import re
 import signal
 
 from ground import PYTHON, Desk, day, judge
 
 # what each of the two is killed at
-SCRIPT = ("write", "sendto", "connect", "vfork", "clone", "clone3")
+SCRIPT = ("write", "sendto", "connect", "vfork", "clone", "clone3", "link", "linkat", "unlink")
 DESK = ("write", "pwrite64", "pwritev", "fsync", "fdatasync", "ftruncate", "unlink", "openat", "fcntl")
 # strace runs the copy's desk the first time alone: behind the kill it is opened again
 WRAPPED = """#!/bin/sh
 [ -e {note} ] && exec {program} "$@"
 : >{note}
-exec strace -qq -o /dev/null -e trace={name} -e inject={name}:signal=KILL:when={number} {program} "$@"
+exec {strace} {program} "$@"
 """
 
 
@@ -40,10 +40,18 @@ class Kills:
         self.ground.expect(f"it goes through: {told}", status, 0)
         return {name: len(re.findall(rf"^{name}\(", self.trace.read_text(), re.MULTILINE)) for name in names}
 
+    def wrapped(self, file, strace):
+        """A program for the copy's desk, which strace runs the first time."""
+        made = self.folder / "wrapped"
+        made.write_text(WRAPPED.format(note=f"{file}.note", program=self.ground.program, strace=" ".join(map(str, strace))))
+        made.chmod(0o755)
+        return "--desk", made
+
     def again(self, what, file):
         status, said, told = self.ground.run(*self.words(file))
         self.ground.expect(f"{what}, the same again: {told}", status, 0)
         judge(self.ground, f"{what}, the same again", file, self.desk)
+        self.ground.expect(f"{what}, the same again: what else lies there", [*file.parent.glob(f".{file.name}*")], [])
 
     def of_the_script(self, every):
         counts = self.counted(SCRIPT, *self.strace(SCRIPT), *self.words(self.new_file()))
@@ -56,26 +64,30 @@ class Kills:
             self.again(what, file)
         return counts
 
-    def of_its_desk(self, every):
-        counted = self.folder / "counted"
-        counted.write_text(f'#!/bin/sh\nexec {" ".join(map(str, self.strace(DESK)))} {self.ground.program} "$@"\n')
-        counted.chmod(0o755)
-        counts = self.counted(DESK, *self.words(self.new_file(), "--desk", counted))
+    def of_its_desk(self, every, is_there):
+        """As it makes the file; or over one that is there, with no request in it."""
+        def file_for():
+            file = self.new_file()
+            if is_there:
+                self.ground.feed(file, [])
+            return file
+
+        file, over = file_for(), "over a file" if is_there else "without one"
+        counts = self.counted(DESK, *self.words(file, *self.wrapped(file, self.strace(DESK))))
         for name, number in [(name, number) for name in DESK for number in range(1, counts[name] + 1, every)]:
-            file, what, wrapped = self.new_file(), f"its desk killed at {name} {number}", self.folder / "wrapped"
-            wrapped.write_text(WRAPPED.format(note=f"{file}.note", program=self.ground.program, name=name, number=number))
-            wrapped.chmod(0o755)
-            status, said, told = self.ground.run(*self.words(file, "--desk", wrapped))
+            file, what = file_for(), f"its desk {over} killed at {name} {number}"
+            strace = ["strace", "-qq", "-o", "/dev/null", "-e", f"trace={name}", "-e", f"inject={name}:signal=KILL:when={number}"]
+            status, said, told = self.ground.run(*self.words(file, *self.wrapped(file, strace)))
             # as it opens the file it is a fault, and then the same command again ends it
             self.ground.expect(f"{what}: it goes on, or says that it can't be opened: {told}", status == 0 or "can't be opened" in told)
             self.again(what, file)
         return counts
 
     def all(self, every):
-        counts = self.of_the_script(every), self.of_its_desk(every)
+        counts = self.of_the_script(every), self.of_its_desk(every, False), self.of_its_desk(every, True)
         self.ground.expect(f"what is there behind some kills, {self.beginnings}", len(self.beginnings) > 2)
-        script, desk = (sum(count.values()) for count in counts)
-        print(f"    killed at each {every}. of {script} calls of the script and {desk} of its desk", flush=True)
+        script, first, second = (sum(count.values()) for count in counts)
+        print(f"    killed at each {every}. of {script} calls of the script, {first} of its desk as it makes the file, {second} as it is fed", flush=True)
 
 
 def try_all(ground, every):

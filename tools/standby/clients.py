@@ -33,7 +33,8 @@ def work(desk, pause, lines):
 
 def main():
     url, rate, threads, file = sys.argv[1], float(sys.argv[2]), int(sys.argv[3]), sys.argv[4]
-    desks, lines = [Client(url, wait=1.0, pause=0.05) for _ in range(threads)], []
+    # each has another patience, so that they don't all ask again at the same moments
+    desks, lines = [Client(url, wait=0.2 + 0.05 * number, pause=0.05) for number in range(threads)], []
     started = [threading.Thread(target=work, args=(desk, threads / rate, lines)) for desk in desks]
     for one in started:
         one.start()

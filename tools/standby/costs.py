@@ -4,7 +4,7 @@ import statistics
 import subprocess
 import time
 
-from ground import log_of, until
+from ground import until
 from machines import BENCH, PORT, Machine, grown
 
 RATE, COUNT, ROUNDS = 2000, 6000, 5
@@ -41,20 +41,22 @@ def try_costs(ground, machines, kept):
         print(f"    a page behind {after} of {kept} kept: p50 {middle / 1000:.2f} ms, p99 {high / 1000:.2f} ms", flush=True)
     first.start_proxy()
     second.file.write_bytes(first.file.read_bytes())
-    ratios, asked = [], 0
+    ratios, pages, calls = [], [], 0
     for _ in range(ROUNDS):
         took = {}
         for follows in (False, True):
             if follows:
                 second.follow(first.address, ground.newer)
-                ground.expect("its desk opens the copy", until(log_of(second.file).exists))
-                time.sleep(1)
-            begun = spent(desk_in(first))
-            rate, *_ = exchanges(COUNT, "post", "900", RATE, asked)
-            asked += COUNT
+                had = first.last()
+                ground.expect("the copy comes to have all", until(lambda: first.asked()[-1:] >= [had - 1]))
+            begun, before = spent(desk_in(first)), len(first.asked())
+            rate, *_ = exchanges(COUNT, "post", "900", RATE, calls)
+            calls += COUNT
             took[follows] = spent(desk_in(first)) - begun
+        pages.append(len(first.asked()) - before)
         second.end_following()
         ratios.append(took[True] / took[False])
     middle, each = statistics.median(ratios), ", ".join(f"{ratio:.3f}" for ratio in ratios)
-    print(f"    at {rate:.0f} requests a second: followed, the desk takes {middle:.3f} of its processor time ({each})", flush=True)
+    print(f"    at {rate:.0f} requests a second: followed by {min(pages)} pages or more the desk takes {middle:.3f} of its processor time ({each})", flush=True)
+    ground.expect("it is followed meanwhile", min(pages) > 5)
     ground.expect("following costs under a tenth", middle < 1.1)

@@ -18,7 +18,7 @@ PORT, DOOR = 8080, 8443
 # up to so many requests a file is a day's, and sound
 DAY = 16000
 NAME, OFFICE = "10.0.0.100", "10.0.0.3"
-NGINX = """daemon off; pid {folder}/nginx.pid; error_log {folder}/nginx.log; worker_processes 1;
+NGINX = """daemon off; user root; pid {folder}/nginx.pid; error_log {folder}/nginx.log; worker_processes 1;
 events {{ worker_connections 512; }}
 http {{
     access_log off; client_body_temp_path {folder}/body; proxy_temp_path {folder}/proxy;
@@ -27,6 +27,7 @@ http {{
         listen {door} ssl; listen 80;
         ssl_certificate {crt}; ssl_certificate_key {key};
         location / {{ proxy_pass http://127.0.0.1:{port}; proxy_connect_timeout 1s; }}
+        location = /requests {{ proxy_pass http://127.0.0.1:{port}; proxy_connect_timeout 1s; access_log {folder}/asked; }}
     }}
 }}
 """
@@ -114,6 +115,15 @@ class Machine:
         if not self.desk.stdout.readline().startswith("listening"):
             raise ValueError(f"{self.name}: no desk serves")
         return time.monotonic() - begun
+
+    def last(self):
+        """The number of the last request that its desk has."""
+        return json.loads(run("ip", "netns", "exec", self.name, "curl", "-s", f"http://127.0.0.1:{PORT}/requests?after=999999999999999"))["last"]
+
+    def asked(self):
+        """Behind which requests its proxy was asked for more, one page after the other."""
+        asked = self.folder / "asked"
+        return [int(number) for number in re.findall(r"GET /requests\?after=(\d+) ", asked.read_text() if asked.exists() else "")]
 
     def start_ticks(self):
         self.ticks = self.start(PYTHON, OPERATING / "acd-tick", "--step", "2", "--file", self.file, stderr=subprocess.DEVNULL)

@@ -37,12 +37,15 @@ class Takeover:
         self.second.follow(self.first.address, noting)
         self.office = Office(ground, rate)
         ground.expect("the second machine follows", until(lambda: self.notes.exists() and self.notes.stat().st_size > 0))
+        # what waited while the copy was opened has been fed by then
+        self.up = time.time() + 1
         time.sleep(ground.seconds)
 
     def lags(self, answers):
         """How many milliseconds behind each answer the copy had its request."""
         when = {tuple(line.split()[:2]): float(line.split()[2]) for line in self.notes.read_text().splitlines()}
-        return [1000 * (when[requester, str(invoke)] - answered) for requester, invoke, _, _, answered in answers if (requester, str(invoke)) in when]
+        some = [(when[requester, str(invoke)], answered) for requester, invoke, _, _, answered in answers if (requester, str(invoke)) in when]
+        return [1000 * (had - answered) for had, answered in some if answered > self.up]
 
     def over_to_second(self):
         """The second one's desk opens the copy, and gets the address; how many seconds the opening took."""
@@ -113,12 +116,6 @@ def watched(ground, trial):
     trial.second.stop_desk()
 
 
-def last_at(machine):
-    """The number of the last request that its desk has."""
-    words = ["ip", "netns", "exec", machine.name, "curl", "-s", f"http://127.0.0.1:{PORT}/requests?after=999999999999999"]
-    return json.loads(run(*words))["last"]
-
-
 def try_upgrade(ground, machines, kept):
     """The newer program follows the older one, and acd-copy has its copy audited; then the clients wait until the second machine has the address."""
     trial = Takeover(ground, machines, kept)
@@ -128,7 +125,7 @@ def try_upgrade(ground, machines, kept):
     begun = time.time()
     trial.first.leave_address()
     trial.first.ticks.kill()
-    had = last_at(trial.first)
+    had = trial.first.last()
     ground.expect("the copy comes to have all", until(lambda: trial.begun_with + len(trial.notes.read_text().splitlines()) >= had))
     last, told, _ = trial.second.end_following()
     trial.first.stop_desk()
