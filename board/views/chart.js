@@ -18,7 +18,7 @@ export function chart(title, steps, series, top, goal) {
   const ticks = Array.from({length: Math.floor(high / tick + 1e-9) + 1}, (_, place) => place * tick), apart = 3600 * ([1, 2, 3, 4, 6, 8, 12].find(hours => hours * 4 * each >= WIDE) ?? 24);
   return make('figure', {}, make('figcaption', {}, title), make('svg', {viewBox: `0 0 ${width} ${HEIGHT}`, role: 'img', 'aria-label': word('chart.about', {title})},
     ...ticks.flatMap(value => [across('grid', value), make('text', {x: LEFT - 8, y: y(value) + 4, 'text-anchor': 'end'}, fixed(value, 2))]),
-    ...steps.map((step, place) => shown(step.at, office.zone) % apart === 0 && make('text', {x: x(place), y: HEIGHT - 6, 'text-anchor': place ? 'middle' : 'start'}, timeOfDay(step.at, true))),
+    ...steps.map((step, place) => shown(step.at, office.zone) % apart === 0 && make('text', {x: x(place), y: HEIGHT - 6, 'text-anchor': 'middle'}, timeOfDay(step.at, true))),
     ...steps.flatMap((step, place) => {
       let below = 0;
       return series.map(({bar, look}) => {

@@ -2,7 +2,7 @@
 import {execFileSync} from 'node:child_process';
 import {writeFile} from 'node:fs/promises';
 import {sleep, until} from './browser.mjs';
-import {live, reckoned} from './page.mjs';
+import {live, PHONE, reckoned, SCREEN} from './page.mjs';
 import {Story} from './story.mjs';
 
 const GROUPS = [['100', 'Billing'], ['101', 'Orders'], ['102', 'Night']], DAY = 86400;
@@ -51,7 +51,26 @@ export async function zones(see, browser, desk, front) {
     see(`the clock of ${zone} names it`, clock.endsWith(told.find(part => part.type === 'timeZoneName').value), clock);
   }
   await browser.command('Emulation.setTimezoneOverride', {timezoneId: ''});
+  await onPhone(see, browser, desk, front, file);
   await writeFile(file, '{}');
+}
+
+/** The hours below a chart of a whole day stand apart on a phone too, and the step that isn't over is pale. */
+async function onPhone(see, browser, desk, front, file) {
+  // so that something is drawn of the running step
+  await desk.post({requester: 'on-phone', invoke: 1, service: 'arriveCall', caller: '0301', called: GROUPS[0][0]});
+  await writeFile(file, JSON.stringify({zone: zoneAt(23)}));
+  await browser.size(...PHONE);
+  await browser.fresh(front.page('sup', '/board/#day'));
+  await live(browser);
+  await until(() => browser.run('return document.querySelectorAll("#charts svg").length === 4'), 20);
+  const gaps = await browser.run(`return [...document.querySelectorAll('#charts svg')].flatMap(svg => {
+    const boxes = [...svg.querySelectorAll('text')].filter(text => /^[0-9]+:[0-9]+$/.test(text.textContent)).map(text => text.getBoundingClientRect());
+    return boxes.slice(1).map((box, place) => Math.round(box.left - boxes[place].right)); })`);
+  see('the hours of a chart stand apart on a phone', gaps.length >= 8 && Math.min(...gaps) >= 4, String(gaps));
+  const pale = await browser.run(`return [...document.querySelectorAll('#charts rect.running, #charts rect.first:not(.running)')].map(bar => [bar.matches('.running'), Number(getComputedStyle(bar).opacity)])`);
+  see('the running quarter of an hour is pale', new Set(pale.map(String)).size === 2 && pale.every(([running, opacity]) => running === opacity < 0.7), JSON.stringify(pale.slice(-3)));
+  await browser.size(...SCREEN);
 }
 
 const rows = browser => browser.run('return [...document.querySelectorAll("#days-table tbody tr")].map(row => [...row.children].map(cell => cell.textContent.replaceAll(",", "")))');

@@ -132,10 +132,12 @@ export async function still(see, browser, address, seconds) {
     await browser.open(`${address}#${view}`);
     await live(browser);
     await sleep(1000);
-    await browser.run('window.moved = []; new PerformanceObserver(list => window.moved.push(...list.getEntries().map(entry => entry.value))).observe({type: "layout-shift"})');
+    await browser.run(`window.moved = []; new PerformanceObserver(list => {
+      for (const {value, sources} of list.getEntries()) window.moved.push([value, ...sources.map(({node}) => (node?.id || node?.parentElement?.id || node?.nodeName) + ': ' + node?.textContent.slice(0, 40))]);
+    }).observe({type: 'layout-shift'})`);
     await sleep(1000 * seconds);
-    const moved = await browser.run('return window.moved.reduce((sum, value) => sum + value, 0)');
-    see(`${view}: nothing moves`, moved < 0.001, moved);
+    const moved = await browser.run('return window.moved');
+    see(`${view}: nothing moves`, moved.reduce((sum, [value]) => sum + value, 0) < 0.001, JSON.stringify(moved));
   }
 }
 

@@ -20,6 +20,8 @@ const SAID = `
 export async function words(see, browser, board, page, names) {
   const keys = Object.keys(await tableOf(join(board, 'words.js')));
   await writeFile(join(board, 'words/zz.js'), `export default {${keys.map(key => `'${key}': '[${key}]'`)}};`);
+  // before this browser knows a password, which would lead it on
+  await logIn(see, browser, new URL(page('')).origin);
   for (const view of VIEWS) {
     await browser.open(page(`/board/?lang=zz&since=0&tone=1#${view}`));
     await until(() => browser.run('return window.board?.counted()'), 30);
@@ -31,6 +33,17 @@ export async function words(see, browser, board, page, names) {
   const german = Object.keys(await tableOf(join(board, 'words/de.js')));
   see('German has each key, and no other', String([...german].sort()) === String([...keys].sort()), keys.filter(key => !german.includes(key)).concat(german.filter(key => !keys.includes(key))).slice(0, 4));
   await inGerman(see, browser, page);
+}
+
+/** The page of log-in, and what it says of a wrong password. */
+async function logIn(see, browser, address) {
+  await browser.open(`${address}/board/login/?lang=zz`);
+  await until(() => browser.run('return document.title === "[login.title]"'), 10);
+  await browser.run(`for (const name of ['login', 'password']) document.querySelector('[name=' + name + ']').value = 'guess'`);
+  await browser.click('button');
+  await until(() => browser.text('#told'), 10);
+  const said = await browser.run(SAID), left = said.filter(text => /\p{L}/u.test(rest(text, [])));
+  see('the page of log-in: all words are of the table', said.includes('[login.wrong]') && !left.length, left.join('; ') || String(said));
 }
 
 /** What is left of a text without what is in brackets, what the desk tells, and names of languages and zones. */
