@@ -7,6 +7,7 @@
 #![tactic(auto)]
 
 mod auditing;
+mod behind;
 mod connection;
 mod desk;
 mod fault;

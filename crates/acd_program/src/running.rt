@@ -9,8 +9,9 @@ ghost use Rattle.acd_program.specs.LinesOver.{in_turn, Whole};
 ghost use Rattle.acd_program.specs.Statuses.{IsDone, fault_status, TellsConnections};
 ghost use Rattle.acd_program.specs.Work.{IsPrinted};
 ghost use Rattle.acd_program.specs.InFiles.{WorkedOver};
-ghost use Rattle.acd_program.specs.Tasks.{WorkedIn, FileAnswered, InputAnswered, ImportedIn, ServedIn, WholeAudit, TaskDone, SomeTaskDone};
+ghost use Rattle.acd_program.specs.Tasks.{WorkedIn, FileAnswered, InputAnswered, ImportedIn, ServedIn, WholeAudit, IsToldEnding, AuditedWith, TaskDone, SomeTaskDone};
 
+use crate::behind::over_archive;
 use crate::connection::database_lines;
 use crate::desk::{Done, Work, over_database};
 use crate::fault::Fault;
@@ -25,6 +26,7 @@ use acd_book::MemoryBook;
 use acd_http::RequestsAndReads;
 use acd_lines::laws::requests_run;
 use acd_lines::{LinesFault, Requests};
+use acd_log::Ending;
 use clap::Error;
 use clap::error::ErrorKind;
 use sqlite::{Connection, FileFrom, FileStore};
@@ -194,6 +196,38 @@ fn audit_whole<'a, S: Start, W: Write>(
     )
 }
 
+// How the log of a file ends, where it is to be looked at.
+fn told_ending<'a>(rt: &HostRuntime, file: &'a str, whole: bool) -> Result<Ending, Fault<'a>>
+    ensures { IfOk result (IsToldEnding whole) }
+{
+    if whole {
+        return log_ending(rt, file);
+    }
+    Ok(Ending::Plain)
+}
+
+// Audits the desk in a file behind the archive that it goes on from. Of a log, that of the file alone is looked at.
+fn audit_behind<'a, S: Start, W: Write>(
+    rt: &HostRuntime,
+    start: S,
+    beside: S,
+    file: &'a str,
+    archive: &'a str,
+    counts: bool,
+    whole: bool,
+    writer: &mut W,
+) -> Result<u8, Fault<'a>>
+    ensures known { IfOk result IsDone }
+    ensures audited { IfOk result
+        (λ status. AuditedWith ⟦<FileFrom<S> as Disk>⟧ IsFresh counts whole
+        (W.contents writer.old) (W.contents writer.new) status) }
+{
+    let ending = told_ending(rt, file, whole)?;
+    let (conn, _) = connect(rt, file, false, start)?;
+    let (done, conn) = over_archive(rt, conn, beside, archive, counts, ending);
+    print_done(done, close_connection(conn), writer)
+}
+
 fn serve_file<'a, S: Start, W: Write, E: Write>(
     rt: &HostRuntime,
     start: S,
@@ -229,10 +263,11 @@ fn print_done<'a, W: Write>(
     Ok(status)
 }
 
-// Does it, and gives the exit status where no fault ended it.
+// Does it, and gives the exit status where no fault ended it. A second file may be opened beside the desk's.
 fn execute<'a, S: Start, R: Read, W: Write, E: Write>(
     rt: &HostRuntime,
     start: S,
+    beside: S,
     task: Task<'a>,
     reader: &mut R,
     writer: &mut W,
@@ -262,6 +297,12 @@ fn execute<'a, S: Start, R: Read, W: Write, E: Write>(
         }
         Task::Import { file, plan } => import_plan(rt, start, file, plan, writer),
         Task::AuditWhole { file, counts } => audit_whole(rt, start, file, counts, writer),
+        Task::AuditBehind {
+            file,
+            archive,
+            counts,
+            whole,
+        } => audit_behind(rt, start, beside, file, archive, counts, whole, writer),
         Task::Read { file, work } => work_in(rt, start, file, false, work, writer),
     }
 }
@@ -332,7 +373,7 @@ pub fn program<S: AsStr, R: Read, W: Write, E: Write>(
         Ok(task) => task,
         Err(error) => return tell(rt.alloc(), &error, writer, errors),
     };
-    match execute(rt, Unknown, task, reader, writer, errors) {
+    match execute(rt, Unknown, Unknown, task, reader, writer, errors) {
         Ok(status) => status,
         Err(fault) => {
             let status = fail(fault, errors);

@@ -34,6 +34,13 @@ pub(crate) enum Task<'a> {
         file: &'a str,
         counts: bool,
     },
+    /// Audit the desk in a file behind the archive that it goes on from; where it is looked at whole, say how its log ended.
+    AuditBehind {
+        file: &'a str,
+        archive: &'a str,
+        counts: bool,
+        whole: bool,
+    },
     /// Print what is told of the desk in a file: the queue report, all event reports, or what an audit finds.
     Read {
         file: &'a str,
@@ -42,7 +49,7 @@ pub(crate) enum Task<'a> {
 }
 
 /// What `acd --version` tells behind the program's name: the version, and the toolchain that proved it.
-const VERSION: &str = "1.11 (rattle-kit-13f)";
+const VERSION: &str = "1.12 (rattle-kit-13f)";
 
 const FILE: &str = "file";
 
@@ -65,6 +72,8 @@ const COUNT: &str = "count";
 
 const WHOLE: &str = "whole";
 
+const ARCHIVE: &str = "archive";
+
 /// How many connections are served at most.
 const MOST_CONNECTIONS: u64 = 1_000_000;
 
@@ -81,6 +90,14 @@ fn plan_option<'a>(alloc: Global) -> Arg<'a> {
         .long(PLAN)
         .value_name("C")
         .help("The plan, as CSV")
+        .action(ArgAction::Set)
+}
+
+fn archive_option<'a>(alloc: Global) -> Arg<'a> {
+    Arg::new(alloc, ARCHIVE)
+        .long(ARCHIVE)
+        .value_name("A")
+        .help("The archive that the file goes on from, where it was carried over")
         .action(ArgAction::Set)
 }
 
@@ -192,6 +209,7 @@ fn audit_command<'a>(alloc: Global) -> Result<Command<'a>, AllocError> {
             "Example:\n  acd audit --file desk.db\n\nIt prints sound or, with status 3, the first request whose record or events differ.",
         )
         .arg(file_option(alloc).required(true))?
+        .arg(archive_option(alloc))?
         .arg(flag(
             alloc,
             COUNT,
@@ -248,6 +266,15 @@ fn import_of<'a>(options: &ArgMatches<'a>) -> Option<Task<'a>> {
     })
 }
 
+fn behind_of<'a>(options: &ArgMatches<'a>, archive: &'a str) -> Option<Task<'a>> {
+    Some(Task::AuditBehind {
+        file: options.get_str(FILE)?,
+        archive,
+        counts: options.get_flag(COUNT),
+        whole: options.get_flag(WHOLE),
+    })
+}
+
 fn whole_of<'a>(options: &ArgMatches<'a>) -> Option<Task<'a>> {
     Some(Task::AuditWhole {
         file: options.get_str(FILE)?,
@@ -255,15 +282,28 @@ fn whole_of<'a>(options: &ArgMatches<'a>) -> Option<Task<'a>> {
     })
 }
 
-// What is read of the desk in a file.
-fn reading_of<'a>(command: &str, counts: bool) -> Option<Work<'a>> {
+fn audit_of<'a>(options: &ArgMatches<'a>) -> Option<Task<'a>> {
+    if let Some(archive) = options.get_str(ARCHIVE) {
+        return behind_of(options, archive);
+    }
+    if options.get_flag(WHOLE) {
+        return whole_of(options);
+    }
+    let work = Work::Audit {
+        counts: options.get_flag(COUNT),
+        ending: Ending::Plain,
+    };
+    Some(Task::Read {
+        file: options.get_str(FILE)?,
+        work,
+    })
+}
+
+// What is told of the desk in a file.
+fn reading_of<'a>(command: &str) -> Option<Work<'a>> {
     match command {
         "report" => Some(Work::Tell(Telling::Report)),
         "export" => Some(Work::Tell(Telling::Export)),
-        "audit" => Some(Work::Audit {
-            counts,
-            ending: Ending::Plain,
-        }),
         _ => None,
     }
 }
@@ -274,10 +314,10 @@ fn task_in<'a>(matches: &ArgMatches<'a>) -> Option<Task<'a>> {
         "lines" => Some(lines_of(options)),
         "serve" => serving_of(options),
         "import" => import_of(options),
-        "audit" if options.get_flag(WHOLE) => whole_of(options),
+        "audit" => audit_of(options),
         _ => Some(Task::Read {
             file: options.get_str(FILE)?,
-            work: reading_of(command, options.get_flag(COUNT))?,
+            work: reading_of(command)?,
         }),
     }
 }

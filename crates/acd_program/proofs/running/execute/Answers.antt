@@ -1,6 +1,7 @@
 use Rattle.std.proofs.Common.{refl, inr}
 use Rattle.sqlite_std_file.specs.File.{IsFresh}
 use Rattle.acd_lines.specs.Lines.{streams}
+use Rattle.acd_program.proofs.Behind.{behind_task}
 use Rattle.acd_program.proofs.Tasks.{lines_task, whole_task, read_task}
 use Rattle.acd_program.proofs.Served.{file_tells, serve_task}
 use Rattle.acd_program.proofs.running.execute.Goals as goal
@@ -28,3 +29,8 @@ pub returns-in-Read-clause-done : goal.returns-in-Read-clause-done
 returns-in-Read-clause-done g c =
     read_task _ IsFresh c.work_in.result c.args.task (streams g.R.Read.remaining g.W.Write.contents (c.args.reader.now, c.args.reader.now) (c.args.writer.now, c.work_in.new.writer)) _ _
     c.in-Read.file c.in-Read.work c.in-Read.is c.work_in.ensures.worked
+
+pub returns-in-AuditBehind-clause-done : goal.returns-in-AuditBehind-clause-done
+returns-in-AuditBehind-clause-done g c =
+    behind_task _ IsFresh c.audit_behind.result c.args.task (streams g.R.Read.remaining g.W.Write.contents (c.args.reader.now, c.args.reader.now) (c.args.writer.now, c.audit_behind.new.writer)) _ _
+    c.in-AuditBehind.file c.in-AuditBehind.archive c.in-AuditBehind.counts c.in-AuditBehind.whole c.in-AuditBehind.is c.audit_behind.ensures.audited

@@ -1,0 +1,14 @@
+use Rattle.std.proofs.Common.{refl, sym, ap, subst, ◌∙◌}
+use Rattle.sqlite_std_file.specs.File.{IsFresh}
+use Rattle.acd_desk.specs.Standing.{standing}
+use Rattle.acd_program.specs.Behind.{IsFindingInOrder, BehindArchive}
+use Rattle.acd_program.proofs.Behind.{behind_book}
+use Rattle.acd_program.proofs.behind.audit_behind.Goals as goal
+
+pub returns-in-Ok-found_behind : goal.returns-in-Ok-found_behind
+returns-in-Ok-found_behind g c = (
+  c.in-Ok-found_behind.ensures.counted,
+  subst (λ (b : _). BehindArchive _ IsFresh IsFindingInOrder (g.B.Book.state c.args.book.inner) (g.B.Book.state b) c.in-Ok-found_behind.found) (sym (c.into_inner-in-Ok-found_behind.ensures ∙ ap (λ (w : _). w.inner) c.close.ensures))
+      (behind_book _ IsFresh (g.B.Book.state c.args.book.inner) _ _ c.in-Ok-found_behind.found c.in-Ok.ensures c.in-Ok-found_behind.ensures.asked),
+  refl,
+)
