@@ -6,11 +6,13 @@ ghost use Rattle.sqlite.specs.State.{HasCleanDisk};
 ghost use Rattle.acd_terms.specs.Limits.{greatest_limits};
 ghost use Rattle.acd_sql_schema.specs.SettingUp.{MayMake};
 ghost use Rattle.acd_sqlbook.specs.View.{book_of};
+ghost use Rattle.acd_http.specs.ReadingLines.{ReadInTurn};
 ghost use Rattle.acd_lines.specs.Input.{asked};
 ghost use Rattle.acd_lines.specs.Lines.{streams};
 ghost use Rattle.acd_lines.specs.Parts.{InTurn};
 ghost use Rattle.acd_program.specs.Faults.{unmade_fault};
-ghost use Rattle.acd_program.specs.LinesOver.{DatabaseAnswered, LinesIn};
+ghost use Rattle.acd_program.specs.Desks.{in_database};
+ghost use Rattle.acd_program.specs.LinesOver.{in_turn, DatabaseAnswered, LinesIn};
 ghost use Rattle.acd_program.specs.Over.{Unserved, unmade};
 ghost use Rattle.acd_program.specs.Taking.{IsOf, IsTaken};
 
@@ -109,6 +111,9 @@ fn with_reads<'a, S: Alter, R: Read, W: Write>(
     ensures done { OnOk result.0 (DatabaseAnswered S.Store makes true ends
         (streams R.remaining W.contents (reader.old, reader.new) (writer.old, writer.new))
         (state S.Store conn) result.1) }
+    ensures told { LinesIn S.Store (ReadInTurn (in_database S.Store)) makes ends
+        (streams R.remaining W.contents (reader.old, reader.new) (writer.old, writer.new))
+        (state S.Store conn) result.0 result.1 }
     ensures idle { result.1.in_transaction ≡ false }
 {
     match RequestsAndReads::new(alloc) {
@@ -133,6 +138,10 @@ pub(crate) fn database_lines<'a, S: Alter, R: Read, W: Write>(
     ensures done { OnOk result.0 (DatabaseAnswered S.Store makes reads ends
         (streams R.remaining W.contents (reader.old, reader.new) (writer.old, writer.new))
         (state S.Store conn) result.1) }
+    // whatever ended them
+    ensures told { LinesIn S.Store (in_turn reads (in_database S.Store)) makes ends
+        (streams R.remaining W.contents (reader.old, reader.new) (writer.old, writer.new))
+        (state S.Store conn) result.0 result.1 }
     ensures idle { result.1.in_transaction ≡ false }
 {
     if reads {

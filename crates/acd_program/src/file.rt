@@ -3,6 +3,7 @@
 ghost use Rattle.std.specs.Prelude.{◌≡◌, ◌⊎◌, ℕ, true, false, IsTrue, Ok, IfOk, OnOk};
 ghost use Rattle.sqlite.specs.Held.{IsNew};
 ghost use Rattle.sqlite_std_file.specs.File.{file_is_usable, IsFresh};
+ghost use Rattle.acd_program.specs.Ended.{IsShut};
 ghost use Rattle.acd_program.specs.Faults.{by_memory};
 ghost use Rattle.acd_program.specs.Files.{IsOpenedIn};
 ghost use Rattle.acd_program.specs.Tasks.{IsOpenedFrom, IsSomeEnding};
@@ -232,7 +233,9 @@ fn closing_fault<'a>(error: Error) -> Fault<'a>
 pub(crate) fn close_connection<'a, D: Disk + Drop>(
     conn: Connection<FileStore<D>>,
 ) -> Result<(), Fault<'a>>
-    ensures { OnOk result (IsLaidIn conn) }
+    ensures laid { OnOk result (IsLaidIn conn) }
+    // whatever comes of it, a crash leaves nothing new
+    ensures shut { IsShut conn }
 {
     match conn.close_files() {
         Ok(_) => Ok(()),

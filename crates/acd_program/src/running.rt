@@ -1,14 +1,16 @@
 //! The program over three streams.
 
-ghost use Rattle.std.specs.Prelude.{◌≡◌, ◌≢◌, ◌≤◌, ◌⊎◌, false, Ok, IfOk, OnOk};
+ghost use Rattle.std.specs.Prelude.{◌≡◌, ◌≢◌, ◌≤◌, ◌⊎◌, false, Ok, IfOk, OnOk, OnErr};
 ghost use Rattle.sqlite_std_file.specs.File.{IsFresh};
-ghost use Rattle.acd_lines.specs.Lines.{streams};
+ghost use Rattle.acd_lines.specs.Lines.{streams, Untouched};
 ghost use Rattle.acd_program.specs.Answered.{in_memory};
 ghost use Rattle.acd_program.specs.Desks.{OverNewDesk};
-ghost use Rattle.acd_program.specs.LinesOver.{in_turn, Whole};
+ghost use Rattle.acd_program.specs.Ended.{OnlyReads, PrintedOf, ReadOver};
+ghost use Rattle.acd_program.specs.LinesOver.{in_turn, LinesInMemory, Whole};
 ghost use Rattle.acd_program.specs.Statuses.{IsDone, fault_status, TellsConnections};
 ghost use Rattle.acd_program.specs.Work.{IsPrinted};
 ghost use Rattle.acd_program.specs.InFiles.{WorkedOver};
+ghost use Rattle.acd_program.specs.Tasks.{ReadIn, WholeRead, LinesOverFile, InputEnded, TaskEnded};
 ghost use Rattle.acd_program.specs.Tasks.{WorkedIn, FileAnswered, InputAnswered, ImportedIn, ServedIn, WholeAudit, TaskDone, SomeTaskDone};
 
 use crate::connection::database_lines;
@@ -67,6 +69,8 @@ fn work_over<'a, D: Disk + Drop, W: Write>(
     ensures worked { IfOk result
         (λ status. WorkedOver makes work.entry conn (W.contents writer.old)
         (W.contents writer.new) status) }
+    ensures ended { OnlyReads work.entry → OnErr result
+        (ReadOver makes work.entry conn (W.contents writer.old) (W.contents writer.new)) }
 {
     let (done, conn) = over_database(rt, conn, makes, work, writer);
     print_done(done, close_connection(conn), writer)
@@ -85,6 +89,9 @@ fn work_in<'a, S: Start, W: Write>(
     ensures worked { IfOk result
         (λ status. WorkedIn ⟦<FileFrom<S> as Disk>⟧ IsFresh makes work.entry
         (W.contents writer.old) (W.contents writer.new) status) }
+    ensures ended { OnlyReads work.entry → OnErr result
+        (ReadIn ⟦<FileFrom<S> as Disk>⟧ IsFresh makes work.entry (W.contents writer.old)
+        (W.contents writer.new)) }
 {
     let (conn, is_new) = connect(rt, file, makes, start)?;
     work_over(rt, conn, is_new, work, writer)
@@ -100,7 +107,12 @@ fn lines_in<'a, S: Start, R: Read, W: Write>(
     reader: &mut R,
     writer: &mut W,
 ) -> Result<(), Fault<'a>>
-    ensures { OnOk result (FileAnswered ⟦<FileFrom<S> as Disk>⟧ IsFresh reads ends
+    ensures answered { OnOk result (FileAnswered ⟦<FileFrom<S> as Disk>⟧ IsFresh reads ends
+        (streams R.remaining W.contents (reader.old, reader.new) (writer.old, writer.new))) }
+    ensures ended { OnErr result
+        (Untouched (streams R.remaining W.contents (reader.old, reader.new)
+        (writer.old, writer.new))
+        ⊎ LinesOverFile ⟦<FileFrom<S> as Disk>⟧ IsFresh reads ends
         (streams R.remaining W.contents (reader.old, reader.new) (writer.old, writer.new))) }
 {
     let (conn, is_new) = connect(rt, file, true, start)?;
@@ -115,8 +127,11 @@ fn lines_in_memory<R: Read, W: Write>(
     reader: &mut R,
     writer: &mut W,
 ) -> Result<(), LinesFault>
-    ensures { OnOk result (OverNewDesk (Whole in_memory (in_turn reads in_memory) false
+    ensures answered { OnOk result (OverNewDesk (Whole in_memory (in_turn reads in_memory) false
         (streams R.remaining W.contents (reader.old, reader.new) (writer.old, writer.new)))) }
+    ensures told { LinesInMemory (in_turn reads in_memory)
+        (streams R.remaining W.contents (reader.old, reader.new) (writer.old, writer.new))
+        result }
 {
     if reads {
         let mut lines = RequestsAndReads::new(alloc)?;
@@ -140,6 +155,9 @@ fn answer_lines<'a, S: Start, R: Read, W: Write>(
         (λ status. InputAnswered ⟦<FileFrom<S> as Disk>⟧ IsFresh file.entry reads ends
         (streams R.remaining W.contents (reader.old, reader.new) (writer.old, writer.new))
         status) }
+    ensures ended { OnErr result
+        (InputEnded ⟦<FileFrom<S> as Disk>⟧ IsFresh file.entry reads ends
+        (streams R.remaining W.contents (reader.old, reader.new) (writer.old, writer.new))) }
 {
     match file {
         None => {
@@ -182,6 +200,9 @@ fn audit_whole<'a, S: Start, W: Write>(
     ensures audited { IfOk result
         (λ status. WholeAudit ⟦<FileFrom<S> as Disk>⟧ IsFresh counts (W.contents writer.old)
         (W.contents writer.new) status) }
+    ensures ended { OnErr result
+        (WholeRead ⟦<FileFrom<S> as Disk>⟧ IsFresh counts (W.contents writer.old)
+        (W.contents writer.new)) }
 {
     let ending = log_ending(rt, file)?;
     work_in(
@@ -222,6 +243,8 @@ fn print_done<'a, W: Write>(
     ensures printed { IfOk result
         (λ status. IsPrinted done.entry closed.entry (W.contents writer.old) (W.contents writer.new)
         status) }
+    ensures cut { OnErr result
+        (PrintedOf done.entry (W.contents writer.old) (W.contents writer.new)) }
 {
     let left = done?;
     let status = print(&left, writer)?;
@@ -247,6 +270,9 @@ fn execute<'a, S: Start, R: Read, W: Write, E: Write>(
     ensures told { IfOk result
         (λ status. (errors.new ≡ errors.old)
         ⊎ ((status ≡ 0) × TellsConnections (E.contents errors.old) (E.contents errors.new))) }
+    // where a fault ended it
+    ensures ended { OnErr result (TaskEnded ⟦<FileFrom<S> as Disk>⟧ IsFresh task.entry
+        (streams R.remaining W.contents (reader.old, reader.new) (writer.old, writer.new))) }
 {
     match task {
         Task::Lines { file, reads, ends } => {

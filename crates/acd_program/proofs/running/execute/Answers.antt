@@ -3,6 +3,7 @@ use Rattle.sqlite_std_file.specs.File.{IsFresh}
 use Rattle.acd_lines.specs.Lines.{streams}
 use Rattle.acd_program.proofs.Tasks.{lines_task, whole_task, read_task}
 use Rattle.acd_program.proofs.Served.{file_tells, serve_task}
+use Rattle.acd_program.proofs.Ended.{lines_ended, import_ended, whole_ended, read_ended}
 use Rattle.acd_program.proofs.running.execute.Goals as goal
 
 pub returns-in-Lines-clause-done : goal.returns-in-Lines-clause-done
@@ -28,3 +29,23 @@ pub returns-in-Read-clause-done : goal.returns-in-Read-clause-done
 returns-in-Read-clause-done g c =
     read_task _ IsFresh c.work_in.result c.args.task (streams g.R.Read.remaining g.W.Write.contents (c.args.reader.now, c.args.reader.now) (c.args.writer.now, c.work_in.new.writer)) _ _
     c.in-Read.file c.in-Read.work c.in-Read.is c.work_in.ensures.worked
+
+pub returns-in-Lines-clause-ended : goal.returns-in-Lines-clause-ended
+returns-in-Lines-clause-ended g c =
+    lines_ended _ IsFresh c.answer_lines.result c.args.task (streams g.R.Read.remaining g.W.Write.contents (c.args.reader.now, c.answer_lines.new.reader) (c.args.writer.now, c.answer_lines.new.writer))
+    c.in-Lines.file c.in-Lines.reads c.in-Lines.ends c.in-Lines.is c.answer_lines.ensures.ended
+
+pub returns-in-Import-clause-ended : goal.returns-in-Import-clause-ended
+returns-in-Import-clause-ended g c =
+    import_ended _ IsFresh c.import_plan.result c.args.task (streams g.R.Read.remaining g.W.Write.contents (c.args.reader.now, c.args.reader.now) (c.args.writer.now, c.import_plan.new.writer))
+    c.in-Import.file c.in-Import.plan c.in-Import.is
+
+pub returns-in-AuditWhole-clause-ended : goal.returns-in-AuditWhole-clause-ended
+returns-in-AuditWhole-clause-ended g c =
+    whole_ended _ IsFresh c.audit_whole.result c.args.task (streams g.R.Read.remaining g.W.Write.contents (c.args.reader.now, c.args.reader.now) (c.args.writer.now, c.audit_whole.new.writer))
+    c.in-AuditWhole.file c.in-AuditWhole.counts c.in-AuditWhole.is refl c.audit_whole.ensures.ended
+
+pub returns-in-Read-clause-ended : goal.returns-in-Read-clause-ended
+returns-in-Read-clause-ended g c =
+    read_ended _ IsFresh c.work_in.result c.args.task (streams g.R.Read.remaining g.W.Write.contents (c.args.reader.now, c.args.reader.now) (c.args.writer.now, c.work_in.new.writer))
+    c.in-Read.file c.in-Read.work c.in-Read.is refl c.work_in.ensures.ended

@@ -6,7 +6,7 @@ use Rattle.acd_program.proofs.running.serve_file.Goals as goal
 
 pub returns : goal.returns
 returns g c =
-    both_so c.done_and_closed.result c.serve-conn.result.0 c.close_connection.result _ _ _ c.done_and_closed.ensures c.serve-conn.ensures.served c.close_connection.ensures
+    both_so c.done_and_closed.result c.serve-conn.result.0 c.close_connection.result _ _ _ c.done_and_closed.ensures c.serve-conn.ensures.served c.close_connection.ensures.laid
     (λ served closed. record {
       conn = c.in_ok-conn.conn;
       last = c.serve-conn.result.1;

@@ -1,0 +1,15 @@
+use Rattle.std.proofs.Common.{refl, sym, subst}
+use Rattle.acd_program.specs.Ended.{PrintedOf}
+use Rattle.acd_program.proofs.Ended.{begins_whole, err_always}
+use Rattle.acd_program.proofs.running.print_done.Goals as goal
+
+pub returns-in_err-left-clause-cut : goal.returns-in_err-left-clause-cut
+returns-in_err-left-clause-cut g c =
+    let before : _ = g.W.Write.contents c.args.writer.now in
+    err_always c.from_residual.result _ (subst (λ (x : _). PrintedOf x before before) (sym c.in_err-left.was) refl)
+
+pub returns-in_err-closed-clause-cut : goal.returns-in_err-closed-clause-cut
+returns-in_err-closed-clause-cut g c =
+    let before : _ = g.W.Write.contents c.args.writer.now in
+    let behind : _ = g.W.Write.contents c.print.new.writer in
+    err_always c.from_residual-in_err-closed.result _ (subst (λ (x : _). PrintedOf x before behind) (sym c.in_ok-left.was) (begins_whole before behind _ c.in_ok-status.ensures.ok))
