@@ -1,62 +1,104 @@
--- What is left where a command ends by a fault, step by step.
-use Rattle.std.proofs.Common.{◌≡◌, inl, inr, ℕ, Bool, true, false, List, [], Option, Some, None, Result, Ok, Err, IfOk, OnErr, refl, sym, subst, ◌∙◌, append-nil}
+-- What is left where work, or lines, ended by a fault, step by step.
+use Rattle.std.proofs.Common.{◌≡◌, inl, inr, ℕ, Bool, true, false, List, Option, Result, Ok, Err, IfOk, OnErr, IsTrue, sym, subst}
 use Rattle.std.proofs.lemmas.Result.{on_err_weaker}
-use Rattle.std.specs.Io.KnownBytes.{Appends}
 use Rattle.sqlite_disk.specs.declared.Disk.{Ghosts}
 use Rattle.sqlite_store.specs.declared.store.FileStore.{FileStore}
 use Rattle.sqlite.specs.Held.{Held, state}
 use Rattle.sqlite.specs.State.{State}
-use Rattle.sqlite_trees.specs.declared.store.Store.{Ghosts as Stores}
-use Rattle.acd_desk.specs.declared.desk.Desk.{Desk}
-use Rattle.acd_sqlbook.specs.View.{BookView}
 use Rattle.sqlite.specs.Files.{file_state}
+use Rattle.sqlite_trees.specs.Tree.{Trees}
+use Rattle.sqlite_trees.specs.declared.store.Store.{Ghosts as Stores}
+use Rattle.acd_terms.specs.declared.command.Arrival.{Arrival}
+use Rattle.acd_terms.specs.declared.command.Request.{Request}
 use Rattle.acd_book.specs.State.{BookState}
-use Rattle.acd_io.specs.Sent.{Begins}
-use Rattle.acd_lines.specs.Lines.{Streams, Untouched}
-use Rattle.acd_log.specs.declared.ending.Ending.{Ending}
-use Rattle.acd_program.specs.Ended.{OnlyReads, PrintedOf, IsShut, ReadOver, WasCut}
-use Rattle.acd_program.specs.Found.{IsFindingOf}
+use Rattle.acd_sqlbook.specs.declared.notes.Notes.{Notes}
+use Rattle.acd_sqlbook.specs.Noting.{followed}
+use Rattle.acd_sqlbook.specs.State.{book_state}
+use Rattle.acd_desk.specs.declared.taken.Taken.{Taken}
+use Rattle.acd_desk.specs.Opening.{Opened}
+use Rattle.acd_desk.specs.Ran.{Ran, IsFault}
+use Rattle.acd_desk.specs.Standing.{Standing}
+use Rattle.acd_desk.proofs.Sessions.{session_ran}
+use Rattle.acd_io.specs.Sent.{Breaks}
+use Rattle.acd_lines.specs.Lines.{LinesAnswered, FirstRequests, RequestsAnswered, Streams}
+use Rattle.acd_lines.proofs.Weaker.{requests_so}
 use Rattle.acd_program.specs.Desks.{in_database}
-use Rattle.acd_program.specs.LinesOver.{LinesIn, LinesTold}
-use Rattle.acd_program.specs.Over.{OverConnection, Unserved}
+use Rattle.acd_program.specs.Ended.{IsOfDesk, OnlyReads, IsBegunPlan, IsBegun, StoppedOver, WorkStopped, PrintedOf, IsShut, WorkEnded}
+use Rattle.acd_program.specs.Found.{IsFindingOf}
+use Rattle.acd_program.specs.LinesOver.{in_turn, NoneServed, LinesTold, LinesIn}
+use Rattle.acd_program.specs.Over.{IsSession, OverConnection, Unserved}
+use Rattle.acd_program.specs.Sessions.{SessionTold, DatabaseEnded}
+use Rattle.acd_program.specs.Taking.{IsOf, IsTaken}
 use Rattle.acd_program.specs.Work.{WorkDone, text_left}
-use Rattle.acd_program.specs.Tasks.{IsOpenedFrom, IsSomeEnding, ReadIn, WholeRead, InputEnded, TaskEnded}
 use Rattle.acd_program.specs.declared.fault.Fault.{Fault}
 use Rattle.acd_program.specs.declared.desk.Work.{Work}
-use Rattle.acd_program.specs.declared.desk.Work.TheVariants as book
+use Rattle.acd_program.specs.declared.desk.Work.TheVariants.{Import, Tell, Audit}
 use Rattle.acd_program.specs.declared.desk.Done.{Done}
-use Rattle.acd_program.specs.declared.task.Task.{Task}
-use Rattle.acd_program.specs.declared.task.Task.TheVariants as task
 use Rattle.acd_program.proofs.InFiles.{over_makes}
 use Rattle.acd_program.proofs.LinesOver.{over_made}
-use Rattle.acd_program.proofs.Taking.{unserved_makes}
-
--- what was written whole is a beginning of itself
-pub begins_whole : (a b : Option (List ℕ)) (text : List ℕ) → Appends a b text → Begins a b text
-begins_whole a b text h = record { front = text; rest = []; whole = sym (append-nil text); written = h }
+use Rattle.acd_program.proofs.Over.{session_of, over_connection}
+use Rattle.acd_program.proofs.Taking.{unserved_asked, unserved_makes}
 
 pub err_always : {A F : Type 0} (r : Result A F) (P : Type 0) → P → OnErr r P
 err_always (Ok x) P h = tt
 err_always (Err e) P h = h
 
+-- ---- the requests of a plan
+
+-- a desk of the book took the first of them
+pub begun_by : (old : BookState) (d e : Standing) (requests : List Request) (before behind : Option (List ℕ)) → Opened old d
+    → LinesAnswered (FirstRequests requests) (RequestsAnswered (λ (l : List Arrival) (ts : List Taken). Ran d l ts e)) (Breaks before behind) → IsBegunPlan requests before behind old e.book
+begun_by old d e requests before behind opened h =
+    requests_so (FirstRequests requests) (λ (l : List Arrival) (ts : List Taken). Ran d l ts e) (IsSession old e.book) (Breaks before behind) (λ l ts ran. session_ran IsFault old d e l ts opened ran ran.later) h
+
+-- over a book that came of another
+begun_of : (work : Work) (old mid new : BookState) (before behind : Option (List ℕ)) → IsOf old mid → IsBegun work before behind mid new → IsBegun work before behind old new
+begun_of (Import requests) old mid new before behind of h =
+    requests_so (FirstRequests requests.now) (IsSession mid new) (IsSession old new) (Breaks before behind) (λ l ts s. session_of IsFault old mid new l ts of s) h
+begun_of (Tell telling) old mid new before behind of h = h
+begun_of (Audit counts ending) old mid new before behind of h = h
+
+-- ---- over a connection
+
+-- the work over the book that was taken of the database
+pub stopped_in : {E : Type 0} (r : Result Done E) (work : Work) (makes : Bool) (s t : State) (mid : BookState) (noted : Notes) (failures : ℕ) (before behind : Option (List ℕ))
+    → ((db : Trees) → IsTrue s.is_open → s.may_leave db → db ≡ s.committed.trees) → IsTaken makes s mid
+    → OnErr r (StoppedOver work before behind mid (followed noted (book_state t failures))) → OnErr r (WorkStopped work makes s t before behind)
+stopped_in r work makes s t mid noted failures before behind settles taken h =
+    let new : BookState = followed noted (book_state t failures) in
+    on_err_weaker r (λ stopped. elim stopped [
+      | inl none ↦ inl (unserved_asked makes s t mid noted failures settles taken none.0, none.1)
+      | inr begun ↦ inr (over_connection (IsBegun work before behind) makes s t mid noted failures (λ old of is. begun_of work old mid new before behind of is) taken begun)
+    ]) h
+
 module _ {D : Type 0} {g : Ghosts D} where
-  -- work that only reads, by what it left and what was printed behind it
-  pub read_over : {F : Type 0} (r : Result ℕ F) (work : Work) (makes : Bool) (conn last : Held (FileStore D g)) (done : Result Done F) (before between behind : Option (List ℕ))
+  -- the connection was shut, and what was left of the work printed
+  pub work_ended : {F : Type 0} (r : Result ℕ F) (work : Work) (makes : Bool) (conn last : Held (FileStore D g)) (done : Result Done F) (before between behind : Option (List ℕ))
       → IfOk done (λ (left : Done). OverConnection (λ (old new : BookState). WorkDone IsFindingOf work old before between left new) makes (file_state conn) (file_state last))
-      → Unserved makes (file_state conn) (file_state last) → IsShut last → between ≡ before → OnErr r (PrintedOf done between behind) → OnErr r (ReadOver makes work conn before behind)
-  read_over (Ok status) work makes conn last done before between behind d u shut same p = tt
-  read_over (Err e) work makes conn last (Err fault) before between behind d u shut same p = record { last = last; unserved = u; shut = shut; printed = inl (p ∙ same) }
-  read_over (Err e) work makes conn last (Ok left) before between behind d u shut same p =
-      record { last = last; unserved = u; shut = shut; printed = inr (record { left = left; between = between; done = d; printed = p }) }
+      → OnErr done (WorkStopped work makes (file_state conn) (file_state last) before between)
+      → (OnlyReads work → Unserved makes (file_state conn) (file_state last)) → IsShut last → OnErr r (PrintedOf done between behind) → OnErr r (WorkEnded makes work conn before behind)
+  work_ended (Ok status) work makes conn last done before between behind d s kept shut p = tt
+  work_ended (Err e) work makes conn last (Err fault) before between behind d s kept shut p = record {
+    last = last;
+    shut = shut;
+    kept = kept;
+    left = inl (subst (λ (x : Option (List ℕ)). WorkStopped work makes (file_state conn) (file_state last) before x) (sym p) s);
+  }
+  work_ended (Err e) work makes conn last (Ok left) before between behind d s kept shut p =
+      record { last = last; shut = shut; kept = kept; left = inr (record { left = left; between = between; done = d; printed = p }) }
 
   -- where it was known whether the file was new
-  read_makes : (is_new makes : Bool) (work : Work) (conn : Held (FileStore D g)) (before behind : Option (List ℕ)) → (is_new ≡ true → makes ≡ true) → ReadOver is_new work conn before behind → ReadOver makes work conn before behind
-  read_makes is_new makes work conn before behind may h = record {
+  pub work_makes : (is_new makes : Bool) (work : Work) (conn : Held (FileStore D g)) (before behind : Option (List ℕ)) → (is_new ≡ true → makes ≡ true)
+      → WorkEnded is_new work conn before behind → WorkEnded makes work conn before behind
+  work_makes is_new makes work conn before behind may h = record {
     last = h.last;
-    unserved = unserved_makes is_new makes (file_state conn) (file_state h.last) may h.unserved;
     shut = h.shut;
-    printed = elim h.printed [
-      | inl none ↦ inl none
+    kept = λ reads. unserved_makes is_new makes (file_state conn) (file_state h.last) may (h.kept reads);
+    left = elim h.left [
+      | inl stopped ↦ inl (elim stopped [
+        | inl none ↦ inl (unserved_makes is_new makes (file_state conn) (file_state h.last) may none.0, none.1)
+        | inr begun ↦ inr (over_makes (IsBegun work before behind) is_new makes (file_state conn) (file_state h.last) may begun)
+      ])
       | inr cut ↦ inr (record {
           left = cut.left;
           between = cut.between;
@@ -66,32 +108,17 @@ module _ {D : Type 0} {g : Ghosts D} where
     ];
   }
 
-  pub read_from : {F : Type 0} (IsFresh : Bool → D → Type 0) (r : Result ℕ F) (is_new makes : Bool) (work : Work) (conn : Held (FileStore D g)) (before behind : Option (List ℕ)) → IsOpenedFrom g IsFresh conn → (is_new ≡ true → makes ≡ true)
-      → OnErr r (ReadOver is_new work conn before behind) → OnErr r (ReadIn g IsFresh makes work before behind)
-  read_from IsFresh r is_new makes work conn before behind opened may h = on_err_weaker r (λ over. inr (conn, opened, read_makes is_new makes work conn before behind may over)) h
+-- ---- lines over a database, where it was known whether it was new
 
--- that a new book may be made was known
-pub lines_made : {S : Type 0} (store : Stores S) (T : Desk (BookView S) → Desk (BookView S) → List (List ℕ) → List (List ℕ) → Type 0) (is_new makes ends : Bool) (io : Streams) (s : State) (r : Result (Unit {0}) Fault) (conn : Held S) → (is_new ≡ true → makes ≡ true)
-    → LinesIn store T is_new ends io s r conn → LinesIn store T makes ends io s r conn
-lines_made store T is_new makes ends io s r conn may (inl none) = inl (record { why = none.why; told = none.told; unserved = unserved_makes is_new makes s (state store conn) may none.unserved; untouched = none.untouched })
-lines_made store T is_new makes ends io s r conn may (inr some) = inr (over_made store is_new makes (LinesTold (in_database store) T ends io r) s conn may some)
+module _ {S : Type 0} (store : Stores S) (is_new makes ends : Bool) (io : Streams) (s : State) (r : Result (Unit {0}) Fault) (conn : Held S) (may : is_new ≡ true → makes ≡ true) where
+  none_made : (T : _) → NoneServed store T is_new ends io s r conn → NoneServed store T makes ends io s r conn
+  none_made T none = record { why = none.why; told = none.told; unserved = unserved_makes is_new makes s (state store conn) may none.unserved; untouched = none.untouched }
 
--- ---- by what the command line asks for
+  lines_made : (T : _) → LinesIn store T is_new ends io s r conn → LinesIn store T makes ends io s r conn
+  lines_made T (inl none) = inl (none_made T none)
+  lines_made T (inr some) = inr (over_made store is_new makes (LinesTold (in_database store) T ends io r) s conn may some)
 
-module _ {D F : Type 0} (disk : Ghosts D) (IsFresh : Bool → D → Type 0) (r : Result ℕ F) (asked : Task) (io : Streams) where
-  pub lines_ended : (file : _) (reads ends : Bool) → asked ≡ task.Lines file reads ends → OnErr r (InputEnded disk IsFresh file reads ends io) → OnErr r (TaskEnded disk IsFresh asked io)
-  lines_ended file reads ends is h = on_err_weaker r (λ ended. subst (λ (t : Task). TaskEnded disk IsFresh t io) (sym is) ended) h
-
-  read_ends : (file : _) (work : Work) → io.unread → (OnlyReads work → OnErr r (ReadIn disk IsFresh false work io.before io.behind)) → OnErr r (TaskEnded disk IsFresh (task.Read file work) io)
-  read_ends file (book.Import requests) unread h = err_always r _ tt
-  read_ends file (book.Tell telling) unread h = on_err_weaker r (λ ended. (unread, ended)) (h tt)
-  read_ends file (book.Audit counts ending) unread h = on_err_weaker r (λ ended. (unread, ended)) (h tt)
-
-  pub read_ended : (file : _) (work : Work) → asked ≡ task.Read file work → io.unread → (OnlyReads work → OnErr r (ReadIn disk IsFresh false work io.before io.behind)) → OnErr r (TaskEnded disk IsFresh asked io)
-  read_ended file work is unread h = subst (λ (t : Task). OnErr r (TaskEnded disk IsFresh t io)) (sym is) (read_ends file work unread h)
-
-  pub whole_ended : (file : _) (counts : Bool) → asked ≡ task.AuditWhole file counts → io.unread → OnErr r (WholeRead disk IsFresh counts io.before io.behind) → OnErr r (TaskEnded disk IsFresh asked io)
-  whole_ended file counts is unread h = on_err_weaker r (λ ended. subst (λ (t : Task). TaskEnded disk IsFresh t io) (sym is) (unread, ended)) h
-
-  pub import_ended : (file plan : _) → asked ≡ task.Import file plan → OnErr r (TaskEnded disk IsFresh asked io)
-  import_ended file plan is = err_always r _ (subst (λ (t : Task). TaskEnded disk IsFresh t io) (sym is) tt)
+  pub ended_made : (reads : Bool) → DatabaseEnded store is_new reads ends io s r conn → DatabaseEnded store makes reads ends io s r conn
+  ended_made true h = lines_made _ h
+  ended_made false (inl none) = inl (none_made (in_turn false (in_database store)) none)
+  ended_made false (inr some) = inr (over_makes (SessionTold ends io r) is_new makes s (state store conn) may some)

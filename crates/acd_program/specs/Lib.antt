@@ -14,3 +14,4 @@ pub mod Sessions
 pub mod Tasks
 pub mod Names
 pub mod Ended
+pub mod TasksEnded

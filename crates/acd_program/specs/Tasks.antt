@@ -1,5 +1,5 @@
 -- What was done, by what a command line asked for.
-use Rattle.std.specs.Prelude.{◌≡◌, ◌⊎◌, ℕ, Bool, true, false, List, Option, Some, None, Result, Ok, Err}
+use Rattle.std.specs.Prelude.{◌≡◌, ℕ, Bool, true, false, List, Option, Some, None, Ok}
 use Rattle.std.specs.Io.KnownBytes.{Appends}
 use Rattle.sqlite_disk.specs.declared.Disk.{Ghosts}
 use Rattle.sqlite_disk.specs.declared.Files.{Files}
@@ -9,16 +9,14 @@ use Rattle.sqlite.specs.Files.{over_files, file_state}
 use Rattle.acd_terms.specs.declared.command.Request.{Request}
 use Rattle.acd_book.specs.State.{BookState}
 use Rattle.acd_reports.specs.Plan.{plan_requests}
-use Rattle.acd_lines.specs.Lines.{Streams, Untouched}
-use Rattle.acd_lines.specs.declared.fault.LinesFault.{LinesFault}
+use Rattle.acd_lines.specs.Lines.{Streams}
 use Rattle.acd_log.specs.declared.ending.Ending.{Ending}
 use Rattle.acd_log.specs.Ending.{IsEndingOf}
 use Rattle.acd_http.specs.ReadingLines.{ReadInTurn}
 use Rattle.acd_program.specs.Answered.{AnswersAll, in_memory}
 use Rattle.acd_program.specs.Desks.{OverNewDesk, OverDatabase, in_database}
-use Rattle.acd_program.specs.LinesOver.{in_turn, DatabaseAnswered, LinesIn, LinesInMemory, Whole}
+use Rattle.acd_program.specs.LinesOver.{DatabaseAnswered, Whole}
 use Rattle.acd_program.specs.Over.{OverConnection}
-use Rattle.acd_program.specs.Ended.{IsShut, ReadOver}
 use Rattle.acd_program.specs.Found.{IsFindingOf, HasCount, finding_line}
 use Rattle.acd_program.specs.Statuses.{finding_status}
 use Rattle.acd_program.specs.Work.{WasAsked, IsTextOf, ImportsOver}
@@ -26,7 +24,6 @@ use Rattle.acd_program.specs.Files.{IsOpenedIn}
 use Rattle.acd_program.specs.InFiles.{IsLaidIn, WorkedOver}
 use Rattle.acd_program.specs.Serving.{Served}
 use Rattle.acd_program.specs.declared.auditing.Finding.{Finding}
-use Rattle.acd_program.specs.declared.fault.Fault.{Fault}
 use Rattle.acd_program.specs.declared.desk.Work.{Work}
 use Rattle.acd_program.specs.declared.desk.Work.TheVariants as kind
 use Rattle.acd_program.specs.declared.task.Task.{Task}
@@ -114,36 +111,3 @@ module _ {D : Type 0} (disk : Ghosts D) (IsFresh : Bool → D → Type 0) where
   -- one of the tasks was done so
   abbrev pub SomeTaskDone : Streams → Option (List ℕ) → Option (List ℕ) → ℕ → Type 0
   SomeTaskDone io mute told status = (task : Task) × TaskDone task io mute told status
-
-  -- Work that only reads ended by a fault. No connection was made, and nothing was printed; or one was.
-  abbrev pub ReadIn : Bool → Work → Option (List ℕ) → Option (List ℕ) → Type 0
-  ReadIn makes work before behind = (behind ≡ before) ⊎ ((conn : OfFiles) × IsOpenedFrom conn × ReadOver makes work conn before behind)
-
-  -- so an audit did, of a file whose log had ended so before
-  abbrev pub WholeRead : Bool → Option (List ℕ) → Option (List ℕ) → Type 0
-  WholeRead counts before behind = (behind ≡ before) ⊎ ((ending : Ending) × IsSomeEnding ending × ReadIn false (kind.Audit counts ending) before behind)
-
-  -- A fault ended the lines over a file. No connection was made, and nothing was read or written; or one was: its lines ended so, or closing it did, and it was shut.
-  pub record LinesOverFile (reads ends : Bool) (io : Streams) : Type 0 where
-    pub conn : OfFiles
-    pub last : OfFiles
-    pub opened : IsOpenedFrom conn
-    pub ended : Result (Unit {0}) Fault
-    pub lines : LinesIn over_files (in_turn reads (in_database over_files)) true ends io (file_state conn) ended last
-    pub shut : IsShut last
-
-  -- so it is over a file that was named, and else over a desk in memory
-  abbrev pub InputEnded : {Name : Type 0} → Option Name → Bool → Bool → Streams → Type 0
-  InputEnded None reads ends io = (why : LinesFault) × LinesInMemory (in_turn reads in_memory) io (Err why)
-  InputEnded (Some file) reads ends io = Untouched io ⊎ LinesOverFile reads ends io
-
-  -- A fault ended the task. Of those that only read this is said: nothing was read of the input and nothing executed, and what was written is a beginning of what was found. Of lines: what was
-  -- answered, what of that was written, and what a reopening finds. Of the others nothing is said.
-  abbrev pub TaskEnded : Task → Streams → Type 0
-  TaskEnded (Lines file reads ends) io = InputEnded file reads ends io
-  TaskEnded (Serve file port connections) io = Unit {0}
-  TaskEnded (Import file plan) io = Unit {0}
-  TaskEnded (Read file (kind.Import requests)) io = Unit {0}
-  TaskEnded (Read file (kind.Tell telling)) io = io.unread × ReadIn false (kind.Tell telling) io.before io.behind
-  TaskEnded (Read file (kind.Audit counts ending)) io = io.unread × ReadIn false (kind.Audit counts ending) io.before io.behind
-  TaskEnded (AuditWhole file counts) io = io.unread × WholeRead counts io.before io.behind

@@ -1,17 +1,18 @@
 //! The program over three streams.
 
-ghost use Rattle.std.specs.Prelude.{◌≡◌, ◌≢◌, ◌≤◌, ◌⊎◌, false, Ok, IfOk, OnOk, OnErr};
+ghost use Rattle.std.specs.Prelude.{◌≡◌, ◌≢◌, ◌≤◌, ◌⊎◌, false, Ok, Err, IfOk, IfErr, OnOk, OnErr};
 ghost use Rattle.sqlite_std_file.specs.File.{IsFresh};
 ghost use Rattle.acd_lines.specs.Lines.{streams, Untouched};
 ghost use Rattle.acd_program.specs.Answered.{in_memory};
 ghost use Rattle.acd_program.specs.Desks.{OverNewDesk};
-ghost use Rattle.acd_program.specs.Ended.{OnlyReads, PrintedOf, ReadOver};
-ghost use Rattle.acd_program.specs.LinesOver.{in_turn, LinesInMemory, Whole};
+ghost use Rattle.acd_program.specs.Ended.{IsOfDesk, PrintedOf, WorkEnded};
+ghost use Rattle.acd_program.specs.LinesOver.{in_turn, Whole};
+ghost use Rattle.acd_program.specs.Sessions.{MemoryEnded};
 ghost use Rattle.acd_program.specs.Statuses.{IsDone, fault_status, TellsConnections};
 ghost use Rattle.acd_program.specs.Work.{IsPrinted};
 ghost use Rattle.acd_program.specs.InFiles.{WorkedOver};
-ghost use Rattle.acd_program.specs.Tasks.{ReadIn, WholeRead, LinesOverFile, InputEnded, TaskEnded};
 ghost use Rattle.acd_program.specs.Tasks.{WorkedIn, FileAnswered, InputAnswered, ImportedIn, ServedIn, WholeAudit, TaskDone, SomeTaskDone};
+ghost use Rattle.acd_program.specs.TasksEnded.{EndedIn, LinesLeft, ServiceLeft, PlanLeft, AuditLeft, InputEnded, TaskEnded, SomeTaskEnded};
 
 use crate::connection::database_lines;
 use crate::desk::{Done, Work, over_database};
@@ -49,7 +50,9 @@ fn done_and_closed<'a>(
     done: Result<(), Fault<'a>>,
     closed: Result<(), Fault<'a>>,
 ) -> Result<(), Fault<'a>>
-    ensures { OnOk result ((done.entry ≡ Ok tt) × (closed.entry ≡ Ok tt)) }
+    ensures both { OnOk result ((done.entry ≡ Ok tt) × (closed.entry ≡ Ok tt)) }
+    ensures first { IfErr result (λ fault. (done.entry ≡ Err fault)
+        ⊎ ((done.entry ≡ Ok tt) × (closed.entry ≡ Err fault))) }
 {
     done?;
     closed?;
@@ -69,8 +72,9 @@ fn work_over<'a, D: Disk + Drop, W: Write>(
     ensures worked { IfOk result
         (λ status. WorkedOver makes work.entry conn (W.contents writer.old)
         (W.contents writer.new) status) }
-    ensures ended { OnlyReads work.entry → OnErr result
-        (ReadOver makes work.entry conn (W.contents writer.old) (W.contents writer.new)) }
+    ensures ended { OnErr result
+        (WorkEnded makes work.entry conn (W.contents writer.old) (W.contents writer.new)) }
+    ensures late { IfErr result IsOfDesk }
 {
     let (done, conn) = over_database(rt, conn, makes, work, writer);
     print_done(done, close_connection(conn), writer)
@@ -89,9 +93,9 @@ fn work_in<'a, S: Start, W: Write>(
     ensures worked { IfOk result
         (λ status. WorkedIn ⟦<FileFrom<S> as Disk>⟧ IsFresh makes work.entry
         (W.contents writer.old) (W.contents writer.new) status) }
-    ensures ended { OnlyReads work.entry → OnErr result
-        (ReadIn ⟦<FileFrom<S> as Disk>⟧ IsFresh makes work.entry (W.contents writer.old)
-        (W.contents writer.new)) }
+    ensures ended { IfErr result (λ fault.
+        EndedIn ⟦<FileFrom<S> as Disk>⟧ IsFresh fault (writer.new ≡ writer.old) (λ conn.
+        WorkEnded makes work.entry conn (W.contents writer.old) (W.contents writer.new))) }
 {
     let (conn, is_new) = connect(rt, file, makes, start)?;
     work_over(rt, conn, is_new, work, writer)
@@ -109,10 +113,8 @@ fn lines_in<'a, S: Start, R: Read, W: Write>(
 ) -> Result<(), Fault<'a>>
     ensures answered { OnOk result (FileAnswered ⟦<FileFrom<S> as Disk>⟧ IsFresh reads ends
         (streams R.remaining W.contents (reader.old, reader.new) (writer.old, writer.new))) }
-    ensures ended { OnErr result
-        (Untouched (streams R.remaining W.contents (reader.old, reader.new)
-        (writer.old, writer.new))
-        ⊎ LinesOverFile ⟦<FileFrom<S> as Disk>⟧ IsFresh reads ends
+    ensures ended { IfErr result
+        (InputEnded ⟦<FileFrom<S> as Disk>⟧ IsFresh (Some file.now) reads ends
         (streams R.remaining W.contents (reader.old, reader.new) (writer.old, writer.new))) }
 {
     let (conn, is_new) = connect(rt, file, true, start)?;
@@ -129,9 +131,8 @@ fn lines_in_memory<R: Read, W: Write>(
 ) -> Result<(), LinesFault>
     ensures answered { OnOk result (OverNewDesk (Whole in_memory (in_turn reads in_memory) false
         (streams R.remaining W.contents (reader.old, reader.new) (writer.old, writer.new)))) }
-    ensures told { LinesInMemory (in_turn reads in_memory)
-        (streams R.remaining W.contents (reader.old, reader.new) (writer.old, writer.new))
-        result }
+    ensures ended { IfErr result (MemoryEnded reads
+        (streams R.remaining W.contents (reader.old, reader.new) (writer.old, writer.new))) }
 {
     if reads {
         let mut lines = RequestsAndReads::new(alloc)?;
@@ -155,7 +156,7 @@ fn answer_lines<'a, S: Start, R: Read, W: Write>(
         (λ status. InputAnswered ⟦<FileFrom<S> as Disk>⟧ IsFresh file.entry reads ends
         (streams R.remaining W.contents (reader.old, reader.new) (writer.old, writer.new))
         status) }
-    ensures ended { OnErr result
+    ensures ended { IfErr result
         (InputEnded ⟦<FileFrom<S> as Disk>⟧ IsFresh file.entry reads ends
         (streams R.remaining W.contents (reader.old, reader.new) (writer.old, writer.new))) }
 {
@@ -183,6 +184,10 @@ fn import_plan<'a, S: Start, W: Write>(
     ensures imported { IfOk result
         (λ status. ImportedIn ⟦<FileFrom<S> as Disk>⟧ IsFresh (W.contents writer.old)
         (W.contents writer.new) status) }
+    ensures ended { IfErr result (λ fault.
+        EndedIn ⟦<FileFrom<S> as Disk>⟧ IsFresh fault (writer.new ≡ writer.old)
+        (PlanLeft ⟦<FileFrom<S> as Disk>⟧ IsFresh (W.contents writer.old)
+        (W.contents writer.new))) }
 {
     let requests = read_plan(rt, plan)?;
     work_in(rt, start, file, true, Work::Import(&requests), writer)
@@ -200,9 +205,10 @@ fn audit_whole<'a, S: Start, W: Write>(
     ensures audited { IfOk result
         (λ status. WholeAudit ⟦<FileFrom<S> as Disk>⟧ IsFresh counts (W.contents writer.old)
         (W.contents writer.new) status) }
-    ensures ended { OnErr result
-        (WholeRead ⟦<FileFrom<S> as Disk>⟧ IsFresh counts (W.contents writer.old)
-        (W.contents writer.new)) }
+    ensures ended { IfErr result (λ fault.
+        EndedIn ⟦<FileFrom<S> as Disk>⟧ IsFresh fault (writer.new ≡ writer.old)
+        (AuditLeft ⟦<FileFrom<S> as Disk>⟧ IsFresh counts (W.contents writer.old)
+        (W.contents writer.new))) }
 {
     let ending = log_ending(rt, file)?;
     work_in(
@@ -224,9 +230,13 @@ fn serve_file<'a, S: Start, W: Write, E: Write>(
     writer: &mut W,
     errors: &mut E,
 ) -> Result<(), Fault<'a>>
-    ensures { OnOk result
+    ensures served { OnOk result
         (ServedIn ⟦<FileFrom<S> as Disk>⟧ IsFresh connections (E.contents errors.old)
         (E.contents errors.new)) }
+    ensures ended { IfErr result (λ fault. EndedIn ⟦<FileFrom<S> as Disk>⟧ IsFresh fault
+        ((writer.new ≡ writer.old) × (E.contents errors.new ≡ E.contents errors.old))
+        (ServiceLeft ⟦<FileFrom<S> as Disk>⟧ IsFresh connections port (W.contents writer.old)
+        (W.contents writer.new) (E.contents errors.old) (E.contents errors.new) fault)) }
 {
     let (conn, is_new) = connect(rt, file, true, start)?;
     let (done, conn) = serve(rt, conn, is_new, port, connections, writer, errors);
@@ -245,6 +255,8 @@ fn print_done<'a, W: Write>(
         status) }
     ensures cut { OnErr result
         (PrintedOf done.entry (W.contents writer.old) (W.contents writer.new)) }
+    ensures first { IfErr result
+        (λ fault. (done.entry ≡ Err fault) ⊎ ((fault ≡ Fault.Write) ⊎ (closed.entry ≡ Err fault))) }
 {
     let left = done?;
     let status = print(&left, writer)?;
@@ -271,8 +283,12 @@ fn execute<'a, S: Start, R: Read, W: Write, E: Write>(
         (λ status. (errors.new ≡ errors.old)
         ⊎ ((status ≡ 0) × TellsConnections (E.contents errors.old) (E.contents errors.new))) }
     // where a fault ended it
-    ensures ended { OnErr result (TaskEnded ⟦<FileFrom<S> as Disk>⟧ IsFresh task.entry
-        (streams R.remaining W.contents (reader.old, reader.new) (writer.old, writer.new))) }
+    ensures ended { IfErr result (TaskEnded ⟦<FileFrom<S> as Disk>⟧ IsFresh task.entry
+        (streams R.remaining W.contents (reader.old, reader.new) (writer.old, writer.new))
+        (E.contents errors.old) (E.contents errors.new)) }
+    // that another program has the file is found before anything is read or written
+    ensures elsewhere { IfErr result (λ fault. fault_status fault ≡ 4
+        → (reader.new ≡ reader.old) × (writer.new ≡ writer.old)) }
 {
     match task {
         Task::Lines { file, reads, ends } => {
@@ -353,6 +369,14 @@ pub fn program<S: AsStr, R: Read, W: Write, E: Write>(
         ⊎ SomeTaskDone ⟦<FileFrom<Unknown> as Disk>⟧ IsFresh
         (streams R.remaining W.contents (reader.old, reader.new) (writer.old, writer.new))
         (E.contents errors.old) (E.contents errors.new) result }
+    // a fault ended a task, or nothing was done, and nothing was read
+    ensures ended { (result ≡ 1) ⊎ (result ≡ 4) → (reader.new ≡ reader.old)
+        ⊎ SomeTaskEnded ⟦<FileFrom<Unknown> as Disk>⟧ IsFresh
+        (streams R.remaining W.contents (reader.old, reader.new) (writer.old, writer.new))
+        (E.contents errors.old) result }
+    // nothing was read or written where another program has the file
+    ensures elsewhere { result ≡ 4
+        → (reader.new ≡ reader.old) × (writer.new ≡ writer.old) }
 {
     let task = match parse(rt.alloc(), words) {
         Ok(task) => task,

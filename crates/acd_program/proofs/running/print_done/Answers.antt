@@ -1,6 +1,7 @@
 use Rattle.std.proofs.Common.{refl, sym, subst}
 use Rattle.acd_program.specs.Ended.{PrintedOf}
-use Rattle.acd_program.proofs.Ended.{begins_whole, err_always}
+use Rattle.acd_program.proofs.Ended.{err_always}
+use Rattle.acd_program.proofs.Served.{begins_whole}
 use Rattle.acd_program.proofs.running.print_done.Goals as goal
 
 pub returns-in_err-left-clause-cut : goal.returns-in_err-left-clause-cut

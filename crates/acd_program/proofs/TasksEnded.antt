@@ -1,0 +1,85 @@
+-- What is left where a fault ended a task, by what its parts left.
+use Rattle.std.proofs.Common.{◌≡◌, inl, inr, ℕ, Bool, true, false, List, Option, Some, None, Result, Ok, Err, IfErr, OnErr, refl, sym, subst}
+use Rattle.std.proofs.lemmas.Result.{IfErr-weaker}
+use Rattle.sqlite_disk.specs.declared.Disk.{Ghosts}
+use Rattle.sqlite_store.specs.declared.store.FileStore.{FileStore}
+use Rattle.sqlite.specs.Held.{Held}
+use Rattle.acd_lines.specs.Lines.{Streams}
+use Rattle.acd_program.specs.Ended.{IsOfOpening, IsOfDesk, IsOfClosing, EndsBy, WorkEnded}
+use Rattle.acd_program.specs.Statuses.{fault_status}
+use Rattle.acd_program.specs.Tasks.{IsOpenedFrom}
+use Rattle.acd_program.specs.TasksEnded.{EndedIn, InputEnded, PlanLeft, AuditLeft, ServiceLeft, TaskEnded}
+use Rattle.acd_program.specs.declared.fault.Fault.{Fault}
+use Rattle.acd_program.specs.declared.desk.Work.{Work}
+use Rattle.acd_program.specs.declared.task.Task.{Task}
+use Rattle.acd_program.specs.declared.task.Task.TheVariants as task
+use Rattle.acd_program.proofs.Ended.{work_makes}
+use Rattle.acd_program.proofs.Kinds.{lines_late, late_as, never_elsewhere}
+
+-- what ended the work goes before what closing met
+pub ends_by : (r done closed : Result (Unit {0}) Fault) → IfErr r (λ (fault : Fault). (done ≡ Err fault) ⊎ ((done ≡ Ok tt) × (closed ≡ Err fault))) → IfErr closed IsOfClosing → IfErr r (EndsBy done)
+ends_by (Ok u) done closed h known = tt
+ends_by (Err fault) done closed (inl is) known = inl is
+ends_by (Err fault) done closed (inr is) known = inr (is.0, subst (λ (x : Result (Unit {0}) Fault). IfErr x IsOfClosing) is.1 known)
+
+module _ {D : Type 0} (disk : Ghosts D) (IsFresh : Bool → D → Type 0) where
+  -- over the connection that was opened, this was left
+  pub ended_over : {A : Type 0} (r : Result A Fault) (conn : Held (FileStore D disk)) (Untouched : Type 0) (Left : Fault → Held (FileStore D disk) → Type 0) → IsOpenedFrom disk IsFresh conn
+      → IfErr r IsOfDesk → IfErr r (λ (fault : Fault). Left fault conn) → IfErr r (λ (fault : Fault). EndedIn disk IsFresh fault Untouched (Left fault))
+  ended_over (Ok x) conn Untouched Left opened late h = tt
+  ended_over (Err fault) conn Untouched Left opened late h = inr (conn, opened, late, h)
+
+  -- what follows from what was left
+  ended_so : (fault : Fault) (Untouched : Type 0) (P Q : Held (FileStore D disk) → Type 0) → ((conn : Held (FileStore D disk)) → P conn → Q conn) → EndedIn disk IsFresh fault Untouched P → EndedIn disk IsFresh fault Untouched Q
+  ended_so fault Untouched P Q follows (inl none) = inl none
+  ended_so fault Untouched P Q follows (inr some) = inr (some.0, some.1, some.2, follows some.0 some.3)
+
+  pub err_so : {A : Type 0} (r : Result A Fault) (Untouched : Type 0) (P Q : Held (FileStore D disk) → Type 0) → ((conn : Held (FileStore D disk)) → P conn → Q conn)
+      → IfErr r (λ (fault : Fault). EndedIn disk IsFresh fault Untouched P) → IfErr r (λ (fault : Fault). EndedIn disk IsFresh fault Untouched Q)
+  err_so r Untouched P Q follows h = IfErr-weaker r _ _ (λ fault ended. ended_so fault Untouched P Q follows ended) h
+
+  -- work over the connection that was opened
+  pub work_from : {A : Type 0} (r : Result A Fault) (is_new makes : Bool) (work : Work) (conn : Held (FileStore D disk)) (before behind : Option (List ℕ)) (Untouched : Type 0) → IsOpenedFrom disk IsFresh conn → (is_new ≡ true → makes ≡ true)
+      → IfErr r IsOfDesk → OnErr r (WorkEnded is_new work conn before behind) → IfErr r (λ (fault : Fault). EndedIn disk IsFresh fault Untouched (λ (c : Held (FileStore D disk)). WorkEnded makes work c before behind))
+  work_from (Ok x) is_new makes work conn before behind Untouched opened may late h = tt
+  work_from (Err fault) is_new makes work conn before behind Untouched opened may late h = inr (conn, opened, late, work_makes is_new makes work conn before behind may h)
+
+  -- ---- by what the command line asks for
+
+  module _ {A : Type 0} (r : Result A Fault) (asked : Task) (io : Streams) (mute told : Option (List ℕ)) where
+    Ended : Type 0
+    Ended = IfErr r (TaskEnded disk IsFresh asked io mute told)
+
+    task_ended : (given : Task) → asked ≡ given → IfErr r (TaskEnded disk IsFresh given io mute told) → Ended
+    task_ended given is h = subst (λ (t : Task). IfErr r (TaskEnded disk IsFresh t io mute told)) (sym is) h
+
+    pub lines_ended : (file : _) (reads ends : Bool) → asked ≡ task.Lines file reads ends → told ≡ mute → IfErr r (InputEnded disk IsFresh file reads ends io) → Ended
+    lines_ended file reads ends is quiet h = task_ended (task.Lines file reads ends) is (IfErr-weaker r _ _ (λ fault ended. (quiet, ended)) h)
+
+    pub service_ended : (file port : _) (connections : Option ℕ) → asked ≡ task.Serve file port connections → io.unread
+        → IfErr r (λ (fault : Fault). EndedIn disk IsFresh fault (io.unwritten × (told ≡ mute)) (ServiceLeft disk IsFresh connections port io.before io.behind mute told fault)) → Ended
+    service_ended file port connections is unread h = task_ended (task.Serve file port connections) is (IfErr-weaker r _ _ (λ fault ended. (unread, ended)) h)
+
+    pub import_ended : (file plan : _) → asked ≡ task.Import file plan → io.unread → told ≡ mute → IfErr r (λ (fault : Fault). EndedIn disk IsFresh fault io.unwritten (PlanLeft disk IsFresh io.before io.behind)) → Ended
+    import_ended file plan is unread quiet h = task_ended (task.Import file plan) is (IfErr-weaker r _ _ (λ fault ended. (unread, quiet, ended)) h)
+
+    pub read_ended : (file : _) (work : Work) → asked ≡ task.Read file work → io.unread → told ≡ mute
+        → IfErr r (λ (fault : Fault). EndedIn disk IsFresh fault io.unwritten (λ (c : Held (FileStore D disk)). WorkEnded false work c io.before io.behind)) → Ended
+    read_ended file work is unread quiet h = task_ended (task.Read file work) is (IfErr-weaker r _ _ (λ fault ended. (unread, quiet, ended)) h)
+
+    pub whole_ended : (file : _) (counts : Bool) → asked ≡ task.AuditWhole file counts → io.unread → told ≡ mute → IfErr r (λ (fault : Fault). EndedIn disk IsFresh fault io.unwritten (AuditLeft disk IsFresh counts io.before io.behind)) → Ended
+    whole_ended file counts is unread quiet h = task_ended (task.AuditWhole file counts) is (IfErr-weaker r _ _ (λ fault ended. (unread, quiet, ended)) h)
+
+  -- ---- where another program has the file
+
+  opened_elsewhere : (fault : Fault) (Untouched : Type 0) (Left : Held (FileStore D disk) → Type 0) → fault_status fault ≡ 4 → EndedIn disk IsFresh fault Untouched Left → Untouched
+  opened_elsewhere fault Untouched Left is (inl none) = none.1
+  opened_elsewhere fault Untouched Left is (inr some) = absurd (never_elsewhere fault is some.2)
+
+  pub elsewhere : (asked : Task) (io : Streams) (mute told : Option (List ℕ)) (fault : Fault) → TaskEnded disk IsFresh asked io mute told fault → fault_status fault ≡ 4 → io.unread × io.unwritten
+  elsewhere (task.Lines None reads ends) io mute told fault h is = absurd (never_elsewhere fault is (late_as fault _ h.1.1 (lines_late h.1.0)))
+  elsewhere (task.Lines (Some file) reads ends) io mute told fault h is = opened_elsewhere fault _ _ is h.1
+  elsewhere (task.Serve file port connections) io mute told fault h is = (h.0, (opened_elsewhere fault _ _ is h.1).0)
+  elsewhere (task.Import file plan) io mute told fault h is = (h.0, opened_elsewhere fault _ _ is h.2)
+  elsewhere (task.Read file work) io mute told fault h is = (h.0, opened_elsewhere fault _ _ is h.2)
+  elsewhere (task.AuditWhole file counts) io mute told fault h is = (h.0, opened_elsewhere fault _ _ is h.2)
