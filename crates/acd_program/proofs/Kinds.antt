@@ -1,5 +1,5 @@
 -- When faults come.
-use Rattle.std.proofs.Common.{◌≡◌, inl, inr, ℕ, Bool, true, false, List, Result, Ok, Err, IfErr, subst, sym, arith}
+use Rattle.std.proofs.Common.{◌≡◌, ◌⊎◌, inl, inr, ℕ, Bool, true, false, List, Result, Ok, Err, IfErr, subst, sym, arith}
 use Rattle.acd_book.specs.declared.book.Book as book
 use Rattle.acd_book.specs.State.{BookState}
 use Rattle.acd_desk.specs.declared.desk.Desk.{Desk}
@@ -62,6 +62,14 @@ lines_known says T ends io old r last (inr some) = subst (λ (x : Result (Unit {
 pub ended_late : (ended : Result (Unit {0}) Fault) (fault : Fault) → IfErr ended IsOfDesk → EndsBy ended fault → IsOfDesk fault
 ended_late ended fault known (inl is) = subst (λ (x : Result (Unit {0}) Fault). IfErr x IsOfDesk) is known
 ended_late ended fault known (inr closed) = closing_late fault closed.1
+
+-- of work, of printing and of closing
+pub printed_late : {A B : Type 0} (r : Result A Fault) (done : Result B Fault) (closed : Result (Unit {0}) Fault) → IfErr r (λ (fault : Fault). (done ≡ Err fault) ⊎ ((fault ≡ Write) ⊎ (closed ≡ Err fault)))
+    → IfErr done IsOfDesk → IfErr closed IsOfClosing → IfErr r IsOfDesk
+printed_late (Ok x) done closed h known shut = tt
+printed_late {B = B} (Err fault) done closed (inl is) known shut = subst (λ (x : Result B Fault). IfErr x IsOfDesk) is known
+printed_late (Err fault) done closed (inr (inl is)) known shut = late_as fault Write is tt
+printed_late (Err fault) done closed (inr (inr is)) known shut = closing_late fault (subst (λ (x : Result (Unit {0}) Fault). IfErr x IsOfClosing) is shut)
 
 -- ---- that another program has the file comes before
 

@@ -1,20 +1,23 @@
 -- What is left where a fault ended a task, by what its parts left.
-use Rattle.std.proofs.Common.{◌≡◌, inl, inr, ℕ, Bool, true, false, List, Option, Some, None, Result, Ok, Err, IfErr, OnErr, refl, sym, subst}
+use Rattle.std.proofs.Common.{◌≡◌, ◌⊎◌, inl, inr, ℕ, Bool, true, false, List, Option, Some, None, Result, Ok, Err, IfErr, OnErr, refl, sym, subst}
 use Rattle.std.proofs.lemmas.Result.{IfErr-weaker}
 use Rattle.sqlite_disk.specs.declared.Disk.{Ghosts}
 use Rattle.sqlite_store.specs.declared.store.FileStore.{FileStore}
 use Rattle.sqlite.specs.Held.{Held}
+use Rattle.sqlite.specs.Files.{over_files, file_state}
 use Rattle.acd_lines.specs.Lines.{Streams}
-use Rattle.acd_program.specs.Ended.{IsOfOpening, IsOfDesk, IsOfClosing, EndsBy, WorkEnded}
+use Rattle.acd_program.specs.Ended.{IsOfDesk, IsOfClosing, EndsBy, IsShut, WorkEnded}
+use Rattle.acd_program.specs.Serving.{ServeIn}
+use Rattle.acd_program.specs.Sessions.{DatabaseEnded}
 use Rattle.acd_program.specs.Statuses.{fault_status}
 use Rattle.acd_program.specs.Tasks.{IsOpenedFrom}
-use Rattle.acd_program.specs.TasksEnded.{EndedIn, InputEnded, PlanLeft, AuditLeft, ServiceLeft, TaskEnded}
+use Rattle.acd_program.specs.TasksEnded.{EndedIn, InputEnded, LinesLeft, PlanLeft, AuditLeft, ServiceLeft, TaskEnded}
 use Rattle.acd_program.specs.declared.fault.Fault.{Fault}
 use Rattle.acd_program.specs.declared.desk.Work.{Work}
 use Rattle.acd_program.specs.declared.task.Task.{Task}
 use Rattle.acd_program.specs.declared.task.Task.TheVariants as task
 use Rattle.acd_program.proofs.Ended.{work_makes}
-use Rattle.acd_program.proofs.Kinds.{lines_late, late_as, never_elsewhere}
+use Rattle.acd_program.proofs.Kinds.{lines_late, late_as, ended_late, never_elsewhere}
 
 -- what ended the work goes before what closing met
 pub ends_by : (r done closed : Result (Unit {0}) Fault) → IfErr r (λ (fault : Fault). (done ≡ Err fault) ⊎ ((done ≡ Ok tt) × (closed ≡ Err fault))) → IfErr closed IsOfClosing → IfErr r (EndsBy done)
@@ -22,7 +25,19 @@ ends_by (Ok u) done closed h known = tt
 ends_by (Err fault) done closed (inl is) known = inl is
 ends_by (Err fault) done closed (inr is) known = inr (is.0, subst (λ (x : Result (Unit {0}) Fault). IfErr x IsOfClosing) is.1 known)
 
+pub ends_late : {A : Type 0} (r : Result A Fault) (done : Result (Unit {0}) Fault) → IfErr done IsOfDesk → IfErr r (EndsBy done) → IfErr r IsOfDesk
+ends_late r done known h = IfErr-weaker r _ _ (λ fault why. ended_late done fault known why) h
+
 module _ {D : Type 0} (disk : Ghosts D) (IsFresh : Bool → D → Type 0) where
+  pub lines_left : {A : Type 0} (r : Result A Fault) (reads ends : Bool) (io : Streams) (conn last : Held (FileStore D disk)) (ended : Result (Unit {0}) Fault) → IsShut last
+      → DatabaseEnded over_files true reads ends io (file_state conn) ended last → IfErr r (EndsBy ended) → IfErr r (λ (fault : Fault). LinesLeft disk IsFresh reads ends io fault conn)
+  lines_left r reads ends io conn last ended shut lines h = IfErr-weaker r _ _ (λ fault why. record { last = last; shut = shut; ended = ended; lines = lines; why = why }) h
+
+  pub service_left : {A : Type 0} (r : Result A Fault) (span : Option ℕ) (port : ℕ) (before behind mute told : Option (List ℕ)) (conn last : Held (FileStore D disk)) (ended : Result (Unit {0}) Fault) → IsShut last
+      → ServeIn span mute told port before behind over_files true (file_state conn) ended last → IfErr r (EndsBy ended)
+      → IfErr r (λ (fault : Fault). ServiceLeft disk IsFresh span port before behind mute told fault conn)
+  service_left r span port before behind mute told conn last ended shut served h = IfErr-weaker r _ _ (λ fault why. record { last = last; shut = shut; ended = ended; served = served; why = why }) h
+
   -- over the connection that was opened, this was left
   pub ended_over : {A : Type 0} (r : Result A Fault) (conn : Held (FileStore D disk)) (Untouched : Type 0) (Left : Fault → Held (FileStore D disk) → Type 0) → IsOpenedFrom disk IsFresh conn
       → IfErr r IsOfDesk → IfErr r (λ (fault : Fault). Left fault conn) → IfErr r (λ (fault : Fault). EndedIn disk IsFresh fault Untouched (Left fault))

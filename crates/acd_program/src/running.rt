@@ -18,6 +18,7 @@ use crate::connection::database_lines;
 use crate::desk::{Done, Work, over_database};
 use crate::fault::Fault;
 use crate::file::{close_connection, connect, log_ending};
+use crate::laws::lines_are_from_nothing;
 use crate::memory::lines_over_memory;
 use crate::plan::read_plan;
 use crate::printing::print;
@@ -134,6 +135,7 @@ fn lines_in_memory<R: Read, W: Write>(
     ensures ended { IfErr result (MemoryEnded reads
         (streams R.remaining W.contents (reader.old, reader.new) (writer.old, writer.new))) }
 {
+    lines_are_from_nothing::<R, W>();
     if reads {
         let mut lines = RequestsAndReads::new(alloc)?;
         return lines_over_memory(alloc, &mut lines, reader, writer);

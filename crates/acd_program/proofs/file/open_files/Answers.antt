@@ -1,3 +1,5 @@
+use Rattle.std.proofs.Common.{inl, inr, refl, sym}
+use Rattle.sqlite.specs.declared.file.Leftover.TheVariants.{Files}
 use Rattle.acd_program.proofs.file.open_files.Goals as goal
 
 pub returns-in-Ok-clause-opened : goal.returns-in-Ok-clause-opened
@@ -9,3 +11,28 @@ returns-in-Ok-clause-opened g c = record {
   opened = c.in-Ok.ensures.opened;
   found = c.in-Ok.ensures.found;
 }
+
+pub returns-in_err-files-clause-left : goal.returns-in_err-files-clause-left
+returns-in_err-files-clause-left g c = inl c.in_err-files.ensures.left
+
+pub returns-in-Err-clause-left : goal.returns-in-Err-clause-left
+returns-in-Err-clause-left g c = inr (record {
+  begun = c.in_ok-files.files;
+  is_begun = c.in_ok-files.ensures.begun;
+  handed = c.options.new.files;
+  read = c.options.ensures.read;
+  rest = Files c.options.new.files;
+  of_rest = refl;
+  leaves = λ clean image left. left;
+})
+
+pub returns-in-Err-open_files-clause-left : goal.returns-in-Err-open_files-clause-left
+returns-in-Err-open_files-clause-left g c = inr (record {
+  begun = c.in_ok-files.files;
+  is_begun = c.in_ok-files.ensures.begun;
+  handed = c.options.new.files;
+  read = c.options.ensures.read;
+  rest = c.in-Err-open_files.left;
+  of_rest = sym c.into_files.ensures;
+  leaves = c.in-Err-open_files.ensures.unharmed;
+})

@@ -1,6 +1,8 @@
 use Rattle.sqlite_std_file.specs.File.{IsFresh}
 use Rattle.acd_lines.specs.Lines.{streams}
 use Rattle.acd_program.proofs.Inputs.{memory_input, file_input}
+use Rattle.std.proofs.Common.{IfErr, sym, subst}
+use Rattle.acd_program.specs.TasksEnded.{InputEnded}
 use Rattle.acd_program.proofs.running.answer_lines.Goals as goal
 
 pub returns-in_ok-lines_in_memory-in-None-clause-done : goal.returns-in_ok-lines_in_memory-in-None-clause-done

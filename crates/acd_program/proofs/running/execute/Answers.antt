@@ -3,7 +3,7 @@ use Rattle.sqlite_std_file.specs.File.{IsFresh}
 use Rattle.acd_lines.specs.Lines.{streams}
 use Rattle.acd_program.proofs.Tasks.{lines_task, whole_task, read_task}
 use Rattle.acd_program.proofs.Served.{file_tells, serve_task}
-use Rattle.acd_program.proofs.Ended.{lines_ended, import_ended, whole_ended, read_ended}
+use Rattle.acd_program.proofs.TasksEnded.{lines_ended, service_ended, import_ended, whole_ended, read_ended}
 use Rattle.acd_program.proofs.running.execute.Goals as goal
 
 pub returns-in-Lines-clause-done : goal.returns-in-Lines-clause-done
@@ -14,11 +14,11 @@ returns-in-Lines-clause-done g c =
 pub returns-in_ok-serve_file-in-Serve-clause-done : goal.returns-in_ok-serve_file-in-Serve-clause-done
 returns-in_ok-serve_file-in-Serve-clause-done g c =
     serve_task _ IsFresh c.args.task (streams g.R.Read.remaining g.W.Write.contents (c.args.reader.now, c.args.reader.now) (c.args.writer.now, c.serve_file.new.writer))
-    (g.E.Write.contents c.args.errors.now) (g.E.Write.contents c.serve_file.new.errors) c.in-Serve.file c.in-Serve.port c.in-Serve.connections c.in-Serve.is c.in_ok-serve_file-in-Serve.ensures
+    (g.E.Write.contents c.args.errors.now) (g.E.Write.contents c.serve_file.new.errors) c.in-Serve.file c.in-Serve.port c.in-Serve.connections c.in-Serve.is c.in_ok-serve_file-in-Serve.ensures.served
 
 pub returns-in_ok-serve_file-in-Serve-clause-told : goal.returns-in_ok-serve_file-in-Serve-clause-told
 returns-in_ok-serve_file-in-Serve-clause-told g c =
-    inr (refl, file_tells IsFresh c.in-Serve.connections (g.E.Write.contents c.args.errors.now) (g.E.Write.contents c.serve_file.new.errors) c.in_ok-serve_file-in-Serve.ensures)
+    inr (refl, file_tells IsFresh c.in-Serve.connections (g.E.Write.contents c.args.errors.now) (g.E.Write.contents c.serve_file.new.errors) c.in_ok-serve_file-in-Serve.ensures.served)
 
 pub returns-in-AuditWhole-clause-done : goal.returns-in-AuditWhole-clause-done
 returns-in-AuditWhole-clause-done g c =
@@ -32,20 +32,20 @@ returns-in-Read-clause-done g c =
 
 pub returns-in-Lines-clause-ended : goal.returns-in-Lines-clause-ended
 returns-in-Lines-clause-ended g c =
-    lines_ended _ IsFresh c.answer_lines.result c.args.task (streams g.R.Read.remaining g.W.Write.contents (c.args.reader.now, c.answer_lines.new.reader) (c.args.writer.now, c.answer_lines.new.writer))
-    c.in-Lines.file c.in-Lines.reads c.in-Lines.ends c.in-Lines.is c.answer_lines.ensures.ended
+    lines_ended _ IsFresh c.answer_lines.result c.args.task (streams g.R.Read.remaining g.W.Write.contents (c.args.reader.now, c.answer_lines.new.reader) (c.args.writer.now, c.answer_lines.new.writer)) _ _
+    c.in-Lines.file c.in-Lines.reads c.in-Lines.ends c.in-Lines.is refl c.answer_lines.ensures.ended
 
 pub returns-in-Import-clause-ended : goal.returns-in-Import-clause-ended
 returns-in-Import-clause-ended g c =
-    import_ended _ IsFresh c.import_plan.result c.args.task (streams g.R.Read.remaining g.W.Write.contents (c.args.reader.now, c.args.reader.now) (c.args.writer.now, c.import_plan.new.writer))
-    c.in-Import.file c.in-Import.plan c.in-Import.is
+    import_ended _ IsFresh c.import_plan.result c.args.task (streams g.R.Read.remaining g.W.Write.contents (c.args.reader.now, c.args.reader.now) (c.args.writer.now, c.import_plan.new.writer)) _ _
+    c.in-Import.file c.in-Import.plan c.in-Import.is refl refl c.import_plan.ensures.ended
 
 pub returns-in-AuditWhole-clause-ended : goal.returns-in-AuditWhole-clause-ended
 returns-in-AuditWhole-clause-ended g c =
-    whole_ended _ IsFresh c.audit_whole.result c.args.task (streams g.R.Read.remaining g.W.Write.contents (c.args.reader.now, c.args.reader.now) (c.args.writer.now, c.audit_whole.new.writer))
-    c.in-AuditWhole.file c.in-AuditWhole.counts c.in-AuditWhole.is refl c.audit_whole.ensures.ended
+    whole_ended _ IsFresh c.audit_whole.result c.args.task (streams g.R.Read.remaining g.W.Write.contents (c.args.reader.now, c.args.reader.now) (c.args.writer.now, c.audit_whole.new.writer)) _ _
+    c.in-AuditWhole.file c.in-AuditWhole.counts c.in-AuditWhole.is refl refl c.audit_whole.ensures.ended
 
 pub returns-in-Read-clause-ended : goal.returns-in-Read-clause-ended
 returns-in-Read-clause-ended g c =
-    read_ended _ IsFresh c.work_in.result c.args.task (streams g.R.Read.remaining g.W.Write.contents (c.args.reader.now, c.args.reader.now) (c.args.writer.now, c.work_in.new.writer))
-    c.in-Read.file c.in-Read.work c.in-Read.is refl c.work_in.ensures.ended
+    read_ended _ IsFresh c.work_in.result c.args.task (streams g.R.Read.remaining g.W.Write.contents (c.args.reader.now, c.args.reader.now) (c.args.writer.now, c.work_in.new.writer)) _ _
+    c.in-Read.file c.in-Read.work c.in-Read.is refl refl c.work_in.ensures.ended

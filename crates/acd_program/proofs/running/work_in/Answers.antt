@@ -1,7 +1,7 @@
 use Rattle.sqlite_std_file.specs.File.{IsFresh}
 use Rattle.acd_program.proofs.Tasks.{worked_from}
 use Rattle.std.proofs.Common.{inl, refl}
-use Rattle.acd_program.proofs.Ended.{read_from}
+use Rattle.acd_program.proofs.TasksEnded.{work_from}
 use Rattle.acd_program.proofs.running.work_in.Goals as goal
 
 pub returns-clause-worked : goal.returns-clause-worked
@@ -11,10 +11,10 @@ returns-clause-worked g c =
     c.in_ok-conn.ensures.opened c.in_ok-conn.ensures.makes c.work_over.ensures.worked
 
 pub returns-in_err-conn-clause-ended : goal.returns-in_err-conn-clause-ended
-returns-in_err-conn-clause-ended g c = λ reads. inl refl
+returns-in_err-conn-clause-ended g c = inl (c.in_err-conn.ensures.known, refl)
 
 pub returns-clause-ended : goal.returns-clause-ended
-returns-clause-ended g c = λ reads.
-    read_from IsFresh c.work_over.result c.in_ok-conn.is_new c.args.makes c.args.work c.in_ok-conn.conn
-    (g.W.Write.contents c.args.writer.now) (g.W.Write.contents c.work_over.new.writer)
-    c.in_ok-conn.ensures.opened c.in_ok-conn.ensures.makes (c.work_over.ensures.ended reads)
+returns-clause-ended g c =
+    work_from _ IsFresh c.work_over.result c.in_ok-conn.is_new c.args.makes c.args.work c.in_ok-conn.conn
+    (g.W.Write.contents c.args.writer.now) (g.W.Write.contents c.work_over.new.writer) _
+    c.in_ok-conn.ensures.opened c.in_ok-conn.ensures.makes c.work_over.ensures.late c.work_over.ensures.ended
