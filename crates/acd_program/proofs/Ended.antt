@@ -23,7 +23,7 @@ use Rattle.acd_io.specs.Sent.{Breaks}
 use Rattle.acd_lines.specs.Lines.{LinesAnswered, FirstRequests, RequestsAnswered, Streams}
 use Rattle.acd_lines.proofs.Weaker.{requests_so}
 use Rattle.acd_program.specs.Desks.{in_database}
-use Rattle.acd_program.specs.Ended.{IsOfDesk, OnlyReads, IsBegunPlan, IsBegun, StoppedOver, WorkStopped, PrintedOf, IsShut, WorkEnded}
+use Rattle.acd_program.specs.Ended.{OnlyReads, IsBegunPlan, IsBegun, StoppedOver, WorkStopped, PrintedOf, IsShut, WorkEnded}
 use Rattle.acd_program.specs.Found.{IsFindingOf}
 use Rattle.acd_program.specs.LinesOver.{in_turn, NoneServed, LinesTold, LinesIn}
 use Rattle.acd_program.specs.Over.{IsSession, OverConnection, Unserved}
@@ -100,11 +100,11 @@ module _ {D : Type 0} {g : Ghosts D} where
         | inr begun ↦ inr (over_makes (IsBegun work before behind) is_new makes (file_state conn) (file_state h.last) may begun)
       ])
       | inr cut ↦ inr (record {
-          left = cut.left;
-          between = cut.between;
-          done = over_makes (λ (old new : BookState). WorkDone IsFindingOf work old before cut.between cut.left new) is_new makes (file_state conn) (file_state h.last) may cut.done;
-          printed = cut.printed;
-        })
+        left = cut.left;
+        between = cut.between;
+        done = over_makes (λ (old new : BookState). WorkDone IsFindingOf work old before cut.between cut.left new) is_new makes (file_state conn) (file_state h.last) may cut.done;
+        printed = cut.printed;
+      })
     ];
   }
 
@@ -119,6 +119,6 @@ module _ {S : Type 0} (store : Stores S) (is_new makes ends : Bool) (io : Stream
   lines_made T (inr some) = inr (over_made store is_new makes (LinesTold (in_database store) T ends io r) s conn may some)
 
   pub ended_made : (reads : Bool) → DatabaseEnded store is_new reads ends io s r conn → DatabaseEnded store makes reads ends io s r conn
-  ended_made true h = lines_made _ h
+  ended_made true h = lines_made (in_turn true (in_database store)) h
   ended_made false (inl none) = inl (none_made (in_turn false (in_database store)) none)
   ended_made false (inr some) = inr (over_makes (SessionTold ends io r) is_new makes s (state store conn) may some)

@@ -1,5 +1,5 @@
 -- When faults come.
-use Rattle.std.proofs.Common.{◌≡◌, ◌⊎◌, inl, inr, ℕ, Bool, true, false, List, Result, Ok, Err, IfErr, subst, sym, arith}
+use Rattle.std.proofs.Common.{◌≡◌, ◌⊎◌, inl, inr, ℕ, Bool, true, false, ◌&&◌, List, Result, Ok, Err, IfErr, subst, sym, arith}
 use Rattle.acd_book.specs.declared.book.Book as book
 use Rattle.acd_book.specs.State.{BookState}
 use Rattle.acd_desk.specs.declared.desk.Desk.{Desk}
@@ -7,6 +7,7 @@ use Rattle.acd_desk.specs.declared.fault.DeskFault.{DeskFault}
 use Rattle.acd_desk.specs.declared.fault.DeskFault.TheVariants as desk
 use Rattle.acd_desk.specs.declared.open_fault.OpenFault.{OpenFault}
 use Rattle.acd_desk.specs.declared.open_fault.OpenFault.TheVariants as opening
+use Rattle.acd_desk.specs.Standing.{standing}
 use Rattle.acd_lines.specs.Lines.{Streams}
 use Rattle.acd_lines.specs.declared.fault.LinesFault.{LinesFault}
 use Rattle.acd_lines.specs.declared.fault.LinesFault.TheVariants as lines
@@ -18,6 +19,10 @@ use Rattle.acd_program.specs.LinesOver.{LinesOver}
 use Rattle.acd_program.specs.Statuses.{fault_status}
 use Rattle.acd_program.specs.declared.fault.Fault.{Fault}
 use Rattle.acd_program.specs.declared.fault.Fault.TheVariants.{CannotOpen, OpenElsewhere, WrongVersion, BadRow, BadRows, NoMemory, Store, Plan, Read, Write, CannotListen}
+
+-- what is so of a fault that was handed on
+pub err_from : {A : Type 0} (r : Result A Fault) (fault : Fault) (P : Fault → Type 0) → r ≡ Err fault → P fault → IfErr r P
+err_from {A} r fault P is h = subst (λ (x : Result A Fault). IfErr x P) (sym is) h
 
 -- ---- those of parts come once there is a connection
 
@@ -56,7 +61,7 @@ told_late (Ok done) false = tt
 -- of lines over a book
 pub lines_known : {B : Type 0} (says : book.Ghosts B) (T : Desk B → Desk B → List (List ℕ) → List (List ℕ) → Type 0) (ends : Bool) (io : Streams) (old : BookState) (r : Result (Unit {0}) Fault) (last : B) → LinesOver says T ends io old r last → IfErr r IsOfDesk
 lines_known says T ends io old r last (inl none) = subst (λ (x : Result (Unit {0}) Fault). IfErr x IsOfDesk) (sym none.told) (open_late none.why)
-lines_known says T ends io old r last (inr some) = subst (λ (x : Result (Unit {0}) Fault). IfErr x IsOfDesk) (sym some.did.told) (told_late some.did.ended _)
+lines_known says T ends io old r last (inr some) = subst (λ (x : Result (Unit {0}) Fault). IfErr x IsOfDesk) (sym some.did.told) (told_late some.did.ended (ends && (standing says some.final).failed))
 
 -- of work and of closing
 pub ended_late : (ended : Result (Unit {0}) Fault) (fault : Fault) → IfErr ended IsOfDesk → EndsBy ended fault → IsOfDesk fault

@@ -44,13 +44,23 @@ module _ {D : Type 0} (disk : Ghosts D) (IsFresh : Bool → D → Type 0) where
     pub served : ServeIn span mute told port before behind over_files true (file_state conn) ended last
     pub why : EndsBy ended fault
 
-  -- the work of a plan of some bytes
-  abbrev pub PlanLeft : Option (List ℕ) → Option (List ℕ) → OfFiles → Type 0
-  PlanLeft before behind conn = (bytes : List ℕ) × (work : Work) × TakesPlan bytes work × WorkEnded true work conn before behind
+  -- ---- by what was to be done, where `Unwritten` says that nothing was written
 
-  -- the work of an audit of files of which the log had ended so before
-  abbrev pub AuditLeft : Bool → Option (List ℕ) → Option (List ℕ) → OfFiles → Type 0
-  AuditLeft counts before behind conn = (ending : Ending) × IsSomeEnding ending × WorkEnded false (kind.Audit counts ending) conn before behind
+  abbrev pub WorkEndedIn : Bool → Work → Option (List ℕ) → Option (List ℕ) → Type 0 → Fault → Type 0
+  WorkEndedIn makes work before behind Unwritten fault = EndedIn fault Unwritten (λ conn. WorkEnded makes work conn before behind)
+
+  -- the requests of a plan of some bytes were to be taken
+  abbrev pub PlanEnded : Option (List ℕ) → Option (List ℕ) → Type 0 → Fault → Type 0
+  PlanEnded before behind Unwritten fault =
+      EndedIn fault Unwritten (λ conn. (bytes : List ℕ) × (work : Work) × TakesPlan bytes work × WorkEnded true work conn before behind)
+
+  -- files were to be audited of which the log had ended so before
+  abbrev pub AuditEnded : Bool → Option (List ℕ) → Option (List ℕ) → Type 0 → Fault → Type 0
+  AuditEnded counts before behind Unwritten fault =
+      EndedIn fault Unwritten (λ conn. (ending : Ending) × IsSomeEnding ending × WorkEnded false (kind.Audit counts ending) conn before behind)
+
+  abbrev pub ServiceEnded : Option ℕ → ℕ → Option (List ℕ) → Option (List ℕ) → Option (List ℕ) → Option (List ℕ) → Type 0 → Fault → Type 0
+  ServiceEnded span port before behind mute told Unwritten fault = EndedIn fault (Unwritten × (told ≡ mute)) (ServiceLeft span port before behind mute told fault)
 
   -- the lines of an input, over a desk in memory or over a file that was named
   abbrev pub InputEnded : {Name : Type 0} → Option Name → Bool → Bool → Streams → Fault → Type 0
@@ -61,12 +71,15 @@ module _ {D : Type 0} (disk : Ghosts D) (IsFresh : Bool → D → Type 0) where
   -- tells anything there.
   abbrev pub TaskEnded : Task → Streams → Option (List ℕ) → Option (List ℕ) → Fault → Type 0
   TaskEnded (Lines file reads ends) io mute told fault = (told ≡ mute) × InputEnded file reads ends io fault
-  TaskEnded (Serve file port connections) io mute told fault =
-      io.unread × EndedIn fault (io.unwritten × (told ≡ mute)) (ServiceLeft connections port io.before io.behind mute told fault)
-  TaskEnded (Import file plan) io mute told fault = io.unread × (told ≡ mute) × EndedIn fault io.unwritten (PlanLeft io.before io.behind)
-  TaskEnded (Read file work) io mute told fault = io.unread × (told ≡ mute) × EndedIn fault io.unwritten (λ conn. WorkEnded false work conn io.before io.behind)
-  TaskEnded (AuditWhole file counts) io mute told fault = io.unread × (told ≡ mute) × EndedIn fault io.unwritten (AuditLeft counts io.before io.behind)
+  TaskEnded (Serve file port connections) io mute told fault = io.unread × ServiceEnded connections port io.before io.behind mute told io.unwritten fault
+  TaskEnded (Import file plan) io mute told fault = io.unread × (told ≡ mute) × PlanEnded io.before io.behind io.unwritten fault
+  TaskEnded (Read file work) io mute told fault = io.unread × (told ≡ mute) × WorkEndedIn false work io.before io.behind io.unwritten fault
+  TaskEnded (AuditWhole file counts) io mute told fault = io.unread × (told ≡ mute) × AuditEnded counts io.before io.behind io.unwritten fault
 
   -- one of the tasks was ended so, by a fault that has this status
   abbrev pub SomeTaskEnded : Streams → Option (List ℕ) → ℕ → Type 0
   SomeTaskEnded io mute status = (task : Task) × (told : Option (List ℕ)) × (fault : Fault) × TaskEnded task io mute told fault × (status ≡ fault_status fault)
+
+  -- a status of a fault is that of a task that was ended so, or nothing was done, and nothing read
+  abbrev pub FaultTold : Streams → Option (List ℕ) → ℕ → Type 0
+  FaultTold io mute status = (status ≡ 1) ⊎ (status ≡ 4) → io.unread ⊎ SomeTaskEnded io mute status

@@ -99,7 +99,8 @@ fn done_by(text: Option<String>) -> Done
 }
 
 fn told<'a, B: Book>(alloc: Global, book: B, telling: Telling) -> (Result<Done, Fault<'a>>, B)
-    ensures over { IfOk result.0 (λ done. TellsOver telling (B.state book) done (B.state result.1)) }
+    ensures over { IfOk result.0
+        (λ done. TellsOver telling (B.state book) done (B.state result.1)) }
     ensures kept { OnlyAsked (B.state book) (B.state result.1) }
     ensures known { IfErr result.0 IsOfDesk }
 {

@@ -1,8 +1,8 @@
 //! The program over three streams.
 
-ghost use Rattle.std.specs.Prelude.{◌≡◌, ◌≢◌, ◌≤◌, ◌⊎◌, false, Ok, Err, IfOk, IfErr, OnOk, OnErr};
+ghost use Rattle.std.specs.Prelude.{◌≡◌, ◌≤◌, ◌⊎◌, false, Ok, Err, IfOk, IfErr, OnOk, OnErr};
 ghost use Rattle.sqlite_std_file.specs.File.{IsFresh};
-ghost use Rattle.acd_lines.specs.Lines.{streams, Untouched};
+ghost use Rattle.acd_lines.specs.Lines.{streams};
 ghost use Rattle.acd_program.specs.Answered.{in_memory};
 ghost use Rattle.acd_program.specs.Desks.{OverNewDesk};
 ghost use Rattle.acd_program.specs.Ended.{IsOfDesk, PrintedOf, WorkEnded};
@@ -12,7 +12,7 @@ ghost use Rattle.acd_program.specs.Statuses.{IsDone, fault_status, TellsConnecti
 ghost use Rattle.acd_program.specs.Work.{IsPrinted};
 ghost use Rattle.acd_program.specs.InFiles.{WorkedOver};
 ghost use Rattle.acd_program.specs.Tasks.{WorkedIn, FileAnswered, InputAnswered, ImportedIn, ServedIn, WholeAudit, TaskDone, SomeTaskDone};
-ghost use Rattle.acd_program.specs.TasksEnded.{EndedIn, LinesLeft, ServiceLeft, PlanLeft, AuditLeft, InputEnded, TaskEnded, SomeTaskEnded};
+ghost use Rattle.acd_program.specs.TasksEnded.{WorkEndedIn, PlanEnded, AuditEnded, ServiceEnded, InputEnded, TaskEnded, FaultTold};
 
 use crate::connection::database_lines;
 use crate::desk::{Done, Work, over_database};
@@ -94,9 +94,9 @@ fn work_in<'a, S: Start, W: Write>(
     ensures worked { IfOk result
         (λ status. WorkedIn ⟦<FileFrom<S> as Disk>⟧ IsFresh makes work.entry
         (W.contents writer.old) (W.contents writer.new) status) }
-    ensures ended { IfErr result (λ fault.
-        EndedIn ⟦<FileFrom<S> as Disk>⟧ IsFresh fault (writer.new ≡ writer.old) (λ conn.
-        WorkEnded makes work.entry conn (W.contents writer.old) (W.contents writer.new))) }
+    ensures ended { IfErr result
+        (WorkEndedIn ⟦<FileFrom<S> as Disk>⟧ IsFresh makes work.entry (W.contents writer.old)
+        (W.contents writer.new) (writer.new ≡ writer.old)) }
 {
     let (conn, is_new) = connect(rt, file, makes, start)?;
     work_over(rt, conn, is_new, work, writer)
@@ -115,7 +115,7 @@ fn lines_in<'a, S: Start, R: Read, W: Write>(
     ensures answered { OnOk result (FileAnswered ⟦<FileFrom<S> as Disk>⟧ IsFresh reads ends
         (streams R.remaining W.contents (reader.old, reader.new) (writer.old, writer.new))) }
     ensures ended { IfErr result
-        (InputEnded ⟦<FileFrom<S> as Disk>⟧ IsFresh (Some file.now) reads ends
+        (InputEnded ⟦<FileFrom<S> as Disk>⟧ IsFresh (Some file.entry) reads ends
         (streams R.remaining W.contents (reader.old, reader.new) (writer.old, writer.new))) }
 {
     let (conn, is_new) = connect(rt, file, true, start)?;
@@ -186,10 +186,9 @@ fn import_plan<'a, S: Start, W: Write>(
     ensures imported { IfOk result
         (λ status. ImportedIn ⟦<FileFrom<S> as Disk>⟧ IsFresh (W.contents writer.old)
         (W.contents writer.new) status) }
-    ensures ended { IfErr result (λ fault.
-        EndedIn ⟦<FileFrom<S> as Disk>⟧ IsFresh fault (writer.new ≡ writer.old)
-        (PlanLeft ⟦<FileFrom<S> as Disk>⟧ IsFresh (W.contents writer.old)
-        (W.contents writer.new))) }
+    ensures ended { IfErr result
+        (PlanEnded ⟦<FileFrom<S> as Disk>⟧ IsFresh (W.contents writer.old) (W.contents writer.new)
+        (writer.new ≡ writer.old)) }
 {
     let requests = read_plan(rt, plan)?;
     work_in(rt, start, file, true, Work::Import(&requests), writer)
@@ -207,10 +206,9 @@ fn audit_whole<'a, S: Start, W: Write>(
     ensures audited { IfOk result
         (λ status. WholeAudit ⟦<FileFrom<S> as Disk>⟧ IsFresh counts (W.contents writer.old)
         (W.contents writer.new) status) }
-    ensures ended { IfErr result (λ fault.
-        EndedIn ⟦<FileFrom<S> as Disk>⟧ IsFresh fault (writer.new ≡ writer.old)
-        (AuditLeft ⟦<FileFrom<S> as Disk>⟧ IsFresh counts (W.contents writer.old)
-        (W.contents writer.new))) }
+    ensures ended { IfErr result
+        (AuditEnded ⟦<FileFrom<S> as Disk>⟧ IsFresh counts (W.contents writer.old)
+        (W.contents writer.new) (writer.new ≡ writer.old)) }
 {
     let ending = log_ending(rt, file)?;
     work_in(
@@ -235,10 +233,9 @@ fn serve_file<'a, S: Start, W: Write, E: Write>(
     ensures served { OnOk result
         (ServedIn ⟦<FileFrom<S> as Disk>⟧ IsFresh connections (E.contents errors.old)
         (E.contents errors.new)) }
-    ensures ended { IfErr result (λ fault. EndedIn ⟦<FileFrom<S> as Disk>⟧ IsFresh fault
-        ((writer.new ≡ writer.old) × (E.contents errors.new ≡ E.contents errors.old))
-        (ServiceLeft ⟦<FileFrom<S> as Disk>⟧ IsFresh connections port (W.contents writer.old)
-        (W.contents writer.new) (E.contents errors.old) (E.contents errors.new) fault)) }
+    ensures ended { IfErr result (ServiceEnded ⟦<FileFrom<S> as Disk>⟧ IsFresh connections port
+        (W.contents writer.old) (W.contents writer.new) (E.contents errors.old)
+        (E.contents errors.new) (writer.new ≡ writer.old)) }
 {
     let (conn, is_new) = connect(rt, file, true, start)?;
     let (done, conn) = serve(rt, conn, is_new, port, connections, writer, errors);
@@ -326,8 +323,7 @@ fn fail<E: Write>(fault: Fault<'_>, errors: &mut E) -> u8
 fn tell<W: Write, E: Write>(alloc: Global, error: &Error, writer: &mut W, errors: &mut E) -> u8
     ensures success { result ≡ 0 → errors.new ≡ errors.old }
     ensures refused { result ≡ 2 → writer.new ≡ writer.old }
-    ensures differs { result ≢ 3 }
-    ensures known { result ≤ 4 }
+    ensures known { result ≤ 2 }
 {
     if error.kind() == ErrorKind::OutOfMemory {
         return fail(Fault::NoMemory, errors);
@@ -372,8 +368,7 @@ pub fn program<S: AsStr, R: Read, W: Write, E: Write>(
         (streams R.remaining W.contents (reader.old, reader.new) (writer.old, writer.new))
         (E.contents errors.old) (E.contents errors.new) result }
     // a fault ended a task, or nothing was done, and nothing was read
-    ensures ended { (result ≡ 1) ⊎ (result ≡ 4) → (reader.new ≡ reader.old)
-        ⊎ SomeTaskEnded ⟦<FileFrom<Unknown> as Disk>⟧ IsFresh
+    ensures ended { FaultTold ⟦<FileFrom<Unknown> as Disk>⟧ IsFresh
         (streams R.remaining W.contents (reader.old, reader.new) (writer.old, writer.new))
         (E.contents errors.old) result }
     // nothing was read or written where another program has the file

@@ -21,12 +21,12 @@ returns-in-Err-clause-kept g c =
 pub returns-in-Ok-audited-clause-kept : goal.returns-in-Ok-audited-clause-kept
 returns-in-Ok-audited-clause-kept g c =
     subst (λ (b : _). OnlyAsked (g.B.Book.state c.args.book.inner) (g.B.Book.state b)) (sym (c.into_inner-in-Ok-audited.ensures ∙ ap (λ (w : _). w.inner) c.close.ensures))
-        (only_told (g.B.Book.state c.args.book.inner) _ _ _ _ c.in-Ok.ensures c.in-Ok-audited.ensures.told)
+    (only_told (g.B.Book.state c.args.book.inner) _ _ _ _ c.in-Ok.ensures c.in-Ok-audited.ensures.told)
 
 pub returns-in-Err-audited-clause-kept : goal.returns-in-Err-audited-clause-kept
 returns-in-Err-audited-clause-kept g c =
     subst (λ (b : _). OnlyAsked (g.B.Book.state c.args.book.inner) (g.B.Book.state b)) (sym (c.into_inner-in-Err-audited.ensures ∙ ap (λ (w : _). w.inner) c.close-in-Err-audited.ensures))
-        (only_told (g.B.Book.state c.args.book.inner) _ _ _ _ c.in-Ok.ensures c.in-Err-audited.ensures.told)
+    (only_told (g.B.Book.state c.args.book.inner) _ _ _ _ c.in-Ok.ensures c.in-Err-audited.ensures.told)
 
 pub returns-in-Err-clause-known : goal.returns-in-Err-clause-known
 returns-in-Err-clause-known g c = late_as _ _ c.from.ensures (open_late c.in-Err.fault)

@@ -1,7 +1,8 @@
-use Rattle.std.proofs.Common.{true, Ok, inl, refl, ap, sym, ◌∙◌}
+use Rattle.std.proofs.Common.{rules, true, Ok, inl, refl, ap, sym, ◌∙◌}
 use Rattle.sqlite_std_file.specs.File.{IsFresh}
 use Rattle.acd_program.proofs.Tasks.{ok_so, import_done}
 use Rattle.acd_program.proofs.TasksEnded.{err_so}
+use Rattle.acd_program.proofs.Kinds.{err_from}
 use Rattle.acd_program.proofs.running.import_plan.Goals as goal
 
 pub returns-clause-imported : goal.returns-clause-imported
@@ -13,7 +14,7 @@ returns-clause-imported g c =
     c.work_in.ensures.worked
 
 pub returns-in_err-requests-clause-ended : goal.returns-in_err-requests-clause-ended
-returns-in_err-requests-clause-ended g c = inl (c.in_err-requests.ensures.known, refl)
+returns-in_err-requests-clause-ended g c = err_from c.from_residual.result c.in_err-requests.field-0.0 _ (search rules) (inl (c.in_err-requests.ensures.known, refl))
 
 pub returns-clause-ended : goal.returns-clause-ended
 returns-clause-ended g c =

@@ -1,4 +1,4 @@
-use Rattle.std.proofs.Common.{true, inl, refl}
+use Rattle.std.proofs.Common.{rules, true, inl, refl}
 use Rattle.sqlite_std_file.specs.File.{IsFresh}
 use Rattle.sqlite.specs.Files.{over_files, file_state}
 use Rattle.acd_program.specs.TasksEnded.{ServiceLeft}
@@ -6,6 +6,7 @@ use Rattle.acd_program.proofs.Inputs.{both_so}
 use Rattle.acd_program.proofs.LinesOver.{over_made}
 use Rattle.acd_program.proofs.Served.{serve_made}
 use Rattle.acd_program.proofs.TasksEnded.{ends_by, ended_over, service_left, ends_late}
+use Rattle.acd_program.proofs.Kinds.{err_from}
 use Rattle.acd_program.proofs.running.serve_file.Goals as goal
 
 pub returns-clause-served : goal.returns-clause-served
@@ -20,7 +21,7 @@ returns-clause-served g c =
     })
 
 pub returns-in_err-conn-clause-ended : goal.returns-in_err-conn-clause-ended
-returns-in_err-conn-clause-ended g c = inl (c.in_err-conn.ensures.known, (refl, refl))
+returns-in_err-conn-clause-ended g c = err_from c.from_residual.result c.in_err-conn.field-0.0 _ (search rules) (inl (c.in_err-conn.ensures.known, (refl, refl)))
 
 pub returns-clause-ended : goal.returns-clause-ended
 returns-clause-ended g c =

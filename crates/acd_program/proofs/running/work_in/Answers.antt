@@ -1,7 +1,8 @@
+use Rattle.std.proofs.Common.{rules, inl, refl}
 use Rattle.sqlite_std_file.specs.File.{IsFresh}
 use Rattle.acd_program.proofs.Tasks.{worked_from}
-use Rattle.std.proofs.Common.{inl, refl}
 use Rattle.acd_program.proofs.TasksEnded.{work_from}
+use Rattle.acd_program.proofs.Kinds.{err_from}
 use Rattle.acd_program.proofs.running.work_in.Goals as goal
 
 pub returns-clause-worked : goal.returns-clause-worked
@@ -11,7 +12,7 @@ returns-clause-worked g c =
     c.in_ok-conn.ensures.opened c.in_ok-conn.ensures.makes c.work_over.ensures.worked
 
 pub returns-in_err-conn-clause-ended : goal.returns-in_err-conn-clause-ended
-returns-in_err-conn-clause-ended g c = inl (c.in_err-conn.ensures.known, refl)
+returns-in_err-conn-clause-ended g c = err_from c.from_residual.result c.in_err-conn.field-0.0 _ (search rules) (inl (c.in_err-conn.ensures.known, refl))
 
 pub returns-clause-ended : goal.returns-clause-ended
 returns-clause-ended g c =
