@@ -58,10 +58,13 @@ told_late (Err why) failed = lines_late why
 told_late (Ok done) true = tt
 told_late (Ok done) false = tt
 
+pub told_as : (r : Result (Unit {0}) Fault) (ended : Result (Unit {0}) LinesFault) (failed : Bool) → r ≡ told_by ended failed → IfErr r IsOfDesk
+told_as r ended failed is = subst (λ (x : Result (Unit {0}) Fault). IfErr x IsOfDesk) (sym is) (told_late ended failed)
+
 -- of lines over a book
 pub lines_known : {B : Type 0} (says : book.Ghosts B) (T : Desk B → Desk B → List (List ℕ) → List (List ℕ) → Type 0) (ends : Bool) (io : Streams) (old : BookState) (r : Result (Unit {0}) Fault) (last : B) → LinesOver says T ends io old r last → IfErr r IsOfDesk
 lines_known says T ends io old r last (inl none) = subst (λ (x : Result (Unit {0}) Fault). IfErr x IsOfDesk) (sym none.told) (open_late none.why)
-lines_known says T ends io old r last (inr some) = subst (λ (x : Result (Unit {0}) Fault). IfErr x IsOfDesk) (sym some.did.told) (told_late some.did.ended (ends && (standing says some.final).failed))
+lines_known says T ends io old r last (inr some) = told_as r some.did.ended (ends && (standing says some.final).failed) some.did.told
 
 -- of work and of closing
 pub ended_late : (ended : Result (Unit {0}) Fault) (fault : Fault) → IfErr ended IsOfDesk → EndsBy ended fault → IsOfDesk fault

@@ -21,11 +21,9 @@ use Rattle.acd_lines.proofs.Weaker.{out_so}
 use Rattle.acd_program.specs.Over.{IsSession, OverConnection}
 use Rattle.acd_program.specs.Work.{WasAsked, IsTextOf, ImportsOver, AuditsOver, WorkDone, IsPrinted, text_left, status_left}
 use Rattle.acd_program.specs.InFiles.{IsLaidIn, WorkedOver}
-use Rattle.acd_program.specs.Files.{IsOpenedIn}
 use Rattle.acd_program.specs.Tasks.{WorkedIn, InFile, IsOpenedFrom, InputAnswered, AuditedIn, WholeAudit, TaskDone}
 use Rattle.acd_program.specs.declared.task.Task.{Task}
 use Rattle.acd_program.specs.declared.task.Task.TheVariants as task
-use Rattle.sqlite_disk.specs.declared.Files.{Files}
 use Rattle.acd_program.proofs.InFiles.{over_so, over_fact, over_makes, appends_nothing}
 
 imports_printed : (requests : List Request) (old new : BookState) (before between behind : Option (List ℕ)) → Appends between behind [] → ImportsOver requests old before between new → ImportsOver requests old before behind new
@@ -133,12 +131,6 @@ worked_over {F = F} (Ok status) work makes conn last done closed before between 
   printed = p.printed;
   told = p.told;
 }
-
--- it was opened over files that were just opened
-pub opened_from : {D F : Type 0} {g : Ghosts D} (IsFresh : Bool → D → Type 0) (r : Result (Held (FileStore D g)) F) (pair : Files D) → IsFresh true pair.log × IsFresh false pair.db → IfOk r (λ (conn : Held (FileStore D g)). IsOpenedIn g pair conn)
-    → IfOk r (λ (conn : Held (FileStore D g)). IsOpenedFrom g IsFresh conn)
-opened_from IsFresh (Ok conn) pair fresh h = record { pair = pair; fresh = fresh; opened = h }
-opened_from IsFresh (Err e) pair fresh h = tt
 
 -- the work was done over the connection that was opened
 pub worked_from : {D F : Type 0} {g : Ghosts D} (IsFresh : Bool → D → Type 0) (r : Result ℕ F) (is_new makes : Bool) (work : Work) (conn : Held (FileStore D g)) (before behind : Option (List ℕ)) → IsOpenedFrom g IsFresh conn → (is_new ≡ true → makes ≡ true)

@@ -4,6 +4,7 @@ use Rattle.acd_lines.specs.Lines.{streams}
 use Rattle.acd_program.specs.Desks.{in_database}
 use Rattle.acd_program.proofs.LinesOver.{whole_in}
 use Rattle.std.proofs.Common.{inl, refl}
+use Rattle.acd_program.proofs.Kinds.{late_as}
 use Rattle.acd_program.proofs.connection.with_reads.Goals as goal
 
 pub returns-in-Ok-clause-done : goal.returns-in-Ok-clause-done
@@ -13,3 +14,6 @@ returns-in-Ok-clause-done g c =
 
 pub returns-in-Err-clause-told : goal.returns-in-Err-clause-told
 returns-in-Err-clause-told g c = inl (record { why = c.from.result; told = refl; unserved = λ clean filed db left. inl left; untouched = (refl, refl) })
+
+pub returns-in-Err-clause-known : goal.returns-in-Err-clause-known
+returns-in-Err-clause-known g c = late_as _ _ c.from.ensures tt

@@ -1,7 +1,8 @@
-use Rattle.std.proofs.Common.{◌≢◌, ◌∙◌, inl, inr, Err, refl, ap, sym}
+use Rattle.std.proofs.Common.{◌≢◌, ◌∙◌, inl, inr, Ok, Err, refl, ap, sym}
 use Rattle.acd_desk.specs.Standing.{standing}
 use Rattle.acd_http.specs.declared.listening.ServeFault.TheVariants.{NoMemory}
 use Rattle.acd_program.proofs.Served.{begins_until}
+use Rattle.acd_program.proofs.Kinds.{told_as}
 use Rattle.acd_program.proofs.serving.answer_until_failed.Goals as goal
 
 pub returns-in-Ok-clause-told : goal.returns-in-Ok-clause-told
@@ -26,3 +27,9 @@ pub returns-in-Err-NoMemory-clause-told : goal.returns-in-Err-NoMemory-clause-to
 returns-in-Err-NoMemory-clause-told g c =
     let none = c.serve_until_failed.ensures.memory (c.in-Err-NoMemory.is ∙ ap Err c.in-Err-NoMemory.field-0-is) in
     inl (record { why = _; ended = refl; same = none.0; quiet = ap g.E.Write.contents none.1 })
+
+pub returns-in-Ok-clause-known : goal.returns-in-Ok-clause-known
+returns-in-Ok-clause-known g c = told_as c.unless_failed.result (Ok tt) _ c.unless_failed.ensures.told
+
+pub returns-in-Err-Write-clause-known : goal.returns-in-Err-Write-clause-known
+returns-in-Err-Write-clause-known g c = told_as c.unless_failed-in-Err-Write.result (Ok tt) _ c.unless_failed-in-Err-Write.ensures.told
