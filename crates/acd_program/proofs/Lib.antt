@@ -11,6 +11,6 @@ pub mod Served
 pub mod LinesOver
 pub mod Inputs
 pub mod Plans
-pub mod Kinds
+pub mod Coming
 pub mod Ended
 pub mod TasksEnded

@@ -6,7 +6,7 @@ use Rattle.acd_lines.specs.Parts.{InTurn}
 use Rattle.acd_program.proofs.LinesOver.{lines_in}
 use Rattle.acd_sqlbook.specs.View.{book_of}
 use Rattle.acd_program.specs.Desks.{in_database}
-use Rattle.acd_program.proofs.Kinds.{late_as, adopt_late, lines_known}
+use Rattle.acd_program.proofs.Coming.{late_as, adopt_late, lines_known}
 use Rattle.acd_program.proofs.connection.lines_over_connection.Goals as goal
 
 pub returns-in-Err-clause-done : goal.returns-in-Err-clause-done

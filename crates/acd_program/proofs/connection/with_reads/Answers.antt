@@ -4,7 +4,7 @@ use Rattle.acd_lines.specs.Lines.{streams}
 use Rattle.acd_program.specs.Desks.{in_database}
 use Rattle.acd_program.proofs.LinesOver.{whole_in}
 use Rattle.std.proofs.Common.{inl, refl}
-use Rattle.acd_program.proofs.Kinds.{late_as}
+use Rattle.acd_program.proofs.Coming.{late_as}
 use Rattle.acd_program.proofs.connection.with_reads.Goals as goal
 
 pub returns-in-Ok-clause-done : goal.returns-in-Ok-clause-done

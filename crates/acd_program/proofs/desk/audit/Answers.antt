@@ -3,7 +3,7 @@ use Rattle.acd_program.specs.Work.{WasAsked, IsFindingIfOrdered}
 use Rattle.acd_program.proofs.Asking.{audited_by}
 use Rattle.acd_program.specs.Ended.{OnlyAsked}
 use Rattle.acd_program.proofs.Asking.{only_refused, only_told}
-use Rattle.acd_program.proofs.Kinds.{late_as, open_late, desk_late}
+use Rattle.acd_program.proofs.Coming.{late_as, open_late, desk_late}
 use Rattle.acd_program.proofs.desk.audit.Goals as goal
 
 pub returns-in-Ok-audited-clause-over : goal.returns-in-Ok-audited-clause-over

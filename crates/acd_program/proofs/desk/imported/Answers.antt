@@ -4,7 +4,7 @@ use Rattle.acd_program.specs.Ended.{IsBegunPlan}
 use Rattle.acd_program.specs.Work.{ImportsOver}
 use Rattle.acd_program.proofs.Asking.{only_refused}
 use Rattle.acd_program.proofs.Ended.{begun_by}
-use Rattle.acd_program.proofs.Kinds.{late_as, open_late, lines_late}
+use Rattle.acd_program.proofs.Coming.{late_as, open_late, lines_late}
 use Rattle.acd_program.proofs.Works.{imports_over}
 use Rattle.acd_program.proofs.desk.imported.Goals as goal
 

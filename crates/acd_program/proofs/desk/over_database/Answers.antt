@@ -12,7 +12,7 @@ use Rattle.acd_program.proofs.Taking.{unserved_asked}
 use Rattle.std.proofs.Common.{inl, refl, OnErr}
 use Rattle.acd_program.specs.Ended.{WorkStopped}
 use Rattle.acd_program.proofs.Ended.{stopped_in}
-use Rattle.acd_program.proofs.Kinds.{late_as, adopt_late}
+use Rattle.acd_program.proofs.Coming.{late_as, adopt_late}
 use Rattle.acd_program.proofs.desk.over_database.Goals as goal
 
 pub returns-clause-over : goal.returns-clause-over

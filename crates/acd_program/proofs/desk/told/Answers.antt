@@ -1,7 +1,7 @@
 use Rattle.std.proofs.Common.{sym, subst}
 use Rattle.acd_program.specs.Ended.{OnlyAsked}
 use Rattle.acd_program.proofs.Asking.{only_refused, only_told}
-use Rattle.acd_program.proofs.Kinds.{late_as, open_late, desk_late}
+use Rattle.acd_program.proofs.Coming.{late_as, open_late, desk_late}
 use Rattle.acd_program.proofs.desk.told.Goals as goal
 
 pub returns-in-Err-clause-kept : goal.returns-in-Err-clause-kept

@@ -1,6 +1,6 @@
 use Rattle.acd_program.proofs.Tasks.{worked_over}
 use Rattle.acd_program.proofs.Ended.{work_ended}
-use Rattle.acd_program.proofs.Kinds.{printed_late}
+use Rattle.acd_program.proofs.Coming.{printed_late}
 use Rattle.acd_program.proofs.running.work_over.Goals as goal
 
 pub returns-clause-worked : goal.returns-clause-worked

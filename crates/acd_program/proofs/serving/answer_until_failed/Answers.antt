@@ -2,7 +2,7 @@ use Rattle.std.proofs.Common.{◌≢◌, ◌∙◌, inl, inr, Ok, Err, refl, ap,
 use Rattle.acd_desk.specs.Standing.{standing}
 use Rattle.acd_http.specs.declared.listening.ServeFault.TheVariants.{NoMemory}
 use Rattle.acd_program.proofs.Served.{begins_until}
-use Rattle.acd_program.proofs.Kinds.{told_as}
+use Rattle.acd_program.proofs.Coming.{told_as}
 use Rattle.acd_program.proofs.serving.answer_until_failed.Goals as goal
 
 pub returns-in-Ok-clause-told : goal.returns-in-Ok-clause-told

@@ -2,7 +2,7 @@ use Rattle.std.proofs.Common.{inl, refl}
 use Rattle.sqlite.specs.Held.{state}
 use Rattle.acd_program.specs.Serving.{ServeIn}
 use Rattle.acd_program.proofs.Served.{serve_in, serves_in}
-use Rattle.acd_program.proofs.Kinds.{late_as, adopt_late}
+use Rattle.acd_program.proofs.Coming.{late_as, adopt_late}
 use Rattle.acd_program.proofs.serving.serve.Goals as goal
 
 pub returns-in-Err-clause-told : goal.returns-in-Err-clause-told

@@ -1,5 +1,5 @@
 use Rattle.std.proofs.Common.{Err, inl, inr, refl, ap}
-use Rattle.acd_program.proofs.Kinds.{late_as, open_late}
+use Rattle.acd_program.proofs.Coming.{late_as, open_late}
 use Rattle.acd_program.proofs.serving.serve_book.Goals as goal
 
 pub returns-in-Err-clause-told : goal.returns-in-Err-clause-told
