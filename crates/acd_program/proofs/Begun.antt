@@ -28,7 +28,7 @@ module _ {D : Type 0} {g : Ghosts D} where
   reads_none file usable = record { seen = refl; clean = λ h. h; usable = usable; key = refl; rot = refl; crash = λ c may. may }
 
   -- nothing was done to them
-  pub read_as : (old new : Files D) → (new.log, new.db) ≡ (old.log, old.db) → IsTrue (g.is_usable old.log) → IsTrue (g.is_usable old.db) → AreReadOnly g old new
+  pub read_as : (old new : Files D) → ◌≡◌ {A = D × D} (new.log, new.db) (old.log, old.db) → IsTrue (g.is_usable old.log) → IsTrue (g.is_usable old.db) → AreReadOnly g old new
   read_as old new is log db = record {
     log = subst (λ (x : D). OnlyReads g old.log x) (sym (ap (λ (p : D × D). p.0) is)) (reads_none old.log log);
     db = subst (λ (x : D). OnlyReads g old.db x) (sym (ap (λ (p : D × D). p.1) is)) (reads_none old.db db);

@@ -20,10 +20,6 @@ use Rattle.acd_program.specs.Statuses.{fault_status}
 use Rattle.acd_program.specs.declared.fault.Fault.{Fault}
 use Rattle.acd_program.specs.declared.fault.Fault.TheVariants.{CannotOpen, OpenElsewhere, WrongVersion, BadRow, BadRows, NoMemory, Store, Plan, Read, Write, CannotListen}
 
--- what is so of a fault that was handed on
-pub err_from : {A : Type 0} (r : Result A Fault) (fault : Fault) (P : Fault → Type 0) → r ≡ Err fault → P fault → IfErr r P
-err_from {A} r fault P is h = subst (λ (x : Result A Fault). IfErr x P) (sym is) h
-
 -- ---- those of parts come once there is a connection
 
 pub adopt_late : (why : AdoptFault) → IsOfDesk (adopt_fault why)

@@ -1,5 +1,5 @@
 -- That a task was done, by the work over a connection to files.
-use Rattle.std.proofs.Common.{◌≡◌, ℕ, Bool, true, false, List, [], Option, Result, Ok, Err, IfOk, OnOk, sym, ap, subst, ◌∙◌}
+use Rattle.std.proofs.Common.{◌≡◌, ℕ, Bool, true, false, List, [], Option, Result, Ok, Err, IfOk, IfErr, OnOk, sym, ap, subst, ◌∙◌}
 use Rattle.std.specs.Io.KnownBytes.{Appends}
 use Rattle.sqlite_disk.specs.declared.Disk.{Ghosts}
 use Rattle.sqlite_store.specs.declared.store.FileStore.{FileStore}
@@ -137,6 +137,10 @@ pub worked_from : {D F : Type 0} {g : Ghosts D} (IsFresh : Bool → D → Type 0
     → IfOk r (λ (status : ℕ). WorkedOver is_new work conn before behind status) → IfOk r (λ (status : ℕ). WorkedIn g IsFresh makes work before behind status)
 worked_from IsFresh (Ok status) is_new makes work conn before behind opened may h = (conn, opened, worked_in is_new makes work conn before behind status may h)
 worked_from IsFresh (Err e) is_new makes work conn before behind opened may h = tt
+
+-- what is so of an error that was handed on
+pub err_from : {A E : Type 0} (r : Result A E) (e : E) (P : E → Type 0) → r ≡ Err e → P e → IfErr r P
+err_from {A} {E} r e P is h = subst (λ (x : Result A E). IfErr x P) (sym is) h
 
 pub ok_so : {A F : Type 0} (r : Result A F) (P Q : A → Type 0) → ((x : A) → P x → Q x) → IfOk r P → IfOk r Q
 ok_so (Ok x) P Q follows h = follows x h

@@ -19,7 +19,8 @@ use Rattle.acd_program.specs.declared.desk.Work.{Work}
 use Rattle.acd_program.specs.declared.task.Task.{Task}
 use Rattle.acd_program.specs.declared.task.Task.TheVariants as task
 use Rattle.acd_program.proofs.Ended.{work_makes}
-use Rattle.acd_program.proofs.Coming.{err_from, lines_late, late_as, ended_late, never_elsewhere}
+use Rattle.acd_program.proofs.Coming.{lines_late, late_as, ended_late, never_elsewhere}
+use Rattle.acd_program.proofs.Tasks.{err_from}
 
 -- what ended the work goes before what closing met
 pub ends_by : (r done closed : Result (Unit {0}) Fault) → IfErr r (λ (fault : Fault). (done ≡ Err fault) ⊎ ((done ≡ Ok tt) × (closed ≡ Err fault))) → IfErr closed IsOfClosing → IfErr r (EndsBy done)

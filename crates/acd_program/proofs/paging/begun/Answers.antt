@@ -1,5 +1,6 @@
-use Rattle.std.proofs.Common.{sym, ◌∙◌, true≢false}
+use Rattle.std.proofs.Common.{rules, sym, ◌∙◌, true≢false}
 use Rattle.acd_program.proofs.Begun.{read_only, begun_read, begun_created, unbegun_read, unbegun_behind, unbegun_created}
+use Rattle.acd_program.proofs.Tasks.{err_from}
 use Rattle.acd_program.proofs.paging.begun.Goals as goal
 
 pub returns-in-Ok-false-clause-begun : goal.returns-in-Ok-false-clause-begun
@@ -18,7 +19,8 @@ returns-then-may_be_used-clause-begun g c =
 pub returns-in_err-files-in-Ok-true-clause-left : goal.returns-in_err-files-in-Ok-true-clause-left
 returns-in_err-files-in-Ok-true-clause-left g c =
     let mid : _ = c.may_be_new.new.files in
-    unbegun_behind c.args.files mid _ (read_only c.args.files mid c.may_be_new.ensures.log c.requires.log c.may_be_new.ensures.db) c.in_err-files-in-Ok-true.ensures.left
+    err_from c.from_residual.result c.in_err-files-in-Ok-true.field-0.0 _ (search rules)
+    (unbegun_behind c.args.files mid _ (read_only c.args.files mid c.may_be_new.ensures.log c.requires.log c.may_be_new.ensures.db) c.in_err-files-in-Ok-true.ensures.left)
 
 pub returns-else-may_be_used-clause-left : goal.returns-else-may_be_used-clause-left
 returns-else-may_be_used-clause-left g c =

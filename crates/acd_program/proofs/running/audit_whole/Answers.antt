@@ -2,7 +2,7 @@ use Rattle.std.proofs.Common.{rules, inl, refl}
 use Rattle.sqlite_std_file.specs.File.{IsFresh}
 use Rattle.acd_program.proofs.Tasks.{ok_so}
 use Rattle.acd_program.proofs.TasksEnded.{err_so}
-use Rattle.acd_program.proofs.Coming.{err_from}
+use Rattle.acd_program.proofs.Tasks.{err_from}
 use Rattle.acd_program.proofs.running.audit_whole.Goals as goal
 
 pub returns-clause-audited : goal.returns-clause-audited

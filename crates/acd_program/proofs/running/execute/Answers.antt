@@ -4,7 +4,7 @@ use Rattle.acd_lines.specs.Lines.{streams}
 use Rattle.acd_program.proofs.Tasks.{lines_task, whole_task, read_task}
 use Rattle.acd_program.proofs.Served.{file_tells, serve_task}
 use Rattle.acd_program.proofs.TasksEnded.{lines_ended, service_ended, import_ended, whole_ended, read_ended, err_elsewhere}
-use Rattle.acd_program.proofs.Coming.{err_from}
+use Rattle.acd_program.proofs.Tasks.{err_from}
 use Rattle.acd_program.proofs.running.execute.Goals as goal
 
 pub returns-in-Lines-clause-done : goal.returns-in-Lines-clause-done

@@ -2,7 +2,7 @@ use Rattle.std.proofs.Common.{rules, true, Ok, inl, refl, ap, sym, ◌∙◌}
 use Rattle.sqlite_std_file.specs.File.{IsFresh}
 use Rattle.acd_program.proofs.Tasks.{ok_so, import_done}
 use Rattle.acd_program.proofs.TasksEnded.{err_so}
-use Rattle.acd_program.proofs.Coming.{err_from}
+use Rattle.acd_program.proofs.Tasks.{err_from}
 use Rattle.acd_program.proofs.running.import_plan.Goals as goal
 
 pub returns-clause-imported : goal.returns-clause-imported

@@ -7,7 +7,7 @@ use Rattle.sqlite_std_file.specs.File.{IsFresh}
 use Rattle.acd_program.specs.TasksEnded.{LinesLeft}
 use Rattle.acd_program.proofs.Ended.{ended_made}
 use Rattle.acd_program.proofs.TasksEnded.{ends_by, ended_over, lines_left, ends_late}
-use Rattle.acd_program.proofs.Coming.{err_from}
+use Rattle.acd_program.proofs.Tasks.{err_from}
 use Rattle.acd_program.proofs.running.lines_in.Goals as goal
 
 pub returns-clause-answered : goal.returns-clause-answered

@@ -1,7 +1,7 @@
 use Rattle.std.proofs.Common.{rules, inl, inr, refl, sym, subst}
 use Rattle.acd_program.specs.Ended.{PrintedOf}
 use Rattle.acd_program.proofs.Ended.{err_always}
-use Rattle.acd_program.proofs.Coming.{err_from}
+use Rattle.acd_program.proofs.Tasks.{err_from}
 use Rattle.acd_program.proofs.Served.{begins_whole}
 use Rattle.acd_program.proofs.running.print_done.Goals as goal
 

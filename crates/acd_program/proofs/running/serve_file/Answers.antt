@@ -6,7 +6,7 @@ use Rattle.acd_program.proofs.Inputs.{both_so}
 use Rattle.acd_program.proofs.LinesOver.{over_made}
 use Rattle.acd_program.proofs.Served.{serve_made}
 use Rattle.acd_program.proofs.TasksEnded.{ends_by, ended_over, service_left, ends_late}
-use Rattle.acd_program.proofs.Coming.{err_from}
+use Rattle.acd_program.proofs.Tasks.{err_from}
 use Rattle.acd_program.proofs.running.serve_file.Goals as goal
 
 pub returns-clause-served : goal.returns-clause-served

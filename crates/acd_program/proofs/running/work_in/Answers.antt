@@ -2,7 +2,7 @@ use Rattle.std.proofs.Common.{rules, inl, refl}
 use Rattle.sqlite_std_file.specs.File.{IsFresh}
 use Rattle.acd_program.proofs.Tasks.{worked_from}
 use Rattle.acd_program.proofs.TasksEnded.{work_from}
-use Rattle.acd_program.proofs.Coming.{err_from}
+use Rattle.acd_program.proofs.Tasks.{err_from}
 use Rattle.acd_program.proofs.running.work_in.Goals as goal
 
 pub returns-clause-worked : goal.returns-clause-worked
