@@ -1,5 +1,5 @@
 use Rattle.std.proofs.Common.{inl, refl, sym, subst, OnErr}
-use Rattle.acd_program.specs.Ended.{StoppedOver}
+use Rattle.acd_program.specs.Ended.{OnlyAsked, StoppedOver}
 use Rattle.acd_program.specs.declared.desk.Work.{Work}
 use Rattle.acd_program.proofs.Ended.{err_always}
 use Rattle.acd_program.proofs.desk.over_book.Goals as goal
@@ -13,4 +13,5 @@ pub returns-in-Tell-clause-stopped : goal.returns-in-Tell-clause-stopped
 returns-in-Tell-clause-stopped g c = err_always c.told.result.0 _ (inl (c.told.ensures.kept, refl))
 
 pub returns-in-Audit-clause-stopped : goal.returns-in-Audit-clause-stopped
-returns-in-Audit-clause-stopped g c = err_always c.audit.result.0 _ (inl (c.audit.ensures.kept, refl))
+returns-in-Audit-clause-stopped g c =
+    err_always c.audit.result.0 _ (inl (subst (λ (b : _). OnlyAsked (g.B.Book.state b) (g.B.Book.state c.audit.result.1)) c.new-book.ensures c.audit.ensures.kept, refl))
