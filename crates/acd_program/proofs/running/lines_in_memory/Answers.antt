@@ -23,7 +23,7 @@ returns-clause-ended g c =
     memory_ended g.R.Read.remaining g.W.Write.contents c.lines_are_from_nothing.ensures c.args.reads false (c.args.reader.now, c.lines_over_memory-2.new.reader) (c.args.writer.now, c.lines_over_memory-2.new.writer)
     c.lines_over_memory-2.result c.if-reads.false c.lines_over_memory-2.ensures
 
-pub returns-in_err-lines-then-reads-clause-ended : goal.returns-in_err-lines-then-reads-clause-ended
-returns-in_err-lines-then-reads-clause-ended g c =
+pub returns-in_err-lines-clause-ended : goal.returns-in_err-lines-clause-ended
+returns-in_err-lines-clause-ended g c =
     memory_none c.from_residual.result c.args.reads (streams g.R.Read.remaining g.W.Write.contents (c.args.reader.now, c.args.reader.now) (c.args.writer.now, c.args.writer.now))
     c.if-reads.true c.from_residual.ensures.1 (refl, refl)
