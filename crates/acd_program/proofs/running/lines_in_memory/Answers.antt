@@ -1,4 +1,4 @@
-use Rattle.std.proofs.Common.{true, false, inl, refl}
+use Rattle.std.proofs.Common.{true, false, refl}
 use Rattle.acd_lines.specs.Lines.{streams}
 use Rattle.acd_program.proofs.Inputs.{memory_lines, memory_ended, memory_none}
 use Rattle.acd_program.proofs.running.lines_in_memory.Goals as goal
