@@ -1,5 +1,5 @@
 -- That the lines of an input were answered, by what was answered over a desk in memory or over a file.
-use Rattle.std.proofs.Common.{◌≡◌, inl, inr, ℕ, Bool, true, false, List, Option, Some, None, Result, Ok, Err, IfErr, IsErrAnd, OnOk, refl, sym, ap, subst, true≢false}
+use Rattle.std.proofs.Common.{◌≡◌, inl, inr, ℕ, Bool, true, false, List, Option, Some, None, Result, Ok, Err, IfErr, OnOk, refl, sym, subst, true≢false}
 use Rattle.std.specs.Io.KnownBytes.{Appends}
 use Rattle.sqlite_disk.specs.declared.Disk.{Ghosts}
 use Rattle.acd_book.specs.Content.{Content}
@@ -10,12 +10,9 @@ use Rattle.acd_lines.specs.Laws.{RequestsRun}
 use Rattle.acd_lines.specs.Answers.{Answers}
 use Rattle.acd_lines.specs.Input.{line_of}
 use Rattle.acd_io.specs.Sent.{Begins}
-use Rattle.acd_lines.specs.Lines.{LinesAnswered, AllLines, FirstLines, ArrivalsAnswered, RunInTurn, Streams, streams, Untouched}
+use Rattle.acd_lines.specs.Lines.{LinesAnswered, AllLines, FirstLines, ArrivalsAnswered, RunInTurn, Streams, streams}
 use Rattle.acd_lines.specs.Parts.{InTurn}
 use Rattle.acd_lines.specs.declared.fault.LinesFault.{LinesFault}
-use Rattle.acd_lines.specs.declared.fault.LinesFault.TheVariants.{NoMemory}
-use Rattle.std.proofs.lemmas.Result.{err_from_is_err_and}
-use Rattle.acd_program.proofs.Tasks.{err_from}
 use Rattle.acd_lines.proofs.Weaker.{answered_so}
 use Rattle.acd_program.specs.Answered.{in_memory, IsNewDesk, AnsweredFromNothing}
 use Rattle.acd_program.specs.Desks.{OverNewDesk}
@@ -74,12 +71,6 @@ pub memory_ended : {R W : Type 0} (remaining : R → Option (List ℕ)) (content
     → LinesInMemory (in_turn is_so in_memory) (streams remaining contents reader writer) r → IfErr r (MemoryEnded reads (streams remaining contents reader writer))
 memory_ended remaining contents law reads is_so reader writer r is h =
     subst (λ (b : Bool). IfErr r (MemoryEnded b (streams remaining contents reader writer))) (sym is) (memory_told remaining contents law is_so reader writer r h)
-
--- where there was no room for a desk that reads
-pub memory_none : (r : Result (Unit {0}) LinesFault) (reads : Bool) (io : Streams) → reads ≡ true → IsErrAnd r (λ (why : LinesFault). why ≡ NoMemory) → Untouched io → IfErr r (MemoryEnded reads io)
-memory_none r reads io is none untouched =
-    let told = err_from_is_err_and r none in
-    err_from r told.0 (MemoryEnded reads io) told.1 (subst (λ (b : Bool). MemoryEnded b io told.0) (sym is) (inl (ap Err told.2, untouched)))
 
 memory_answered : RequestsRun in_memory → (reads : Bool) (io : Streams) → OverNewDesk (Whole in_memory (in_turn reads in_memory) false io) → MemoryAnswered reads io
 memory_answered runs true io h = h

@@ -1,6 +1,6 @@
-use Rattle.std.proofs.Common.{true, false, refl}
+use Rattle.std.proofs.Common.{true, false}
 use Rattle.acd_lines.specs.Lines.{streams}
-use Rattle.acd_program.proofs.Inputs.{memory_lines, memory_ended, memory_none}
+use Rattle.acd_program.proofs.Inputs.{memory_lines, memory_ended}
 use Rattle.acd_program.proofs.running.lines_in_memory.Goals as goal
 
 pub returns-then-reads-clause-answered : goal.returns-then-reads-clause-answered
@@ -22,8 +22,3 @@ pub returns-clause-ended : goal.returns-clause-ended
 returns-clause-ended g c =
     memory_ended g.R.Read.remaining g.W.Write.contents c.lines_are_from_nothing.ensures c.args.reads false (c.args.reader.now, c.lines_over_memory-2.new.reader) (c.args.writer.now, c.lines_over_memory-2.new.writer)
     c.lines_over_memory-2.result c.if-reads.false c.lines_over_memory-2.ensures
-
-pub returns-in_err-lines-clause-ended : goal.returns-in_err-lines-clause-ended
-returns-in_err-lines-clause-ended g c =
-    memory_none c.from_residual.result c.args.reads (streams g.R.Read.remaining g.W.Write.contents (c.args.reader.now, c.args.reader.now) (c.args.writer.now, c.args.writer.now))
-    c.if-reads.true c.from_residual.ensures.1 (refl, refl)
