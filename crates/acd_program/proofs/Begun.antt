@@ -4,6 +4,7 @@ use Rattle.std.proofs.lemmas.Bool.{and_parts}
 use Rattle.sqlite_disk.specs.declared.Disk.{Ghosts}
 use Rattle.sqlite_disk.specs.declared.Files.{Files}
 use Rattle.sqlite_wal.specs.Reads.{IsClean, AreClean, OnlyReads, are_clean}
+use Rattle.sqlite_pager.specs.declared.pager.Options.{Options}
 use Rattle.sqlite_store.specs.declared.store.FileStore.{FileStore}
 use Rattle.sqlite_store.specs.declared.store.open.Unopened.{Unopened}
 use Rattle.sqlite_store.specs.declared.error.OpenError.{OpenError}
@@ -14,6 +15,14 @@ use Rattle.sqlite_store.specs.Unopened.{state_of, files_of}
 use Rattle.sqlite.proofs.OpenLemmas.{pool_files}
 use Rattle.acd_program.proofs.Tasks.{ok_so}
 use Rattle.acd_program.specs.Files.{new_page, IsLone, AreReadOnly, IsCreated, IsReadAndCreated, IsBegun}
+
+-- how the store treats pages, by its four numbers
+abbrev pub options : ℕ → ℕ → ℕ → ℕ → Options
+options cache spill frames seed = record { cache_pages = cache; spill_pages = spill; checkpoint_frames = frames; seed = seed }
+
+pub same_options : {a b c d e f g h : ℕ} → a ≡ e → b ≡ f → c ≡ g → d ≡ h → options a b c d ≡ options e f g h
+same_options {a} {b} {c} {d} {e} {f} {g} {h} p q r s =
+    ap (λ (x : ℕ). options x b c d) p ∙ ap (λ (x : ℕ). options e x c d) q ∙ ap (λ (x : ℕ). options e f x d) r ∙ ap (λ (x : ℕ). options e f g x) s
 
 -- the store refused to make a database
 pub refused_so : (a b : ℕ) (L P : Type 0) (e : OpenError) → e ≡ Refused → FailsToOpen a b L P e → ¬ P

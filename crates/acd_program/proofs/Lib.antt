@@ -11,3 +11,4 @@ pub mod Served
 pub mod LinesOver
 pub mod Inputs
 pub mod Plans
+pub mod CommandLines

@@ -19,8 +19,8 @@ use Rattle.acd_program.specs.Desks.{OverDesk, OverDatabase, in_database}
 use Rattle.acd_program.specs.Taking.{IsTaken}
 use Rattle.acd_program.specs.Statuses.{TellsConnections}
 use Rattle.acd_program.specs.Serving.{Served}
-use Rattle.acd_program.specs.declared.task.Task.{Task}
-use Rattle.acd_program.specs.declared.task.Task.TheVariants as task
+use Rattle.acd_program.specs.declared.asked.Task.{Task}
+use Rattle.acd_program.specs.declared.asked.Task.TheVariants as task
 use Rattle.acd_program.specs.Tasks.{ServedIn, TaskDone}
 
 -- what was written whole is a beginning of itself

@@ -23,8 +23,8 @@ use Rattle.acd_program.specs.Work.{WasAsked, IsTextOf, ImportsOver, AuditsOver, 
 use Rattle.acd_program.specs.InFiles.{IsLaidIn, WorkedOver}
 use Rattle.acd_program.specs.Files.{IsOpenedIn}
 use Rattle.acd_program.specs.Tasks.{WorkedIn, InFile, IsOpenedFrom, InputAnswered, AuditedIn, WholeAudit, TaskDone}
-use Rattle.acd_program.specs.declared.task.Task.{Task}
-use Rattle.acd_program.specs.declared.task.Task.TheVariants as task
+use Rattle.acd_program.specs.declared.asked.Task.{Task}
+use Rattle.acd_program.specs.declared.asked.Task.TheVariants as task
 use Rattle.sqlite_disk.specs.declared.Files.{Files}
 use Rattle.acd_program.proofs.InFiles.{over_so, over_fact, over_makes, appends_nothing}
 

@@ -1,10 +1,13 @@
 -- What becomes of the two files before the store has them.
-use Rattle.std.specs.Prelude.{◌≡◌, ◌⊎◌, ◌↔◌, ℕ, ◌<◌, ◌≤◌, Bool, List, [], length, IsTrue, Result, IfOk}
+use Rattle.std.specs.Prelude.{◌≡◌, ◌⊎◌, ◌↔◌, ℕ, ◌/◌, ◌<◌, ◌≤◌, Bool, List, [], length, IsTrue, Option, None, Some, Result, IfOk}
 use Rattle.sqlite_disk.specs.declared.Disk.{Ghosts}
 use Rattle.sqlite_disk.specs.declared.Files.{Files}
-use Rattle.sqlite_wal.specs.PageSize.{IsPageSize}
+use Rattle.sqlite_wal.specs.declared.page_size.PageSize.{PageSize}
+use Rattle.sqlite_wal.specs.Format.{be32}
+use Rattle.sqlite_wal.specs.PageSize.{IsPageSize, Names, bytes_of, size_in_file}
 use Rattle.sqlite_wal.specs.Reads.{AreClean, OnlyReads}
-use Rattle.sqlite_wal.specs.Recovery.{IsCommitted}
+use Rattle.sqlite_wal.specs.Recovery.{IsCommitted, IsIgnored}
+use Rattle.sqlite_pager.specs.declared.pager.Options.{Options}
 use Rattle.sqlite_store.specs.declared.store.FileStore.{FileStore}
 use Rattle.sqlite_store.specs.declared.store.open.Unopened.{Unopened}
 use Rattle.sqlite_store.specs.FileStore as store
@@ -16,6 +19,15 @@ use Rattle.sqlite.specs.Files.{file_state, IsOpened, Finds}
 -- the bytes of the first page of a new file
 abbrev pub new_page : ℕ
 new_page = 1024
+
+-- how long a page is: as long as was found or, where nothing was, as in a new file
+abbrev pub page_of : Option PageSize → ℕ
+page_of None = new_page
+page_of (Some size) = bytes_of size
+
+-- how the store treats pages of so many bytes: it keeps 8,192,000 bytes of them in memory, 2,000 that are written, and copies a log of 1,000 frames into its file
+abbrev pub treated : ℕ → ℕ → Options
+treated page seed = record { cache_pages = 8192000 / page; spill_pages = 2000; checkpoint_frames = 1000; seed = seed }
 
 -- the log holds a commit of pages of some size, which an opening would take
 abbrev pub HoldsCommit : List ℕ → Type 0
@@ -56,6 +68,15 @@ module _ {D : Type 0} (g : Ghosts D) where
   pub record AreReadOnly (old new : Files D) : Type 0 where
     pub log : OnlyReads g old.log new.log
     pub db : OnlyReads g old.db new.db
+
+  -- that is how long the pages are, by the head of the log or, where it has none, by that of the file
+  pub record FindsPage (old new : Files D) (found : Option PageSize) : Type 0 where
+    pub by_log : AreClean g new.log new.db → ¬ IsIgnored (g.seen old.log) → Names found (be32 (g.seen old.log) 8)
+    pub by_file : AreClean g new.log new.db → IsIgnored (g.seen old.log) → Names found (size_in_file (g.seen old.db))
+
+  -- this is so of that length
+  abbrev pub OfPage : Files D → Files D → (ℕ → Type 0) → Type 0
+  OfPage old new P = (found : Option PageSize) × FindsPage old new found × P (page_of found)
 
   -- they were handed to the store to make a database of no tables in them
   pub record IsCreated (old new : Files D) : Type 0 where

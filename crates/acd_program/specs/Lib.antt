@@ -13,3 +13,4 @@ pub mod LinesOver
 pub mod Sessions
 pub mod Tasks
 pub mod Names
+pub mod CommandLine

@@ -13,6 +13,8 @@ use Rattle.acd_lines.specs.Lines.{Streams}
 use Rattle.acd_log.specs.declared.ending.Ending.{Ending}
 use Rattle.acd_log.specs.Ending.{IsEndingOf}
 use Rattle.acd_http.specs.ReadingLines.{ReadInTurn}
+use Rattle.clap.specs.Words.{Text}
+use Rattle.acd_program.specs.CommandLine.{IsTaskOf}
 use Rattle.acd_program.specs.Answered.{AnswersAll, in_memory}
 use Rattle.acd_program.specs.Desks.{OverNewDesk, OverDatabase, in_database}
 use Rattle.acd_program.specs.LinesOver.{DatabaseAnswered, Whole}
@@ -26,8 +28,8 @@ use Rattle.acd_program.specs.Serving.{Served}
 use Rattle.acd_program.specs.declared.auditing.Finding.{Finding}
 use Rattle.acd_program.specs.declared.desk.Work.{Work}
 use Rattle.acd_program.specs.declared.desk.Work.TheVariants as kind
-use Rattle.acd_program.specs.declared.task.Task.{Task}
-use Rattle.acd_program.specs.declared.task.Task.TheVariants.{Lines, Serve, Import, AuditWhole, Read}
+use Rattle.acd_program.specs.declared.asked.Task.{Task}
+use Rattle.acd_program.specs.declared.asked.Task.TheVariants.{Lines, Serve, Import, AuditWhole, Read}
 
 -- Each line of the input was answered, over a desk in memory: the answers to the requests among them are the abstract desk's or, where lines may be reads too, each line was answered by the desk that
 -- the lines before it left
@@ -108,6 +110,6 @@ module _ {D : Type 0} (disk : Ghosts D) (IsFresh : Bool → D → Type 0) where
   TaskDone (Read file (kind.Audit counts ending)) io mute told status = AuditedIn counts ending io.before io.behind status
   TaskDone (AuditWhole file counts) io mute told status = (ending : Ending) × IsSomeEnding ending × AuditedIn counts ending io.before io.behind status
 
-  -- one of the tasks was done so
-  abbrev pub SomeTaskDone : Streams → Option (List ℕ) → Option (List ℕ) → ℕ → Type 0
-  SomeTaskDone io mute told status = (task : Task) × TaskDone task io mute told status
+  -- the task that the words name was done so
+  abbrev pub NamedTaskDone : List Text → Streams → Option (List ℕ) → Option (List ℕ) → ℕ → Type 0
+  NamedTaskDone words io mute told status = (task : Task) × IsTaskOf words task × TaskDone task io mute told status

@@ -6,6 +6,7 @@
 //! ```
 #![tactic(auto)]
 
+mod asked;
 mod auditing;
 mod connection;
 mod desk;

@@ -1,8 +1,8 @@
 //! The pages of a file: how long they are in a new one, and how many of them the store keeps in memory.
 
-ghost use Rattle.std.specs.Prelude.{◌≡◌, ◌≤◌, ◌<◌, ◌↔◌, length, IsTrue, IfOk};
+ghost use Rattle.std.specs.Prelude.{◌≡◌, ◌/◌, ◌≤◌, ◌<◌, ◌↔◌, length, IsTrue, IfOk};
 ghost use Rattle.sqlite_wal.specs.Reads.{IsClean, AreClean, OnlyReads};
-ghost use Rattle.acd_program.specs.Files.{new_page, IfClean, IsLoneIn, AreReadOnly, IsCreated, IsReadAndCreated, IsBegun};
+ghost use Rattle.acd_program.specs.Files.{new_page, page_of, treated, IfClean, IsLoneIn, AreReadOnly, OfPage, IsCreated, IsReadAndCreated, IsBegun};
 
 use crate::fault::Fault;
 use crate::lone_log::is_lone;
@@ -45,6 +45,16 @@ fn may_be_new<D: Disk>(files: &mut Files<D>) -> io::Result<bool>
     Ok(files.db.len()? <= NEW_PAGE)
 }
 
+// How the store treats the one page of a new file.
+fn one_page(seed: u64) -> Options
+    ensures { result ≡ record (treated new_page seed) { cache_pages = 1 } }
+{
+    Options {
+        cache_pages: ONE_PAGE,
+        ..Options::new(seed)
+    }
+}
+
 // The files, with a database of no tables in them unless they hold one. A stop leaves none, one that the next call finishes, or all of it.
 fn created<'a, D: Disk + Drop>(
     alloc: Global,
@@ -60,11 +70,7 @@ fn created<'a, D: Disk + Drop>(
     let Some(size) = PageSize::new(NEW_PAGE) else {
         return Err(Fault::CannotOpen(path));
     };
-    let options = Options {
-        cache_pages: ONE_PAGE,
-        ..Options::new(seed)
-    };
-    let Ok(pager) = Pager::new(alloc, files, size, options) else {
+    let Ok(pager) = Pager::new(alloc, files, size, one_page(seed)) else {
         return Err(Fault::NoMemory);
     };
     let Ok(unopened) = Unopened::new(alloc, pager, &[]) else {
@@ -138,20 +144,31 @@ pub(crate) fn begun<'a, D: Disk + Drop>(
 // How many pages of this size the store keeps. A page that isn't kept is read and digested anew.
 fn kept_pages(page: usize) -> usize
     ensures most { result ≤ 8192000 }
+    ensures kept { 0 < page → result ≡ 8192000 / page }
 {
     CACHE / page.max(1)
+}
+
+// How long a page is: as long as was found or, where nothing was, as in a new file.
+fn page_bytes(found: Option<PageSize>) -> usize
+    ensures some { 0 < result }
+    ensures length { result ≡ page_of found }
+{
+    match found {
+        Some(size) => size.bytes(),
+        None => NEW_PAGE,
+    }
 }
 
 fn cache_pages<D: Disk>(files: &mut Files<D>) -> io::Result<usize>
     requires log { IsTrue (D.Disk.is_usable files.old.log) }
     requires db { IsTrue (D.Disk.is_usable files.old.db) }
     ensures read { AreReadOnly D.Disk files.old files.new }
+    ensures kept { IfOk result
+        (λ pages. OfPage D.Disk files.old files.new (λ page. pages ≡ 8192000 / page)) }
 {
-    let page = match probe_page_size(files)? {
-        Some(size) => size.bytes(),
-        None => NEW_PAGE,
-    };
-    Ok(kept_pages(page))
+    let found = probe_page_size(files)?;
+    Ok(kept_pages(page_bytes(found)))
 }
 
 /// How the store treats the pages of these files.
@@ -165,6 +182,8 @@ pub(crate) fn options<'a, D: Disk>(
     ensures log { IsTrue (D.Disk.is_usable files.new.log) }
     ensures db { IsTrue (D.Disk.is_usable files.new.db) }
     ensures read { AreReadOnly D.Disk files.old files.new }
+    ensures treated { IfOk result
+        (λ options. OfPage D.Disk files.old files.new (λ page. options ≡ treated page seed)) }
 {
     match cache_pages(files) {
         Ok(cache_pages) => Ok(Options {

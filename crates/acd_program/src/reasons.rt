@@ -1,11 +1,11 @@
 //! Why a command could not do what it was asked, for whoever sits at a terminal: it is told behind the line of the fault, by
 //! what stands at a path by then. Where the program can't tell, nothing is.
 
+use crate::asked::Task;
 use crate::fault::Fault;
 use crate::file::{holds_log, log_path};
 use crate::plan::bytes_from;
 use crate::plan_lines::{first_line, form_of, line_of};
-use crate::task::Task;
 use acd_reports::PlanFault;
 use std::alloc::Global;
 use std::fs::{self, Metadata, OpenOptions};

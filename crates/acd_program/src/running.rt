@@ -1,6 +1,6 @@
 //! The program over three streams.
 
-ghost use Rattle.std.specs.Prelude.{◌≡◌, ◌≢◌, ◌≤◌, ◌⊎◌, false, Ok, IfOk, OnOk};
+ghost use Rattle.std.specs.Prelude.{◌≡◌, ◌≢◌, ◌≤◌, ◌⊎◌, false, map, Ok, IfOk, OnOk};
 ghost use Rattle.sqlite_std_file.specs.File.{IsFresh};
 ghost use Rattle.acd_lines.specs.Lines.{streams};
 ghost use Rattle.acd_program.specs.Answered.{in_memory};
@@ -9,8 +9,9 @@ ghost use Rattle.acd_program.specs.LinesOver.{in_turn, Whole};
 ghost use Rattle.acd_program.specs.Statuses.{IsDone, fault_status, TellsConnections};
 ghost use Rattle.acd_program.specs.Work.{IsPrinted};
 ghost use Rattle.acd_program.specs.InFiles.{WorkedOver};
-ghost use Rattle.acd_program.specs.Tasks.{WorkedIn, FileAnswered, InputAnswered, ImportedIn, ServedIn, WholeAudit, TaskDone, SomeTaskDone};
+ghost use Rattle.acd_program.specs.Tasks.{WorkedIn, FileAnswered, InputAnswered, ImportedIn, ServedIn, WholeAudit, TaskDone, NamedTaskDone};
 
+use crate::asked::Task;
 use crate::connection::database_lines;
 use crate::desk::{Done, Work, over_database};
 use crate::fault::Fault;
@@ -20,7 +21,7 @@ use crate::plan::read_plan;
 use crate::printing::print;
 use crate::reasons::explain;
 use crate::serving::serve;
-use crate::task::{Task, parse};
+use crate::task::parse;
 use acd_book::MemoryBook;
 use acd_http::RequestsAndReads;
 use acd_lines::laws::requests_run;
@@ -321,10 +322,10 @@ pub fn program<S: AsStr, R: Read, W: Write, E: Write>(
     // for a command line that is refused nothing is read, and nothing is written but why
     ensures refused { result ≡ 2 → (reader.new ≡ reader.old) × (writer.new ≡ writer.old) }
     ensures known { result ≤ 5 }
-    // such a status is that of a task which was done so, or help was asked for, and nothing was read
+    // such a status is that of the task which the words name, done so, or help was asked for, and nothing was read
     ensures done { IsDone result
         → ((result ≡ 0) × (reader.new ≡ reader.old) × (errors.new ≡ errors.old))
-        ⊎ SomeTaskDone ⟦<FileFrom<Unknown> as Disk>⟧ IsFresh
+        ⊎ NamedTaskDone ⟦<FileFrom<Unknown> as Disk>⟧ IsFresh (map S.text words.now)
         (streams R.remaining W.contents (reader.old, reader.new) (writer.old, writer.new))
         (E.contents errors.old) (E.contents errors.new) result }
 {

@@ -150,7 +150,7 @@ fn help() -> &'static str {
 
 2 acd serve --file a.db --port 1
 ! error: the following required arguments were not provided:
-!   <--connections <N>|--endless>
+!   --connections <N>
 !
 ! Usage: acd serve --file <F> --port <P> <--connections <N>|--endless>
 !
