@@ -12,3 +12,6 @@ pub mod LinesOver
 pub mod Inputs
 pub mod Plans
 pub mod CommandLines
+pub mod Coming
+pub mod Ended
+pub mod TasksEnded

@@ -14,7 +14,9 @@ use Rattle.sqlite_store.specs.FileStore as store
 use Rattle.sqlite_store.specs.Unopened.{state_of, files_of, wanted_by, CanCreate, Creates}
 use Rattle.sqlite.specs.State.{HasCleanDisk}
 use Rattle.sqlite.specs.Held.{Held}
-use Rattle.sqlite.specs.Files.{file_state, IsOpened, Finds}
+use Rattle.sqlite.specs.declared.file.Leftover.{Leftover}
+use Rattle.sqlite.specs.Closing.{files_left}
+use Rattle.sqlite.specs.Files.{file_state, IsOpened, Finds, IsCleanLeft, LeavesFiles}
 
 -- the bytes of the first page of a new file
 abbrev pub new_page : ℕ
@@ -51,6 +53,12 @@ module _ {D : Type 0} {g : Ghosts D} where
     pub refuses : IsTrue (state_of rest).is_clean → ¬ CanCreate before
     pub creates : IsTrue (state_of rest).is_clean → Creates before (state_of rest)
 
+  -- or it left off
+  pub record IsLeftOff (before : Unopened D g) (new : Files D) : Type 0 where
+    pub rest : Unopened D g
+    pub of_rest : files_of rest ≡ (new.log, new.db)
+    pub creates : IsTrue (state_of rest).is_clean → Creates before (state_of rest)
+
 module _ {D : Type 0} (g : Ghosts D) where
   -- this holds where neither file's disk lied
   abbrev pub IfClean : Files D → Type 0 → Type 0
@@ -78,13 +86,25 @@ module _ {D : Type 0} (g : Ghosts D) where
   abbrev pub OfPage : Files D → Files D → (ℕ → Type 0) → Type 0
   OfPage old new P = (found : Option PageSize) × FindsPage old new found × P (page_of found)
 
-  -- they were handed to the store to make a database of no tables in them
-  pub record IsCreated (old new : Files D) : Type 0 where
+  -- they were handed to the store to make a database of no tables in them, which it did so
+  pub record IsHanded (After : Unopened D g → Files D → Type 0) (old new : Files D) : Type 0 where
     pub before : Unopened D g
     pub of_old : files_of before ≡ (old.log, old.db)
     pub size : (state_of before).page_size ≡ new_page
     pub schema : wanted_by before ≡ []
-    pub after : IsMadeIn before new ⊎ IsRefusedIn before new
+    pub after : After before new
+
+  -- it made one, or refused them
+  abbrev pub IsCreated : Files D → Files D → Type 0
+  IsCreated = IsHanded (λ before new. IsMadeIn before new ⊎ IsRefusedIn before new)
+
+  -- A fault ended that: they were read at most, or the store left off.
+  abbrev pub IsUnmade : Files D → Files D → Type 0
+  IsUnmade old new = AreReadOnly old new ⊎ IsHanded IsLeftOff old new
+
+  -- a fault ended what is done to them before they are opened: they were read, and then the same, or a database was made in them that can't be used
+  abbrev pub IsUnbegun : Files D → Files D → Type 0
+  IsUnbegun old new = (read : Files D) × AreReadOnly old read × (IsUnmade read new ⊎ IsCreated read new)
 
   -- and nothing but reading was done to them before
   abbrev pub IsReadAndCreated : Files D → Files D → Type 0
@@ -95,6 +115,20 @@ module _ {D : Type 0} (g : Ghosts D) where
     pub large : AreClean g new.log new.db → new_page < length (g.seen old.db) → AreReadOnly old new
     pub small : AreReadOnly old new ⊎ IsReadAndCreated old new
     pub made : AreClean g new.log new.db → length (g.seen old.db) ≤ new_page → (¬ IsLoneIn old) × IsReadAndCreated old new
+
+  -- the store was to open such files, and gave them back
+  pub record IsGivenBack (old new : Files D) : Type 0 where
+    pub begun : Files D
+    pub is_begun : IsBegun old begun
+    pub handed : Files D
+    pub read : AreReadOnly begun handed
+    pub rest : Leftover D g
+    pub of_rest : files_left rest ≡ (new.log, new.db)
+    pub leaves : IsCleanLeft rest → LeavesFiles handed rest
+
+  -- what is left of them where no connection was made
+  abbrev pub IsUnopened : Files D → Files D → Type 0
+  IsUnopened old new = IsUnbegun old new ⊎ IsGivenBack old new
 
   -- a connection to such files, as the store opened them
   pub record IsOpenedIn (old : Files D) (conn : Held (FileStore D g)) : Type 0 where

@@ -14,3 +14,5 @@ pub mod Sessions
 pub mod Tasks
 pub mod Names
 pub mod CommandLine
+pub mod Ended
+pub mod TasksEnded

@@ -1,21 +1,25 @@
 //! The program over three streams.
 
-ghost use Rattle.std.specs.Prelude.{◌≡◌, ◌≢◌, ◌≤◌, ◌⊎◌, false, map, Ok, IfOk, OnOk};
+ghost use Rattle.std.specs.Prelude.{◌≡◌, ◌≤◌, ◌⊎◌, false, map, Ok, Err, IfOk, IfErr, OnOk, OnErr};
 ghost use Rattle.sqlite_std_file.specs.File.{IsFresh};
 ghost use Rattle.acd_lines.specs.Lines.{streams};
 ghost use Rattle.acd_program.specs.Answered.{in_memory};
 ghost use Rattle.acd_program.specs.Desks.{OverNewDesk};
+ghost use Rattle.acd_program.specs.Ended.{IsOfDesk, PrintedOf, WorkEnded};
 ghost use Rattle.acd_program.specs.LinesOver.{in_turn, Whole};
+ghost use Rattle.acd_program.specs.Sessions.{MemoryEnded};
 ghost use Rattle.acd_program.specs.Statuses.{IsDone, fault_status, TellsConnections};
 ghost use Rattle.acd_program.specs.Work.{IsPrinted};
 ghost use Rattle.acd_program.specs.InFiles.{WorkedOver};
 ghost use Rattle.acd_program.specs.Tasks.{WorkedIn, FileAnswered, InputAnswered, ImportedIn, ServedIn, WholeAudit, TaskDone, NamedTaskDone};
+ghost use Rattle.acd_program.specs.TasksEnded.{WorkEndedIn, PlanEnded, AuditEnded, ServiceEnded, InputEnded, TaskEnded, FaultTold};
 
 use crate::asked::Task;
 use crate::connection::database_lines;
 use crate::desk::{Done, Work, over_database};
 use crate::fault::Fault;
 use crate::file::{close_connection, connect, log_ending};
+use crate::laws::lines_are_from_nothing;
 use crate::memory::lines_over_memory;
 use crate::plan::read_plan;
 use crate::printing::print;
@@ -48,7 +52,9 @@ fn done_and_closed<'a>(
     done: Result<(), Fault<'a>>,
     closed: Result<(), Fault<'a>>,
 ) -> Result<(), Fault<'a>>
-    ensures { OnOk result ((done.entry ≡ Ok tt) × (closed.entry ≡ Ok tt)) }
+    ensures both { OnOk result ((done.entry ≡ Ok tt) × (closed.entry ≡ Ok tt)) }
+    ensures first { IfErr result (λ fault. (done.entry ≡ Err fault)
+        ⊎ ((done.entry ≡ Ok tt) × (closed.entry ≡ Err fault))) }
 {
     done?;
     closed?;
@@ -68,6 +74,9 @@ fn work_over<'a, D: Disk + Drop, W: Write>(
     ensures worked { IfOk result
         (λ status. WorkedOver makes work.entry conn (W.contents writer.old)
         (W.contents writer.new) status) }
+    ensures ended { OnErr result
+        (WorkEnded makes work.entry conn (W.contents writer.old) (W.contents writer.new)) }
+    ensures late { IfErr result IsOfDesk }
 {
     let (done, conn) = over_database(rt, conn, makes, work, writer);
     print_done(done, close_connection(conn), writer)
@@ -86,6 +95,9 @@ fn work_in<'a, S: Start, W: Write>(
     ensures worked { IfOk result
         (λ status. WorkedIn ⟦<FileFrom<S> as Disk>⟧ IsFresh makes work.entry
         (W.contents writer.old) (W.contents writer.new) status) }
+    ensures ended { IfErr result
+        (WorkEndedIn ⟦<FileFrom<S> as Disk>⟧ IsFresh makes work.entry (W.contents writer.old)
+        (W.contents writer.new) (writer.new ≡ writer.old)) }
 {
     let (conn, is_new) = connect(rt, file, makes, start)?;
     work_over(rt, conn, is_new, work, writer)
@@ -101,7 +113,10 @@ fn lines_in<'a, S: Start, R: Read, W: Write>(
     reader: &mut R,
     writer: &mut W,
 ) -> Result<(), Fault<'a>>
-    ensures { OnOk result (FileAnswered ⟦<FileFrom<S> as Disk>⟧ IsFresh reads ends
+    ensures answered { OnOk result (FileAnswered ⟦<FileFrom<S> as Disk>⟧ IsFresh reads ends
+        (streams R.remaining W.contents (reader.old, reader.new) (writer.old, writer.new))) }
+    ensures ended { IfErr result
+        (InputEnded ⟦<FileFrom<S> as Disk>⟧ IsFresh (Some file.entry) reads ends
         (streams R.remaining W.contents (reader.old, reader.new) (writer.old, writer.new))) }
 {
     let (conn, is_new) = connect(rt, file, true, start)?;
@@ -116,9 +131,12 @@ fn lines_in_memory<R: Read, W: Write>(
     reader: &mut R,
     writer: &mut W,
 ) -> Result<(), LinesFault>
-    ensures { OnOk result (OverNewDesk (Whole in_memory (in_turn reads in_memory) false
+    ensures answered { OnOk result (OverNewDesk (Whole in_memory (in_turn reads in_memory) false
         (streams R.remaining W.contents (reader.old, reader.new) (writer.old, writer.new)))) }
+    ensures ended { IfErr result (MemoryEnded reads
+        (streams R.remaining W.contents (reader.old, reader.new) (writer.old, writer.new))) }
 {
+    lines_are_from_nothing::<R, W>();
     if reads {
         let mut lines = RequestsAndReads::new(alloc)?;
         return lines_over_memory(alloc, &mut lines, reader, writer);
@@ -141,6 +159,9 @@ fn answer_lines<'a, S: Start, R: Read, W: Write>(
         (λ status. InputAnswered ⟦<FileFrom<S> as Disk>⟧ IsFresh file.entry reads ends
         (streams R.remaining W.contents (reader.old, reader.new) (writer.old, writer.new))
         status) }
+    ensures ended { IfErr result
+        (InputEnded ⟦<FileFrom<S> as Disk>⟧ IsFresh file.entry reads ends
+        (streams R.remaining W.contents (reader.old, reader.new) (writer.old, writer.new))) }
 {
     match file {
         None => {
@@ -166,6 +187,9 @@ fn import_plan<'a, S: Start, W: Write>(
     ensures imported { IfOk result
         (λ status. ImportedIn ⟦<FileFrom<S> as Disk>⟧ IsFresh (W.contents writer.old)
         (W.contents writer.new) status) }
+    ensures ended { IfErr result
+        (PlanEnded ⟦<FileFrom<S> as Disk>⟧ IsFresh (W.contents writer.old) (W.contents writer.new)
+        (writer.new ≡ writer.old)) }
 {
     let requests = read_plan(rt, plan)?;
     work_in(rt, start, file, true, Work::Import(&requests), writer)
@@ -183,6 +207,9 @@ fn audit_whole<'a, S: Start, W: Write>(
     ensures audited { IfOk result
         (λ status. WholeAudit ⟦<FileFrom<S> as Disk>⟧ IsFresh counts (W.contents writer.old)
         (W.contents writer.new) status) }
+    ensures ended { IfErr result
+        (AuditEnded ⟦<FileFrom<S> as Disk>⟧ IsFresh counts (W.contents writer.old)
+        (W.contents writer.new) (writer.new ≡ writer.old)) }
 {
     let ending = log_ending(rt, file)?;
     work_in(
@@ -204,9 +231,12 @@ fn serve_file<'a, S: Start, W: Write, E: Write>(
     writer: &mut W,
     errors: &mut E,
 ) -> Result<(), Fault<'a>>
-    ensures { OnOk result
+    ensures served { OnOk result
         (ServedIn ⟦<FileFrom<S> as Disk>⟧ IsFresh connections (E.contents errors.old)
         (E.contents errors.new)) }
+    ensures ended { IfErr result (ServiceEnded ⟦<FileFrom<S> as Disk>⟧ IsFresh connections port
+        (W.contents writer.old) (W.contents writer.new) (E.contents errors.old)
+        (E.contents errors.new) (writer.new ≡ writer.old)) }
 {
     let (conn, is_new) = connect(rt, file, true, start)?;
     let (done, conn) = serve(rt, conn, is_new, port, connections, writer, errors);
@@ -223,6 +253,10 @@ fn print_done<'a, W: Write>(
     ensures printed { IfOk result
         (λ status. IsPrinted done.entry closed.entry (W.contents writer.old) (W.contents writer.new)
         status) }
+    ensures cut { OnErr result
+        (PrintedOf done.entry (W.contents writer.old) (W.contents writer.new)) }
+    ensures first { IfErr result
+        (λ fault. (done.entry ≡ Err fault) ⊎ ((fault ≡ Fault.Write) ⊎ (closed.entry ≡ Err fault))) }
 {
     let left = done?;
     let status = print(&left, writer)?;
@@ -248,6 +282,13 @@ fn execute<'a, S: Start, R: Read, W: Write, E: Write>(
     ensures told { IfOk result
         (λ status. (errors.new ≡ errors.old)
         ⊎ ((status ≡ 0) × TellsConnections (E.contents errors.old) (E.contents errors.new))) }
+    // where a fault ended it
+    ensures ended { IfErr result (TaskEnded ⟦<FileFrom<S> as Disk>⟧ IsFresh task.entry
+        (streams R.remaining W.contents (reader.old, reader.new) (writer.old, writer.new))
+        (E.contents errors.old) (E.contents errors.new)) }
+    // that another program has the file is found before anything is read or written
+    ensures elsewhere { IfErr result (λ fault. fault_status fault ≡ 4
+        → (reader.new ≡ reader.old) × (writer.new ≡ writer.old)) }
 {
     match task {
         Task::Lines { file, reads, ends } => {
@@ -283,8 +324,7 @@ fn fail<E: Write>(fault: Fault<'_>, errors: &mut E) -> u8
 fn tell<W: Write, E: Write>(alloc: Global, error: &Error, writer: &mut W, errors: &mut E) -> u8
     ensures success { result ≡ 0 → errors.new ≡ errors.old }
     ensures refused { result ≡ 2 → writer.new ≡ writer.old }
-    ensures differs { result ≢ 3 }
-    ensures known { result ≤ 4 }
+    ensures known { result ≤ 2 }
 {
     if error.kind() == ErrorKind::OutOfMemory {
         return fail(Fault::NoMemory, errors);
@@ -328,6 +368,13 @@ pub fn program<S: AsStr, R: Read, W: Write, E: Write>(
         ⊎ NamedTaskDone ⟦<FileFrom<Unknown> as Disk>⟧ IsFresh (map S.text words.now)
         (streams R.remaining W.contents (reader.old, reader.new) (writer.old, writer.new))
         (E.contents errors.old) (E.contents errors.new) result }
+    // a fault ended the task that they name, or nothing was done, and nothing was read
+    ensures ended { FaultTold ⟦<FileFrom<Unknown> as Disk>⟧ IsFresh (map S.text words.now)
+        (streams R.remaining W.contents (reader.old, reader.new) (writer.old, writer.new))
+        (E.contents errors.old) result }
+    // nothing was read or written where another program has the file
+    ensures elsewhere { result ≡ 4
+        → (reader.new ≡ reader.old) × (writer.new ≡ writer.old) }
 {
     let task = match parse(rt.alloc(), words) {
         Ok(task) => task,
