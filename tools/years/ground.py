@@ -100,8 +100,8 @@ class Ground:
         """Snapshot and report."""
         return self.run("acd", "lines", "--reads", "--file", file, given=READS)
 
-    def audit(self, file):
-        return self.run("acd", "audit", "--count", "--file", file)
+    def audit(self, file, *more):
+        return self.run("acd", "audit", "--count", "--file", file, *more)
 
 
 # What a file holds

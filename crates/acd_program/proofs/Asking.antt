@@ -43,13 +43,24 @@ asked_by old d e x P o t =
 pub only_refused : (old new : BookState) (why : OpenFault) → Refused old why new → OnlyAsked old new
 only_refused old new why r = record { clean = r.step.clean; sound = r.step.sound; stops = r.unchanged.stops }
 
--- whatever a desk over it told
-pub only_told : {A : Type 0} (old : BookState) (d e : Standing) (r : Result A DeskFault) (P : Content → A → Type 0) → Opened old d → Told d e r P → OnlyAsked old e.book
-only_told old d e r P o t = record {
-  clean = λ clean. o.step.clean (t.step.clean clean);
-  sound = λ clean sound. t.step.sound clean (o.step.sound (t.step.clean clean) sound);
-  stops = λ clean sound c at. o.stops (t.step.clean clean) sound c (t.unchanged.stops clean (o.step.sound (t.step.clean clean) sound) c at);
+-- whatever a desk told
+pub only_asked : {A : Type 0} (d e : Standing) (r : Result A DeskFault) (P : Content → A → Type 0) → Told d e r P → OnlyAsked d.book e.book
+only_asked d e r P t = record { clean = t.step.clean; sound = t.step.sound; stops = t.unchanged.stops }
+
+-- nothing was asked of it
+pub only_left : (s : BookState) → OnlyAsked s s
+only_left s = record { clean = λ clean. clean; sound = λ clean sound. sound; stops = λ clean sound c at. at }
+
+-- over the book that it was opened over
+pub only_opened : (old : BookState) (d e : Standing) → Opened old d → OnlyAsked d.book e.book → OnlyAsked old e.book
+only_opened old d e o asked = record {
+  clean = λ clean. o.step.clean (asked.clean clean);
+  sound = λ clean sound. asked.sound clean (o.step.sound (asked.clean clean) sound);
+  stops = λ clean sound c at. o.stops (asked.clean clean) sound c (asked.stops clean (o.step.sound (asked.clean clean) sound) c at);
 }
+
+pub only_told : {A : Type 0} (old : BookState) (d e : Standing) (r : Result A DeskFault) (P : Content → A → Type 0) → Opened old d → Told d e r P → OnlyAsked old e.book
+only_told old d e r P o t = only_opened old d e o (only_asked d e r P t)
 
 -- what follows from an answer is an answer
 pub asked_so : {A B : Type 0} (old new : BookState) (x : A) (y : B) (P : Content → A → Type 0) (Q : Content → B → Type 0) → ((c : Content) → P c x → Q c y) → WasAsked old P x new → WasAsked old Q y new

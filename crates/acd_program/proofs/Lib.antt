@@ -15,3 +15,4 @@ pub mod CommandLines
 pub mod Coming
 pub mod Ended
 pub mod TasksEnded
+pub mod Behind

@@ -145,7 +145,7 @@ lines_are_sessions {S} store remaining contents runs makes ends reader writer r 
     let io : Streams = streams remaining contents reader writer in
     let new : BookState = book_of store h.last in
     subst (λ (x : Held S). OverConnection (SessionTold ends io r) makes s (state store x)) (sym h.back)
-    (over_connection (SessionTold ends io r) makes s (state store h.last.conn) (book_of store h.taken) h.last.noted h.last.failures (λ old of told. told_since ends io r old (book_of store h.taken) new of told) h.of_old
+    (over_connection (SessionTold ends io r) (SessionTold ends io r) makes s (state store h.last.conn) (book_of store h.taken) h.last.noted h.last.failures (λ old of told. told_since ends io r old (book_of store h.taken) new of told) h.of_old
     (session_of_desk (in_database store) runs ends io r (book_of store h.taken) h.last h.over))
 
 -- without a fault they are the whole session

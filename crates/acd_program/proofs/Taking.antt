@@ -34,6 +34,7 @@ of_held s t noted failures adopted none counted clean = record {
   content = λ here filed. (adopted here).content filed;
   stops = λ here filed. (adopted here).stops filed;
   opened = λ here filed. (adopted here).was_open;
+  live = λ here filed. (adopted here).live;
   ordered = λ here filed. (adopted here).ordered filed;
 }
 
@@ -44,6 +45,7 @@ of_unmade s t noted failures made none counted clean = record {
   content = λ here _. (made here).content;
   stops = λ here _. (made here).only;
   opened = λ here _. tt;
+  live = λ here _. (made here).live;
   ordered = λ here _. subst IsOrdered (sym (made here).content) (record { kept = tt; events = tt });
 }
 

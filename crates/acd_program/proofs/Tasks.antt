@@ -20,8 +20,8 @@ use Rattle.acd_lines.specs.Lines.{AllRequests, RequestsAnswered, Streams}
 use Rattle.acd_lines.proofs.Weaker.{out_so}
 use Rattle.acd_program.specs.Over.{IsSession, OverConnection}
 use Rattle.acd_program.specs.Work.{WasAsked, IsTextOf, ImportsOver, AuditsOver, WorkDone, IsPrinted, text_left, status_left}
-use Rattle.acd_program.specs.InFiles.{IsLaidIn, WorkedOver}
-use Rattle.acd_program.specs.Tasks.{WorkedIn, InFile, IsOpenedFrom, InputAnswered, AuditedIn, WholeAudit, TaskDone}
+use Rattle.acd_program.specs.InFiles.{IsLaidIn, WorkedOver, IsOpenedFrom, InFile}
+use Rattle.acd_program.specs.Tasks.{WorkedIn, InputAnswered, AuditedIn, WholeAudit, TaskDone}
 use Rattle.acd_program.specs.declared.asked.Task.{Task}
 use Rattle.acd_program.specs.declared.asked.Task.TheVariants as task
 use Rattle.acd_program.proofs.InFiles.{over_so, over_fact, over_makes, appends_nothing}

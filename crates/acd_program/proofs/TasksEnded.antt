@@ -12,8 +12,8 @@ use Rattle.acd_program.specs.Faults.{lines_fault}
 use Rattle.acd_program.specs.Serving.{ServeIn}
 use Rattle.acd_program.specs.Sessions.{DatabaseEnded, MemoryEnded}
 use Rattle.acd_program.specs.Statuses.{fault_status}
-use Rattle.acd_program.specs.Tasks.{IsOpenedFrom}
-use Rattle.acd_program.specs.TasksEnded.{EndedIn, InputEnded, LinesLeft, WorkEndedIn, PlanEnded, AuditEnded, ServiceLeft, ServiceEnded, TaskEnded}
+use Rattle.acd_program.specs.InFiles.{IsOpenedFrom}
+use Rattle.acd_program.specs.TasksEnded.{EndedIn, InputEnded, LinesLeft, WorkEndedIn, PlanEnded, AuditEnded, BehindEnded, ServiceLeft, ServiceEnded, TaskEnded}
 use Rattle.acd_program.specs.declared.fault.Fault.{Fault}
 use Rattle.acd_program.specs.declared.desk.Work.{Work}
 use Rattle.acd_program.specs.declared.asked.Task.{Task}
@@ -100,11 +100,20 @@ module _ {D : Type 0} (disk : Ghosts D) (IsFresh : Bool → D → Type 0) where
     pub whole_ended : (file : _) (counts : Bool) → asked ≡ task.AuditWhole file counts → io.unread → told ≡ mute → IfErr r (AuditEnded disk IsFresh counts io.before io.behind io.unwritten) → Ended
     whole_ended file counts is unread quiet h = task_ended (task.AuditWhole file counts) is (IfErr-weaker r _ _ (λ fault ended. (unread, quiet, ended)) h)
 
+    pub behind_ended : (file archive : _) (counts whole : Bool) → asked ≡ task.AuditBehind file archive counts whole → io.unread → told ≡ mute
+        → IfErr r (BehindEnded disk IsFresh counts whole io.before io.behind io.unwritten) → Ended
+    behind_ended file archive counts whole is unread quiet h = task_ended (task.AuditBehind file archive counts whole) is (IfErr-weaker r _ _ (λ fault ended. (unread, quiet, ended)) h)
+
   -- ---- where another program has the file
 
   opened_elsewhere : (fault : Fault) (Untouched : Type 0) (Left : Held (FileStore D disk) → Type 0) → fault_status fault ≡ 4 → EndedIn disk IsFresh fault Untouched Left → Untouched
   opened_elsewhere fault Untouched Left is (inl none) = none.1
   opened_elsewhere fault Untouched Left is (inr some) = absurd (never_elsewhere fault is some.2)
+
+  -- or has the archive
+  audited_elsewhere : (counts whole : Bool) (before behind : Option (List ℕ)) (Unwritten : Type 0) (fault : Fault) → fault_status fault ≡ 4 → BehindEnded disk IsFresh counts whole before behind Unwritten fault → Unwritten
+  audited_elsewhere counts whole before behind Unwritten fault is (inl none) = none.1
+  audited_elsewhere counts whole before behind Unwritten fault is (inr some) = elim some.2.left [ inl unwritten ↦ unwritten | inr cut ↦ absurd (never_elsewhere fault is cut.0) ]
 
   input_elsewhere : {Name : Type 0} (named : Option Name) (reads ends : Bool) (io : Streams) (fault : Fault) → InputEnded disk IsFresh named reads ends io fault → fault_status fault ≡ 4 → io.unread × io.unwritten
   input_elsewhere None reads ends io fault h is = absurd (never_elsewhere fault is (late_as fault (lines_fault h.0) h.1 (lines_late h.0)))
@@ -115,6 +124,7 @@ module _ {D : Type 0} (disk : Ghosts D) (IsFresh : Bool → D → Type 0) where
   elsewhere (task.Serve file port connections) io mute told fault h is = (h.0, (opened_elsewhere fault (io.unwritten × (told ≡ mute)) _ is h.1).0)
   elsewhere (task.Import file plan) io mute told fault h is = (h.0, opened_elsewhere fault io.unwritten _ is h.2)
   elsewhere (task.Read file work) io mute told fault h is = (h.0, opened_elsewhere fault io.unwritten _ is h.2)
+  elsewhere (task.AuditBehind file archive counts whole) io mute told fault h is = (h.0, audited_elsewhere counts whole io.before io.behind io.unwritten fault is h.2)
   elsewhere (task.AuditWhole file counts) io mute told fault h is = (h.0, opened_elsewhere fault io.unwritten _ is h.2)
 
   pub err_elsewhere : {A : Type 0} (r : Result A Fault) (asked : Task) (io : Streams) (mute told : Option (List ℕ)) → IfErr r (TaskEnded disk IsFresh asked io mute told)

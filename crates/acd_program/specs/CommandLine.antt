@@ -17,7 +17,7 @@ use Rattle.acd_program.specs.declared.desk.Work.TheVariants as kind
 use Rattle.acd_program.specs.declared.desk.Telling.{Telling}
 use Rattle.acd_program.specs.declared.desk.Telling.TheVariants.{Report, Export}
 use Rattle.acd_program.specs.declared.asked.Task.{Task}
-use Rattle.acd_program.specs.declared.asked.Task.TheVariants.{Lines, Serve, Import, AuditWhole, Read}
+use Rattle.acd_program.specs.declared.asked.Task.TheVariants.{Lines, Serve, Import, AuditWhole, AuditBehind, Read}
 
 -- ---- the commands
 
@@ -62,7 +62,8 @@ abbrev pub export_shape : Shape
 export_shape = with_rules (codes "export") (required file_rule ∷ [])
 
 abbrev pub audit_shape : Shape
-audit_shape = with_rules (codes "audit") (required file_rule ∷ flag_rule (codes "count") ∷ flag_rule (codes "whole") ∷ [])
+audit_shape = with_rules (codes "audit")
+    (required file_rule ∷ option_rule (codes "archive") ∷ flag_rule (codes "count") ∷ flag_rule (codes "whole") ∷ [])
 
 -- the program with its commands
 abbrev pub acd : App
@@ -94,6 +95,10 @@ is_given name options = option_map_or (λ (text : Text). bytes_eq text (codes "t
 abbrev pub IsText : Text → List Row → Bor Text → Type 0
 IsText name options text = first_of name options ≡ Some text.now
 
+-- the option was not given
+abbrev pub HasNone : Text → List Row → Type 0
+HasNone name options = first_of name options ≡ None
+
 -- the option has a text that is this number
 abbrev pub IsNumber : Text → List Row → ℕ → Type 0
 IsNumber name options n =
@@ -113,7 +118,7 @@ command_of Export = codes "export"
 abbrev pub IsWork : Text → List Row → Work → Type 0
 IsWork command options (kind.Tell telling) = command ≡ command_of telling
 IsWork command options (kind.Audit counts ending) =
-    (command ≡ codes "audit") × (counts ≡ is_given (codes "count") options) × (false ≡ is_given (codes "whole") options) × (ending ≡ Plain)
+    (command ≡ codes "audit") × HasNone (codes "archive") options × (counts ≡ is_given (codes "count") options) × (false ≡ is_given (codes "whole") options) × (ending ≡ Plain)
 IsWork command options (kind.Import requests) = ⊥
 
 -- the task of a command with these options
@@ -124,7 +129,9 @@ IsTaskWith command options (Serve file port connections) =
     (command ≡ codes "serve") × IsText (codes "file") options file × IsNumber (codes "port") options port × IsSpan options connections
 IsTaskWith command options (Import file plan) = (command ≡ codes "import") × IsText (codes "file") options file × IsText (codes "plan") options plan
 IsTaskWith command options (AuditWhole file counts) =
-    (command ≡ codes "audit") × IsText (codes "file") options file × (counts ≡ is_given (codes "count") options) × (true ≡ is_given (codes "whole") options)
+    (command ≡ codes "audit") × IsText (codes "file") options file × HasNone (codes "archive") options × (counts ≡ is_given (codes "count") options) × (true ≡ is_given (codes "whole") options)
+IsTaskWith command options (AuditBehind file archive counts whole) =
+    (command ≡ codes "audit") × IsText (codes "file") options file × IsText (codes "archive") options archive × (counts ≡ is_given (codes "count") options) × (whole ≡ is_given (codes "whole") options)
 IsTaskWith command options (Read file work) = IsText (codes "file") options file × IsWork command options work
 
 abbrev pub IsTaskIn : Option (Text × List Row) → Task → Type 0

@@ -6,6 +6,7 @@ pub mod Taking
 pub mod Found
 pub mod Work
 pub mod InFiles
+pub mod Behind
 pub mod Files
 pub mod Desks
 pub mod Serving

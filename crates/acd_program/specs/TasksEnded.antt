@@ -9,17 +9,24 @@ use Rattle.acd_lines.specs.declared.fault.LinesFault.{LinesFault}
 use Rattle.acd_log.specs.declared.ending.Ending.{Ending}
 use Rattle.clap.specs.Words.{Text}
 use Rattle.acd_program.specs.CommandLine.{IsTaskOf}
+use Rattle.acd_io.specs.Sent.{Begins}
+use Rattle.acd_book.specs.State.{BookState}
+use Rattle.acd_program.specs.Behind.{IsFindingIn, BehindArchive}
 use Rattle.acd_program.specs.Ended.{IsOfOpening, IsOfDesk, EndsBy, TakesPlan, IsShut, WorkEnded}
 use Rattle.acd_program.specs.Faults.{lines_fault}
+use Rattle.acd_program.specs.Found.{HasCount, finding_line}
+use Rattle.acd_program.specs.InFiles.{IsOpenedFrom}
+use Rattle.acd_program.specs.Over.{OverConnection, Unserved}
 use Rattle.acd_program.specs.Serving.{ServeIn}
 use Rattle.acd_program.specs.Sessions.{DatabaseEnded, MemoryEnded}
 use Rattle.acd_program.specs.Statuses.{fault_status}
-use Rattle.acd_program.specs.Tasks.{IsOpenedFrom, IsSomeEnding}
+use Rattle.acd_program.specs.Tasks.{IsSomeEnding, IsToldEnding}
+use Rattle.acd_program.specs.declared.auditing.Finding.{Finding}
 use Rattle.acd_program.specs.declared.fault.Fault.{Fault}
 use Rattle.acd_program.specs.declared.desk.Work.{Work}
 use Rattle.acd_program.specs.declared.desk.Work.TheVariants as kind
 use Rattle.acd_program.specs.declared.asked.Task.{Task}
-use Rattle.acd_program.specs.declared.asked.Task.TheVariants.{Lines, Serve, Import, AuditWhole, Read}
+use Rattle.acd_program.specs.declared.asked.Task.TheVariants.{Lines, Serve, Import, AuditWhole, AuditBehind, Read}
 
 -- `IsFresh is_log file` says that a file is a log, or a database file, that was just opened
 module _ {D : Type 0} (disk : Ghosts D) (IsFresh : Bool → D → Type 0) where
@@ -46,6 +53,22 @@ module _ {D : Type 0} (disk : Ghosts D) (IsFresh : Bool → D → Type 0) where
     pub served : ServeIn span mute told port before behind over_files true (file_state conn) ended last
     pub why : EndsBy ended fault
 
+  -- an audit behind an archive was done, and a beginning of what it found was printed
+  pub record AuditCut (counts whole : Bool) (before behind : Option (List ℕ)) (conn last : OfFiles) : Type 0 where
+    pub found : Finding
+    pub ending : Ending
+    pub counted : HasCount counts found
+    pub told : IsToldEnding whole ending
+    pub done : OverConnection (λ (old new : BookState). BehindArchive disk IsFresh IsFindingIn old new found) false (file_state conn) (file_state last)
+    pub printed : Begins before behind (finding_line ending found)
+
+  -- A fault ended one, which may be the archive's, and the connection to the desk's file was shut: a reopening finds there what it could find before.
+  pub record AuditLeft (counts whole : Bool) (before behind : Option (List ℕ)) (Unwritten : Type 0) (fault : Fault) (conn : OfFiles) : Type 0 where
+    pub last : OfFiles
+    pub shut : IsShut last
+    pub kept : Unserved false (file_state conn) (file_state last)
+    pub left : Unwritten ⊎ (IsOfDesk fault × AuditCut counts whole before behind conn last)
+
   -- ---- by what was to be done, where `Unwritten` says that nothing was written
 
   abbrev pub WorkEndedIn : Bool → Work → Option (List ℕ) → Option (List ℕ) → Type 0 → Fault → Type 0
@@ -60,6 +83,11 @@ module _ {D : Type 0} (disk : Ghosts D) (IsFresh : Bool → D → Type 0) where
   abbrev pub AuditEnded : Bool → Option (List ℕ) → Option (List ℕ) → Type 0 → Fault → Type 0
   AuditEnded counts before behind Unwritten fault =
       EndedIn fault Unwritten (λ conn. (ending : Ending) × IsSomeEnding ending × WorkEnded false (kind.Audit counts ending) conn before behind)
+
+  -- a file was to be audited behind an archive
+  abbrev pub BehindEnded : Bool → Bool → Option (List ℕ) → Option (List ℕ) → Type 0 → Fault → Type 0
+  BehindEnded counts whole before behind Unwritten fault =
+      (IsOfOpening fault × Unwritten) ⊎ ((conn : OfFiles) × IsOpenedFrom disk IsFresh conn × AuditLeft counts whole before behind Unwritten fault conn)
 
   abbrev pub ServiceEnded : Option ℕ → ℕ → Option (List ℕ) → Option (List ℕ) → Option (List ℕ) → Option (List ℕ) → Type 0 → Fault → Type 0
   ServiceEnded span port before behind mute told Unwritten fault = EndedIn fault (Unwritten × (told ≡ mute)) (ServiceLeft span port before behind mute told fault)
@@ -76,6 +104,7 @@ module _ {D : Type 0} (disk : Ghosts D) (IsFresh : Bool → D → Type 0) where
   TaskEnded (Serve file port connections) io mute told fault = io.unread × ServiceEnded connections port io.before io.behind mute told io.unwritten fault
   TaskEnded (Import file plan) io mute told fault = io.unread × (told ≡ mute) × PlanEnded io.before io.behind io.unwritten fault
   TaskEnded (Read file work) io mute told fault = io.unread × (told ≡ mute) × WorkEndedIn false work io.before io.behind io.unwritten fault
+  TaskEnded (AuditBehind file archive counts whole) io mute told fault = io.unread × (told ≡ mute) × BehindEnded counts whole io.before io.behind io.unwritten fault
   TaskEnded (AuditWhole file counts) io mute told fault = io.unread × (told ≡ mute) × AuditEnded counts io.before io.behind io.unwritten fault
 
   -- the task that the words name was ended so, by a fault that has this status

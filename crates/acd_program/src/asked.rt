@@ -28,6 +28,13 @@ pub(crate) enum Task<'a> {
         file: &'a str,
         counts: bool,
     },
+    /// Audit the desk in a file behind the archive that it goes on from; where it is looked at whole, say how its log ended.
+    AuditBehind {
+        file: &'a str,
+        archive: &'a str,
+        counts: bool,
+        whole: bool,
+    },
     /// Print what is told of the desk in a file: the queue report, all event reports, or what an audit finds.
     Read {
         file: &'a str,

@@ -24,11 +24,15 @@ use crate::session::lines_over_book;
 use acd_book::BookFault;
 use acd_http::RequestsAndReads;
 use acd_lines::{Answering, Requests};
+use acd_sql_schema::{Found, fault_of, look_over};
 use acd_sqlbook::{AdoptFault, SqlBook, has_no_tables};
 use acd_terms::Limits;
 use sqlite::{Alter, Connection};
 use std::alloc::Global;
 use std::io::{Read, Write};
+
+// A table that version 1 doesn't have.
+const SECOND: &[u8; 12] = b"agent_groups";
 
 // Why no book was made, as why none is taken.
 fn unmade_fault(fault: BookFault) -> AdoptFault
@@ -73,6 +77,25 @@ pub(crate) fn book_over<S: Alter>(
         return create(alloc, conn);
     }
     SqlBook::adopt(alloc, conn)
+}
+
+/// The book that a database holds, of version 2: tables of version 1 stay what they are.
+pub(crate) fn archive_over<S: Alter>(
+    alloc: Global,
+    mut conn: Connection<S>,
+) -> Result<SqlBook<S>, (AdoptFault, Connection<S>)>
+    requires { conn.in_transaction ≡ false }
+    ensures { IfOk result (λ b. IsTaken false (state S.Store conn) (book_of S.Store b)) }
+{
+    if conn.schema().table_named(SECOND).is_some() {
+        return book_over(alloc, conn, false);
+    }
+    let fault = match look_over(alloc, &mut conn) {
+        Ok(Found::Book(_)) => AdoptFault::WrongVersion(1),
+        Ok(Found::Fault(fault)) => fault,
+        Err(error) => fault_of(error),
+    };
+    Err((fault, conn))
 }
 
 /// Answers lines over the book that a database holds or, where it has no tables and one is to be made, over a

@@ -114,6 +114,16 @@ fn told<'a, B: Book>(alloc: Global, book: B, telling: Telling) -> (Result<Done, 
     }
 }
 
+// Gives the book back. Of one that differs a terminal may be told more.
+fn book_of<B: Book>(book: Watched<'_, B>, found: Finding) -> B
+    ensures { result ≡ book.entry.inner }
+{
+    match found {
+        Finding::Differs(_) => book.into_unlike(),
+        _ => book.into_inner(),
+    }
+}
+
 // The replay is watched.
 fn audit<'a, B: Book>(
     alloc: Global,
@@ -132,7 +142,10 @@ fn audit<'a, B: Book>(
         Err((fault, book)) => return (Err(Fault::from(fault)), book.into_inner()),
     };
     match audited(&mut desk, counts) {
-        Ok(found) => (Ok(Done::Audited(found, ending)), desk.close().into_inner()),
+        Ok(found) => (
+            Ok(Done::Audited(found, ending)),
+            book_of(desk.close(), found),
+        ),
         Err(fault) => (Err(Fault::from(fault)), desk.close().into_inner()),
     }
 }

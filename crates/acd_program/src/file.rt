@@ -6,8 +6,8 @@ ghost use Rattle.sqlite_std_file.specs.File.{file_is_usable, IsFresh};
 ghost use Rattle.acd_program.specs.Ended.{IsOfOpening, IsOfClosing, IsShut};
 ghost use Rattle.acd_program.specs.Faults.{by_memory};
 ghost use Rattle.acd_program.specs.Files.{IsOpenedIn, IsUnopened};
-ghost use Rattle.acd_program.specs.Tasks.{IsOpenedFrom, IsSomeEnding};
-ghost use Rattle.acd_program.specs.InFiles.{IsLaidIn};
+ghost use Rattle.acd_program.specs.Tasks.{IsSomeEnding};
+ghost use Rattle.acd_program.specs.InFiles.{IsLaidIn, IsOpenedFrom};
 
 use crate::fault::Fault;
 use crate::lone_log::hold_commit;
@@ -21,6 +21,9 @@ use std::alloc::Global;
 use std::hash::{BuildHasher, RandomState};
 use std::io::IsTerminal;
 use std::{fs, io};
+
+// So many bytes, and no more, a stop leaves of a file that is being made: those of its first page.
+const FIRST_PAGE: u64 = 1024;
 
 /// The store of a file that held what `S` says.
 pub(crate) type StoreFrom<S> = FileStore<FileFrom<S>>;
@@ -242,6 +245,40 @@ pub(crate) fn connect<'a, S: Start>(
     let is_new = is_new(found, makes, path)?;
     let conn = open_connection(rt, path, start)?;
     Ok((conn, is_new))
+}
+
+// Whether an opening would change a byte of a file: it would lay in what the log holds, or end what a stop left of a first page.
+fn is_unfinished<'a>(rt: &HostRuntime, path: &'a str, len: u64) -> Result<bool, Fault<'a>> {
+    if len <= FIRST_PAGE {
+        return Ok(true);
+    }
+    if holds_log(rt, path)? {
+        return Ok(true);
+    }
+    match log_ending(rt, path)? {
+        Ending::Plain => Ok(false),
+        _ => Ok(true),
+    }
+}
+
+/// A connection to an archive, of which no byte is changed.
+pub(crate) fn connect_archive<'a, S: Start>(
+    rt: &HostRuntime,
+    path: &'a str,
+    start: S,
+) -> Result<Connection<StoreFrom<S>>, Fault<'a>>
+    ensures fresh { IfOk result IsNew }
+    ensures opened { IfOk result (λ conn. IsOpenedFrom ⟦<FileFrom<S> as Disk>⟧ IsFresh conn) }
+{
+    let found = look(rt, path)?;
+    let _ = is_new(found, false, path)?;
+    if let Found::Bytes(len) = found {
+        if is_unfinished(rt, path, len)? {
+            return Err(Fault::CannotOpen(path));
+        }
+        announce(rt, path, len);
+    }
+    open_connection(rt, path, start)
 }
 
 // What closing found, as a fault.

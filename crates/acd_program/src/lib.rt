@@ -8,6 +8,7 @@
 
 mod asked;
 mod auditing;
+mod behind;
 mod connection;
 mod desk;
 mod fault;

@@ -11,10 +11,11 @@ ghost use Rattle.acd_program.specs.Sessions.{MemoryEnded};
 ghost use Rattle.acd_program.specs.Statuses.{IsDone, fault_status, TellsConnections};
 ghost use Rattle.acd_program.specs.Work.{IsPrinted};
 ghost use Rattle.acd_program.specs.InFiles.{WorkedOver};
-ghost use Rattle.acd_program.specs.Tasks.{WorkedIn, FileAnswered, InputAnswered, ImportedIn, ServedIn, WholeAudit, TaskDone, NamedTaskDone};
-ghost use Rattle.acd_program.specs.TasksEnded.{WorkEndedIn, PlanEnded, AuditEnded, ServiceEnded, InputEnded, TaskEnded, FaultTold};
+ghost use Rattle.acd_program.specs.Tasks.{WorkedIn, FileAnswered, InputAnswered, ImportedIn, ServedIn, WholeAudit, IsToldEnding, AuditedWith, TaskDone, NamedTaskDone};
+ghost use Rattle.acd_program.specs.TasksEnded.{WorkEndedIn, PlanEnded, AuditEnded, BehindEnded, ServiceEnded, InputEnded, TaskEnded, FaultTold};
 
 use crate::asked::Task;
+use crate::behind::over_archive;
 use crate::connection::database_lines;
 use crate::desk::{Done, Work, over_database};
 use crate::fault::Fault;
@@ -30,6 +31,7 @@ use acd_book::MemoryBook;
 use acd_http::RequestsAndReads;
 use acd_lines::laws::requests_run;
 use acd_lines::{LinesFault, Requests};
+use acd_log::Ending;
 use clap::Error;
 use clap::error::ErrorKind;
 use sqlite::{Connection, FileFrom, FileStore};
@@ -222,6 +224,42 @@ fn audit_whole<'a, S: Start, W: Write>(
     )
 }
 
+// How the log of a file ends, where it is to be looked at.
+fn told_ending<'a>(rt: &HostRuntime, file: &'a str, whole: bool) -> Result<Ending, Fault<'a>>
+    ensures ending { IfOk result (IsToldEnding whole) }
+    ensures known { IfErr result IsOfOpening }
+{
+    if whole {
+        return log_ending(rt, file);
+    }
+    Ok(Ending::Plain)
+}
+
+// Audits the desk in a file behind the archive that it goes on from. Of a log, that of the file alone is looked at.
+fn audit_behind<'a, S: Start, W: Write>(
+    rt: &HostRuntime,
+    start: S,
+    beside: S,
+    file: &'a str,
+    archive: &'a str,
+    counts: bool,
+    whole: bool,
+    writer: &mut W,
+) -> Result<u8, Fault<'a>>
+    ensures known { IfOk result IsDone }
+    ensures audited { IfOk result
+        (λ status. AuditedWith ⟦<FileFrom<S> as Disk>⟧ IsFresh counts whole
+        (W.contents writer.old) (W.contents writer.new) status) }
+    ensures ended { IfErr result
+        (BehindEnded ⟦<FileFrom<S> as Disk>⟧ IsFresh counts whole (W.contents writer.old)
+        (W.contents writer.new) (writer.new ≡ writer.old)) }
+{
+    let ending = told_ending(rt, file, whole)?;
+    let (conn, _) = connect(rt, file, false, start)?;
+    let (done, conn) = over_archive(rt, conn, beside, archive, counts, ending);
+    print_done(done, close_connection(conn), writer)
+}
+
 fn serve_file<'a, S: Start, W: Write, E: Write>(
     rt: &HostRuntime,
     start: S,
@@ -255,6 +293,7 @@ fn print_done<'a, W: Write>(
         status) }
     ensures cut { OnErr result
         (PrintedOf done.entry (W.contents writer.old) (W.contents writer.new)) }
+    ensures spared { OnErr done.entry (writer.new ≡ writer.old) }
     ensures first { IfErr result
         (λ fault. (done.entry ≡ Err fault) ⊎ ((fault ≡ Fault.Write) ⊎ (closed.entry ≡ Err fault))) }
 {
@@ -264,10 +303,11 @@ fn print_done<'a, W: Write>(
     Ok(status)
 }
 
-// Does it, and gives the exit status where no fault ended it.
+// Does it, and gives the exit status where no fault ended it. A second file may be opened beside the desk's.
 fn execute<'a, S: Start, R: Read, W: Write, E: Write>(
     rt: &HostRuntime,
     start: S,
+    beside: S,
     task: Task<'a>,
     reader: &mut R,
     writer: &mut W,
@@ -304,6 +344,12 @@ fn execute<'a, S: Start, R: Read, W: Write, E: Write>(
         }
         Task::Import { file, plan } => import_plan(rt, start, file, plan, writer),
         Task::AuditWhole { file, counts } => audit_whole(rt, start, file, counts, writer),
+        Task::AuditBehind {
+            file,
+            archive,
+            counts,
+            whole,
+        } => audit_behind(rt, start, beside, file, archive, counts, whole, writer),
         Task::Read { file, work } => work_in(rt, start, file, false, work, writer),
     }
 }
@@ -380,7 +426,7 @@ pub fn program<S: AsStr, R: Read, W: Write, E: Write>(
         Ok(task) => task,
         Err(error) => return tell(rt.alloc(), &error, writer, errors),
     };
-    match execute(rt, Unknown, task, reader, writer, errors) {
+    match execute(rt, Unknown, Unknown, task, reader, writer, errors) {
         Ok(status) => status,
         Err(fault) => {
             let status = fail(fault, errors);

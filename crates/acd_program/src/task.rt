@@ -1,6 +1,6 @@
 //! How a command line is read.
 
-ghost use Rattle.std.specs.Prelude.{◌≡◌, [], codes, map, IfOk, IfSome};
+ghost use Rattle.std.specs.Prelude.{◌≡◌, [], false, codes, map, IsTrue, IfOk, IfSome};
 ghost use Rattle.clap.specs.Words.{App, app_of, found_of, rows_of, subcommand_rows_of, with_subcommand};
 ghost use Rattle.acd_program.specs.CommandLine.{HasApp, HasRule, IsTaskWith, IsTaskIn, IsSpan, IsTaskOf, acd, connections_rule, command_of, export_shape, file_rule, flag_rule, import_shape, is_given, lines_shape, number_rule, option_rule, report_shape, audit_shape, serve_shape};
 
@@ -14,7 +14,7 @@ use std::alloc::{AllocError, Global};
 use std::convert::AsStr;
 
 /// What `acd --version` tells behind the program's name: the version, and the toolchain that proved it.
-const VERSION: &str = "1.11 (rattle-kit-13f)";
+const VERSION: &str = "1.12 (rattle-kit-13f)";
 
 const FILE: &str = "file";
 
@@ -33,6 +33,8 @@ const END_ON_STORE_FAULT: &str = "end-on-store-fault";
 const COUNT: &str = "count";
 
 const WHOLE: &str = "whole";
+
+const ARCHIVE: &str = "archive";
 
 const GREATEST_PORT: u64 = 65_535;
 
@@ -56,6 +58,16 @@ fn plan_option<'a>(alloc: Global) -> Arg<'a>
         .long(PLAN)
         .value_name("C")
         .help("The plan, as CSV")
+        .action(ArgAction::Set)
+}
+
+fn archive_option<'a>(alloc: Global) -> Arg<'a>
+    ensures { HasRule (option_rule (codes "archive")) result }
+{
+    Arg::new(alloc, ARCHIVE)
+        .long(ARCHIVE)
+        .value_name("A")
+        .help("The archive that the file goes on from, where it was carried over")
         .action(ArgAction::Set)
 }
 
@@ -187,6 +199,7 @@ fn audit_command<'a>(alloc: Global) -> Result<Command<'a>, AllocError>
             "Example:\n  acd audit --file desk.db\n\nIt prints sound or, with status 3, the first request whose record or events differ.",
         )
         .arg(file_option(alloc).required(true))?
+        .arg(archive_option(alloc))?
         .arg(flag(
             alloc,
             COUNT,
@@ -276,22 +289,39 @@ fn import_of<'a>(options: &ArgMatches<'a>) -> Option<Task<'a>>
     })
 }
 
+// What is audited of the desk in a file, behind no archive.
+fn audit_alone<'a>(file: &'a str, counts: bool, whole: bool) -> Task<'a>
+    ensures whole { IsTrue whole → result ≡ Task.AuditWhole file counts }
+    ensures plain { whole ≡ false → result ≡ Task.Read file (Work.Audit counts Ending.Plain) }
+{
+    if whole {
+        return Task::AuditWhole { file, counts };
+    }
+    Task::Read {
+        file,
+        work: Work::Audit {
+            counts,
+            ending: Ending::Plain,
+        },
+    }
+}
+
 // What is audited of the desk in a file.
 fn audit_of<'a>(options: &ArgMatches<'a>) -> Option<Task<'a>>
     ensures { IfSome result (IsTaskWith (codes "audit") (rows_of (found_of options.now))) }
 {
     let file = options.get_str(FILE)?;
     let counts = is_given(options, COUNT);
-    if is_given(options, WHOLE) {
-        return Some(Task::AuditWhole { file, counts });
-    }
-    Some(Task::Read {
-        file,
-        work: Work::Audit {
+    let whole = is_given(options, WHOLE);
+    match options.get_str(ARCHIVE) {
+        Some(archive) => Some(Task::AuditBehind {
+            file,
+            archive,
             counts,
-            ending: Ending::Plain,
-        },
-    })
+            whole,
+        }),
+        None => Some(audit_alone(file, counts, whole)),
+    }
 }
 
 // What is told of the desk in a file.

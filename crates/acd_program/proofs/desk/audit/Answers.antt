@@ -9,7 +9,7 @@ use Rattle.acd_program.proofs.desk.audit.Goals as goal
 pub returns-in-Ok-audited-clause-over : goal.returns-in-Ok-audited-clause-over
 returns-in-Ok-audited-clause-over g c = (
   c.in-Ok-audited.ensures.counted,
-  subst (λ (b : _). WasAsked (g.B.Book.state c.args.book.inner) IsFindingIfOrdered c.in-Ok-audited.found (g.B.Book.state b)) (sym (c.into_inner-in-Ok-audited.ensures ∙ ap (λ (w : _). w.inner) c.close.ensures))
+  subst (λ (b : _). WasAsked (g.B.Book.state c.args.book.inner) IsFindingIfOrdered c.in-Ok-audited.found (g.B.Book.state b)) (sym (c.book_of.ensures ∙ ap (λ (w : _). w.inner) c.close.ensures))
       (audited_by (g.B.Book.state c.args.book.inner) _ _ c.in-Ok-audited.found c.in-Ok.ensures c.in-Ok-audited.ensures.told c.in-Ok-audited.ensures.found),
   refl,
 )

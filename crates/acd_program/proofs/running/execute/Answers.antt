@@ -1,9 +1,10 @@
 use Rattle.std.proofs.Common.{rules, refl, inr}
 use Rattle.sqlite_std_file.specs.File.{IsFresh}
 use Rattle.acd_lines.specs.Lines.{streams}
+use Rattle.acd_program.proofs.Behind.{behind_task}
 use Rattle.acd_program.proofs.Tasks.{lines_task, whole_task, read_task}
 use Rattle.acd_program.proofs.Served.{file_tells, serve_task}
-use Rattle.acd_program.proofs.TasksEnded.{lines_ended, service_ended, import_ended, whole_ended, read_ended, err_elsewhere}
+use Rattle.acd_program.proofs.TasksEnded.{lines_ended, service_ended, import_ended, whole_ended, read_ended, behind_ended, err_elsewhere}
 use Rattle.acd_program.proofs.Tasks.{err_from}
 use Rattle.acd_program.proofs.running.execute.Goals as goal
 
@@ -71,3 +72,15 @@ returns-in-AuditWhole-clause-elsewhere g c = err_elsewhere _ IsFresh _ _ _ _ _ (
 
 pub returns-in-Read-clause-elsewhere : goal.returns-in-Read-clause-elsewhere
 returns-in-Read-clause-elsewhere g c = err_elsewhere _ IsFresh _ _ _ _ _ (returns-in-Read-clause-ended g c)
+pub returns-in-AuditBehind-clause-done : goal.returns-in-AuditBehind-clause-done
+returns-in-AuditBehind-clause-done g c =
+    behind_task _ IsFresh c.audit_behind.result c.args.task (streams g.R.Read.remaining g.W.Write.contents (c.args.reader.now, c.args.reader.now) (c.args.writer.now, c.audit_behind.new.writer)) _ _
+    c.in-AuditBehind.file c.in-AuditBehind.archive c.in-AuditBehind.counts c.in-AuditBehind.whole c.in-AuditBehind.is c.audit_behind.ensures.audited
+
+pub returns-in-AuditBehind-clause-ended : goal.returns-in-AuditBehind-clause-ended
+returns-in-AuditBehind-clause-ended g c =
+    behind_ended _ IsFresh c.audit_behind.result c.args.task (streams g.R.Read.remaining g.W.Write.contents (c.args.reader.now, c.args.reader.now) (c.args.writer.now, c.audit_behind.new.writer)) _ _
+    c.in-AuditBehind.file c.in-AuditBehind.archive c.in-AuditBehind.counts c.in-AuditBehind.whole c.in-AuditBehind.is refl refl c.audit_behind.ensures.ended
+
+pub returns-in-AuditBehind-clause-elsewhere : goal.returns-in-AuditBehind-clause-elsewhere
+returns-in-AuditBehind-clause-elsewhere g c = err_elsewhere _ IsFresh _ _ _ _ _ (returns-in-AuditBehind-clause-ended g c)

@@ -1,0 +1,30 @@
+use Rattle.std.proofs.Common.{refl, sym, ap, subst, ◌∙◌}
+use Rattle.sqlite_std_file.specs.File.{IsFresh}
+use Rattle.acd_desk.specs.Standing.{standing}
+use Rattle.acd_program.specs.Behind.{IsFindingInOrder, BehindArchive}
+use Rattle.acd_program.specs.Ended.{OnlyAsked}
+use Rattle.acd_program.proofs.Asking.{only_refused, only_opened}
+use Rattle.acd_program.proofs.Behind.{behind_book}
+use Rattle.acd_program.proofs.behind.audit_behind.Goals as goal
+
+pub returns-in-Ok-found_behind-clause-over : goal.returns-in-Ok-found_behind-clause-over
+returns-in-Ok-found_behind-clause-over g c = (
+  c.in-Ok-found_behind.ensures.counted,
+  subst (λ (b : _). BehindArchive _ IsFresh IsFindingInOrder (g.B.Book.state c.args.book.inner) (g.B.Book.state b) c.in-Ok-found_behind.found) (sym (c.into_inner-in-Ok-found_behind.ensures ∙ ap (λ (w : _). w.inner) c.close.ensures))
+      (behind_book _ IsFresh (g.B.Book.state c.args.book.inner) _ _ c.in-Ok-found_behind.found c.in-Ok.ensures c.in-Ok-found_behind.ensures.asked),
+  refl,
+)
+
+pub returns-in-Err-clause-kept : goal.returns-in-Err-clause-kept
+returns-in-Err-clause-kept g c =
+    subst (λ (b : _). OnlyAsked (g.B.Book.state c.args.book.inner) (g.B.Book.state b)) (sym c.into_inner.ensures) (only_refused _ _ _ c.in-Err.ensures)
+
+pub returns-in-Ok-found_behind-clause-kept : goal.returns-in-Ok-found_behind-clause-kept
+returns-in-Ok-found_behind-clause-kept g c =
+    subst (λ (b : _). OnlyAsked (g.B.Book.state c.args.book.inner) (g.B.Book.state b)) (sym (c.into_inner-in-Ok-found_behind.ensures ∙ ap (λ (w : _). w.inner) c.close.ensures))
+    (only_opened (g.B.Book.state c.args.book.inner) _ _ c.in-Ok.ensures c.in-Ok-found_behind.ensures.kept)
+
+pub returns-in-Err-found_behind-clause-kept : goal.returns-in-Err-found_behind-clause-kept
+returns-in-Err-found_behind-clause-kept g c =
+    subst (λ (b : _). OnlyAsked (g.B.Book.state c.args.book.inner) (g.B.Book.state b)) (sym (c.into_inner-in-Err-found_behind.ensures ∙ ap (λ (w : _). w.inner) c.close-in-Err-found_behind.ensures))
+    (only_opened (g.B.Book.state c.args.book.inner) _ _ c.in-Ok.ensures c.in-Err-found_behind.ensures.kept)
