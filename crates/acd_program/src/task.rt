@@ -291,8 +291,9 @@ fn import_of<'a>(options: &ArgMatches<'a>) -> Option<Task<'a>>
 
 // What is audited of the desk in a file, behind no archive.
 fn audit_alone<'a>(file: &'a str, counts: bool, whole: bool) -> Task<'a>
-    ensures whole { IsTrue whole → result ≡ Task.AuditWhole file counts }
-    ensures plain { whole ≡ false → result ≡ Task.Read file (Work.Audit counts Ending.Plain) }
+    ensures whole { IsTrue whole → result ≡ Task.AuditWhole file.entry counts }
+    ensures plain { whole ≡ false
+        → result ≡ Task.Read file.entry (Work.Audit counts Ending.Plain) }
 {
     if whole {
         return Task::AuditWhole { file, counts };
