@@ -21,7 +21,11 @@ use Rattle.clap.specs.Simple.{app_of_fields}
 use Rattle.clap.specs.declared.parser.matches.ArgMatches.{ArgMatches}
 use Rattle.clap.specs.declared.parser.matches.Found.{Found}
 use Rattle.clap.proofs.WalkLemmas.{first_value-rows, one_text-rows, find_row}
-use Rattle.acd_program.specs.CommandLine.{HasApp, HasRule, IsNumber, acd, has_option, is_given, required}
+use Rattle.acd_log.specs.declared.ending.Ending.TheVariants.{Plain}
+use Rattle.acd_program.specs.CommandLine.{HasApp, HasNone, HasRule, IsNumber, IsTaskWith, IsText, acd, has_option, is_given, required}
+use Rattle.acd_program.specs.declared.asked.Task.{Task}
+use Rattle.acd_program.specs.declared.asked.Task.TheVariants.{AuditWhole, Read}
+use Rattle.acd_program.specs.declared.desk.Work.TheVariants as kind
 
 -- ---- commands
 
@@ -84,8 +88,11 @@ matches_are a words m is matches = (subst (λ (x : App). HasMatchesOf x words m)
 
 -- ---- options
 
+pub value_read : (f : Found) (id : Text) (value : Option Text) → value ≡ first_value f id → first_of id (rows_of f) ≡ value
+value_read f id value read = sym (read ∙ first_value-rows f id)
+
 pub text_read : (f : Found) (id : Text) (text : Bor Text) → Some text.now ≡ first_value f id → first_of id (rows_of f) ≡ Some text.now
-text_read f id text read = sym (read ∙ first_value-rows f id)
+text_read f id text = value_read f id (Some text.now)
 
 not_equal : (t : Text) → t ≢ true_text → bytes_eq t true_text ≡ false
 not_equal t other = by (bytes_eq t true_text) refl
@@ -120,3 +127,9 @@ same_some g h (Some x) = refl
 
 pub option_read : (f : Found) (id : Text) (b : Bool) → b ≡ is_some (matched_of f id) → has_option id (rows_of f) ≡ b
 option_read f id b read = ap is_some (find_row f.entries.items id) ∙ same_some _ _ (find (λ e. bytes_eq e.0.now id) f.entries.items) ∙ sym read
+
+-- an audit without an archive
+pub audit_read : (options : List Row) (file : Bor Text) (counts whole : Bool) (asked : Task) → (whole ≡ true → asked ≡ AuditWhole file counts) → (whole ≡ false → asked ≡ Read file (kind.Audit counts Plain))
+    → IsText (codes "file") options file → HasNone (codes "archive") options → counts ≡ is_given (codes "count") options → whole ≡ is_given (codes "whole") options → IsTaskWith (codes "audit") options asked
+audit_read options file counts true asked whole plain text none counted looked = subst (IsTaskWith (codes "audit") options) (sym (whole refl)) (refl, text, none, counted, looked)
+audit_read options file counts false asked whole plain text none counted looked = subst (IsTaskWith (codes "audit") options) (sym (plain refl)) (text, (refl, none, counted, looked, refl))
