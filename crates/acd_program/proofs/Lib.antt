@@ -15,4 +15,4 @@ pub mod CommandLines
 pub mod Coming
 pub mod Ended
 pub mod TasksEnded
-pub mod Behind
+pub mod AuditsBehind

@@ -4,7 +4,7 @@ use Rattle.acd_desk.specs.Standing.{standing}
 use Rattle.acd_program.specs.Behind.{IsFindingInOrder, BehindArchive}
 use Rattle.acd_program.specs.Ended.{OnlyAsked}
 use Rattle.acd_program.proofs.Asking.{only_refused, only_opened}
-use Rattle.acd_program.proofs.Behind.{behind_book}
+use Rattle.acd_program.proofs.AuditsBehind.{behind_book}
 use Rattle.acd_program.proofs.behind.audit_behind.Goals as goal
 
 pub returns-in-Ok-found_behind-clause-over : goal.returns-in-Ok-found_behind-clause-over

@@ -7,7 +7,7 @@ use Rattle.acd_sqlbook.specs.State.{book_state}
 use Rattle.acd_program.specs.InFiles.{IsLaidIn}
 use Rattle.acd_program.specs.Found.{HasCount}
 use Rattle.acd_program.proofs.Asking.{only_asked, only_left}
-use Rattle.acd_program.proofs.Behind.{asked_behind, found_so}
+use Rattle.acd_program.proofs.AuditsBehind.{asked_behind, found_so}
 use Rattle.acd_program.proofs.behind.found_behind.Goals as goal
 
 pub returns-clause-counted : goal.returns-clause-counted

@@ -5,7 +5,7 @@ use Rattle.acd_sqlbook.specs.Noting.{followed}
 use Rattle.acd_sqlbook.specs.State.{book_state}
 use Rattle.acd_program.specs.Behind.{AuditedBehind}
 use Rattle.acd_program.specs.Over.{Unserved}
-use Rattle.acd_program.proofs.Behind.{audited_over}
+use Rattle.acd_program.proofs.AuditsBehind.{audited_over}
 use Rattle.acd_program.proofs.Taking.{unserved_asked}
 use Rattle.acd_program.proofs.Tasks.{ok_so}
 use Rattle.acd_program.proofs.behind.over_archive.Goals as goal

@@ -1,6 +1,6 @@
 use Rattle.std.proofs.Common.{rules, inl, refl}
 use Rattle.sqlite_std_file.specs.File.{IsFresh}
-use Rattle.acd_program.proofs.Behind.{audit_printed, audit_ended}
+use Rattle.acd_program.proofs.AuditsBehind.{audit_printed, audit_ended}
 use Rattle.acd_program.proofs.Tasks.{err_from}
 use Rattle.acd_program.proofs.running.audit_behind.Goals as goal
 

@@ -1,7 +1,7 @@
 use Rattle.std.proofs.Common.{rules, refl, inr}
 use Rattle.sqlite_std_file.specs.File.{IsFresh}
 use Rattle.acd_lines.specs.Lines.{streams}
-use Rattle.acd_program.proofs.Behind.{behind_task}
+use Rattle.acd_program.proofs.AuditsBehind.{behind_task}
 use Rattle.acd_program.proofs.Tasks.{lines_task, whole_task, read_task}
 use Rattle.acd_program.proofs.Served.{file_tells, serve_task}
 use Rattle.acd_program.proofs.TasksEnded.{lines_ended, service_ended, import_ended, whole_ended, read_ended, behind_ended, err_elsewhere}
