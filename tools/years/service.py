@@ -25,8 +25,10 @@ from units import Carrying, Desk
 HOUR, DAY = 3600, 86400
 RUN = Path("/run/acd-carry")
 DAYS = 6
-# what is traced: to be killed before the last one is to be killed behind all
-TRACED = (*CALLS, "utimensat", "exit_group")
+# what is traced: all that leaves something; to be killed before the last one is to be killed behind all
+TRACED = (*(name for name in CALLS if name not in ("fcntl", "flock")), "utimensat", "exit_group")
+# of the calls of ExecStart those at which the power is cut, one of so many: `disks` has all of them
+ONE_OF = 4
 LIES = {"desk.db", "desk.db-wal", "desk.db-pair"}
 
 
@@ -184,7 +186,7 @@ class Service:
         done, seen = 0, set()
         for line, (name, _) in enumerate(self.unit.lines()):
             for call, (begin, end) in self.counted(line).items():
-                for number in range(begin + 1, end + 1):
+                for number in range(begin + 1, end + 1, ONE_OF if is_cut and name == "ExecStart" else 1):
                     what = f"{'a power cut' if is_cut else 'killed'} at {call} {number} of {name} ({line})"
                     seen.add(self.killed(what, line, call, number, is_cut))
                     done += 1
@@ -319,7 +321,7 @@ class Service:
         with disk(self.place, "3m"):
             self.laid()
             free = shutil.disk_usage(self.place).free
-            for left in (0, 4096, 12000, 20000, 40000):
+            for left in (0, 4096, 12000, 20000):
                 (self.place / "ballast").write_bytes(b"x" * max(0, free - left))
                 self.refused(f"a disk with {left} bytes left", "nothing was changed")
             (self.place / "ballast").unlink()
@@ -347,9 +349,11 @@ class Service:
         time.sleep(0.5)
         self.desk.start()
         self.ground.expect(f"beside others: {told} {self.unit.said}", told in (["done"], ["failed"]))
-        self.ground.expect(f"one of all: {others}", sum(" goes on from " in said for _, said, _ in others) + self.unit.said.count(" goes on from "), 1)
+        self.ground.expect(f"one at most: {others}", sum(" goes on from " in said for _, said, _ in others) + self.unit.said.count(" goes on from ") <= 1)
         self.answers("beside others", 1)
-        self.is_ended("beside others")
+        self.unit.start()
+        self.answers("alone again", 1)
+        self.is_ended("alone again")
 
     def loaded(self):
         """A client sends each request until it is answered, while carries go through or are killed: each acts once."""
