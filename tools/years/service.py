@@ -87,14 +87,14 @@ class Service:
         self.desk = Desk(self.folder / "state")
         self.unit = Carrying(self.desk)
 
-    def laid(self, is_up=True):
+    def laid(self, is_up=True, seconds=20):
         """All anew, to the byte; with a desk that serves, or without."""
         self.desk.end(signal.SIGKILL)
         self.clear()
         copied(self.first, self.place)
         if is_up:
             self.desk.start()
-            self.ground.expect("the desk is there", self.is_there())
+            self.ground.expect("the desk is there", self.is_there(seconds))
 
     def clear(self):
         shutil.rmtree(RUN, ignore_errors=True)
@@ -116,7 +116,7 @@ class Service:
         finally:
             asked.close()
 
-    def is_there(self, seconds=60):
+    def is_there(self, seconds=20):
         """Whether the desk answers within a time."""
         end = time.monotonic() + seconds
         while (found := self.ask("GET", "/queues/100")) is None and time.monotonic() < end:

@@ -52,14 +52,14 @@ class Stops(Service):
         asking = threading.Thread(target=ask)
         asking.start()
         self.carried("carried over")
-        self.ground.expect("the desk is back", self.is_there())
+        self.ground.expect("the desk is back", self.is_there(300))
         time.sleep(0.2)
         is_over.set()
         asking.join()
         return longest[0]
 
     def measure(self, what):
-        self.laid()
+        self.laid(seconds=300)
         took = self.stopped()
         self.desk.stop()
         archive, = (path for path in self.place.glob("desk.db-????-??-??-*") if not path.name.endswith(".archive"))
