@@ -122,6 +122,17 @@ class Carried(Office):
         self.carries("beside a desk that is down")
         self.expect("it stays down", (self.show("ActiveState"), self.inside(RUN).exists(), len(self.archives())), (["inactive"], False, 1))
         self.restarts("started by hand")
+        self.laid()
+        self.done("systemctl", "stop", "acd")
+        self.change("ExecStart", "renameat2", 1, "delay_enter=2000000")
+        self.done("systemctl", "start", "--no-block", "acd-carry")
+        self.expect("it is kept down", self.eventually(lambda: self.inside(f"{RUN}/down").exists(), True), True)
+        time.sleep(1)
+        self.done("systemctl", "start", "acd")
+        self.expect("a start meanwhile does nothing yet", self.show("ActiveState"), ["inactive"])
+        self.expect("it ends", self.eventually(lambda: self.show("ActiveState", unit="acd-carry")[0], "inactive"), "inactive")
+        self.is_back("and is done then")
+        self.unchange()
 
     # what it is told to run
 

@@ -28,8 +28,8 @@ FAULTS = [
     Fault("a killed carry leaves it down", (CARRY, "ExecStopPost=-+/usr/sbin/acd-carry --start\nExecStopPost=+/usr/sbin/acd-carry --start\n", ""), "carried", ("prepare", "try_killed")),
     Fault("what starts it again isn't repeated", (CARRY, "ExecStopPost=-+", "ExecStopPost=+"), "carried", ("prepare", "try_killed")),
     Fault("a stop waits for itself", ("usr/share/acd/acd_unit.py", '"start", "--no-block", UNIT', '"start", UNIT'), "carried", ("prepare", "try_stopped")),
-    Fault("a machine that starts leaves it down", ("usr/share/acd/acd_unit.py", 'Path("/run/acd-carry")', 'Path("/var/lib/acd-carry")'), "carried", ("prepare", "try_meanwhile")),
-    Fault("a desk that was down is started", ("usr/share/acd/acd_unit.py", "    if START.exists():", "    if True:"), "carried", ("prepare", "try_down")),
+    Fault("what keeps it down lies elsewhere", ("usr/share/acd/acd_unit.py", 'Path("/run/acd-carry")', 'Path("/var/lib/acd-carry")'), "carried", ("prepare", "try_meanwhile")),
+    Fault("a desk that was down is started", ("usr/share/acd/acd_unit.py", "    if START.exists() or was_refused():", "    if True:"), "carried", ("prepare", "try_down")),
     Fault("a recipe that logs nobody off", (PAGE, '"requested":"loggedOff"}', '"requested":"notReady"}'), "plans", ("plan", "try_forgotten")),
     Fault("a mark of another system's editor is a part of the first login", ("usr/sbin/acd-gate", '.removeprefix(b"\\xef\\xbb\\xbf")', ""), "plans", ("plan", "try_roles")),
 ]

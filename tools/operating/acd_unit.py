@@ -1,9 +1,8 @@
 """Stops the desk's unit and keeps it down, while something is done to its file, and starts it again. By root; tested, not proved.
 
 In /run/acd-carry, which a power cut takes away, lie two files without bytes. `down` is a condition of the unit's own: while it is there nobody starts the unit, whoever
-asks for it. `start` says that the unit was up, and has to be started again. Both are there before the unit is stopped, and `start` until it is started: so either
-command may be killed at any moment, and what it left is done by `start` alone, run once more."""
-import contextlib
+asks for it; who does is remembered by systemd. `start` says that the unit was up, and has to be started again. Both are there before the unit is stopped, and `start`
+until it is started: so either command may be killed at any moment, and what it left is done by the second one alone, run once more."""
 import subprocess
 import time
 from pathlib import Path
@@ -48,12 +47,19 @@ def stop():
     systemctl("stop", UNIT)
 
 
+def was_refused():
+    """Whether somebody asked for the unit while it was kept down: then the last look at its conditions failed, of which it has no other."""
+    said = systemctl("show", "--property=ConditionResult,ConditionTimestampMonotonic", UNIT).split()
+    return "ConditionResult=no" in said and "ConditionTimestampMonotonic=0" not in said
+
+
 def start():
-    """From now on it isn't kept down, and it is started where `stop` found it up. What has nothing to undo does nothing."""
+    """From now on it isn't kept down, and it is started where `stop` found it up, or somebody asked for it meanwhile. What has nothing to undo does nothing."""
+    if not FOLDER.exists():
+        return
     DOWN.unlink(missing_ok=True)
-    if START.exists():
+    if START.exists() or was_refused():
         # it may wait for the end of the unit by which this is run, which mustn't wait for it
         systemctl("start", "--no-block", UNIT)
-        START.unlink()
-    with contextlib.suppress(FileNotFoundError):
-        FOLDER.rmdir()
+        START.unlink(missing_ok=True)
+    FOLDER.rmdir()

@@ -258,7 +258,7 @@ class Service:
             (self.bin / "aside").rmdir()
 
     def down(self):
-        """A unit that was down stays down, whatever becomes of it; and so does one that is started meanwhile, until it is over."""
+        """A unit that was down stays down, whatever becomes of it, unless it is started meanwhile; and one that is started meanwhile stays down until it is over."""
         for line in (None, 1, 2, 3):
             self.laid(is_up=False)
             ended = self.unit.start({line: self.strace("-e", "inject=?vfork,?clone,?clone3:signal=KILL:when=1")} if line else None)
@@ -273,13 +273,14 @@ class Service:
         carrying.join()
         self.ground.expect(f"started before anything keeps it down: {self.unit.said}", told, ["done"])
         self.answers("started before anything keeps it down", 1)
-        self.laid()
-        meanwhile = self.bin / "started"
-        with self.another_program(f'[ "$1" = serve ] || {{ systemctl start acd.service; systemctl show acd.service >>{meanwhile}; }}'):
-            self.carried("started meanwhile")
-        self.ground.expect("it is kept down meanwhile", set(meanwhile.read_text().split()), {"inactive"})
-        self.answers("started meanwhile", 1)
-        self.is_ended("started meanwhile")
+        for is_up in (True, False):
+            self.laid(is_up)
+            meanwhile = self.bin / "started"
+            with self.another_program(f'[ "$1" = serve ] || {{ systemctl start acd.service; systemctl show acd.service >>{meanwhile}; }}'):
+                self.carried("started meanwhile")
+            self.ground.expect("it is kept down meanwhile", set(meanwhile.read_text().split()), {"inactive"})
+            self.answers(f"started meanwhile, was up {is_up}", 1)
+            self.is_ended("started meanwhile")
 
     def refused(self, what, wanted, ended="failed", is_stopped=True):
         """It is told by a line; the desk is back over the old file, or was never stopped; and nothing else lies there than before."""

@@ -66,7 +66,10 @@ class Desk:
         return all(Path(condition.lstrip("!")).exists() != condition.startswith("!") for condition in lines_of(self.unit, "ConditionPathExists"))
 
     def start(self):
-        if self.process() or not self.may_start():
+        if self.process():
+            return
+        (self.state / "condition").write_text("yes" if self.may_start() else "no")
+        if not self.may_start():
             return
         values = environment(self.unit, self.settings)
         words = command(*lines_of(self.unit, "ExecStart"), self.settings["scripts"], values)
@@ -140,7 +143,10 @@ def main():
     with open(state / "lock", "w") as lock:
         fcntl.flock(lock, fcntl.LOCK_EX)
         desk = Desk(state)
-        if words[0] == "show":
+        if words[0] == "show" and "--property=ConditionResult,ConditionTimestampMonotonic" in words:
+            found = state / "condition"
+            print(f"ConditionResult={found.read_text() if found.exists() else 'no'}\nConditionTimestampMonotonic={int(found.exists())}")
+        elif words[0] == "show":
             print("active" if desk.process() else "inactive")
         elif words[0] == "start" and words[-1] == "acd.service":
             desk.start()
