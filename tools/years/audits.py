@@ -3,9 +3,10 @@ import random
 import shutil
 import sqlite3
 
-import office
+# by cuts the folder of tests is among those that modules are looked for in
 from cuts import Cuts, Day
 from ground import firsts, log_of
+import office
 
 # Each alters one thing: in the file, or in its archive. Where the tables alone differ by it, that is found at the last stamp and one.
 STATUS = "UPDATE kept SET status = CASE status WHEN 200 THEN 409 ELSE 200 END"
