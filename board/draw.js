@@ -1,5 +1,5 @@
 // Makes of the page what is described, and writes only what has changed.
-import {clock, CLOSES, isWord, named, number, OPENS, plain, timeOfDay, word, zoneOf} from './words.js';
+import {clock, CLOSES, isWord, named, number, OPENS, percent, plain, SIGN, timeOfDay, word, zoneOf} from './words.js';
 
 // milliseconds: what is older than that is grey
 const GREY = 10000, SVG = 'http://www.w3.org/2000/svg', ISOLATED = new RegExp(`(${OPENS}[^${CLOSES}]*${CLOSES})`);
@@ -9,17 +9,20 @@ export const AS_IT_IS = Symbol('as it is');
 // what an element was given and what it says, since it is quicker to remember than to ask for
 const GIVEN = Symbol('given'), SAYS = Symbol('says');
 
-/** @param {string} id @returns {any} */
-export function byId(id) { return document.getElementById(id); }
+/** @returns {any} */
+export const byId = (id = '') => document.getElementById(id);
 
-// An element as it should be: a `data-key` tells it from its neighbours, wherever it stands.
-/** @param {string} tag @param {Attributes} [attributes] @param {Part[]} parts */
-export const make = (tag, attributes = {}, ...parts) => ({tag, attributes, parts});
+// An element as it should be: tag and class, its attributes, if any, and what is in it. A `data-key` tells it from its neighbours, wherever it stands.
+/** @param {(Attributes|Part)[]} parts @returns {Made} */
+export function make(kind = '', ...parts) {
+  const [tag, name] = kind.split('.'), given = /** @type {any[]} */ (parts), attributes = given[0]?.constructor === Object && !given[0].tag ? given.shift() : {};
+  return {tag, attributes: name ? {class: name, ...attributes} : attributes, parts: given};
+}
 
-// Gives an element attributes, without a value where it is true; takes away what is false or nothing. A function is what is done at an event.
+// Gives an element attributes, and takes away what is false or nothing. A function is what is done at an event.
 /** @param {Place} place @param {Attributes} attributes */
 export function set(place, attributes) {
-  const element = typeof place === 'string' ? byId(place) : place, given = element[GIVEN] ??= {};
+  const element = elementOf(place), given = element[GIVEN] ??= {};
   for (const [name, value] of Object.entries(attributes)) {
     if (name in given && given[name] === value) continue;
     given[name] = value;
@@ -29,10 +32,10 @@ export function set(place, attributes) {
   }
 }
 
-// Writes what is in an element: texts, where names that are isolated become <bdi>, numbers, and elements; what is false or nothing is left out.
+// Writes what is in an element; what is false or nothing is left out.
 /** @param {Place} place @param {Part[]} parts */
 export function put(place, ...parts) {
-  const element = typeof place === 'string' ? byId(place) : place, one = parts.length === 1 ? parts[0] : undefined;
+  const element = elementOf(place), one = parts.length === 1 ? parts[0] : undefined;
   if (one === AS_IT_IS || (one !== undefined && one === element[SAYS])) return;
   element[SAYS] = one;
   const wanted = parts.flatMap(part => typeof part === 'number' ? number(part) : typeof part === 'string' ? texts(part, element) : part ? /** @type {Made} */ (part) : []);
@@ -41,7 +44,7 @@ export function put(place, ...parts) {
   let there = element.firstChild;
   for (const part of wanted) {
     const isText = typeof part === 'string', fits = isText ? there instanceof Text : !keys.size && there?.localName === part.tag;
-    const node = !isText && had.get(part.attributes['data-key']) || (fits ? there : isText ? new Text() : created(part.tag, element));
+    const node = !isText && had.get(part.attributes['data-key']) || (fits ? there : isText ? new Text() : document.createElementNS(part.tag === 'svg' ? SVG : element.namespaceURI, part.tag));
     if (node === there) there = there.nextSibling; else element.insertBefore(node, there);
     if (!isText) {
       set(node, part.attributes);
@@ -51,63 +54,64 @@ export function put(place, ...parts) {
   while (element.childNodes.length > wanted.length) element.lastChild.remove();
 }
 
-/** @param {string} tag @param {Element} within */
-const created = (tag, within) => document.createElementNS(tag === 'svg' ? SVG : within.namespaceURI, tag);
+/** @param {Place} place */
+const elementOf = place => typeof place === 'string' ? byId(place) : place;
 
-// A text and its names; an option can only have a text.
-/** @param {string} text @param {Element} within */
-const texts = (text, within) => !text.includes(OPENS) || within.localName === 'option' ? text || [] :
-  text.split(ISOLATED).filter(Boolean).map(part => part.startsWith(OPENS) ? make('bdi', {}, plain(part)) : part);
+// Names that are isolated become <bdi>; an option can only have a text.
+/** @param {Element} within */
+const texts = (text = '', within) => !text.includes(OPENS) || within.localName === 'option' ? text || [] :
+  text.split(ISOLATED).filter(Boolean).map(part => part.startsWith(OPENS) ? make('bdi', plain(part)) : part);
 
-// How what is seen stands to the desk. What changes each second is beside what a screen reader is told.
-/** @param {string} kind @param {number} known when the desk was known last, in milliseconds; 0 where it never was @param {string} why @param {number} moment of the server's clock @param {string} [reading] how much of the day has been read */
-export function drawStatus(kind, known, why, moment, reading) {
+// How old what is seen is: `known` when, in milliseconds, or 0. `reading` says how much of the day has been read.
+// What changes each second is beside what a screen reader is told.
+export function drawStatus(kind = '', known = 0, why = '', moment = 0, reading = '') {
   const age = Date.now() - known, isLive = kind === 'live';
   set('status', {'data-kind': kind});
-  put('status-text', kind === 'lost' ? word(known ? 'status.old' : 'status.none', {why}) : word(`status.${isLive && reading ? 'counting' : kind}`));
-  put('status-age', known && ['late', 'lost'].includes(kind) ? word('status.age', {clock: clock(age / 1000)}) : isLive && reading);
+  put('status', make('span.sign', {'aria-hidden': 'true'}),
+    make('span', {id: 'status-text', role: 'status'}, kind === 'lost' ? word(known ? 'status.old' : 'status.none', {why}) : word(`status.${isLive && reading ? 'counting' : kind}`)), ' ',
+    make('span', {id: 'status-age'}, known && ['late', 'lost'].includes(kind) ? word('status.age', {clock: clock(age / 1000)}) : isLive && reading));
   set(document.body, {'data-old': known > 0 && !isLive && age > GREY});
   put('clock', `${timeOfDay(moment)} ${zoneOf(moment)}`);
 }
 
-/** @param {{id:string, name:string}} one */
-export const withNumber = ({id, name}) => name && name !== id ? `${named(name)} (${id})` : id;
+export const withNumber = ({id = '', name = ''}) => name && name !== id ? `${named(name)} (${id})` : id;
 
-// In which time calls are to be answered.
-/** @param {Settings} settings */
-export const within = settings => Object.keys(settings).some(name => name.startsWith('limit.')) ? word('tile.limits') : word('tile.limit', {n: settings.limit});
+// What a cell says. Seconds, shares and what else is of the `day` are known once that has been counted; a share has the sign of what it means.
+/** @type {(column:Column, line:any) => string|number} */
+const textOf = ({head, text, seconds, share, severity, day}, line) => {
+  const figure = seconds ?? share, is = share && severity?.(line);
+  if ((figure || day) && !line.counted) return '…';
+  if (figure) return (is === 'long' || is === 'bad' ? `${SIGN[is]} ` : '') + (seconds ? clock : percent)(figure(line));
+  return text ? text(line) : line[head];
+};
 
-/** @param {Column} column */
-const kindOf = ({kind, wide, least}) => [kind, wide && 'wide', least && 'least'].filter(Boolean).join(' ');
+// What a file has in its place: there seconds are whole, and a share has four digits.
+/** @type {(column:Column, line:any) => string|number} */
+const filed = (column, line) => {
+  const {file, seconds, share} = column, parts = share ? 1e4 : 1, figure = seconds ?? share;
+  const value = file ? file(line) : !figure ? textOf(column, line) : line.counted ? figure(line) : null;
+  return typeof value !== 'number' ? plain(value ?? '') : figure ? Math.round(parts * value) / parts : value;
+};
 
-/** @param {Column} column @param {any} line */
-const textOf = ({head, text}, line) => text ? text(line) : line[head];
-
-/** @param {Column[]} columns @param {any[]} lines */
+/** @type {(columns:Column[], lines:any[]) => Part[]} */
 const rows = (columns, lines) => [
-  make('thead', {}, make('tr', {}, ...columns.map(column => {
-    const {head, about = isWord(`about.${head}`)} = column;
-    return make('th', {scope: 'col', class: kindOf(column), title: about && word(`about.${head}`)}, word(`head.${head}`));
-  }))),
-  make('tbody', {}, ...lines.map(line => make('tr', {'data-key': line.key, 'data-severity': line.severity ?? ''}, ...columns.map((column, place) => {
-    const text = textOf(column, line);
-    return make(place ? 'td' : 'th', {scope: !place && 'row', class: kindOf(column), 'data-severity': column.severity?.(line)},
-      column.press && text ? make('button', {'data-press': column.press}, text) : text);
+  make('thead', make('tr', ...columns.map(({head, kind, about = isWord(`about.${head}`)}) => make('th', {scope: 'col', class: kind, title: about && word(`about.${head}`)}, word(`head.${head}`))))),
+  make('tbody', ...lines.map(line => make('tr', {'data-key': line.key, 'data-severity': line.severity ?? ''}, ...columns.map((column, place) => {
+    const {kind, press, severity} = column, text = textOf(column, line);
+    return make(place ? 'td' : 'th', {scope: !place && 'row', class: kind, 'data-severity': severity?.(line)}, press && text ? make('button', {'data-press': press}, text) : text);
   })))),
 ];
 
-// A table with a row for each line, known by its key; a cell may be a button, and main.js does what it is pressed for. As a file it has numbers where a column says so.
-/** @param {string} id @param {Column[]} columns */
-export function table(id, columns) {
+// A table with a row for each line; main.js does what a button in it is pressed for. A column is told by its head and its classes, and more where it has more.
+/** @param {(Column|string)[]} told */
+export function table(id = '', told) {
   /** @type {any[]} */ let lines = [];
-  const filed = columns.filter(column => !column.press || column.file);
-  /** @param {Column} column @param {any} line */
-  const value = (column, line) => {
-    const found = column.file ? column.file(line) ?? '' : textOf(column, line);
-    return typeof found === 'number' ? found : plain(found);
-  };
+  /** @type {Column[]} */ const columns = told.map(one => typeof one === 'string' ? {head: one} : one).map(column => {
+    const [head, ...kinds] = column.head.split(' ');
+    return {...column, head, kind: kinds.join(' '), day: kinds.includes('day')};
+  }), inFile = columns.filter(column => !column.press || column.file);
   return {
-    draw: (/** @type {any[]} */ now) => put(id, ...rows(columns, lines = now)),
-    file: () => [filed.map(({head}) => word(`head.${head}`)), ...lines.map(line => filed.map(column => value(column, line)))],
+    draw: (now = lines) => put(id, ...rows(columns, lines = now)),
+    file: () => [inFile.map(({head}) => word(`head.${head}`)), ...lines.map(line => inFile.map(column => filed(column, line)))],
   };
 }

@@ -1,13 +1,13 @@
-// Follows a desk: a snapshot to begin with, then each second the events behind it; goes on by itself after a loss, and begins anew where another file is in its place.
+// Follows a desk: a snapshot, then each second the events behind it; goes on by itself after a loss, and begins anew where another file is in its place.
 import * as net from './net.js';
 import {refusal, word} from './words.js';
 
 // RENEW: after so many milliseconds a snapshot is read anew, for what no event tells
 const EVERY = 1000, RENEW = 30000, FULL = 1000, SEVERAL = 6;
 
-// A request of a desk. The server's clock less this one's, in milliseconds, is told on the way.
-/** @param {string} path @param {(offset:number) => void} [clock] */
-export async function ask(path, clock) {
+// The server's clock less this one's, in milliseconds, is told on the way.
+/** @param {(offset:number) => void} [clock] */
+export async function ask(path = '', clock) {
   const {status, date, received, text} = await net.ask(path).catch(({message}) => { throw new Error(word(`lost.${message}`)); });
   if (date) clock?.(date + 500 - received);
   if (status !== 200) throw Object.assign(new Error(refusal(status, text)), {status});
@@ -26,8 +26,7 @@ export class Feed {
   /** @param {Follower} owner */
   constructor(owner) { this.owner = owner; }
 
-  /** @param {string} path */
-  get(path) { return ask(path, this.owner.clock); }
+  get(path = '') { return ask(path, this.owner.clock); }
 
   async run() {
     for (;;) try {
@@ -38,15 +37,14 @@ export class Feed {
         this.owner.tell({kind: 'live'});
       }
       if (!more) await this.wait(this.begun ? EVERY : 0);
-    } catch (error) {
-      const {status, message} = /** @type {any} */ (error);
+    } catch ({status, message}) {
       this.owner.tell({kind: 'lost', status, why: message});
       await this.wait(net.pause(this.losses++));
     }
   }
 
   async takeSnapshot() {
-    const snapshot = /** @type {Snapshot} */ (await this.get('/snapshot'));
+    const snapshot = await this.get('/snapshot');
     if (this.begun && snapshot.last < this.last) return this.forget();
     if (!this.begun) this.last = snapshot.last;
     this.begun = true;
@@ -62,9 +60,9 @@ export class Feed {
     return true;
   }
 
-  // The events behind the last one, and that one again. True where there may be more.
+  // The last event again, and those behind it. True where there may be more.
   async poll() {
-    const {events, last} = /** @type {Page} */ (await this.get(`/history?after=${Math.max(0, this.last - 1)}`));
+    const {events, last} = await this.get(`/history?after=${Math.max(0, this.last - 1)}`);
     if (this.last > 0) {
       // over a file that was carried over it may be that the last event isn't there any more
       const again = events[0]?.number === this.last ? JSON.stringify(events.shift()) : '';
@@ -78,14 +76,11 @@ export class Feed {
       this.owner.take(events);
     }
     // of agents who logged on in several groups a read tells which
-    for (const agent of [...this.owner.unknown()]) {
-      try { this.owner.learn(await this.get(`/agents/${agent}`)); } catch (error) { if (/** @type {any} */ (error).status !== 404) throw error; }
-    }
+    for (const agent of [...this.owner.unknown()]) try { this.owner.learn(await this.get(`/agents/${agent}`)); } catch (error) { if (error.status !== 404) throw error; }
     return last > this.last;
   }
 
-  /** @param {number} milliseconds */
-  wait(milliseconds) {
+  wait(milliseconds = 0) {
     return new Promise(done => {
       setTimeout(done, milliseconds);
       this.wake = () => done(undefined);   // a page that comes to the front asks at once
@@ -93,13 +88,15 @@ export class Feed {
   }
 }
 
-// The number of the last event before a moment, looked for at several places at once; where the file hasn't those before it, that before the first one there.
-/** @param {number} last @param {number} moment */
-export async function lastBefore(last, moment) {
+/** @returns {Promise<Report[]>} */
+const eventsBehind = async (after = 0) => (await ask(`/events?after=${after}`)).events;
+
+// The number of the last event before a moment, or before the first that the file has.
+export async function lastBefore(last = 0, moment = 0) {
   let low = 0, high = last;
   while (low < high) {
     const places = new Set(Array.from({length: SEVERAL}, (_, part) => low + Math.floor((high - low) * part / SEVERAL)));
-    const pages = await Promise.all([...places].map(async after => ({after, .../** @type {Page} */ (await ask(`/events?after=${after}`))})));
+    const pages = await Promise.all([...places].map(async after => ({after, events: await eventsBehind(after)})));
     for (const {after, events} of pages) {
       const first = events.findIndex(event => event.moment >= moment);
       if (first > 0) return events[first - 1].number;
@@ -111,21 +108,19 @@ export async function lastBefore(last, moment) {
   return low;
 }
 
-// Whether the event is there, and with it all behind it: over a file that was carried over those before its first one aren't. Before the first of all is nothing.
-/** @param {number} number */
-export const has = async number => number === 0 || (await ask(`/events?after=${number - 1}`)).events[0]?.number === number;
+// Whether an event is there, and so all behind it: a file that was carried over has none before its first one.
+export const has = async (number = 0) => number === 0 || (await eventsBehind(number - 1))[0]?.number === number;
 
-// All events behind one, in their order and a page at a time, several pages being asked for at once; up to the last that there is by then.
-/** @param {number} after @param {number} last @param {(events:Report[]) => boolean} take says whether to go on */
-export async function history(after, last, take) {
+// All events behind one, a page at a time; several pages are asked for at once.
+/** @param {(events:Report[]) => boolean} take says whether to go on */
+export async function history(after = 0, last = 0, take) {
   /** @type {Promise<Page>[]} */ const asked = [];
-  let next = after;
   const more = () => {
-    if (next >= last) return;
-    const page = ask(`/history?after=${next}`);
+    if (after >= last) return;
+    const page = ask(`/history?after=${after}`);
     page.catch(() => {});   // told where it is awaited
     asked.push(page);
-    next += FULL;
+    after += FULL;
   };
   for (let stream = 0; stream < SEVERAL; stream++) more();
   for (let page = asked.shift(); page; page = asked.shift()) {

@@ -5,6 +5,11 @@ declare global {
   type Agent = types.Agent;
   type AgentReport = types.AgentReport;
   type Alarm = types.Alarm;
+  type Known = types.Known;
+  type Values = types.Values;
+  type Served = types.Served;
+  type DoingAt = types.DoingAt;
+  type Figure = types.Figure;
   type Attributes = types.Attributes;
   type Call = types.Call;
   type CallLine = types.CallLine;
@@ -20,11 +25,11 @@ declare global {
   type Limits = types.Limits;
   type Looked = types.Looked;
   type Made = types.Made;
-  type Numbers = (value: number) => string;
   type OfSums = (sum: Sums) => number | null;
+  interface Navigator { userActivation?: {hasBeenActive: boolean} }
   type Part = types.Part;
   type Place = types.Place;
-  type Texts = (text: string) => string;
+  type Quarter = types.Quarter;
   type Line = types.Line;
   type Report = types.Report;
   type Series = types.Series;
@@ -40,6 +45,5 @@ declare global {
   type Page = types.Page;
   type AgentState = types.AgentState;
   type Station = types.Station;
-  type Queued = types.Queued;
   type View = {draw: (drawn: Drawn, anew: boolean) => void, file: (drawn: Drawn) => (string | number)[][]};
 }

@@ -1,14 +1,13 @@
-// An agent's own page: what the agent is and may do now, the calls at the station, what rings, and the day.
+// An agent's own page.
 import {byId, drawStatus, make, put, set, table, withNumber} from '../draw.js';
 import {office} from '../office.js';
 import {logIn, logOut, openSession} from '../session.js';
 import {isHeard, soundWhere, tone} from '../sound.js';
 import {clock, DOING, named, plain, refusal, timeOfDay, translate, word} from '../words.js';
-import {drawCalls, joined, say} from './calls.js';
+import {beat, drawCalls, joined, ring, say} from './calls.js';
 import * as logOn from './log-on.js';
 import {doing, isFree, isOverdue, meant, placesOf, sideOf, STATES, states, wrapLeft} from './mine.js';
 import {Requests} from './requests.js';
-import {beat, ring} from './ring.js';
 
 // milliseconds: until what is seen is late, what was done goes, what was refused goes, a click is no second one
 const OLD = 6000, FLEETING = 5000, REFUSED = 30000, SECOND = 400;
@@ -28,34 +27,26 @@ const isLive = () => mine !== null && mine.live && !lost && age() < OLD;
 // the desk's clock; it stands still where nobody knows what goes on
 const now = () => (Math.min(Date.now(), known + OLD) + offset) / 1000;
 
-/** @type {Namer} */
-const groupName = device => named(office.names.groups[device] ?? names.groups.find(group => group.device === device)?.name ?? device);
-/** @param {Goal} goal */
-const placeName = ({to, name}) => withNumber({id: to, name});
-/** @type {Namer} */
-const callerName = device => placeName(places.places.find(({to}) => to === device) ?? {to: device, name: ''});
+const groupName = (device = '') => named(office.names.groups[device] ?? names.groups.find(group => group.device === device)?.name ?? device);
+const placeName = ({to = '', name = ''}) => withNumber({id: to, name});
+const callerName = (device = '') => placeName(places.places.find(({to}) => to === device) ?? {to: device});
 
-/** @type {Map<string, [string, Button[], Part?]>} */ const notices = new Map();
+/** @type {Map<string, Made>} */ const notices = new Map();
 
-const drawNotices = () => put('notices', ...[...notices].map(([key, [words, buttons, more]]) => make('p', {class: 'notice', 'data-key': key}, make('span', {}, words),
-  make('span', {}, ...buttons.map(([label, act]) => make('button', {onclick: () => { drop(key); act(); }}, label)), more))));
-
-// A sentence that stands until somebody clicks it away, or until it isn't so any more.
+// It stands until somebody clicks it away, or until it isn't so any more.
 /** @type {Notice} */
 const notice = (key, words, buttons = [], more) => {
-  notices.set(key, [words, buttons, more]);
-  drawNotices();
+  notices.set(key, make('p.notice', {'data-key': key}, make('span', words), make('span', ...buttons.map(([label, act]) => make('button', {onclick: () => { drop(key); act?.(); }}, label)), more)));
+  put('notices', ...notices.values());
 };
 
-/** @param {string} key */
-const drop = key => { if (notices.delete(key)) drawNotices(); };
+const drop = (key = '') => { if (notices.delete(key)) put('notices', ...notices.values()); };
 
-/** @param {string} words */
-const refuse = words => tell({kind: 'refused', words});
+const refuse = (words = '') => tell({kind: 'refused', words});
 
 /** @param {Told} told */
 function tell({kind, words, key, result}) {
-  if (kind === 'dropped') notice(`dropped ${words}`, say('dropped', {what: words}), [[say('read'), () => {}]]);
+  if (kind === 'dropped') notice(`dropped ${words}`, say('dropped', {what: words}), [[say('read')]]);
   set('told', {'data-kind': kind});
   put('told', `${{sent: '…', waits: '▲', done: '✓', refused: '■', dropped: '■'}[kind]} ${words}`);
   clearTimeout(fades);
@@ -65,7 +56,7 @@ function tell({kind, words, key, result}) {
   draw();
 }
 
-// What a click asks for; the second of two clicks is none.
+// The second of two clicks asks for nothing.
 /** @type {Send} */
 const send = (service, members, words, key) => {
   const before = clicked;
@@ -75,41 +66,39 @@ const send = (service, members, words, key) => {
   draw();
 };
 
-/** @param {string} requested @param {Record<string, unknown>} [more] */
-const ask = (requested, more) => send('setAgentState', {agent: id, requested, ...more}, more ? say('logOnAt', {station: `${more.device}`}) : say(requested), requested);
+/** @param {{device?:string}} [more] */
+const ask = (requested = '', more) => send('setAgentState', {agent: id, requested, ...more}, more ? say('logOnAt', {station: `${more.device}`}) : say(requested), requested);
 
 /** @type {Act} */
-function act(service, call, to) {
-  const one = mine?.calls.find(other => other.call === call), device = mine?.agent.device, side = mine && one && sideOf(mine, one), other = (one?.caller === device ? one?.called : one?.caller) ?? '';
+function act(service, call, field) {
+  const one = mine?.calls.find(other => other.call === call), device = mine?.agent.device, side = mine && one && sideOf(mine, one), who = (one?.caller === device ? one?.called : one?.caller) ?? '';
   const what = say(service), key = `${service} ${call}`;
   // who says no to an offer knows why the state is another one
   if (service === 'rejectCall') localStorage[`acd-missed-${id}`] = `${call} ${side?.since}`;
-  if (service !== 'singleStepTransfer' && service !== 'deflectCall') return send(service, {call, device}, say('button', {what, who: other}), key);
-  choose(to, what, true, place => send(service, {call, device, to: place.to}, say('moved', {what, who: other, to: placeName(place)}), key));
+  if (service !== 'singleStepTransfer' && service !== 'deflectCall') return send(service, {call, device}, say('button', {what, who}), key);
+  choose(field, what, true, place => send(service, {call, device, to: place.to}, say('moved', {what, who, to: placeName(place)}), key));
 }
 
-// The place that was typed; asks where it isn't one alone, and, if it is to, where nobody is logged on.
+// Takes the place that was typed; asks where it isn't one alone, and, if it is to, where nobody is logged on.
 /** @type {Choose} */
 const choose = (field, what, asks, take) => {
-  const found = meant(field.value, places, mine?.agent.device ?? ''), isEmpty = asks && found?.length === 1 && found[0].isEmpty, typed = field.value.trim();
+  const found = meant(field.value, places, mine?.agent.device), one = found?.length === 1 && found[0], isEmpty = asks && one && one.isEmpty, typed = field.value.trim();
   drop('ask');
   if (!found?.length) {
     refuse(say(found ? typed ? 'nobody' : 'sayWhere' : 'away', {what, who: named(typed)}));
     return field.focus();
   }
-  if (found.length === 1 && !isEmpty) return take(found[0]);
-  notice('ask', isEmpty ? say('empty', {station: placeName(found[0])}) : say('which', {what}),
-    [...found.map(place => /** @type {Button} */ ([isEmpty ? say('allTheSame', {what}) : placeName(place), () => take(place)])), [say('no'), () => {}]]);
+  if (one && !isEmpty) return take(one);
+  /** @type {Button[]} */ const buttons = found.map(place => [isEmpty ? say('allTheSame', {what}) : placeName(place), () => take(place)]);
+  notice('ask', one ? say('empty', {station: placeName(one)}) : say('which', {what}), [...buttons, [say('no')]]);
 };
 
-// What was asked for too long ago, or in another log-on: only somebody can say whether it is still wanted.
+// Only somebody can say whether it is still wanted.
 /** @param {Kept} kept @param {(sends:boolean) => void} answer */
 function askAbout({body, words, at = 0}, answer) {
-  const {requested, call} = JSON.parse(body), {state, device} = mine?.agent ?? {};
+  const {requested, call} = JSON.parse(body), {state, device} = mine?.agent ?? {}, isThere = !call || mine?.calls.some(one => one.call === call);
   if (requested && (requested === state || requested === (device ? 'loggedOn' : 'loggedOff'))) return answer(false);
-  if (!call || mine?.calls.some(one => one.call === call)) {
-    return notice(`kept ${at} ${words}`, say('kept', {what: words, time: timeOfDay(at / 1000)}), [[say('kept.send'), () => answer(true)], [say('kept.drop'), () => answer(false)]]);
-  }
+  if (isThere) return notice(`kept ${at} ${words}`, say('kept', {what: words, time: timeOfDay(at / 1000)}), [[say('kept.send'), () => answer(true)], [say('kept.drop'), () => answer(false)]]);
   answer(false);
   refuse(`${words}: ${word('error.unknownCall')}`);
 }
@@ -149,23 +138,20 @@ function draw() {
   if (!mine) return;
   const {agent, calls, groups} = mine, moment = now(), isLiving = isLive(), may = acts && isLiving ? states(mine) : new Set(), isOn = Boolean(agent.device);
   const offer = isLiving ? offerOf(mine, moment) : undefined, {doing: does, since} = doing(mine), left = wrapLeft(mine, moment), {sign, words} = DOING[does];
-  put('name', withNumber({id, name: office.names.agents[id] ?? agent.name ?? ''}));
+  put('name', withNumber({id, name: office.names.agents[id] ?? agent.name}));
   put('states', ...STATES.map(requested => make('button', {'data-requested': requested, disabled: !may.has(requested) || requests.out.has(requested), onclick: () => ask(requested)}, say(requested))));
-  for (const part of ['at-station', 'own-queues']) set(part, {hidden: !isOn});
-  set('states', {hidden: !isOn || !acts});
-  set('log-on', {hidden: agent.state !== 'null' || !acts});
-  set('dial', {hidden: !acts || !isLiving || !isFree(mine)});
-  logOn.draw(may.has('loggedOn') && !requests.out.has('loggedOn'), agent);
+  const hidden = {'at-station': !isOn, 'own-queues': !isOn, states: !isOn || !acts, 'log-on': agent.state !== 'null' || !acts, dial: !acts || !isLiving || !isFree(mine), 'no-calls': calls.length > 0};
+  for (const [part, is] of Object.entries(hidden)) set(part, {hidden: is});
+  logOn.draw(agent, may.has('loggedOn') && !requests.out.has('loggedOn'));
   set('state', {'data-doing': does});
-  put('state', make('span', {'aria-hidden': 'true'}, sign), ' ', make('span', {}, agent.state ? words : say('notPlanned')), ' ', make('time', {}, isOn && clock(moment - since)));
+  put('state', make('span', {'aria-hidden': 'true'}, sign), ' ', make('span', agent.state ? words : say('notPlanned')), ' ', make('time', isOn && clock(moment - since)));
   put('pending', joined(left !== null && (left > 0 ? say('readyIn', {clock: clock(Math.ceil(left))}) : say('readySoon')), agent.pending && word(`pending.${agent.pending}`),
     agent.device && say('at', {station: agent.device})));
   set(document.body, {'data-rings': Boolean(offer)});
   ring(offer);
   document.title = offer ? `◆ ${offer.title}` : `${isLiving ? sign : '▲'} ${agent.name ?? id}`;
   drawCalls({mine, now: moment, acts: acts && isLiving, off: requests.out, who: callerName, group: groupName, act});
-  set('no-calls', {hidden: calls.length > 0});
-  queues.draw(groups.map(queue => ({key: queue.device, queue, moment})));
+  queues.draw(groups.map(group => ({...group, key: group.device, moment})));
   drawDay(mine, moment);
   tellOf(mine, moment);
   if (leaves && isLiving && !isOn) end();
@@ -181,15 +167,15 @@ const offerOf = (mine, moment) => {
 };
 
 const queues = table('queues', [
-  {head: 'group', kind: 'words', text: ({queue}) => `${groupName(queue.device)} (${queue.device})`},
-  {head: 'waiting', text: ({queue}) => queue.calls.length},
-  {head: 'longest', text: ({queue, moment}) => queue.calls.length ? clock(moment - Math.min(.../** @type {OwnQueue} */ (queue).calls.map(({queued = moment}) => queued))) : '–'},
-  {head: 'ready', text: ({queue}) => say('of', {n: queue.ready, all: queue.loggedOn})},
+  {head: 'group words', text: ({device}) => `${groupName(device)} (${device})`},
+  {head: 'waiting', text: ({calls}) => calls.length},
+  {head: 'longest', text: ({calls, moment}) => calls.length ? clock(moment - Math.min(.../** @type {OwnQueue['calls']} */ (calls).map(({queued = moment}) => queued))) : '–'},
+  {head: 'ready', text: ({ready, loggedOn}) => say('of', {n: ready, all: loggedOn})},
 ]);
 const lastCalls = table('day', [
-  {head: 'time', kind: 'words', text: ({moment}) => timeOfDay(moment, true)},
-  {head: 'caller', kind: 'words', text: ({caller}) => caller ? callerName(caller) : '–'},
-  {head: 'group', kind: 'words', text: ({group}) => group ? groupName(group) : say('direct')},
+  {head: 'time words', text: ({moment}) => timeOfDay(moment, true)},
+  {head: 'caller words', text: ({caller}) => caller ? callerName(caller) : '–'},
+  {head: 'group words', text: ({group}) => group ? groupName(group) : say('direct')},
   {head: 'talk', text: ({talked}) => clock(talked)},
 ]);
 
@@ -197,10 +183,10 @@ const lastCalls = table('day', [
 const drawDay = ({agent: {state, since = 0}, day}, moment) => {
   set('own-day', {hidden: !day});
   if (!day) return;
-  const talking = day.talking + (state === 'busy' ? Math.max(0, moment - Math.max(since, day.begins)) : 0);
-  put('day-sums', joined(say('day.calls', {n: day.answered}), day.answered && say('day.average', {clock: clock(talking / day.answered)}), day.missed && say('day.missed', {n: day.missed})));
-  set('day', {hidden: !day.calls.length});
-  lastCalls.draw(day.calls.map(call => ({...call, key: `${call.call} ${call.moment}`})).reverse());
+  const {answered, missed, calls} = day, talking = day.talking + (state === 'busy' ? Math.max(0, moment - Math.max(since, day.begins)) : 0);
+  put('day-sums', joined(say('day.calls', {n: answered}), answered && say('day.average', {clock: clock(talking / answered)}), missed && say('day.missed', {n: missed})));
+  set('day', {hidden: !calls.length});
+  lastCalls.draw(calls.map(call => ({...call, key: `${call.call} ${call.moment}`})).reverse());
 };
 
 /** @type {AtMoment<void>} */
@@ -208,9 +194,9 @@ const tellOf = ({agent, missed}, moment) => {
   const place = `acd-missed-${id}`, isOff = agent.state === 'notReady', key = `${missed?.call} ${missed?.since}`;
   if (missed && acts && localStorage[place] !== key) {
     const read = () => { localStorage[place] = key; };
-    /** @type {Button} */ const ready = [say('ready'), () => { ask('ready'); if (requests.out.has('ready')) read(); }];
-    notice('missed', say(isOff ? 'missed.off' : 'missed', {who: missed.caller ?? say('somebody'), group: groupName(missed.group ?? ''), clock: clock(missed.moment - missed.since), time: timeOfDay(missed.moment)}),
-      [...(isOff ? [ready] : []), [say('read'), read]]);
+    /** @type {Button[]} */ const ready = isOff ? [[say('ready'), () => { ask('ready'); if (requests.out.has('ready')) read(); }]] : [];
+    notice('missed', say(isOff ? 'missed.off' : 'missed', {who: missed.caller ?? say('somebody'), group: groupName(missed.group), clock: clock(missed.moment - missed.since), time: timeOfDay(missed.moment)}),
+      [...ready, [say('read'), read]]);
   } else drop('missed');
   const is = {ticks: isLive() && mine && isOverdue(mine, moment), sound: acts && agent.device && byId('tone').checked && !isHeard(), leaves};
   for (const [key, so] of Object.entries(is)) if (so) notice(key, say(key)); else drop(key);
@@ -227,14 +213,14 @@ function end() {
 }
 
 function listen() {
-  const field = byId('tone'), offerNotices = () => set('notify', {hidden: !('Notification' in window) || Notification.permission !== 'default'});
+  const field = byId('tone'), called = byId('called'), offerNotices = () => set('notify', {hidden: !('Notification' in window) || Notification.permission !== 'default'});
   logOn.askBy((device, groups) => ask('loggedOn', {device, ...(groups.length === 1 ? {group: groups[0]} : {groups})}), refuse);
   set('dial', {onsubmit: event => {
+    const what = say('makeCall');
     event.preventDefault();
-    const field = byId('called'), what = say('makeCall');
-    choose(field, what, false, place => {
+    choose(called, what, false, place => {
       send('makeCall', {device: mine?.agent.device, called: place.to}, say('button', {what, who: placeName(place)}), 'makeCall');
-      field.value = '';
+      called.value = '';
     });
   }});
   field.checked = localStorage['acd-tone'] !== 'off';
@@ -255,14 +241,14 @@ function leave() {
   draw();
 }
 
-/** Whose page it is: the address says so, or the gate. A login that is no agent's only looks at another's. */
+// Whose page it is, the address says, or the gate. A login that is no agent's only looks at another's.
 async function begin() {
   translate();
   listen();
   who = await openSession(leave, why => tell({kind: 'waits', words: say('who', {why})}));
   id ||= who.agent ?? '';
   acts = who.agent === id || who.role === 'exchange';
-  const login = named(who.login ?? '');
+  const login = named(who.login);
   put('told');
   if (!who.login) return refuse(say('noGate'));
   if (who.why) return refuse(`${login}: ${who.why}`);

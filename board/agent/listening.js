@@ -8,8 +8,7 @@ let after = 0, names = 0, losses = 0, beaten = Date.now(), giving = new AbortCon
 /** @param {Heard} heard */
 const tell = heard => postMessage(heard);
 
-/** @param {string} path */
-async function listen(path) {
+async function listen(path = '') {
   giving = new AbortController();
   try {
     const {status, text, date, received} = await ask(`${path}&after=${after}&names=${names}&hold=${HOLD}`, {}, 1000 * PATIENCE, giving);
@@ -19,11 +18,10 @@ async function listen(path) {
     names = mine.names?.number ?? names;
     losses = 0;
     tell({kind: 'told', mine, date, received});
-  } catch (error) { return lose(0, /** @type {Error} */ (error).message); }
+  } catch ({message}) { return lose(0, message); }
 }
 
-/** @param {number} status @param {string} text */
-function lose(status, text) {
+function lose(status = 0, text = '') {
   tell({kind: 'lost', status, text});
   return sleep(pause(losses++));
 }

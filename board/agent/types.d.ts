@@ -25,8 +25,6 @@ declare global {
 
   // what is asked for
 
-  type Requested = 'loggedOn' | 'ready' | 'notReady' | 'workingAfterCall' | 'loggedOff';
-  type Service = 'answerCall' | 'rejectCall' | 'phoneOffHook' | 'holdCall' | 'retrieveCall' | 'singleStepTransfer' | 'deflectCall' | 'clearConnection';
   /** A request that has no answer yet: what it asks for in words, when it was asked for, and in which log-on; `key` tells what was clicked. */
   type Kept = {body: string, words: string, at?: number, logOn?: number | null, key?: string};
   type Told = {kind: 'sent' | 'waits' | 'done' | 'refused' | 'dropped', words: string, key?: string, result?: {pending?: string}};
@@ -42,19 +40,20 @@ declare global {
 
   type OfficeNames = import('../office.js').Office['names'];
   type PlacesOf = (names: Names, office: OfficeNames) => Places;
-  type Namer = (device: string) => string;
+  type Namer = (device?: string) => string;
   type OfMine<T> = (mine: Mine) => T;
   type OfCall<T> = (mine: Mine, call: OwnCall) => T;
   type AtMoment<T> = (mine: Mine, now: number) => T;
   type Say = (key: string, values?: Record<string, string | number>) => string;
   type Send = (service: string, members: Record<string, unknown>, words: string, key: string) => void;
   type Notice = (key: string, words: string, buttons?: Button[], more?: Part) => void;
-  type Act = (service: Service, call: number, to: HTMLInputElement) => void;
+  type Act = (service: string, call: number, to: HTMLInputElement) => void;
   type Choose = (field: HTMLInputElement, what: string, asks: boolean, take: (place: Goal) => void) => void;
   type LogOn = (device: string, groups: string[]) => void;
   type Keep = (place: string, one: Kept) => void;
   type Offer = {key: string, title: string, words: string};
   /** off: what was clicked and isn't answered */
   type DrawnCalls = {mine: Mine, now: number, acts: boolean, off: Set<string>, who: Namer, group: Namer, act: Act};
-  type Button = [string, () => void];
+  /** what it is called, and what it does beside taking the notice away */
+  type Button = [string, (() => void)?];
 }

@@ -1,6 +1,5 @@
 // Die Wörter der Seiten auf Deutsch: dieselben Schlüssel wie in ../words.js.
 
-/** @type {import('../words.js').Words} */
 export default {
   title: {usual: 'Hotline', lost: 'keine Zentrale', alarms: {one: '{n} Alarm', other: '{n} Alarme'}},
   skip: 'Zu den Zahlen', views: 'Ansichten', settings: 'Einstellungen',

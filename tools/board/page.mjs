@@ -301,8 +301,8 @@ export async function losses(see, browser, desk, other, address) {
   await desk.serve();
   const {last: others} = await desk.get('/events?after=999999999999999');
   see('another file in its place is read anew', Boolean(await until(async () => await status() === 'Live' && await browser.run(`return window.board.counted() && window.board.state().last === ${others}`), 20)), await status());
-  const report = reportLines(await desk.get('/reports/queues')), shown = await browser.run('return [...window.board.state().groups.values()].map(group => [group.id, group.figures.entered, window.board.day().line(group.id).sum.entered])');
-  see('its figures are its own', report.every(line => shown.some(one => String(one) === String([line[0], line[3], line[3]]))) && shown.length === report.length, `${shown[0]}, ${report[0]}`);
+  const report = reportLines(await desk.get('/reports/queues')), shown = await browser.run('return [...window.board.state().groups.values()].map(group => [group.id, window.board.day().line(group.id).sum.entered, window.board.day().line(group.id).sum.answered])');
+  see('its figures are its own', report.every(line => shown.some(one => String(one) === String([line[0], line[3], line[4]]))) && shown.length === report.length, `${shown[0]}, ${report[0]}`);
   await desk.stop();
   desk.file = file;
   await desk.serve();
