@@ -20,7 +20,7 @@ export class Lead {
 
   acts() { return this.groups.size > 0; }
 
-  /** @param {{state:AgentState, groups:string[]}} agent */
+  /** @param {Agent} agent */
   leads({state, groups}) { return state !== 'null' && groups.some(group => this.groups.has(group)); }
 
   // A call is moved where it waits, and ended where an agent has it.

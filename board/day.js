@@ -15,13 +15,13 @@ export class Day {
   /** @type {Map<string, Agents>} */ agents = new Map();
   // since when calls wait
   /** @type {Map<number, number>} */ queued = new Map();
-  // stations whose next event of an agent is behind an answered call of a group, or behind an offer that wasn't taken
+  // stations whose agent's next event is behind an answered call of a group, or behind an offer that wasn't taken
   /** @type {Map<string, string>} */ answers = new Map();
   /** @type {Set<string>} */ missed = new Set();
   // where the call that is being cleared had connections
   /** @type {Set<string>} */ cleared = new Set();
 
-  // A call of a group is answered in time within `limit` seconds; the own groups are counted together.
+  // A call is answered in time within the `limit` of its group; the own groups are counted together.
   constructor(begin = 0, limit = (group = '') => 20, own = (group = '') => true) {
     this.begin = begin;
     this.limit = limit;
@@ -100,7 +100,7 @@ export class Day {
 
   lines(group = '') { return this.own(group) ? [this.line(group), this.all] : [this.line(group)]; }
 
-  /** @param {Partial<Sums>} figures what they grow by; `longest` is the greatest */
+  /** @param {Partial<Sums>} figures */
   count(group = '', moment = 0, figures) {
     for (const line of this.lines(group)) for (const sums of [line.sum, stepOf(line, moment)]) add(sums, figures);
   }
@@ -146,7 +146,7 @@ export function sumOf(steps) {
 
 const share = (part = 0, whole = 0) => whole ? part / whole : null;
 
-// The service level: calls answered in time, of all that were answered, and those whose callers gave up later than that, or of the answered alone.
+// The service level: calls answered in time, of the answered and those abandoned later, or of the answered alone.
 /** @param {Sums} sum */
 export const level = ({within, answered, late}, alone = false) => share(within, alone ? answered : answered + late);
 
@@ -156,7 +156,7 @@ export const abandonment = ({abandoned, answered}) => share(abandoned, answered 
 /** @type {OfSums} */
 export const averageWait = ({waited, answered}) => share(waited, answered);
 
-/** @type {OfSums} talk, hold, and the after-call work right behind it */
+/** @type {OfSums} */
 export const averageHandling = ({handling, handled}) => share(handling, handled);
 
 // Talk, hold and after-call work, of these and ready.

@@ -12,7 +12,7 @@ const GIVEN = Symbol('given'), SAYS = Symbol('says');
 /** @returns {any} */
 export const byId = (id = '') => document.getElementById(id);
 
-// An element as it should be: tag and class, its attributes, if any, and what is in it. A `data-key` tells it from its neighbours, wherever it stands.
+// An element as it should be: tag and class, its attributes, if any, and what is in it. A `data-key` tells it from its neighbours.
 /** @param {(Attributes|Part)[]} parts @returns {Made} */
 export function make(kind = '', ...parts) {
   const [tag, name] = kind.split('.'), given = /** @type {any[]} */ (parts), attributes = given[0]?.constructor === Object && !given[0].tag ? given.shift() : {};
@@ -20,8 +20,8 @@ export function make(kind = '', ...parts) {
 }
 
 // Gives an element attributes, and takes away what is false or nothing. A function is what is done at an event.
-/** @param {Place} place @param {Attributes} attributes */
-export function set(place, attributes) {
+/** @type {Sets} */
+export const set = (place, attributes) => {
   const element = elementOf(place), given = element[GIVEN] ??= {};
   for (const [name, value] of Object.entries(attributes)) {
     if (name in given && given[name] === value) continue;
@@ -30,11 +30,11 @@ export function set(place, attributes) {
     else if (value === false || value === undefined) element.removeAttribute(name);
     else element.setAttribute(name, value === true ? '' : value);
   }
-}
+};
 
 // Writes what is in an element; what is false or nothing is left out.
-/** @param {Place} place @param {Part[]} parts */
-export function put(place, ...parts) {
+/** @type {Puts} */
+export const put = (place, ...parts) => {
   const element = elementOf(place), one = parts.length === 1 ? parts[0] : undefined;
   if (one === AS_IT_IS || (one !== undefined && one === element[SAYS])) return;
   element[SAYS] = one;
@@ -52,9 +52,9 @@ export function put(place, ...parts) {
     } else if (node.data !== part) node.data = part;
   }
   while (element.childNodes.length > wanted.length) element.lastChild.remove();
-}
+};
 
-/** @param {Place} place */
+/** @type {(place:any) => any} */
 const elementOf = place => typeof place === 'string' ? byId(place) : place;
 
 // Names that are isolated become <bdi>; an option can only have a text.
@@ -76,8 +76,8 @@ export function drawStatus(kind = '', known = 0, why = '', moment = 0, reading =
 
 export const withNumber = ({id = '', name = ''}) => name && name !== id ? `${named(name)} (${id})` : id;
 
-// What a cell says. Seconds, shares and what else is of the `day` are known once that has been counted; a share has the sign of what it means.
-/** @type {(column:Column, line:any) => string|number} */
+// Seconds, shares and what else is of the `day` are known once that has been counted; a share has the sign of what it means.
+/** @type {CellOf} */
 const textOf = ({head, text, seconds, share, severity, day}, line) => {
   const figure = seconds ?? share, is = share && severity?.(line);
   if ((figure || day) && !line.counted) return '…';
@@ -86,7 +86,7 @@ const textOf = ({head, text, seconds, share, severity, day}, line) => {
 };
 
 // What a file has in its place: there seconds are whole, and a share has four digits.
-/** @type {(column:Column, line:any) => string|number} */
+/** @type {CellOf} */
 const filed = (column, line) => {
   const {file, seconds, share} = column, parts = share ? 1e4 : 1, figure = seconds ?? share;
   const value = file ? file(line) : !figure ? textOf(column, line) : line.counted ? figure(line) : null;
@@ -102,7 +102,7 @@ const rows = (columns, lines) => [
   })))),
 ];
 
-// A table with a row for each line; main.js does what a button in it is pressed for. A column is told by its head and its classes, and more where it has more.
+// A table with a row for each line; main.js does what a button in it is pressed for. A column is told by its head and classes.
 /** @param {(Column|string)[]} told */
 export function table(id = '', told) {
   /** @type {any[]} */ let lines = [];

@@ -1,18 +1,9 @@
-// Follows a desk: a snapshot, then each second the events behind it; goes on by itself after a loss, and begins anew where another file is in its place.
-import * as net from './net.js';
-import {refusal, word} from './words.js';
+// Follows a desk: a snapshot, then each second the events behind it; goes on after a loss, and begins anew where another file is in its place.
+import {pause} from './net.js';
+import {ask} from './session.js';
 
-// RENEW: after so many milliseconds a snapshot is read anew, for what no event tells
+// milliseconds: a snapshot is RENEWed for what no event tells
 const EVERY = 1000, RENEW = 30000, FULL = 1000, SEVERAL = 6;
-
-// The server's clock less this one's, in milliseconds, is told on the way.
-/** @param {(offset:number) => void} [clock] */
-export async function ask(path = '', clock) {
-  const {status, date, received, text} = await net.ask(path).catch(({message}) => { throw new Error(word(`lost.${message}`)); });
-  if (date) clock?.(date + 500 - received);
-  if (status !== 200) throw Object.assign(new Error(refusal(status, text)), {status});
-  return JSON.parse(text);
-}
 
 export class Feed {
   last = 0;
@@ -39,7 +30,7 @@ export class Feed {
       if (!more) await this.wait(this.begun ? EVERY : 0);
     } catch ({status, message}) {
       this.owner.tell({kind: 'lost', status, why: message});
-      await this.wait(net.pause(this.losses++));
+      await this.wait(pause(this.losses++));
     }
   }
 
@@ -76,7 +67,7 @@ export class Feed {
       this.owner.take(events);
     }
     // of agents who logged on in several groups a read tells which
-    for (const agent of [...this.owner.unknown()]) try { this.owner.learn(await this.get(`/agents/${agent}`)); } catch (error) { if (error.status !== 404) throw error; }
+    for (const agent of [...this.owner.state().unknown]) try { this.owner.state().learn(await this.get(`/agents/${agent}`)); } catch (error) { if (error.status !== 404) throw error; }
     return last > this.last;
   }
 

@@ -3,10 +3,10 @@ import {Lead} from './act.js';
 import {save} from './csv.js';
 import {byId, drawStatus, make, put, set, withNumber} from './draw.js';
 import {Day} from './day.js';
-import {ask, Feed, has, history, lastBefore} from './feed.js';
+import {Feed, has, history, lastBefore} from './feed.js';
 import {fault, office} from './office.js';
 import {callLines, groupLines, totals} from './reckon.js';
-import {logIn, logOut, openSession} from './session.js';
+import {ask, logIn, logOut, openSession} from './session.js';
 import {dayBegin, FIELDS, FILTERS, greatestLimit, ownOf, searchOf, settings, settingsOf, valueOf} from './settings.js';
 import {soundWhere} from './sound.js';
 import {State} from './state.js';
@@ -72,8 +72,7 @@ const feed = new Feed({
     schedule();
   },
   clock(milliseconds) { offset = Math.abs(milliseconds - offset) > 2000 ? milliseconds : offset + (milliseconds - offset) / 8; },
-  unknown: () => state.unknown,
-  learn(agent) { state.learn(agent); },
+  state: () => state,
 });
 
 const newDay = (back = 0) => new Day(dayBegin(now(), back), group => settings[`limit.${group}`] ?? settings.limit, ownOf());
@@ -232,7 +231,7 @@ function change({target: one}) {
 }
 
 // what a button in a row or a tile asks for
-/** @type {Record<string, (key:string, line:CallLine|undefined, button:HTMLElement) => void>} */
+/** @type {Record<string, Pressed>} */
 const PRESSED = {
   agents: group => filter({group, find: ''}, 'agents'),
   calls: (_, __, {dataset}) => filter({group: '', find: dataset.call ?? ''}, 'calls'),

@@ -1,7 +1,7 @@
 // Requests that are given up where no answer comes. No document, so that a worker asks by it too.
 
 const PATIENCE = 10000, LONGEST = 5000;
-// an address may have a name and password in it, and what is asked for relative to that is refused
+// what is asked for relative to an address with a name and password in it is refused
 export const base = location.origin;
 
 export const sleep = (milliseconds = 0) => new Promise(done => setTimeout(done, milliseconds));
@@ -19,11 +19,11 @@ export async function ask(path = '', how, patience = PATIENCE, giving = new Abor
   } catch { throw new Error(giving.signal.aborted ? 'silent' : 'server'); } finally { clearTimeout(timer); }
 }
 
-// The desk's reply, or nothing where it says no more than that none came: the proxy's, or that memory or the store failed.
+// The desk's reply, or nothing where that says no more than none: the proxy's, or that memory or the store failed.
 export async function post(body = '') {
   const reply = await ask('/csta', {method: 'POST', body, headers: {'content-type': 'application/json'}}).catch(() => null);
   return reply && [429, 500, 502, 503, 504].includes(reply.status) ? null : reply;
 }
 
-// A requester that no other page has: with another's, a count from 1 would get kept replies and do nothing.
+// No other page has it: with another's, a count from 1 would get kept replies and do nothing.
 export const requesterOf = (login = '') => `${login}-${crypto.randomUUID().replaceAll('-', '').slice(-16)}`;

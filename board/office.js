@@ -4,8 +4,8 @@ import {ask} from './net.js';
 
 const PATIENCE = 3000, LONGEST = 80;
 
-/** @param {object} [said] @returns {Record<string, string>} */
-const texts = said => Object.fromEntries(Object.entries(said ?? {}).flatMap(([name, value]) => ['string', 'number'].includes(typeof value) ? [[name, String(value).slice(0, LONGEST)]] : []));
+/** @returns {Record<string, string>} */
+const texts = (said = {}) => Object.fromEntries(Object.entries(said ?? {}).flatMap(([name, value]) => ['string', 'number'].includes(typeof value) ? [[name, String(value).slice(0, LONGEST)]] : []));
 
 function isZone(zone = '') { try { return Boolean(new Intl.DateTimeFormat('en', {timeZone: zone})); } catch { return false; } }
 

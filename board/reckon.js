@@ -15,7 +15,7 @@ export const severity = (wait, {long = 0, bad = 0}) => wait === null ? 'none' : 
 function shares(sum, {goal, lost: most} = limitsOf()) {
   const reached = level(sum, settings.level === 'answered'), lost = abandonment(sum);
   // a share that misses its goal by so many percent, of which so many are bad
-  /** @type {(share:number|null, missed:number, far:number) => Severity} */
+  /** @type {Judge} */
   const judged = (share, missed, far) => share === null ? 'none' : missed <= 0 ? 'calm' : missed > far ? 'bad' : 'long';
   return {level: reached, levelSeverity: judged(reached, goal - 100 * (reached ?? 0), FAR), lost, lostSeverity: judged(lost, 100 * (lost ?? 0) - most, most)};
 }
@@ -34,7 +34,7 @@ export function groupLines({state, day, now}) {
     }
   }
   return groups.map(({id, name, priority, waiting, ringing}) => {
-    const queued = waiting.size ? [...waiting].reduce((least, call) => Math.min(least, call.queued), Infinity) : null, wait = queued === null ? null : Math.max(0, now - queued);
+    const queued = Math.min(...[...waiting].map(call => call.queued)), wait = waiting.size ? Math.max(0, now - queued) : null;
     const limits = limitsOf(id), {sum} = day.line(id), {counts, next} = staff.get(id) ?? {counts: noCounts(), next: null};
     return {
       id, name: name || id, priority, waiting: waiting.size, ringing: ringing.size, queued, wait, severity: severity(wait, limits), limits,
@@ -78,8 +78,8 @@ export function callLines({state}) {
 }
 
 // What is looked for: the line whose number that is, the first of its texts, or else all that have it in their texts.
-/** @template T @param {T[]} lines @param {(line:T) => string[]} texts */
-export function search(lines, find = '', texts) {
+/** @type {Search} */
+export const search = (lines, find, texts) => {
   const text = find.trim().toLowerCase(), exact = text ? lines.filter(line => texts(line)[0] === text) : lines;
   return exact.length ? exact : lines.filter(line => texts(line).join(' ').toLowerCase().includes(text));
-}
+};

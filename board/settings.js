@@ -1,7 +1,7 @@
 // The settings of a board stand in its address, so that a board is a bookmark; what isn't there is as the office says, or as here.
 import {office} from './office.js';
 
-const USUAL = {
+export const USUAL = {
   // OPERATING.md has what each says; these may be a group's own: `long.100`
   limit: 20, goal: 80, lost: 5, long: 60, bad: 120,
   // from how many seconds on it is long that an agent does this
@@ -10,9 +10,8 @@ const USUAL = {
   // filters
   group: '', find: '', states: '', sort: '', beside: '',
 };
-/** @typedef {typeof USUAL & {[ofGroup:`${string}.${string}`]: number}} Settings */
 
-// what a form has: each setting, and its kind or unit, or '' and the other choices
+// what a form has: each setting, its kind or unit, or '' and the other choices
 export const FIELDS = [
   ['title'], ['groups'], ['limit', 's'], ['goal', 'percent'], ['level', '', 'answered'], ['lost', 'percent'], ['long', 's'], ['bad', 's'], ['notReady', 's'], ['since', 'time'], ['lang', '', 'en', 'de'], ['theme', '', 'dark', 'light'], ['tone', 'checkbox'], ['notify', 'checkbox'],
 ];
@@ -30,7 +29,7 @@ export function valueOf(name = '', text = '') {
   return typeof usual === 'number' && number > 0 && number <= ({goal: 100, lost: 100}[plain] ?? 24 * HOUR) ? number : undefined;
 }
 
-/** @param {Iterable<[string, string]>} said @param {Settings} [before] what it goes before @returns {Settings} */
+/** @param {Iterable<[string, string]>} said @param {Settings} [before] @returns {Settings} */
 export function settingsOf(said, before) {
   const settings = /** @type {any} */ ({...USUAL, ...before});
   for (const [name, text] of said) {
@@ -44,7 +43,7 @@ export function settingsOf(said, before) {
 const usual = settingsOf(Object.entries(office.limits));
 export const settings = settingsOf(new URLSearchParams(location.search), usual);
 
-// What differs from the usual, as an address has it.
+// what differs from the usual
 export function searchOf() {
   const query = new URLSearchParams(Object.entries(settings).flatMap(([name, value]) => value === usual[/** @type {'limit'} */ (name)] ? [] : [[name, `${value}`]]));
   return `?${query}`.replaceAll('%2C', ',').replaceAll('%3A', ':').replace(/^\?$/, '');
@@ -70,7 +69,7 @@ const clock = new Intl.DateTimeFormat('sv', {timeZone: office.zone, dateStyle: '
 // What a clock of the office, or else of the browser, shows, as seconds since 1970 there.
 export const shown = (moment = 0) => Date.parse(`${clock.format(moment * 1000).replace(' ', 'T')}Z`) / 1000;
 
-// When the day's figures begin: the last time that it was as late as the setting says, so many days before; or at a moment since 1970.
+// When the day begins, so many days before: the last time that it was as late as the setting says; or a moment since 1970.
 export function dayBegin(now = 0, back = 0) {
   const [hour, minute] = settings.since.split(':').map(Number), whole = Math.floor(now);
   if (minute === undefined) return hour;

@@ -1,7 +1,7 @@
 // What the desk's switch holds: begun by a snapshot, or by nothing before the first event, and carried on by events.
 // No document, no network, so that node runs it as a browser does.
 
-// A snapshot ranks by stamps, of at most 1000000000. Less this they come before all numbers of events, which rank what follows.
+// A snapshot ranks by stamps, of at most 1000000000. Less this they come before the numbers of events, which rank what follows.
 const EARLIER = 2000000000;
 // a tick comes each ten seconds, so what is this many seconds overdue nobody ends
 export const GRACE = 25;
@@ -27,12 +27,12 @@ export const doingAt = ({state, since}, here) => {
 };
 
 // What a map has for a key, or gets.
-/** @template K, V @param {Map<K, V>} map @param {K} key @param {() => V & {}} made @returns {V} */
-export function kept(map, key, made) {
+/** @type {Keeps} */
+export const kept = (map, key, made) => {
   const had = map.get(key), one = had ?? made();
   if (had === undefined) map.set(key, one);
   return one;
-}
+};
 
 export class State {
   last = 0;
@@ -46,11 +46,11 @@ export class State {
   // who leave a call that is being cleared, with the rank that they get
   /** @type {Map<string, number>} */ leaving = new Map();
 
-  /** @param {Snapshot} [snapshot] @param {State} [before] what was known until now: since when connections are as they are, which no snapshot tells */
-  constructor(snapshot, before) { if (snapshot) this.begin(snapshot, before); }
-
-  /** @param {Snapshot} snapshot @param {State} [before] */
-  begin({last, moment, groups, stations, agents, calls}, before) {
+  // What was known before tells since when connections are as they are, which no snapshot does.
+  /** @param {Snapshot} [snapshot] @param {State} [before] */
+  constructor(snapshot, before) {
+    if (!snapshot) return;
+    const {last, moment, groups, stations, agents, calls} = snapshot;
     Object.assign(this, {last, moment});
     for (const {device, name, ring, wrap, priority = 0} of groups) Object.assign(this.group(device), {name, ring, wrap, priority});
     for (const {device, agent} of stations) this.station(device).agent = agent ?? null;
@@ -159,7 +159,7 @@ export class State {
   }
 
   // An answer of /agents/{id}.
-  /** @param {Served & {agent:string, device?:string}} text */
+  /** @param {AgentText} text */
   learn({agent: id, device, ...served}) {
     const agent = this.agent(id);
     this.unknown.delete(id);

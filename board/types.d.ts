@@ -9,7 +9,7 @@ export type Figures = {entered: number, answered: number, abandoned: number, mov
 export type Snapshot = {agents: AgentText[], calls: CallText[], groups: GroupText[], last: number, moment: number, stations: StationText[]};
 /** one group, or several */
 export type Served = {group?: string, groups?: string[]};
-type AgentText = Served & {agent: string, device?: string, name: string, pending?: string, since: number, stamp: number, state: AgentState};
+export type AgentText = Served & {agent: string, device?: string, name: string, pending?: string, since: number, stamp: number, state: AgentState};
 type ConnectionText = {device: string, group?: string, state: ConnectionState, offered?: number, place?: number, queued?: number};
 type CallText = {call: number, called: string, caller: string, connections: ConnectionText[], since: number};
 type GroupText = Figures & {device: string, kind: 'group', name: string, priority?: number, ring: number, wrap: number};
@@ -54,7 +54,7 @@ export type Severity = 'none' | 'calm' | 'long' | 'bad';
 export type Limits = {limit: number, goal: number, lost: number, long: number, bad: number};
 export type Share = {level: number | null, levelSeverity: Severity, lost: number | null, lostSeverity: Severity};
 /** wait: of the call that waits longest, since `queued`; next: the agent who gets the next call; level: the share answered in time; lost: the share that gave up */
-export type GroupLine = Sums & Share & {id: string, name: string, priority: number, waiting: number, ringing: number, queued: number | null, wait: number | null, severity: Severity,
+export type GroupLine = Sums & Share & {id: string, name: string, priority: number, waiting: number, ringing: number, queued: number, wait: number | null, severity: Severity,
   counts: Record<Doing, number>, loggedOn: number, next: Agent | null, limits: Limits};
 /** since: where the figures tell it, or 0 */
 export type Alarm = {key: string, kind: string, since: number, words: string, detail: string | false};
@@ -76,7 +76,7 @@ export type Series = {name: string, look: string, value: Figure, isLine?: boolea
 
 export type Course = {kind: 'begins' | 'live' | 'anew'} | {kind: 'lost', why: string, status?: number};
 export type Follower = {tell: (course: Course) => void, begin: (snapshot: Snapshot) => void, take: (events: Report[]) => void,
-  unknown: () => Iterable<string>, learn: (agent: any) => void, clock: (offset: number) => void};
+  state: () => import('./state.js').State, clock: (offset: number) => void};
 
 // what a page is made of
 
@@ -85,13 +85,36 @@ export type Attributes = Record<string, string | number | boolean | undefined | 
 export type Made = {tag: string, attributes: Attributes, parts: Part[]};
 /** what is in an element; of an element as it is, a symbol */
 export type Part = Made | string | number | boolean | undefined | symbol;
-/** an element, or its id */
-export type Place = any;
+/** of an element, or its id */
+export type Sets = (place: any, attributes: Attributes) => void;
+export type Puts = (place: any, ...parts: Part[]) => void;
+
+/** of an event */
+export type Sentence = {moment: number, number: string, words: string};
+
+// functions
+
+export type Concerns = (state: import('./state.js').State, report: any, own: (group: string) => boolean) => boolean | undefined;
+export type Signed = (area: string, signs: Record<string, string>) => Record<string, {sign: string, words: string}>;
+
+/** what a map has for a key, or gets */
+export type Keeps = <K, V>(map: Map<K, V>, key: K, made: () => V & {}) => V;
+export type Search = <T>(lines: T[], find: string, texts: (line: T) => string[]) => T[];
+/** of a share that misses its goal by so many percent, of which so many are bad */
+export type Judge = (share: number | null, missed: number, far: number) => Severity;
+export type CellOf = (column: Column, line: any) => string | number;
+export type Tile = (head: string, value: string | number, note?: string | false, severity?: string, about?: string, formula?: string) => Part;
+/** a figure as bars, or as a line, by a factor */
+export type Charted = (head: string, look: string, value: Figure, isLine?: boolean, by?: number) => Series;
+/** by the key of its row, and the call in it */
+export type Pressed = (key: string, line: CallLine | undefined, button: HTMLElement) => void;
+/** leave: what the button does; late: that nobody answers yet, and why */
+export type OpenSession = (leave: () => void, late?: (why: string) => void) => Promise<Who>;
 
 // what a view draws
 /** what all is reckoned from */
 export type Looked = {state: import('./state.js').State, day: import('./day.js').Day, now: number};
 /** counted: whether the day's events have been read; all: the own groups together; lines: one for each; past: another day, so many days before; learn: reads who calls; empty: says why nothing is shown; filter: sets filters, and shows a view; redraw: draws all anew */
-export type Drawn = Looked & {settings: import('./settings.js').Settings, counted: boolean, recent: Report[], lines: GroupLine[],
+export type Drawn = Looked & {settings: Settings, counted: boolean, recent: Report[], lines: GroupLine[],
   all: ReturnType<typeof import('./reckon.js').totals>, past: (back: number) => import('./day.js').Day | undefined, learn: (calls: number[]) => void, empty: (text: string) => void, lead: import('./act.js').Lead,
   filter: (wanted: Record<string, string>, view?: string) => void, redraw: () => void};

@@ -400,7 +400,9 @@ function keyed(text = '') {
 /** @returns {[string, string][]} */
 const flat = (said = {}, area = '') => Object.entries(said).flatMap(([name, one]) => typeof one === 'string' ? [[area + name, one]] : flat(one, `${area}${name}.`));
 
-const asked = new URLSearchParams(location.search).get('lang') ?? '';
+// what stands in the page's address
+export const query = new URLSearchParams(location.search);
+const asked = query.get('lang') ?? '';
 export let language = /^[a-z]{2,3}$/.test(asked) ? asked : office.language ?? 'en';
 let own = ENGLISH;
 if (language !== 'en') try { own = Object.fromEntries(flat((await import(`./words/${language}.js`)).default)); } catch { language = 'en'; }
@@ -422,9 +424,9 @@ export function word(key = '', values = {}) {
 
 export const isWord = (key = '') => saidIn(ENGLISH, key) !== undefined;
 
-// Unicode's isolates: what is between them has a direction of its own
+// Unicode's isolates
 export const [OPENS, CLOSES] = ['\u2068', '\u2069'];
-// A name of the desk or the office, isolated, so that one from right to left moves nothing beside it. put() makes it <bdi>; attributes and options keep the signs.
+// A name, isolated, so that one from right to left moves nothing beside it. put() makes it <bdi>; attributes and options keep the signs.
 export const named = (text = '') => OPENS + text.replace(/[\u202a-\u202e\u2066-\u2069]/g, '') + CLOSES;
 export const plain = (text = '') => text.replaceAll(OPENS, '').replaceAll(CLOSES, '');
 
@@ -458,8 +460,8 @@ export const dayOf = (moment = 0) => days.format(moment * 1000);
 // as `CET`
 export const zoneOf = (moment = 0) => zones.formatToParts(moment * 1000).find(part => part.type === 'timeZoneName')?.value ?? '';
 
-/** @param {Record<string, string>} signs @returns {Record<string, {sign:string, words:string}>} */
-const signed = (area = '', signs) => Object.fromEntries(Object.entries(signs).map(([name, sign]) => [name, {sign, words: word(`${area}.${name}`)}]));
+/** @type {Signed} */
+const signed = (area, signs) => Object.fromEntries(Object.entries(signs).map(([name, sign]) => [name, {sign, words: word(`${area}.${name}`)}]));
 // what an agent does, and what a call does at a device
 export const DOING = signed('doing', {ready: '●', ringing: '◆', busy: '▶', hold: '‖', own: '▷', workingAfterCall: '✎', notReady: '■', null: '○'});
 export const CONNECTION = signed('connection', {queued: '●', alerting: '◆', hold: '‖', fail: '×', connected: '▶', initiated: '○', none: '○'});

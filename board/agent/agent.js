@@ -3,16 +3,16 @@ import {byId, drawStatus, make, put, set, table, withNumber} from '../draw.js';
 import {office} from '../office.js';
 import {logIn, logOut, openSession} from '../session.js';
 import {isHeard, soundWhere, tone} from '../sound.js';
-import {clock, DOING, named, plain, refusal, timeOfDay, translate, word} from '../words.js';
+import {clock, DOING, named, plain, query, refusal, timeOfDay, translate, word} from '../words.js';
 import {beat, drawCalls, joined, ring, say} from './calls.js';
 import * as logOn from './log-on.js';
 import {doing, isFree, isOverdue, meant, placesOf, sideOf, STATES, states, wrapLeft} from './mine.js';
 import {Requests} from './requests.js';
 
-// milliseconds: until what is seen is late, what was done goes, what was refused goes, a click is no second one
+// milliseconds: until what is seen is late, what was done or refused goes, a click is no second one
 const OLD = 6000, FLEETING = 5000, REFUSED = 30000, SECOND = 400;
 
-let id = new URLSearchParams(location.search).get('agent') ?? '', acts = false, leaves = false, begun = false;
+let id = query.get('agent') ?? '', acts = false, leaves = false, begun = false;
 /** @type {Who} */ let who = {};
 /** @type {Mine|null} */ let mine = null;
 /** @type {Lost|null} */ let lost = null;
@@ -79,7 +79,7 @@ function act(service, call, field) {
   choose(field, what, true, place => send(service, {call, device, to: place.to}, say('moved', {what, who, to: placeName(place)}), key));
 }
 
-// Takes the place that was typed; asks where it isn't one alone, and, if it is to, where nobody is logged on.
+// Takes the place that was typed; asks where it isn't one alone, or where nobody is logged on.
 /** @type {Choose} */
 const choose = (field, what, asks, take) => {
   const found = meant(field.value, places, mine?.agent.device), one = found?.length === 1 && found[0], isEmpty = asks && one && one.isEmpty, typed = field.value.trim();
@@ -151,7 +151,7 @@ function draw() {
   ring(offer);
   document.title = offer ? `◆ ${offer.title}` : `${isLiving ? sign : '▲'} ${agent.name ?? id}`;
   drawCalls({mine, now: moment, acts: acts && isLiving, off: requests.out, who: callerName, group: groupName, act});
-  queues.draw(groups.map(group => ({...group, key: group.device, moment})));
+  queues.draw(groups.map(group => ({...group, key: group.device, wait: group.calls.length ? moment - Math.min(...group.calls.map(({queued = moment}) => queued)) : null})));
   drawDay(mine, moment);
   tellOf(mine, moment);
   if (leaves && isLiving && !isOn) end();
@@ -169,7 +169,7 @@ const offerOf = (mine, moment) => {
 const queues = table('queues', [
   {head: 'group words', text: ({device}) => `${groupName(device)} (${device})`},
   {head: 'waiting', text: ({calls}) => calls.length},
-  {head: 'longest', text: ({calls, moment}) => calls.length ? clock(moment - Math.min(.../** @type {OwnQueue['calls']} */ (calls).map(({queued = moment}) => queued))) : '–'},
+  {head: 'longest', text: ({wait}) => clock(wait)},
   {head: 'ready', text: ({ready, loggedOn}) => say('of', {n: ready, all: loggedOn})},
 ]);
 const lastCalls = table('day', [
@@ -241,7 +241,7 @@ function leave() {
   draw();
 }
 
-// Whose page it is, the address says, or the gate. A login that is no agent's only looks at another's.
+// A login that is no agent's only looks at another's.
 async function begin() {
   translate();
   listen();

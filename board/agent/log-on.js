@@ -2,14 +2,14 @@
 import {byId, make, put, set, withNumber} from '../draw.js';
 import {office} from '../office.js';
 import {order} from '../state.js';
-import {named} from '../words.js';
+import {named, query} from '../words.js';
 import {say} from './calls.js';
 
-const MOST_GROUPS = 8, form = byId('log-on'), query = new URLSearchParams(location.search);
+const MOST_GROUPS = 8, form = byId('log-on');
 /** @type {Map<string, string>} */ let groups = new Map();
 let free = [''], isFilled = false, place = '';
 
-/** @returns {{device:string, groups:string[]}|null} */
+/** @returns {LastLogOn|null} */
 function last() { try { return JSON.parse(localStorage[place]); } catch { return null; } }
 
 /** @param {LogOn} logOn @param {(fault:string) => void} refuse */

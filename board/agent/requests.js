@@ -1,5 +1,5 @@
-// Sends requests one after the other. One that isn't answered is kept in the browser and sent again, the same bytes, so that it acts once: for a minute, in
-// the same log-on. Behind that it is asked about, since nobody may want any more what was clicked then.
+// Sends requests one after the other. One without an answer is kept in the browser and sent again, the same bytes, so that it acts once: for a minute, in the same log-on.
+// Behind that it is asked about, since nobody may want it any more.
 import {pause, post, requesterOf, sleep} from '../net.js';
 import {refusal, word} from '../words.js';
 
@@ -11,7 +11,7 @@ const SECOND = ['wrongConnectionState', 'unknownConnection', 'unknownCall', 'wro
 export class Requests {
   invoke = 0;
   turn = Promise.resolve();
-  // what was clicked and has no answer, and when what was clicked was granted
+  // what has no answer, and when what was clicked was granted
   /** @type {Set<string>} */ out = new Set();
   /** @type {Map<string, number>} */ granted = new Map();
 

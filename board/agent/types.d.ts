@@ -49,6 +49,7 @@ declare global {
   type Notice = (key: string, words: string, buttons?: Button[], more?: Part) => void;
   type Act = (service: string, call: number, to: HTMLInputElement) => void;
   type Choose = (field: HTMLInputElement, what: string, asks: boolean, take: (place: Goal) => void) => void;
+  type LastLogOn = {device: string, groups: string[]};
   type LogOn = (device: string, groups: string[]) => void;
   type Keep = (place: string, one: Kept) => void;
   type Offer = {key: string, title: string, words: string};

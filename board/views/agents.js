@@ -45,7 +45,6 @@ export function draw(drawn) {
 
 /** @param {Drawn} drawn */
 const people = drawn => ownAgents(drawn).map(agent => ({id: agent.id, name: agent.name, ...drawn.state.doing(agent)}));
-/** @typedef {ReturnType<typeof people>[0]} Shown */
 
 /** @param {Drawn} drawn */
 const drawDays = (drawn, shown = people(drawn)) => days.draw(shown.map(one => ({...one, ...drawn.day.agent(one.id, drawn.now), counted: drawn.counted, key: one.id})));
@@ -68,14 +67,14 @@ function arranged(shown, sort = '') {
 /** @param {Drawn} drawn @param {Shown} shown */
 function tile({state, now, settings, lead}, {id, doing, group, since}) {
   if (!seen.has(id)) return make('li', {'data-key': id}, AS_IT_IS);
-  const groupName = (id = '') => named(state.nameOf(id)), {name, station, groups, pending, ...agent} = state.agent(id), who = named(name || word('agents.one', {id})), {sign, words} = DOING[doing];
+  const groupName = (id = '') => named(state.nameOf(id)), agent = state.agent(id), {name, station, groups, pending} = agent, who = named(name || word('agents.one', {id})), {sign, words} = DOING[doing];
   const isOff = doing === 'null', isLong = !isOff && doing !== 'ready' && now - since > settings[doing], calls = [...state.stations.get(station ?? '')?.calls ?? []].map(String);
   const place = station ? [word('agents.at', {id, station}), ...groups.map(id => groupName(id))] : [id];
   return make('li', {'data-key': id, 'data-doing': doing, 'data-long': isLong}, make('strong', who), make('span.sign', {'aria-hidden': 'true'}, sign),
     make('span.words', words + (group && groups.length > 1 ? `: ${groupName(group)}` : '')), make('time', !isOff && `${isLong ? '! ' : ''}${clock(now - since)}`),
     make('small', place.join(', ') + (pending ? `; ${word(`pending.${pending}`)}` : '')),
     make('span.calls', ...calls.map(call => make('button.link', {'data-press': 'calls', 'data-call': call}, word('agents.call', {call})))),
-    make('button', {'data-press': 'state', hidden: !lead.leads({...agent, groups}), 'aria-label': word('act.agent', {who})}, '⋯'));
+    make('button', {'data-press': 'state', hidden: !lead.leads(agent), 'aria-label': word('act.agent', {who})}, '⋯'));
 }
 
 /** @param {Drawn} drawn */

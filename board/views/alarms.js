@@ -34,7 +34,7 @@ function alarms({state, lines, counted, now}, serverClock = 0) {
   for (const {id, name, limits: {goal, lost: most, bad}, waiting, loggedOn, severity, queued, level, levelSeverity, lost, lostSeverity, answered, late, abandoned} of lines) {
     const group = named(name);
     if (waiting && !loggedOn) add('nobody', id, {group, n: waiting});
-    if (severity === 'bad') add('wait', id, {group}, (queued ?? 0) + bad);
+    if (severity === 'bad') add('wait', id, {group}, queued + bad);
     if (counted && levelSeverity === 'bad' && answered + late >= LEAST) add('level', id, {group, share: percent(level), goal: percent(goal / 100)});
     if (counted && lostSeverity === 'bad' && answered + abandoned >= LEAST) add('lost', id, {group, share: percent(lost), goal: percent(most / 100)});
   }

@@ -3,7 +3,7 @@ import {put, set, table} from '../draw.js';
 import {office} from '../office.js';
 import {callLines, search, severity} from '../reckon.js';
 import {limitsOf} from '../settings.js';
-import {clock, CONNECTION, named, SIGN, word} from '../words.js';
+import {CONNECTION, named, SIGN, word} from '../words.js';
 
 const PAGE = 100;
 let most = PAGE;
@@ -11,11 +11,11 @@ let most = PAGE;
 const calls = table('calls-table', [
   {head: 'call words', text: line => line.key, file: line => line.number},
   {head: 'state state', text: ({state, severity}) => `${SIGN[severity] ?? CONNECTION[state].sign} ${CONNECTION[state].words}`},
-  {head: 'for', text: line => clock(line.age), file: line => Math.floor(line.age)},
+  {head: 'for', seconds: line => line.age},
   {head: 'group name', text: line => line.groupName && named(line.groupName)},
   {head: 'at name', press: 'agent', text: line => line.at && named(line.at), file: line => line.at},
   'caller words',
-  {head: 'whole wide', text: line => clock(line.whole), file: line => Math.floor(line.whole)},
+  {head: 'whole wide', seconds: line => line.whole},
   {head: 'act words', press: 'call'},
 ]);
 
@@ -29,7 +29,7 @@ export function draw(drawn) {
   const shown = found.slice(0, most);
   learn(shown.filter(line => !line.caller).map(line => line.number));
   calls.draw(shown.map(line => ({
-    ...line, severity: line.waits ? severity(now - line.since, limitsOf(line.group ?? '')) : '', age: now - line.since, whole: now - line.begun,
+    ...line, counted: true, severity: line.waits ? severity(now - line.since, limitsOf(line.group ?? '')) : '', age: now - line.since, whole: now - line.begun,
     act: lead.may(line) && word(line.waits ? 'act.move' : 'act.end'),
   })));
   set('calls-table', {'data-acts': lead.acts()});

@@ -48,7 +48,7 @@ export function draw({day, counted, settings, now, past, lines}, anew = false) {
 
 /** @param {Quarter[]} steps @param {string|undefined} then @param {Settings} settings */
 function charts(steps, then, settings) {
-  /** @type {(head:string, look:string, value:Figure, isLine?:boolean, by?:number) => Series} */
+  /** @type {Charted} */
   const bar = (head, look, value, isLine = false, by = 1) => ({name: word(`head.${head}`), look, isLine, value: step => { const found = value(step); return found && by * found; }});
   const line = (head = '', look = '', value = inTime, by = 1) => bar(head, look, value, true, by);
   /** @type {(one:Series) => Series[]} */
@@ -62,7 +62,7 @@ function charts(steps, then, settings) {
 }
 
 // A chart of bars that stand on each other, and of lines.
-/** @param {Quarter[]} steps @param {Series[]} series @param {number} [top] of the scale; else as the values are @param {number} [goal] */
+/** @param {Quarter[]} steps @param {Series[]} series @param {number} [top] @param {number} [goal] */
 function chart(title = '', steps, series, top, goal) {
   const room = byId('charts').clientWidth || 900, width = room > 1100 ? (room - 24) / 2 : room, each = (width - LEFT - 8) / steps.length, x = (place = 0) => LEFT + place * each;
   const bars = series.filter(one => !one.isLine), values = steps.flatMap(step => [bars.reduce((sum, one) => sum + (one.value(step) ?? 0), 0), ...series.map(one => one.value(step) ?? 0)]);

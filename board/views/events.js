@@ -6,7 +6,7 @@ import {office} from '../office.js';
 
 const MOST = 200;
 let last = 0, names = 0;
-/** @type {{moment:number, number:string, words:string}[]} */ let told = [];
+/** @type {Sentence[]} */ let told = [];
 // calls of the groups that are looked at, whose end names none
 /** @type {Set<number>} */ const calls = new Set();
 
@@ -30,14 +30,14 @@ export function draw({state, recent, settings: {group, groups}}, anew = false) {
 }
 
 // Whether an event is of one of these groups: of a call that was in one, or of an agent who serves one.
-/** @param {State} state @param {any} report @param {(group:string) => boolean} own */
-function concerns(state, {event, call, agent, group = '', device = '', to = ''}, own) {
+/** @type {Concerns} */
+const concerns = (state, {event, call, agent, group = '', device = '', to = ''}, own) => {
   const serves = (/** @type {Agent|undefined} */ agent) => agent?.groups.some(own);
   if (agent) return own(group) || serves(state.agents.get(agent));
   const found = calls.has(call) || [group, device, to].some(place => (state.groups.has(place) && own(place)) || serves(state.agentAt(place)));
   calls[found && event !== 'callCleared' ? 'add' : 'delete'](call);
   return found;
-}
+};
 
 // What an event says; nothing for those that only go along with another.
 /** @param {State} state @param {any} report */

@@ -95,12 +95,12 @@ export const within = settings => Object.keys(settings).some(name => name.starts
 /** @param {Drawn} drawn */
 export function drawTotals({all, settings, counted}) {
   const {counts, lost, levelSeverity, lostSeverity} = all, none = all.waiting && !counts.ready, values = {limit: within(settings)}, level = settings.level || 'all';
-  /** @type {(head:string, value:string|number, note?:string|false, severity?:string, about?:string, formula?:string) => Part} */
+  /** @type {Tile} */
   const tile = (head, value, note = '', severity = 'none', about = '', formula = '') => make('div', {'data-severity': severity, title: about && word(about, values)},
     make('dt', word(head, values)), make('dd', make('b', value), make('small', note), make('small.formula', formula && word(formula, values))));
-  /** @type {typeof tile} */
+  /** @type {Tile} */
   const day = (head, value, note, severity, ...more) => tile(head, counted ? value : '…', note, counted ? severity : 'none', ...more);
-  const judged = (/** @type {Severity} */ severity, goal = 0, share = '') => counted && (severity === 'none' ? '' : `${SIGN[severity]} `) + share + word('tile.goal', {goal: percent(goal / 100)});
+  const judged = (severity = '', goal = 0, share = '') => counted && (severity === 'none' ? '' : `${SIGN[severity]} `) + share + word('tile.goal', {goal: percent(goal / 100)});
   put('tiles',
     tile('head.waiting', all.waiting, all.ringing > 0 && word('tile.ringing', {n: all.ringing})),
     tile('head.longestWait', clock(all.wait), all.wait !== null && waits(all), all.severity),

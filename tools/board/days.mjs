@@ -48,7 +48,8 @@ export async function zones(see, browser, desk, front) {
       see(`${back} days before, in ${zone}`, String(shown[place]?.slice(1, 4)) === String(figures(of).slice(0, 3)) && of.entered > 50, `${shown[place]} and not ${figures(of)}`);
     }
     const clock = await browser.text('#clock'), told = new Intl.DateTimeFormat('en-GB', {timeZone: zone, timeZoneName: 'short', hour: '2-digit', minute: '2-digit'}).formatToParts();
-    see(`the clock of ${zone} names it`, clock.endsWith(told.find(part => part.type === 'timeZoneName').value), clock);
+    // one program's UTC is another's GMT
+    see(`the clock of ${zone} names it`, clock.replace(/GMT$/, 'UTC').endsWith(told.find(part => part.type === 'timeZoneName').value.replace(/^GMT$/, 'UTC')), clock);
   }
   await browser.command('Emulation.setTimezoneOverride', {timezoneId: ''});
   await onPhone(see, browser, desk, front, file);

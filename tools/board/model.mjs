@@ -44,9 +44,9 @@ const NONE = {entered: 0, answered: 0, abandoned: 0, moved: 0, waited: 0};
 
 /** The page's state, and beside it the figures of groups: the page shows those of the day, and a snapshot has to lead on to them all the same. */
 const counting = State => class extends State {
-  begin(snapshot, before) {
-    super.begin(snapshot, before);
-    for (const {device, entered, answered, abandoned, moved, waited} of snapshot.groups) this.group(device).figures = {entered, answered, abandoned, moved, waited};
+  constructor(snapshot, before) {
+    super(snapshot, before);
+    for (const {device, entered, answered, abandoned, moved, waited} of snapshot?.groups ?? []) this.group(device).figures = {entered, answered, abandoned, moved, waited};
   }
 
   changeCall(report) {
