@@ -57,7 +57,7 @@ export type Share = {level: number | null, levelSeverity: Severity, lost: number
 export type GroupLine = Sums & Share & {id: string, name: string, priority: number, waiting: number, ringing: number, queued: number, wait: number | null, severity: Severity,
   counts: Record<Doing, number>, loggedOn: number, next: Agent | null, limits: Limits};
 /** since: where the figures tell it, or 0 */
-export type Alarm = {key: string, kind: string, since: number, words: string, detail: string | false};
+export type Alarm = {key: string, kind: string, since: number, what: string, values: Values};
 /** since: when it began, as far as is known; last: when it was there for the last time, in milliseconds; seen: whether somebody said so in this browser */
 export type Known = {since: number, last: number, seen: boolean};
 /** what a word has values for */

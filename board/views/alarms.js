@@ -27,8 +27,7 @@ function alarms({state, lines, counted, now}, serverClock = 0) {
   const ahead = state.moment - serverClock, over = ahead > APART ? undefined : overdue(state, now);
   /** @type {Alarm[]} */ const found = [];
   /** @param {Values} values */
-  const add = (kind = '', id = '', values, since = 0, what = kind) => found.push({
-    kind, key: id ? `${kind}.${id}` : kind, since, words: word(`alarm.${what}`, values), detail: isWord(`detail.${what}`) && word(`detail.${what}`, values)});
+  const add = (kind = '', id = '', values, since = 0, what = kind) => found.push({kind, key: id ? `${kind}.${id}` : kind, since, what, values});
   if (ahead > APART) add('clock', '', {clock: clock(ahead)});
   if (over) add('ticks', '', over, over.since, over.what);
   for (const {id, name, limits: {goal, lost: most, bad}, waiting, loggedOn, severity, queued, level, levelSeverity, lost, lostSeverity, answered, late, abandoned} of lines) {
@@ -48,7 +47,12 @@ let sounded = 0, kept = 0, all = false;
 // when was looked for the last time: a page that sleeps, or whose desk is gone, doesn't know that an alarm is over
 let looked = Date.now();
 
-// Says how many nobody has seen. What has no room is for paper.
+const paper = matchMedia('print');
+
+/** @param {Alarm} alarm */
+const wordsOf = ({what, values}, part = 'alarm') => isWord(`${part}.${what}`) ? word(`${part}.${what}`, values) : '';
+
+// Says how many nobody has seen. What has no room on the screen is printed.
 /** @param {Drawn} drawn */
 export function draw(drawn, serverClock = 0, onWall = false) {
   const {settings, now, redraw} = drawn, found = alarms(drawn, serverClock), moment = Date.now(), fresh = found.filter(alarm => isFresh(alarm, now, moment)), few = onWall || innerWidth < NARROW ? 1 : 2, unseen = found.filter(({key}) => !known[key].seen);
@@ -57,9 +61,10 @@ export function draw(drawn, serverClock = 0, onWall = false) {
   if (fresh.length || moment - kept > KEPT_EVERY) try { kept = moment; localStorage[PLACE] = JSON.stringify(known); } catch { /* it is known until the page is left */ }
   const see = (/** @type {Known[]} */ those) => () => { for (const one of those) one.seen = true; kept = 0; redraw(); };
   const sorted = [...found].sort((one, other) => Number(known[one.key].seen) - Number(known[other.key].seen) || KINDS.indexOf(one.kind) - KINDS.indexOf(other.kind));
-  put('alarm', ...sorted.map(({key, words, detail}, place) => {
-    const {since, seen} = known[key];
-    return make('li', {'data-key': key, 'data-seen': seen, hidden: !all && place >= few}, make('b', `${seen ? '□' : '■'} ${words}`), make('span.detail', detail),
+  paper.onchange = redraw;
+  put('alarm', ...sorted.slice(0, all || paper.matches ? Infinity : few).map(alarm => {
+    const {key} = alarm, {since, seen} = known[key], words = wordsOf(alarm);
+    return make('li', {'data-key': key, 'data-seen': seen}, make('b', `${seen ? '□' : '■'} ${words}`), make('span.detail', wordsOf(alarm, 'detail')),
       make('span.since', word('alarms.since', {time: timeOfDay(since, true), clock: clock(now - since)})),
       make('button', {hidden: seen, 'aria-label': `${word('alarms.seen')}: ${plain(words)}`, onclick: see([known[key]])}, word('alarms.seen')));
   }));
@@ -69,8 +74,8 @@ export function draw(drawn, serverClock = 0, onWall = false) {
   set('alarms-mute', {hidden: !settings.tone || isHeard()});
   set('alarms', {hidden: !found.length});
   if (fresh.length) {
-    put('alarm-told', fresh.map(({words}) => words).join('. '));
-    if (settings.notify) for (const {key, words} of fresh) notify(byId('title').textContent, {body: plain(words), tag: key});
+    put('alarm-told', fresh.map(alarm => wordsOf(alarm)).join('. '));
+    if (settings.notify) for (const alarm of fresh) notify(byId('title').textContent, {body: plain(wordsOf(alarm)), tag: alarm.key});
   }
   if (settings.tone && unseen.length && (fresh.length || moment - sounded > AGAIN)) {
     sounded = moment;

@@ -33,7 +33,7 @@ export async function alarms(see, browser, desk, address) {
   const {identifier} = await browser.command('Page.addScriptToEvaluateOnNewDocument', {source: NOTICED});
   await browser.open(`${address}?since=0&tone=1&notify=1#queues`);
   await live(browser);
-  await until(() => browser.run('return document.querySelectorAll("#alarm li").length === 5'), 10);
+  await until(async () => (await browser.run('return document.title')).startsWith('■ 5 alarms'), 10);
   await onPaper(see, browser);
   await browser.click('#alarms-rest');
   await sleep(300);
@@ -54,6 +54,7 @@ export async function alarms(see, browser, desk, address) {
 async function onPaper(see, browser) {
   const shown = () => browser.run('return [...document.querySelectorAll("#alarm li")].filter(one => one.checkVisibility()).length'), onScreen = await shown();
   await browser.command('Emulation.setEmulatedMedia', {media: 'print'});
+  await until(async () => await shown() === 5, 3);
   const printed = await shown();
   await browser.command('Emulation.setEmulatedMedia', {media: ''});
   see('all alarms are printed, of which the screen has two', onScreen === 2 && printed === 5, `${onScreen} ${printed}`);
