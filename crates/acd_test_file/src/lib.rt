@@ -9,3 +9,5 @@ mod comparing;
 mod program;
 #[cfg(test)]
 mod sqlbook;
+#[cfg(test)]
+mod texts;

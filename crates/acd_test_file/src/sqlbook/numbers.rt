@@ -6,6 +6,7 @@ use super::adopted::old_tables;
 use super::further::served;
 use super::several::expect_exported;
 use super::{book_in, changed, empty};
+use crate::texts::part_of;
 use acd_book::Book;
 use acd_desk::Desk;
 use acd_terms::{AgentId, DeviceId};
@@ -13,17 +14,15 @@ use sqlite::{Connection, MemStore};
 use std::alloc::Global;
 use std::process::Abort;
 
-// What version 2 has besides the tables of version 1, by its own texts.
-fn new_tables() -> &'static str {
-    "CREATE TABLE agent_groups (agent INTEGER NOT NULL REFERENCES agents, grp INTEGER NOT NULL REFERENCES acd_groups, PRIMARY KEY (agent, grp)) STRICT;
+// Tables and rows, what is told of them, and three sessions.
+fn parts() -> &'static [u8] {
+    br#"new_tables: What version 2 has besides the tables of version 1, by its own texts.
+CREATE TABLE agent_groups (agent INTEGER NOT NULL REFERENCES agents, grp INTEGER NOT NULL REFERENCES acd_groups, PRIMARY KEY (agent, grp)) STRICT;
 CREATE TABLE group_priority (device INTEGER NOT NULL PRIMARY KEY REFERENCES acd_groups, priority INTEGER NOT NULL CHECK (priority BETWEEN 1 AND 9)) STRICT;
-UPDATE meta SET version = 2, last_stamp = 40, last_moment = 60, last_call = 7, last_monitor = 1, last_event = 29"
-}
+UPDATE meta SET version = 2, last_stamp = 40, last_moment = 60, last_call = 7, last_monitor = 1, last_event = 29
 
-// An agent in each state, and one with each state pending; connections in each state, with a call that waits, one that rings,
-// two that are answered and one on hold, one that is initiated and one that has failed.
-fn rows() -> &'static str {
-    "INSERT INTO acd_groups VALUES (1100, 'Billing', 20, 30, 10, 3, 2, 3, 45);
+rows: An agent in each state, and one with each state pending; connections in each state, with a call that waits, one that rings, two that are answered and one on hold, one that is initiated and one that has failed.
+INSERT INTO acd_groups VALUES (1100, 'Billing', 20, 30, 10, 3, 2, 3, 45);
 INSERT INTO acd_groups VALUES (10110, 'Claims', 25, 45, 0, 0, 0, 0, 0);
 INSERT INTO group_priority VALUES (10110, 7);
 INSERT INTO stations VALUES (1201);
@@ -64,12 +63,10 @@ INSERT INTO connections VALUES (5, 1208, 3, 1100, NULL, NULL, NULL);
 INSERT INTO connections VALUES (6, 1201, 1, NULL, NULL, NULL, NULL);
 INSERT INTO connections VALUES (7, 10307, 3, NULL, NULL, NULL, NULL);
 INSERT INTO connections VALUES (7, 1204, 6, NULL, NULL, NULL, NULL);
-INSERT INTO monitors VALUES (1, 1204, 5)"
-}
+INSERT INTO monitors VALUES (1, 1204, 5)
 
-// An event of each kind, with each cause that the kind has, and with and without a group where it may have one; and two kept replies.
-fn history() -> &'static str {
-    r#"INSERT INTO events VALUES (1, 20, 1, 1201, 6, NULL, NULL, NULL, NULL, NULL);
+history: An event of each kind, with each cause that the kind has, and with and without a group where it may have one; and two kept replies.
+INSERT INTO events VALUES (1, 20, 1, 1201, 6, NULL, NULL, NULL, NULL, NULL);
 INSERT INTO events VALUES (2, 20, 2, 1201, 6, NULL, NULL, 1202, NULL, NULL);
 INSERT INTO events VALUES (3, 20, 3, 1100, 1, NULL, NULL, NULL, 1, NULL);
 INSERT INTO events VALUES (4, 20, 3, 10110, 1, NULL, NULL, NULL, 3, NULL);
@@ -99,12 +96,10 @@ INSERT INTO events VALUES (27, 20, 16, 1203, NULL, 13, NULL, NULL, NULL, NULL);
 INSERT INTO events VALUES (28, 20, 17, 1204, NULL, 14, NULL, NULL, NULL, NULL);
 INSERT INTO events VALUES (29, 20, 18, 1205, NULL, 15, NULL, NULL, NULL, NULL);
 INSERT INTO kept VALUES (1, 'plan', 1, 0, '{"device":"0110","invoke":1,"name":"Claims","requester":"plan","ring":25,"service":"addGroup","wrap":45}', 200, '{"invoke":1,"requester":"plan","result":{}}');
-INSERT INTO kept VALUES (2, 'pbx', 1, 10, '{"call":9,"device":"0301","invoke":1,"requester":"pbx","service":"clearConnection"}', 409, '{"error":{"code":3,"name":"unknownCall"},"invoke":1,"requester":"pbx"}')"#
-}
+INSERT INTO kept VALUES (2, 'pbx', 1, 10, '{"call":9,"device":"0301","invoke":1,"requester":"pbx","service":"clearConnection"}', 409, '{"error":{"code":3,"name":"unknownCall"},"invoke":1,"requester":"pbx"}')
 
-// What a desk tells of these rows. Each line is a read, of what, and its text.
-fn told_of_rows() -> &'static str {
-    r#"agent 1 {"agent":"1","name":"Ana","since":10,"state":"null"}
+told_of_rows: What a desk tells of these rows. Each line is a read, of what, and its text.
+agent 1 {"agent":"1","name":"Ana","since":10,"state":"null"}
 agent 2 {"agent":"2","device":"202","groups":["100","0110"],"name":"Ben","since":11,"state":"notReady"}
 agent 3 {"agent":"3","device":"203","group":"0110","name":"Cem","since":12,"state":"ready"}
 agent 4 {"agent":"4","device":"204","group":"100","name":"Dan","pending":"loggedOff","since":13,"state":"busy"}
@@ -123,11 +118,10 @@ device 0110 {"device":"0110","kind":"group","name":"Claims","priority":7,"ring":
 device 204 {"agent":"4","connections":[{"call":3,"state":"connected"},{"call":7,"state":"fail"}],"device":"204","kind":"station"}
 queue 100 {"calls":[{"call":1,"place":31,"since":20}],"group":"100","ready":[]}
 queue 0110 {"calls":[],"group":"0110","ready":["3"]}
-monitor 1 {"events":[{"call":3,"device":"204","event":"held","moment":20,"number":16},{"agent":"4","device":"204","event":"agentBusy","moment":20,"number":28}],"last":29}"#
-}
+monitor 1 {"events":[{"call":3,"device":"204","event":"held","moment":20,"number":16},{"agent":"4","device":"204","event":"agentBusy","moment":20,"number":28}],"last":29}
 
-fn records() -> &'static str {
-    "number,moment,event,call,device,agent,group,to,cause,waited
+records: The events, as they are exported.
+number,moment,event,call,device,agent,group,to,cause,waited
 1,20,serviceInitiated,6,201,,,,,
 2,20,originated,6,201,,,202,,
 3,20,queued,1,100,,,,newCall,
@@ -157,191 +151,160 @@ fn records() -> &'static str {
 27,20,agentReady,,203,3,,,,
 28,20,agentBusy,,204,4,,,,
 29,20,agentWorkingAfterCall,,205,5,,,,
-"
-}
 
-// The two requests that are kept, again.
-fn kept() -> &'static str {
-    r#"90 {"requester":"plan","invoke":1,"service":"addGroup","device":"0110","name":"Claims","ring":25,"wrap":45}
-90 {"requester":"pbx","invoke":1,"service":"clearConnection","call":9,"device":"0301"}
-"#
-}
+kept: The two requests that are kept, again.
+> 90 {"requester":"plan","invoke":1,"service":"addGroup","device":"0110","name":"Claims","ring":25,"wrap":45}
+> 90 {"requester":"pbx","invoke":1,"service":"clearConnection","call":9,"device":"0301"}
+< 200 {"invoke":1,"requester":"plan","result":{}}
+< 409 {"error":{"code":3,"name":"unknownCall"},"invoke":1,"requester":"pbx"}
 
-fn of_kept() -> &'static str {
-    r#"200 {"invoke":1,"requester":"plan","result":{}}
-409 {"error":{"code":3,"name":"unknownCall"},"invoke":1,"requester":"pbx"}
-"#
-}
+course: A private call is made, answered, held, retrieved, transferred, deflected to a station and to a group, and offered; nobody answers it, nor a call of the other group. Both are then answered, one is given to the other's group, and two more end. Its events, each kind behind the one before it.
+> 100 {"requester":"desk","invoke":1,"service":"makeCall","device":"209","called":"202"}
+> 101 {"requester":"desk","invoke":2,"service":"phoneOffHook","call":8,"device":"209"}
+> 102 {"requester":"desk","invoke":3,"service":"answerCall","call":8,"device":"202"}
+> 103 {"requester":"desk","invoke":4,"service":"holdCall","call":8,"device":"202"}
+> 104 {"requester":"desk","invoke":5,"service":"retrieveCall","call":8,"device":"202"}
+> 105 {"requester":"desk","invoke":6,"service":"singleStepTransfer","call":8,"device":"202","to":"201"}
+> 106 {"requester":"desk","invoke":7,"service":"singleStepTransfer","call":8,"device":"202","to":"203"}
+> 107 {"requester":"desk","invoke":8,"service":"deflectCall","call":8,"device":"203","to":"202"}
+> 108 {"requester":"desk","invoke":9,"service":"deflectCall","call":8,"device":"202","to":"0110"}
+> 140 {"requester":"clock","invoke":1,"service":"tick"}
+> 141 {"requester":"desk","invoke":10,"service":"setAgentState","agent":"2","requested":"ready"}
+> 142 {"requester":"desk","invoke":11,"service":"answerCall","call":8,"device":"202"}
+> 143 {"requester":"desk","invoke":12,"service":"answerCall","call":1,"device":"205"}
+> 144 {"requester":"desk","invoke":13,"service":"singleStepTransfer","call":1,"device":"205","to":"0110"}
+> 145 {"requester":"pbx","invoke":2,"service":"clearConnection","call":3,"device":"0303"}
+> 146 {"requester":"pbx","invoke":3,"service":"clearConnection","call":2,"device":"0302"}
+< 200 {"invoke":1,"requester":"desk","result":{"call":8}}
+< 200 {"invoke":2,"requester":"desk","result":{}}
+< 200 {"invoke":3,"requester":"desk","result":{}}
+< 200 {"invoke":4,"requester":"desk","result":{}}
+< 200 {"invoke":5,"requester":"desk","result":{}}
+< 409 {"error":{"code":11,"name":"destinationBusy"},"invoke":6,"requester":"desk"}
+< 200 {"invoke":7,"requester":"desk","result":{}}
+< 200 {"invoke":8,"requester":"desk","result":{}}
+< 200 {"invoke":9,"requester":"desk","result":{}}
+< 200 {"invoke":1,"requester":"clock","result":{}}
+< 200 {"invoke":10,"requester":"desk","result":{"state":"ready"}}
+< 200 {"invoke":11,"requester":"desk","result":{}}
+< 200 {"invoke":12,"requester":"desk","result":{}}
+< 200 {"invoke":13,"requester":"desk","result":{}}
+< 200 {"invoke":2,"requester":"pbx","result":{}}
+< 200 {"invoke":3,"requester":"pbx","result":{}}
+= 1 SELECT kind FROM events WHERE number = 30 AND moment = 100 AND device = 1209 AND call = 8 AND agent IS NULL AND grp IS NULL AND target IS NULL AND cause IS NULL AND waited IS NULL
+= 2 SELECT kind FROM events WHERE number = 31 AND moment = 101 AND device = 1209 AND call = 8 AND agent IS NULL AND grp IS NULL AND target = 1202 AND cause IS NULL AND waited IS NULL
+= 4 SELECT kind FROM events WHERE number = 32 AND moment = 101 AND device = 1202 AND call = 8 AND agent IS NULL AND grp IS NULL AND target IS NULL AND cause = 1 AND waited IS NULL
+= 6 SELECT kind FROM events WHERE number = 33 AND moment = 102 AND device = 1202 AND call = 8 AND agent IS NULL AND grp IS NULL AND target IS NULL AND cause IS NULL AND waited IS NULL
+= 7 SELECT kind FROM events WHERE number = 34 AND moment = 103 AND device = 1202 AND call = 8 AND agent IS NULL AND grp IS NULL AND target IS NULL AND cause IS NULL AND waited IS NULL
+= 8 SELECT kind FROM events WHERE number = 35 AND moment = 104 AND device = 1202 AND call = 8 AND agent IS NULL AND grp IS NULL AND target IS NULL AND cause IS NULL AND waited IS NULL
+= 9 SELECT kind FROM events WHERE number = 36 AND moment = 106 AND device = 1202 AND call = 8 AND agent IS NULL AND grp IS NULL AND target = 1203 AND cause IS NULL AND waited IS NULL
+= 4 SELECT kind FROM events WHERE number = 37 AND moment = 106 AND device = 1203 AND call = 8 AND agent IS NULL AND grp IS NULL AND target IS NULL AND cause = 4 AND waited IS NULL
+= 5 SELECT kind FROM events WHERE number = 38 AND moment = 107 AND device = 1203 AND call = 8 AND agent IS NULL AND grp IS NULL AND target = 1202 AND cause = 3 AND waited IS NULL
+= 4 SELECT kind FROM events WHERE number = 39 AND moment = 107 AND device = 1202 AND call = 8 AND agent IS NULL AND grp IS NULL AND target IS NULL AND cause = 3 AND waited IS NULL
+= 5 SELECT kind FROM events WHERE number = 40 AND moment = 108 AND device = 1202 AND call = 8 AND agent IS NULL AND grp IS NULL AND target = 10110 AND cause = 3 AND waited IS NULL
+= 3 SELECT kind FROM events WHERE number = 41 AND moment = 108 AND device = 10110 AND call = 8 AND agent IS NULL AND grp IS NULL AND target IS NULL AND cause = 3 AND waited IS NULL
+= 5 SELECT kind FROM events WHERE number = 42 AND moment = 108 AND device = 10110 AND call = 8 AND agent IS NULL AND grp = 10110 AND target = 1203 AND cause = 2 AND waited IS NULL
+= 4 SELECT kind FROM events WHERE number = 43 AND moment = 108 AND device = 1203 AND call = 8 AND agent IS NULL AND grp = 10110 AND target IS NULL AND cause = 2 AND waited IS NULL
+= 5 SELECT kind FROM events WHERE number = 44 AND moment = 140 AND device = 1206 AND call = 2 AND agent IS NULL AND grp = 1100 AND target = 1100 AND cause = 5 AND waited IS NULL
+= 3 SELECT kind FROM events WHERE number = 45 AND moment = 140 AND device = 1100 AND call = 2 AND agent IS NULL AND grp IS NULL AND target IS NULL AND cause = 5 AND waited IS NULL
+= 15 SELECT kind FROM events WHERE number = 46 AND moment = 140 AND device = 1206 AND call IS NULL AND agent = 16 AND grp IS NULL AND target IS NULL AND cause IS NULL AND waited IS NULL
+= 5 SELECT kind FROM events WHERE number = 47 AND moment = 140 AND device = 1203 AND call = 8 AND agent IS NULL AND grp = 10110 AND target = 10110 AND cause = 5 AND waited IS NULL
+= 3 SELECT kind FROM events WHERE number = 48 AND moment = 140 AND device = 10110 AND call = 8 AND agent IS NULL AND grp IS NULL AND target IS NULL AND cause = 5 AND waited IS NULL
+= 15 SELECT kind FROM events WHERE number = 49 AND moment = 140 AND device = 1203 AND call IS NULL AND agent = 13 AND grp IS NULL AND target IS NULL AND cause IS NULL AND waited IS NULL
+= 16 SELECT kind FROM events WHERE number = 50 AND moment = 140 AND device = 1205 AND call IS NULL AND agent = 15 AND grp IS NULL AND target IS NULL AND cause IS NULL AND waited IS NULL
+= 5 SELECT kind FROM events WHERE number = 51 AND moment = 140 AND device = 1100 AND call = 1 AND agent IS NULL AND grp = 1100 AND target = 1205 AND cause = 2 AND waited IS NULL
+= 4 SELECT kind FROM events WHERE number = 52 AND moment = 140 AND device = 1205 AND call = 1 AND agent IS NULL AND grp = 1100 AND target IS NULL AND cause = 2 AND waited IS NULL
+= 16 SELECT kind FROM events WHERE number = 53 AND moment = 141 AND device = 1202 AND call IS NULL AND agent = 12 AND grp IS NULL AND target IS NULL AND cause IS NULL AND waited IS NULL
+= 5 SELECT kind FROM events WHERE number = 54 AND moment = 141 AND device = 10110 AND call = 8 AND agent IS NULL AND grp = 10110 AND target = 1202 AND cause = 2 AND waited IS NULL
+= 4 SELECT kind FROM events WHERE number = 55 AND moment = 141 AND device = 1202 AND call = 8 AND agent IS NULL AND grp = 10110 AND target IS NULL AND cause = 2 AND waited IS NULL
+= 6 SELECT kind FROM events WHERE number = 56 AND moment = 142 AND device = 1202 AND call = 8 AND agent IS NULL AND grp = 10110 AND target IS NULL AND cause IS NULL AND waited = 34
+= 17 SELECT kind FROM events WHERE number = 57 AND moment = 142 AND device = 1202 AND call IS NULL AND agent = 12 AND grp IS NULL AND target IS NULL AND cause IS NULL AND waited IS NULL
+= 6 SELECT kind FROM events WHERE number = 58 AND moment = 143 AND device = 1205 AND call = 1 AND agent IS NULL AND grp = 1100 AND target IS NULL AND cause IS NULL AND waited = 123
+= 17 SELECT kind FROM events WHERE number = 59 AND moment = 143 AND device = 1205 AND call IS NULL AND agent = 15 AND grp IS NULL AND target IS NULL AND cause IS NULL AND waited IS NULL
+= 9 SELECT kind FROM events WHERE number = 60 AND moment = 144 AND device = 1205 AND call = 1 AND agent IS NULL AND grp IS NULL AND target = 10110 AND cause IS NULL AND waited IS NULL
+= 3 SELECT kind FROM events WHERE number = 61 AND moment = 144 AND device = 10110 AND call = 1 AND agent IS NULL AND grp IS NULL AND target IS NULL AND cause = 4 AND waited IS NULL
+= 18 SELECT kind FROM events WHERE number = 62 AND moment = 144 AND device = 1205 AND call IS NULL AND agent = 15 AND grp IS NULL AND target IS NULL AND cause IS NULL AND waited IS NULL
+= 11 SELECT kind FROM events WHERE number = 63 AND moment = 145 AND device = 10303 AND call = 3 AND agent IS NULL AND grp IS NULL AND target IS NULL AND cause IS NULL AND waited IS NULL
+= 11 SELECT kind FROM events WHERE number = 64 AND moment = 145 AND device = 1204 AND call = 3 AND agent IS NULL AND grp IS NULL AND target IS NULL AND cause IS NULL AND waited IS NULL
+= 12 SELECT kind FROM events WHERE number = 65 AND moment = 145 AND device IS NULL AND call = 3 AND agent IS NULL AND grp IS NULL AND target IS NULL AND cause IS NULL AND waited IS NULL
+= 14 SELECT kind FROM events WHERE number = 66 AND moment = 145 AND device = 1204 AND call IS NULL AND agent = 14 AND grp IS NULL AND target IS NULL AND cause IS NULL AND waited IS NULL
+= 11 SELECT kind FROM events WHERE number = 67 AND moment = 146 AND device = 10302 AND call = 2 AND agent IS NULL AND grp IS NULL AND target IS NULL AND cause IS NULL AND waited IS NULL
+= 11 SELECT kind FROM events WHERE number = 68 AND moment = 146 AND device = 1100 AND call = 2 AND agent IS NULL AND grp IS NULL AND target IS NULL AND cause IS NULL AND waited IS NULL
+= 12 SELECT kind FROM events WHERE number = 69 AND moment = 146 AND device IS NULL AND call = 2 AND agent IS NULL AND grp = 1100 AND target IS NULL AND cause IS NULL AND waited IS NULL
 
-// A private call is made, answered, held, retrieved, transferred, deflected to a station and to a group, and offered; nobody
-// answers it, nor a call of the other group. Both are then answered, one is given to the other's group, and two more end.
-fn course() -> &'static str {
-    r#"100 {"requester":"desk","invoke":1,"service":"makeCall","device":"209","called":"202"}
-101 {"requester":"desk","invoke":2,"service":"phoneOffHook","call":8,"device":"209"}
-102 {"requester":"desk","invoke":3,"service":"answerCall","call":8,"device":"202"}
-103 {"requester":"desk","invoke":4,"service":"holdCall","call":8,"device":"202"}
-104 {"requester":"desk","invoke":5,"service":"retrieveCall","call":8,"device":"202"}
-105 {"requester":"desk","invoke":6,"service":"singleStepTransfer","call":8,"device":"202","to":"201"}
-106 {"requester":"desk","invoke":7,"service":"singleStepTransfer","call":8,"device":"202","to":"203"}
-107 {"requester":"desk","invoke":8,"service":"deflectCall","call":8,"device":"203","to":"202"}
-108 {"requester":"desk","invoke":9,"service":"deflectCall","call":8,"device":"202","to":"0110"}
-140 {"requester":"clock","invoke":1,"service":"tick"}
-141 {"requester":"desk","invoke":10,"service":"setAgentState","agent":"2","requested":"ready"}
-142 {"requester":"desk","invoke":11,"service":"answerCall","call":8,"device":"202"}
-143 {"requester":"desk","invoke":12,"service":"answerCall","call":1,"device":"205"}
-144 {"requester":"desk","invoke":13,"service":"singleStepTransfer","call":1,"device":"205","to":"0110"}
-145 {"requester":"pbx","invoke":2,"service":"clearConnection","call":3,"device":"0303"}
-146 {"requester":"pbx","invoke":3,"service":"clearConnection","call":2,"device":"0302"}
-"#
-}
-
-fn of_course() -> &'static str {
-    r#"200 {"invoke":1,"requester":"desk","result":{"call":8}}
-200 {"invoke":2,"requester":"desk","result":{}}
-200 {"invoke":3,"requester":"desk","result":{}}
-200 {"invoke":4,"requester":"desk","result":{}}
-200 {"invoke":5,"requester":"desk","result":{}}
-409 {"error":{"code":11,"name":"destinationBusy"},"invoke":6,"requester":"desk"}
-200 {"invoke":7,"requester":"desk","result":{}}
-200 {"invoke":8,"requester":"desk","result":{}}
-200 {"invoke":9,"requester":"desk","result":{}}
-200 {"invoke":1,"requester":"clock","result":{}}
-200 {"invoke":10,"requester":"desk","result":{"state":"ready"}}
-200 {"invoke":11,"requester":"desk","result":{}}
-200 {"invoke":12,"requester":"desk","result":{}}
-200 {"invoke":13,"requester":"desk","result":{}}
-200 {"invoke":2,"requester":"pbx","result":{}}
-200 {"invoke":3,"requester":"pbx","result":{}}
-"#
-}
-
-// Its events, each kind behind the one before it.
-fn events_of_course() -> &'static str {
-    "1 SELECT kind FROM events WHERE number = 30 AND moment = 100 AND device = 1209 AND call = 8 AND agent IS NULL AND grp IS NULL AND target IS NULL AND cause IS NULL AND waited IS NULL
-2 SELECT kind FROM events WHERE number = 31 AND moment = 101 AND device = 1209 AND call = 8 AND agent IS NULL AND grp IS NULL AND target = 1202 AND cause IS NULL AND waited IS NULL
-4 SELECT kind FROM events WHERE number = 32 AND moment = 101 AND device = 1202 AND call = 8 AND agent IS NULL AND grp IS NULL AND target IS NULL AND cause = 1 AND waited IS NULL
-6 SELECT kind FROM events WHERE number = 33 AND moment = 102 AND device = 1202 AND call = 8 AND agent IS NULL AND grp IS NULL AND target IS NULL AND cause IS NULL AND waited IS NULL
-7 SELECT kind FROM events WHERE number = 34 AND moment = 103 AND device = 1202 AND call = 8 AND agent IS NULL AND grp IS NULL AND target IS NULL AND cause IS NULL AND waited IS NULL
-8 SELECT kind FROM events WHERE number = 35 AND moment = 104 AND device = 1202 AND call = 8 AND agent IS NULL AND grp IS NULL AND target IS NULL AND cause IS NULL AND waited IS NULL
-9 SELECT kind FROM events WHERE number = 36 AND moment = 106 AND device = 1202 AND call = 8 AND agent IS NULL AND grp IS NULL AND target = 1203 AND cause IS NULL AND waited IS NULL
-4 SELECT kind FROM events WHERE number = 37 AND moment = 106 AND device = 1203 AND call = 8 AND agent IS NULL AND grp IS NULL AND target IS NULL AND cause = 4 AND waited IS NULL
-5 SELECT kind FROM events WHERE number = 38 AND moment = 107 AND device = 1203 AND call = 8 AND agent IS NULL AND grp IS NULL AND target = 1202 AND cause = 3 AND waited IS NULL
-4 SELECT kind FROM events WHERE number = 39 AND moment = 107 AND device = 1202 AND call = 8 AND agent IS NULL AND grp IS NULL AND target IS NULL AND cause = 3 AND waited IS NULL
-5 SELECT kind FROM events WHERE number = 40 AND moment = 108 AND device = 1202 AND call = 8 AND agent IS NULL AND grp IS NULL AND target = 10110 AND cause = 3 AND waited IS NULL
-3 SELECT kind FROM events WHERE number = 41 AND moment = 108 AND device = 10110 AND call = 8 AND agent IS NULL AND grp IS NULL AND target IS NULL AND cause = 3 AND waited IS NULL
-5 SELECT kind FROM events WHERE number = 42 AND moment = 108 AND device = 10110 AND call = 8 AND agent IS NULL AND grp = 10110 AND target = 1203 AND cause = 2 AND waited IS NULL
-4 SELECT kind FROM events WHERE number = 43 AND moment = 108 AND device = 1203 AND call = 8 AND agent IS NULL AND grp = 10110 AND target IS NULL AND cause = 2 AND waited IS NULL
-5 SELECT kind FROM events WHERE number = 44 AND moment = 140 AND device = 1206 AND call = 2 AND agent IS NULL AND grp = 1100 AND target = 1100 AND cause = 5 AND waited IS NULL
-3 SELECT kind FROM events WHERE number = 45 AND moment = 140 AND device = 1100 AND call = 2 AND agent IS NULL AND grp IS NULL AND target IS NULL AND cause = 5 AND waited IS NULL
-15 SELECT kind FROM events WHERE number = 46 AND moment = 140 AND device = 1206 AND call IS NULL AND agent = 16 AND grp IS NULL AND target IS NULL AND cause IS NULL AND waited IS NULL
-5 SELECT kind FROM events WHERE number = 47 AND moment = 140 AND device = 1203 AND call = 8 AND agent IS NULL AND grp = 10110 AND target = 10110 AND cause = 5 AND waited IS NULL
-3 SELECT kind FROM events WHERE number = 48 AND moment = 140 AND device = 10110 AND call = 8 AND agent IS NULL AND grp IS NULL AND target IS NULL AND cause = 5 AND waited IS NULL
-15 SELECT kind FROM events WHERE number = 49 AND moment = 140 AND device = 1203 AND call IS NULL AND agent = 13 AND grp IS NULL AND target IS NULL AND cause IS NULL AND waited IS NULL
-16 SELECT kind FROM events WHERE number = 50 AND moment = 140 AND device = 1205 AND call IS NULL AND agent = 15 AND grp IS NULL AND target IS NULL AND cause IS NULL AND waited IS NULL
-5 SELECT kind FROM events WHERE number = 51 AND moment = 140 AND device = 1100 AND call = 1 AND agent IS NULL AND grp = 1100 AND target = 1205 AND cause = 2 AND waited IS NULL
-4 SELECT kind FROM events WHERE number = 52 AND moment = 140 AND device = 1205 AND call = 1 AND agent IS NULL AND grp = 1100 AND target IS NULL AND cause = 2 AND waited IS NULL
-16 SELECT kind FROM events WHERE number = 53 AND moment = 141 AND device = 1202 AND call IS NULL AND agent = 12 AND grp IS NULL AND target IS NULL AND cause IS NULL AND waited IS NULL
-5 SELECT kind FROM events WHERE number = 54 AND moment = 141 AND device = 10110 AND call = 8 AND agent IS NULL AND grp = 10110 AND target = 1202 AND cause = 2 AND waited IS NULL
-4 SELECT kind FROM events WHERE number = 55 AND moment = 141 AND device = 1202 AND call = 8 AND agent IS NULL AND grp = 10110 AND target IS NULL AND cause = 2 AND waited IS NULL
-6 SELECT kind FROM events WHERE number = 56 AND moment = 142 AND device = 1202 AND call = 8 AND agent IS NULL AND grp = 10110 AND target IS NULL AND cause IS NULL AND waited = 34
-17 SELECT kind FROM events WHERE number = 57 AND moment = 142 AND device = 1202 AND call IS NULL AND agent = 12 AND grp IS NULL AND target IS NULL AND cause IS NULL AND waited IS NULL
-6 SELECT kind FROM events WHERE number = 58 AND moment = 143 AND device = 1205 AND call = 1 AND agent IS NULL AND grp = 1100 AND target IS NULL AND cause IS NULL AND waited = 123
-17 SELECT kind FROM events WHERE number = 59 AND moment = 143 AND device = 1205 AND call IS NULL AND agent = 15 AND grp IS NULL AND target IS NULL AND cause IS NULL AND waited IS NULL
-9 SELECT kind FROM events WHERE number = 60 AND moment = 144 AND device = 1205 AND call = 1 AND agent IS NULL AND grp IS NULL AND target = 10110 AND cause IS NULL AND waited IS NULL
-3 SELECT kind FROM events WHERE number = 61 AND moment = 144 AND device = 10110 AND call = 1 AND agent IS NULL AND grp IS NULL AND target IS NULL AND cause = 4 AND waited IS NULL
-18 SELECT kind FROM events WHERE number = 62 AND moment = 144 AND device = 1205 AND call IS NULL AND agent = 15 AND grp IS NULL AND target IS NULL AND cause IS NULL AND waited IS NULL
-11 SELECT kind FROM events WHERE number = 63 AND moment = 145 AND device = 10303 AND call = 3 AND agent IS NULL AND grp IS NULL AND target IS NULL AND cause IS NULL AND waited IS NULL
-11 SELECT kind FROM events WHERE number = 64 AND moment = 145 AND device = 1204 AND call = 3 AND agent IS NULL AND grp IS NULL AND target IS NULL AND cause IS NULL AND waited IS NULL
-12 SELECT kind FROM events WHERE number = 65 AND moment = 145 AND device IS NULL AND call = 3 AND agent IS NULL AND grp IS NULL AND target IS NULL AND cause IS NULL AND waited IS NULL
-14 SELECT kind FROM events WHERE number = 66 AND moment = 145 AND device = 1204 AND call IS NULL AND agent = 14 AND grp IS NULL AND target IS NULL AND cause IS NULL AND waited IS NULL
-11 SELECT kind FROM events WHERE number = 67 AND moment = 146 AND device = 10302 AND call = 2 AND agent IS NULL AND grp IS NULL AND target IS NULL AND cause IS NULL AND waited IS NULL
-11 SELECT kind FROM events WHERE number = 68 AND moment = 146 AND device = 1100 AND call = 2 AND agent IS NULL AND grp IS NULL AND target IS NULL AND cause IS NULL AND waited IS NULL
-12 SELECT kind FROM events WHERE number = 69 AND moment = 146 AND device IS NULL AND call = 2 AND agent IS NULL AND grp = 1100 AND target IS NULL AND cause IS NULL AND waited IS NULL"
-}
-
-// What is held behind it: who logs on and off, a call that fails, one that waits, one that rings and one on hold; a state of each
-// kind pending; a call that is initiated; a monitor; and priorities.
-fn more() -> &'static str {
-    r#"147 {"requester":"desk","invoke":14,"service":"setAgentState","agent":"1","requested":"loggedOn","device":"209","group":"100"}
-148 {"requester":"desk","invoke":15,"service":"setAgentState","agent":"4","requested":"loggedOn","device":"204","groups":["0110","100"]}
-149 {"requester":"pbx","invoke":4,"service":"arriveCall","caller":"0309","called":"207"}
-150 {"requester":"pbx","invoke":5,"service":"arriveCall","caller":"0310","called":"100"}
-151 {"requester":"desk","invoke":16,"service":"setAgentState","agent":"3","requested":"ready"}
-152 {"requester":"desk","invoke":17,"service":"setAgentState","agent":"3","requested":"loggedOff"}
-153 {"requester":"desk","invoke":18,"service":"setAgentState","agent":"8","requested":"notReady"}
-154 {"requester":"desk","invoke":19,"service":"setAgentState","agent":"07","requested":"ready"}
-155 {"requester":"desk","invoke":20,"service":"setAgentState","agent":"2","requested":"workingAfterCall"}
-156 {"requester":"desk","invoke":21,"service":"holdCall","call":5,"device":"208"}
-157 {"requester":"desk","invoke":22,"service":"setAgentState","agent":"6","requested":"loggedOff"}
-158 {"requester":"desk","invoke":23,"service":"makeCall","device":"206","called":"100"}
-159 {"requester":"sup","invoke":1,"service":"monitorStart","device":"0110"}
-160 {"requester":"plan","invoke":2,"service":"setGroupPriority","device":"100","priority":3}
-160 {"requester":"plan","invoke":3,"service":"setGroupPriority","device":"0110","priority":0}
-"#
-}
-
-fn of_more() -> &'static str {
-    r#"200 {"invoke":14,"requester":"desk","result":{"state":"notReady"}}
-200 {"invoke":15,"requester":"desk","result":{"state":"notReady"}}
-200 {"invoke":4,"requester":"pbx","result":{"call":9}}
-200 {"invoke":5,"requester":"pbx","result":{"call":10}}
-200 {"invoke":16,"requester":"desk","result":{"state":"ready"}}
-200 {"invoke":17,"requester":"desk","result":{"pending":"loggedOff","state":"ready"}}
-200 {"invoke":18,"requester":"desk","result":{"pending":"notReady","state":"busy"}}
-200 {"invoke":19,"requester":"desk","result":{"pending":"ready","state":"busy"}}
-200 {"invoke":20,"requester":"desk","result":{"pending":"workingAfterCall","state":"busy"}}
-200 {"invoke":21,"requester":"desk","result":{}}
-200 {"invoke":22,"requester":"desk","result":{"state":"null"}}
-200 {"invoke":23,"requester":"desk","result":{"call":11}}
-200 {"invoke":1,"requester":"sup","result":{"monitor":2}}
-200 {"invoke":2,"requester":"plan","result":{}}
-200 {"invoke":3,"requester":"plan","result":{}}
-"#
-}
-
-fn rows_of_more() -> &'static str {
-    "13 SELECT kind FROM events WHERE number = 70 AND moment = 147 AND device = 1209 AND call IS NULL AND agent = 11 AND grp = 1100 AND target IS NULL AND cause IS NULL AND waited IS NULL
-13 SELECT kind FROM events WHERE number = 71 AND moment = 148 AND device = 1204 AND call IS NULL AND agent = 14 AND grp IS NULL AND target IS NULL AND cause IS NULL AND waited IS NULL
-10 SELECT kind FROM events WHERE number = 72 AND moment = 149 AND device = 1207 AND call = 9 AND agent IS NULL AND grp IS NULL AND target IS NULL AND cause = 6 AND waited IS NULL
-3 SELECT kind FROM events WHERE number = 73 AND moment = 150 AND device = 1100 AND call = 10 AND agent IS NULL AND grp IS NULL AND target IS NULL AND cause = 1 AND waited IS NULL
-16 SELECT kind FROM events WHERE number = 74 AND moment = 151 AND device = 1203 AND call IS NULL AND agent = 13 AND grp IS NULL AND target IS NULL AND cause IS NULL AND waited IS NULL
-5 SELECT kind FROM events WHERE number = 75 AND moment = 151 AND device = 10110 AND call = 1 AND agent IS NULL AND grp = 10110 AND target = 1203 AND cause = 2 AND waited IS NULL
-4 SELECT kind FROM events WHERE number = 76 AND moment = 151 AND device = 1203 AND call = 1 AND agent IS NULL AND grp = 10110 AND target IS NULL AND cause = 2 AND waited IS NULL
-7 SELECT kind FROM events WHERE number = 77 AND moment = 156 AND device = 1208 AND call = 5 AND agent IS NULL AND grp IS NULL AND target IS NULL AND cause IS NULL AND waited IS NULL
-14 SELECT kind FROM events WHERE number = 78 AND moment = 157 AND device = 1206 AND call IS NULL AND agent = 16 AND grp IS NULL AND target IS NULL AND cause IS NULL AND waited IS NULL
-1 SELECT kind FROM events WHERE number = 79 AND moment = 158 AND device = 1206 AND call = 11 AND agent IS NULL AND grp IS NULL AND target IS NULL AND cause IS NULL AND waited IS NULL
-2 SELECT version FROM meta
-71 SELECT last_stamp FROM meta WHERE last_moment = 160 AND last_call = 11 AND last_monitor = 2 AND last_event = 79
-409 SELECT status FROM kept WHERE stamp = 46 AND requester = 'desk' AND invoke = 6 AND moment = 105
-31 SELECT count(*) FROM kept WHERE status = 200
-1 SELECT state FROM agents WHERE agent = 11 AND pending IS NULL AND station = 1209 AND grp = 1100 AND stamp = 57 AND since = 147
-3 SELECT state FROM agents WHERE agent = 12 AND station = 1202 AND grp = 1100 AND stamp = 52 AND since = 142
-4 SELECT pending FROM agents WHERE agent = 12
-2 SELECT state FROM agents WHERE agent = 13 AND station = 1203 AND grp = 10110 AND stamp = 61 AND since = 151
-0 SELECT pending FROM agents WHERE agent = 13
-1 SELECT state FROM agents WHERE agent = 14 AND pending IS NULL AND station = 1204 AND grp = 1100 AND stamp = 58 AND since = 148
-4 SELECT state FROM agents WHERE agent = 15 AND pending IS NULL AND station = 1205 AND grp = 1100 AND stamp = 54 AND since = 144
-0 SELECT state FROM agents WHERE agent = 16 AND pending IS NULL AND station IS NULL AND grp IS NULL AND stamp = 67 AND since = 157
-3 SELECT state FROM agents WHERE agent = 107 AND station = 1207 AND stamp = 26 AND since = 16
-2 SELECT pending FROM agents WHERE agent = 107
-1 SELECT pending FROM agents WHERE agent = 18 AND state = 3
-1 SELECT count(*) FROM agent_groups WHERE agent = 12 AND grp = 10110
-1 SELECT count(*) FROM agent_groups WHERE agent = 14 AND grp = 10110
-2 SELECT count(*) FROM agent_groups
-1 SELECT count(*) FROM group_priority
-3 SELECT priority FROM group_priority WHERE device = 1100
-168 SELECT waited FROM acd_groups WHERE device = 1100 AND entered = 11 AND answered = 4 AND abandoned = 3 AND moved = 3
-34 SELECT waited FROM acd_groups WHERE device = 10110 AND entered = 2 AND answered = 1 AND abandoned = 0 AND moved = 0
-2 SELECT state FROM connections WHERE call = 1 AND device = 1203 AND grp = 10110 AND place = 54 AND queued = 144 AND offered = 151
-4 SELECT state FROM connections WHERE call = 5 AND device = 1208 AND grp = 1100 AND place IS NULL AND queued IS NULL AND offered IS NULL
-3 SELECT state FROM connections WHERE call = 8 AND device = 1202 AND grp = 10110 AND place IS NULL AND queued IS NULL AND offered IS NULL
-3 SELECT state FROM connections WHERE call = 8 AND device = 1209 AND grp IS NULL AND place IS NULL
-6 SELECT state FROM connections WHERE call = 9 AND device = 1207 AND grp IS NULL AND place IS NULL
-5 SELECT state FROM connections WHERE call = 10 AND device = 1100 AND grp = 1100 AND place = 60 AND queued = 150 AND offered IS NULL
-1 SELECT state FROM connections WHERE call = 11 AND device = 1206 AND grp IS NULL AND place IS NULL
-158 SELECT since FROM calls WHERE call = 11 AND caller = 1206 AND called = 1100
-149 SELECT since FROM calls WHERE call = 9 AND caller = 10309 AND called = 1207
-10110 SELECT device FROM monitors WHERE monitor = 2 AND after_event = 79"
+more: What is held behind it: who logs on and off, a call that fails, one that waits, one that rings and one on hold; a state of each kind pending; a call that is initiated; a monitor; and priorities.
+> 147 {"requester":"desk","invoke":14,"service":"setAgentState","agent":"1","requested":"loggedOn","device":"209","group":"100"}
+> 148 {"requester":"desk","invoke":15,"service":"setAgentState","agent":"4","requested":"loggedOn","device":"204","groups":["0110","100"]}
+> 149 {"requester":"pbx","invoke":4,"service":"arriveCall","caller":"0309","called":"207"}
+> 150 {"requester":"pbx","invoke":5,"service":"arriveCall","caller":"0310","called":"100"}
+> 151 {"requester":"desk","invoke":16,"service":"setAgentState","agent":"3","requested":"ready"}
+> 152 {"requester":"desk","invoke":17,"service":"setAgentState","agent":"3","requested":"loggedOff"}
+> 153 {"requester":"desk","invoke":18,"service":"setAgentState","agent":"8","requested":"notReady"}
+> 154 {"requester":"desk","invoke":19,"service":"setAgentState","agent":"07","requested":"ready"}
+> 155 {"requester":"desk","invoke":20,"service":"setAgentState","agent":"2","requested":"workingAfterCall"}
+> 156 {"requester":"desk","invoke":21,"service":"holdCall","call":5,"device":"208"}
+> 157 {"requester":"desk","invoke":22,"service":"setAgentState","agent":"6","requested":"loggedOff"}
+> 158 {"requester":"desk","invoke":23,"service":"makeCall","device":"206","called":"100"}
+> 159 {"requester":"sup","invoke":1,"service":"monitorStart","device":"0110"}
+> 160 {"requester":"plan","invoke":2,"service":"setGroupPriority","device":"100","priority":3}
+> 160 {"requester":"plan","invoke":3,"service":"setGroupPriority","device":"0110","priority":0}
+< 200 {"invoke":14,"requester":"desk","result":{"state":"notReady"}}
+< 200 {"invoke":15,"requester":"desk","result":{"state":"notReady"}}
+< 200 {"invoke":4,"requester":"pbx","result":{"call":9}}
+< 200 {"invoke":5,"requester":"pbx","result":{"call":10}}
+< 200 {"invoke":16,"requester":"desk","result":{"state":"ready"}}
+< 200 {"invoke":17,"requester":"desk","result":{"pending":"loggedOff","state":"ready"}}
+< 200 {"invoke":18,"requester":"desk","result":{"pending":"notReady","state":"busy"}}
+< 200 {"invoke":19,"requester":"desk","result":{"pending":"ready","state":"busy"}}
+< 200 {"invoke":20,"requester":"desk","result":{"pending":"workingAfterCall","state":"busy"}}
+< 200 {"invoke":21,"requester":"desk","result":{}}
+< 200 {"invoke":22,"requester":"desk","result":{"state":"null"}}
+< 200 {"invoke":23,"requester":"desk","result":{"call":11}}
+< 200 {"invoke":1,"requester":"sup","result":{"monitor":2}}
+< 200 {"invoke":2,"requester":"plan","result":{}}
+< 200 {"invoke":3,"requester":"plan","result":{}}
+= 13 SELECT kind FROM events WHERE number = 70 AND moment = 147 AND device = 1209 AND call IS NULL AND agent = 11 AND grp = 1100 AND target IS NULL AND cause IS NULL AND waited IS NULL
+= 13 SELECT kind FROM events WHERE number = 71 AND moment = 148 AND device = 1204 AND call IS NULL AND agent = 14 AND grp IS NULL AND target IS NULL AND cause IS NULL AND waited IS NULL
+= 10 SELECT kind FROM events WHERE number = 72 AND moment = 149 AND device = 1207 AND call = 9 AND agent IS NULL AND grp IS NULL AND target IS NULL AND cause = 6 AND waited IS NULL
+= 3 SELECT kind FROM events WHERE number = 73 AND moment = 150 AND device = 1100 AND call = 10 AND agent IS NULL AND grp IS NULL AND target IS NULL AND cause = 1 AND waited IS NULL
+= 16 SELECT kind FROM events WHERE number = 74 AND moment = 151 AND device = 1203 AND call IS NULL AND agent = 13 AND grp IS NULL AND target IS NULL AND cause IS NULL AND waited IS NULL
+= 5 SELECT kind FROM events WHERE number = 75 AND moment = 151 AND device = 10110 AND call = 1 AND agent IS NULL AND grp = 10110 AND target = 1203 AND cause = 2 AND waited IS NULL
+= 4 SELECT kind FROM events WHERE number = 76 AND moment = 151 AND device = 1203 AND call = 1 AND agent IS NULL AND grp = 10110 AND target IS NULL AND cause = 2 AND waited IS NULL
+= 7 SELECT kind FROM events WHERE number = 77 AND moment = 156 AND device = 1208 AND call = 5 AND agent IS NULL AND grp IS NULL AND target IS NULL AND cause IS NULL AND waited IS NULL
+= 14 SELECT kind FROM events WHERE number = 78 AND moment = 157 AND device = 1206 AND call IS NULL AND agent = 16 AND grp IS NULL AND target IS NULL AND cause IS NULL AND waited IS NULL
+= 1 SELECT kind FROM events WHERE number = 79 AND moment = 158 AND device = 1206 AND call = 11 AND agent IS NULL AND grp IS NULL AND target IS NULL AND cause IS NULL AND waited IS NULL
+= 2 SELECT version FROM meta
+= 71 SELECT last_stamp FROM meta WHERE last_moment = 160 AND last_call = 11 AND last_monitor = 2 AND last_event = 79
+= 409 SELECT status FROM kept WHERE stamp = 46 AND requester = 'desk' AND invoke = 6 AND moment = 105
+= 31 SELECT count(*) FROM kept WHERE status = 200
+= 1 SELECT state FROM agents WHERE agent = 11 AND pending IS NULL AND station = 1209 AND grp = 1100 AND stamp = 57 AND since = 147
+= 3 SELECT state FROM agents WHERE agent = 12 AND station = 1202 AND grp = 1100 AND stamp = 52 AND since = 142
+= 4 SELECT pending FROM agents WHERE agent = 12
+= 2 SELECT state FROM agents WHERE agent = 13 AND station = 1203 AND grp = 10110 AND stamp = 61 AND since = 151
+= 0 SELECT pending FROM agents WHERE agent = 13
+= 1 SELECT state FROM agents WHERE agent = 14 AND pending IS NULL AND station = 1204 AND grp = 1100 AND stamp = 58 AND since = 148
+= 4 SELECT state FROM agents WHERE agent = 15 AND pending IS NULL AND station = 1205 AND grp = 1100 AND stamp = 54 AND since = 144
+= 0 SELECT state FROM agents WHERE agent = 16 AND pending IS NULL AND station IS NULL AND grp IS NULL AND stamp = 67 AND since = 157
+= 3 SELECT state FROM agents WHERE agent = 107 AND station = 1207 AND stamp = 26 AND since = 16
+= 2 SELECT pending FROM agents WHERE agent = 107
+= 1 SELECT pending FROM agents WHERE agent = 18 AND state = 3
+= 1 SELECT count(*) FROM agent_groups WHERE agent = 12 AND grp = 10110
+= 1 SELECT count(*) FROM agent_groups WHERE agent = 14 AND grp = 10110
+= 2 SELECT count(*) FROM agent_groups
+= 1 SELECT count(*) FROM group_priority
+= 3 SELECT priority FROM group_priority WHERE device = 1100
+= 168 SELECT waited FROM acd_groups WHERE device = 1100 AND entered = 11 AND answered = 4 AND abandoned = 3 AND moved = 3
+= 34 SELECT waited FROM acd_groups WHERE device = 10110 AND entered = 2 AND answered = 1 AND abandoned = 0 AND moved = 0
+= 2 SELECT state FROM connections WHERE call = 1 AND device = 1203 AND grp = 10110 AND place = 54 AND queued = 144 AND offered = 151
+= 4 SELECT state FROM connections WHERE call = 5 AND device = 1208 AND grp = 1100 AND place IS NULL AND queued IS NULL AND offered IS NULL
+= 3 SELECT state FROM connections WHERE call = 8 AND device = 1202 AND grp = 10110 AND place IS NULL AND queued IS NULL AND offered IS NULL
+= 3 SELECT state FROM connections WHERE call = 8 AND device = 1209 AND grp IS NULL AND place IS NULL
+= 6 SELECT state FROM connections WHERE call = 9 AND device = 1207 AND grp IS NULL AND place IS NULL
+= 5 SELECT state FROM connections WHERE call = 10 AND device = 1100 AND grp = 1100 AND place = 60 AND queued = 150 AND offered IS NULL
+= 1 SELECT state FROM connections WHERE call = 11 AND device = 1206 AND grp IS NULL AND place IS NULL
+= 158 SELECT since FROM calls WHERE call = 11 AND caller = 1206 AND called = 1100
+= 149 SELECT since FROM calls WHERE call = 9 AND caller = 10309 AND called = 1207
+= 10110 SELECT device FROM monitors WHERE monitor = 2 AND after_event = 79"#
 }
 
 fn device(rt: &impl Abort, digits: &str) -> DeviceId {
@@ -391,9 +354,9 @@ fn expect_all_told<B: Book + Drop>(rt: &impl Abort, alloc: Global, book: B, line
 
 // A database that no book has written.
 fn laid(rt: &impl Abort, alloc: Global) -> Connection<MemStore> {
-    let mut conn = empty(rt, alloc);
-    for sql in [old_tables(), new_tables(), rows(), history()] {
-        conn = changed(rt, conn, sql);
+    let mut conn = changed(rt, empty(rt, alloc), old_tables(rt));
+    for name in ["new_tables", "rows", "history"] {
+        conn = changed(rt, conn, part_of(rt, parts(), name));
     }
     conn
 }
@@ -402,14 +365,15 @@ fn laid(rt: &impl Abort, alloc: Global) -> Connection<MemStore> {
 fn names_of_numbers_in_rows(rt: HostRuntime) {
     let alloc = rt.alloc();
     let book = book_in(&rt, alloc, laid(&rt, alloc));
-    let book = expect_all_told(&rt, alloc, book, told_of_rows());
-    let _book = expect_exported(&rt, alloc, book, records());
+    let book = expect_all_told(&rt, alloc, book, part_of(&rt, parts(), "told_of_rows"));
+    let _book = expect_exported(&rt, alloc, book, part_of(&rt, parts(), "records"));
 }
 
 #[test]
 fn numbers_of_names_in_rows(rt: HostRuntime) {
     let alloc = rt.alloc();
-    let conn = served(&rt, alloc, laid(&rt, alloc), kept(), of_kept(), "");
-    let conn = served(&rt, alloc, conn, course(), of_course(), events_of_course());
-    let _conn = served(&rt, alloc, conn, more(), of_more(), rows_of_more());
+    let mut conn = laid(&rt, alloc);
+    for name in ["kept", "course", "more"] {
+        conn = served(&rt, alloc, conn, part_of(&rt, parts(), name));
+    }
 }
