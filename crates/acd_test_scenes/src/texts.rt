@@ -38,6 +38,11 @@ pub fn halves<'a>(rt: &impl Abort, text: &'a str) -> (&'a str, &'a str) {
     text.split_once(' ').expect(rt, "a space")
 }
 
+/// The text of these bytes.
+pub fn text_in<'a>(rt: &impl Abort, bytes: &'a [u8]) -> &'a str {
+    str::from_utf8(bytes).expect(rt, "a text")
+}
+
 /// The two are the same.
 pub fn same_text(rt: &impl Abort, found: &str, wanted: &str) {
     assert_eq!(rt; found, wanted);
