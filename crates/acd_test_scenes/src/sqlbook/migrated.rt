@@ -1,12 +1,11 @@
 //! A version 1 that an older program left behind an answered call, and what it is once it is taken.
 
 use super::adopted::old_tables;
-use super::{book_in, changed, empty, expect_numbers};
-use crate::comparing::same;
+use super::expect_numbers;
+use crate::altered::database;
+use crate::files::expect_sound;
+use crate::shelf::{book_in, changed};
 use crate::texts::part_of;
-use acd_book::Book;
-use acd_desk::{Audit, Desk};
-use std::alloc::Global;
 use std::process::Abort;
 
 // What was left, and what it is then.
@@ -64,26 +63,15 @@ pub fn left(rt: &impl Abort) -> &'static str {
     part_of(rt, parts(), "left")
 }
 
-/// The desk over the book is as its records make it.
-pub fn expect_sound<B: Book + Drop>(rt: &impl Abort, alloc: Global, book: B) -> B {
-    match Desk::open(alloc, book) {
-        Ok(mut desk) => {
-            same(rt, &desk.audit(), &Ok(Audit::Sound));
-            desk.close()
-        }
-        Err((fault, _)) => panic!(rt; "{fault:?}"),
-    }
-}
-
 #[test]
 fn a_version_1_that_an_older_program_left(rt: HostRuntime) {
     let alloc = rt.alloc();
-    let conn = changed(&rt, empty(&rt, alloc), old_tables(&rt));
+    let conn = changed(&rt, database(&rt, alloc), old_tables(&rt));
     let conn = changed(&rt, conn, left(&rt));
-    let book = expect_sound(&rt, alloc, book_in(&rt, alloc, conn));
+    let book = expect_sound(&rt, alloc, book_in(&rt, alloc, conn, None));
     let mut conn = book.into_connection();
     let migrated = part_of(&rt, parts(), "migrated");
     expect_numbers(&rt, &mut conn, migrated);
-    let book = expect_sound(&rt, alloc, book_in(&rt, alloc, conn));
+    let book = expect_sound(&rt, alloc, book_in(&rt, alloc, conn, None));
     expect_numbers(&rt, &mut book.into_connection(), migrated);
 }

@@ -1,6 +1,8 @@
 //! Connections that are taken for a book, and those that aren't, each by its fault.
 
-use super::{altered, changed, empty};
+use super::altered;
+use crate::altered::database;
+use crate::shelf::changed;
 use crate::texts::part_of;
 use acd_sqlbook::SqlBook;
 use sqlite::{Alter, Connection, MemStore};
@@ -188,16 +190,16 @@ fn expect_told<S: Alter + Drop>(rt: &impl Abort, alloc: Global, conn: Connection
 #[test]
 fn databases_that_are_books(rt: HostRuntime) {
     let alloc = rt.alloc();
-    let none = told(&rt, alloc, empty(&rt, alloc));
+    let none = told(&rt, alloc, database(&rt, alloc));
     assert_eq!(rt; none.as_str(), "WrongVersion(0)");
     for line in part_of(&rt, parts(), "of_new_book").lines() {
-        let conn = altered(&rt, alloc, empty(&rt, alloc), "");
+        let conn = altered(&rt, alloc, database(&rt, alloc), "");
         expect_told(&rt, alloc, conn, line);
     }
     for (first, lines) in [("rows", "of_rows"), ("history", "of_history")] {
         for line in part_of(&rt, parts(), lines).lines() {
             let first = part_of(&rt, parts(), first);
-            let conn = altered(&rt, alloc, empty(&rt, alloc), first);
+            let conn = altered(&rt, alloc, database(&rt, alloc), first);
             expect_told(&rt, alloc, conn, line);
         }
     }
@@ -205,7 +207,7 @@ fn databases_that_are_books(rt: HostRuntime) {
 
 // A connection to a new book's database that holds these rows, and more.
 fn more(rt: &impl Abort, alloc: Global) -> Connection<MemStore> {
-    let conn = altered(rt, alloc, empty(rt, alloc), part_of(rt, parts(), "rows"));
+    let conn = altered(rt, alloc, database(rt, alloc), part_of(rt, parts(), "rows"));
     changed(rt, conn, part_of(rt, parts(), "more_rows"))
 }
 
@@ -227,7 +229,7 @@ fn databases_of_version_1(rt: HostRuntime) {
     let alloc = rt.alloc();
     for (first, lines) in [("rows", "of_rows"), ("history", "of_history")] {
         for line in part_of(&rt, parts(), lines).lines() {
-            let conn = changed(&rt, empty(&rt, alloc), old_tables(&rt));
+            let conn = changed(&rt, database(&rt, alloc), old_tables(&rt));
             let conn = changed(&rt, conn, part_of(&rt, parts(), first));
             expect_told(&rt, alloc, conn, line);
         }

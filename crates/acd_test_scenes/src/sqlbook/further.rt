@@ -2,9 +2,12 @@
 //! next opening finds them.
 
 use super::adopted::old_tables;
-use super::migrated::{expect_sound, left};
-use super::{book_in, changed, empty, expect_numbers};
+use super::expect_numbers;
+use super::migrated::left;
+use crate::altered::database;
+use crate::files::expect_sound;
 use crate::program::scripts::marked;
+use crate::shelf::{book_in, changed};
 use crate::texts::part_of;
 use acd_lines::Requests;
 use acd_program::lines_over_connection;
@@ -152,7 +155,7 @@ behind_a_migration: A second group and its priority, and an agent who logs on in
 #[test]
 fn rows_of_further_groups_and_priorities(rt: HostRuntime) {
     let alloc = rt.alloc();
-    let mut conn = empty(&rt, alloc);
+    let mut conn = database(&rt, alloc);
     for name in [
         "three_groups",
         "no_request",
@@ -162,15 +165,15 @@ fn rows_of_further_groups_and_priorities(rt: HostRuntime) {
     ] {
         conn = served(&rt, alloc, conn, part_of(&rt, sessions(), name));
     }
-    let _book = expect_sound(&rt, alloc, book_in(&rt, alloc, conn));
+    let _book = expect_sound(&rt, alloc, book_in(&rt, alloc, conn, None));
 }
 
 #[test]
 fn two_groups_behind_a_migration(rt: HostRuntime) {
     let alloc = rt.alloc();
-    let conn = changed(&rt, empty(&rt, alloc), old_tables(&rt));
+    let conn = changed(&rt, database(&rt, alloc), old_tables(&rt));
     let conn = changed(&rt, conn, left(&rt));
     let session = part_of(&rt, sessions(), "behind_a_migration");
     let conn = served(&rt, alloc, conn, session);
-    let _book = expect_sound(&rt, alloc, book_in(&rt, alloc, conn));
+    let _book = expect_sound(&rt, alloc, book_in(&rt, alloc, conn, None));
 }

@@ -5,11 +5,13 @@
 use super::adopted::old_tables;
 use super::further::served;
 use super::several::expect_exported;
-use super::{book_in, changed, empty};
+use crate::altered::database;
+use crate::reads;
+use crate::sessions::opened;
+use crate::shelf::{book_in, changed};
 use crate::texts::part_of;
 use acd_book::Book;
 use acd_desk::Desk;
-use acd_terms::{AgentId, DeviceId};
 use sqlite::{Connection, MemStore};
 use std::alloc::Global;
 use std::process::Abort;
@@ -98,7 +100,7 @@ INSERT INTO events VALUES (29, 20, 18, 1205, NULL, 15, NULL, NULL, NULL, NULL);
 INSERT INTO kept VALUES (1, 'plan', 1, 0, '{"device":"0110","invoke":1,"name":"Claims","requester":"plan","ring":25,"service":"addGroup","wrap":45}', 200, '{"invoke":1,"requester":"plan","result":{}}');
 INSERT INTO kept VALUES (2, 'pbx', 1, 10, '{"call":9,"device":"0301","invoke":1,"requester":"pbx","service":"clearConnection"}', 409, '{"error":{"code":3,"name":"unknownCall"},"invoke":1,"requester":"pbx"}')
 
-told_of_rows: What a desk tells of these rows. Each line is a read, of what, and its text.
+told_of_rows: What a desk tells of these rows. Each line is a read and its text.
 agent 1 {"agent":"1","name":"Ana","since":10,"state":"null"}
 agent 2 {"agent":"2","device":"202","groups":["100","0110"],"name":"Ben","since":11,"state":"notReady"}
 agent 3 {"agent":"3","device":"203","group":"0110","name":"Cem","since":12,"state":"ready"}
@@ -118,7 +120,7 @@ device 0110 {"device":"0110","kind":"group","name":"Claims","priority":7,"ring":
 device 204 {"agent":"4","connections":[{"call":3,"state":"connected"},{"call":7,"state":"fail"}],"device":"204","kind":"station"}
 queue 100 {"calls":[{"call":1,"place":31,"since":20}],"group":"100","ready":[]}
 queue 0110 {"calls":[],"group":"0110","ready":["3"]}
-monitor 1 {"events":[{"call":3,"device":"204","event":"held","moment":20,"number":16},{"agent":"4","device":"204","event":"agentBusy","moment":20,"number":28}],"last":29}
+monitor 1 0 {"events":[{"call":3,"device":"204","event":"held","moment":20,"number":16},{"agent":"4","device":"204","event":"agentBusy","moment":20,"number":28}],"last":29}
 
 records: The events, as they are exported.
 number,moment,event,call,device,agent,group,to,cause,waited
@@ -307,54 +309,25 @@ more: What is held behind it: who logs on and off, a call that fails, one that w
 = 10110 SELECT device FROM monitors WHERE monitor = 2 AND after_event = 79"#
 }
 
-fn device(rt: &impl Abort, digits: &str) -> DeviceId {
-    DeviceId::read(digits.as_bytes()).expect(rt, "a device")
-}
-
-fn agent(rt: &impl Abort, digits: &str) -> AgentId {
-    AgentId::read(digits.as_bytes()).expect(rt, "an agent")
-}
-
-fn number(rt: &impl Abort, digits: &str) -> u64 {
-    digits.parse::<u64>().expect(rt, "a number")
-}
-
-// What the desk tells of that.
-fn told<B: Book>(rt: &impl Abort, desk: &mut Desk<B>, what: &str, of: &str) -> Option<String> {
-    let told = match what {
-        "agent" => desk.agent(agent(rt, of)),
-        "call" => desk.call(number(rt, of)),
-        "device" => desk.device(device(rt, of)),
-        "queue" => desk.queue(device(rt, of)),
-        _ => desk.monitor_events(number(rt, of), 0),
-    };
-    told.expect(rt, "memory")
-}
-
-// The line is what the desk tells.
-fn expect_told<B: Book>(rt: &impl Abort, desk: &mut Desk<B>, line: &str) {
-    let (what, said) = line.split_once(' ').expect(rt, "a read");
-    let (of, wanted) = said.split_once(' ').expect(rt, "a text");
-    let told = told(rt, desk, what, of).expect(rt, "what is asked for");
-    assert_eq!(rt; told.as_str(), wanted);
+// The line is a read of the desk and what it tells, an object.
+fn expect_told<B: Book>(rt: &impl Abort, alloc: Global, desk: &mut Desk<B>, line: &str) {
+    let (asked, wanted) = line.split_once(" {").expect(rt, "a text");
+    let told = reads::text(rt, alloc, desk, asked);
+    assert_eq!(rt; told.as_str().strip_prefix('{'), Some(wanted));
 }
 
 // A desk over the book tells each of these.
 fn expect_all_told<B: Book + Drop>(rt: &impl Abort, alloc: Global, book: B, lines: &str) -> B {
-    match Desk::open(alloc, book) {
-        Ok(mut desk) => {
-            for line in lines.lines() {
-                expect_told(rt, &mut desk, line);
-            }
-            desk.close()
-        }
-        Err((fault, _)) => panic!(rt; "{fault:?}"),
+    let mut desk = opened(rt, alloc, book);
+    for line in lines.lines() {
+        expect_told(rt, alloc, &mut desk, line);
     }
+    desk.close()
 }
 
 // A database that no book has written.
 fn laid(rt: &impl Abort, alloc: Global) -> Connection<MemStore> {
-    let mut conn = changed(rt, empty(rt, alloc), old_tables(rt));
+    let mut conn = changed(rt, database(rt, alloc), old_tables(rt));
     for name in ["new_tables", "rows", "history"] {
         conn = changed(rt, conn, part_of(rt, parts(), name));
     }
@@ -364,7 +337,7 @@ fn laid(rt: &impl Abort, alloc: Global) -> Connection<MemStore> {
 #[test]
 fn names_of_numbers_in_rows(rt: HostRuntime) {
     let alloc = rt.alloc();
-    let book = book_in(&rt, alloc, laid(&rt, alloc));
+    let book = book_in(&rt, alloc, laid(&rt, alloc), None);
     let book = expect_all_told(&rt, alloc, book, part_of(&rt, parts(), "told_of_rows"));
     let _book = expect_exported(&rt, alloc, book, part_of(&rt, parts(), "records"));
 }

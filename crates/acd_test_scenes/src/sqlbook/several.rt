@@ -3,11 +3,13 @@
 
 use super::adopted::old_tables;
 use super::further::served;
-use super::migrated::expect_sound;
-use super::{book_in, changed, empty};
+use crate::altered::database;
+use crate::files::expect_sound;
+use crate::reads;
+use crate::sessions::opened;
+use crate::shelf::{book_in, changed};
 use crate::texts::part_of;
 use acd_book::Book;
-use acd_desk::Desk;
 use std::alloc::Global;
 use std::process::Abort;
 
@@ -108,24 +110,20 @@ pub fn expect_exported<B: Book + Drop>(
     book: B,
     records: &str,
 ) -> B {
-    match Desk::open(alloc, book) {
-        Ok(mut desk) => {
-            let told = desk.export().expect(rt, "memory").expect(rt, "an export");
-            assert_eq!(rt; told.as_str().strip_suffix('\n'), Some(records));
-            desk.close()
-        }
-        Err((fault, _)) => panic!(rt; "{fault:?}"),
-    }
+    let mut desk = opened(rt, alloc, book);
+    let told = reads::text(rt, alloc, &mut desk, "export all");
+    assert_eq!(rt; told.as_str().strip_suffix('\n'), Some(records));
+    desk.close()
 }
 
 // Each session is over what the one before it left.
 #[test]
 fn several_groups_behind_a_migration(rt: HostRuntime) {
     let alloc = rt.alloc();
-    let conn = changed(&rt, empty(&rt, alloc), old_tables(&rt));
+    let conn = changed(&rt, database(&rt, alloc), old_tables(&rt));
     let conn = changed(&rt, conn, part_of(&rt, parts(), "plan_left"));
     let conn = served(&rt, alloc, conn, part_of(&rt, parts(), "answered"));
     let conn = served(&rt, alloc, conn, part_of(&rt, parts(), "offered"));
-    let book = expect_sound(&rt, alloc, book_in(&rt, alloc, conn));
+    let book = expect_sound(&rt, alloc, book_in(&rt, alloc, conn, None));
     let _book = expect_exported(&rt, alloc, book, part_of(&rt, parts(), "records"));
 }

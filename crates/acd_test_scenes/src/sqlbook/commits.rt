@@ -1,12 +1,15 @@
 //! Commits of whole tables over a book in memory: the store takes each change on the way, and so tells their order, it
 //! has the new rows then, and it refuses what is never taken out. What is committed is what other databases hold.
 
-use super::{altered, book_in, changed, created, empty};
-use crate::comparing::same;
+use super::{altered, created};
+use crate::altered::database;
+use crate::look_ups::same;
+use crate::player::rows_of;
+use crate::shelf::{book_in, changed};
 use crate::texts::part_of;
 use acd_book::{Book, BookFault, Kept};
 use acd_sqlbook::SqlBook;
-use acd_terms::{Event, Rows};
+use acd_terms::Event;
 use sqlite::{Alter, Connection};
 use std::alloc::Global;
 use std::process::Abort;
@@ -76,11 +79,7 @@ pub fn holding<S: Alter + Drop>(
     rows: &str,
 ) -> SqlBook<S> {
     let conn = altered(rt, alloc, conn, records);
-    book_in(rt, alloc, changed(rt, conn, rows))
-}
-
-pub fn rows_of<B: Book>(rt: &impl Abort, book: &mut B) -> Rows {
-    book.rows().expect(rt, "the rows")
+    book_in(rt, alloc, changed(rt, conn, rows), None)
 }
 
 pub fn events_of<B: Book>(rt: &impl Abort, book: &mut B) -> Vec<Event> {
@@ -145,12 +144,12 @@ fn tables_that_follow_others(rt: HostRuntime) {
         ("watched_call", "held_call", true),
         ("seated", "left_alone", false),
     ] {
-        let mut book = created(&rt, alloc, empty(&rt, alloc));
+        let mut book = created(&rt, alloc, database(&rt, alloc));
         let first = part(&rt, "one_record");
-        let other = holding(&rt, alloc, empty(&rt, alloc), first, part(&rt, held));
+        let other = holding(&rt, alloc, database(&rt, alloc), first, part(&rt, held));
         assert!(rt; takes(&rt, &mut book, other, 0), "{held}");
         let second = part(&rt, "two_records");
-        let other = holding(&rt, alloc, empty(&rt, alloc), second, part(&rt, new));
+        let other = holding(&rt, alloc, database(&rt, alloc), second, part(&rt, new));
         let is_made = takes(&rt, &mut book, other, 1);
         assert_eq!(rt; is_made, is_committed, "{new}");
     }

@@ -1,9 +1,11 @@
 //! Commits of changes over a book in memory: what they leave in the tables, one that is refused, and what is answered
 //! of them.
 
-use super::commits::{events_of, holding, kept_behind, part, rows_of};
-use super::{created, empty, expect_numbers};
-use crate::comparing::same;
+use super::commits::{events_of, holding, kept_behind, part};
+use super::{created, expect_numbers};
+use crate::altered::database;
+use crate::look_ups::same;
+use crate::player::rows_of;
 use crate::texts::part_of;
 use acd_book::{Book, BookFault};
 use acd_model::Change;
@@ -84,9 +86,9 @@ fn expect_answers<B: Book>(rt: &impl Abort, alloc: Global, book: &mut B, other: 
 #[test]
 fn a_commit_is_in_the_tables(rt: HostRuntime) {
     let alloc = rt.alloc();
-    let mut book = created(&rt, alloc, empty(&rt, alloc));
+    let mut book = created(&rt, alloc, database(&rt, alloc));
     let (records, rows) = (part(&rt, "two_records"), part_of(&rt, parts(), "watched"));
-    let mut other = holding(&rt, alloc, empty(&rt, alloc), records, rows);
+    let mut other = holding(&rt, alloc, database(&rt, alloc), records, rows);
     commit_monitors(&rt, alloc, &mut book, &mut other);
     commit_records(&rt, &mut book, &mut other);
     expect_answers(&rt, alloc, &mut book, &mut other);
