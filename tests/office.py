@@ -442,15 +442,15 @@ SCENE = """\
 //! A morning in a small office, as tests/office.py foresees it.
 
 /// The first lines of a [script](crate::script).
-pub fn first_lines() -> &'static str {
-    r#"part morning
+pub fn first_lines() -> &'static [u8] {
+    br#"part morning
 %s
 "#
 }
 
 /// The lines behind them: in two texts each takes less to prove.
-pub fn last_lines() -> &'static str {
-    r#"%s
+pub fn last_lines() -> &'static [u8] {
+    br#"%s
 
 scene morning: morning
 "#

@@ -4,8 +4,8 @@ use crate::player::play;
 
 // A new group, a new station, and the first request again. The book's calls: 1 the rows at the opening; 2 and 3 the key
 // of the first request and its commit; 4 and 5 those of the second; 6 the key of the repeat.
-fn failures() -> &'static str {
-    r#"
+fn failures() -> &'static [u8] {
+    br#"
 scene no_failure
 > lines @group@station@group
 @made
@@ -150,8 +150,8 @@ closed executed 0, groups 0, stations 0, failures 1, reads 1
 }
 
 // The second commit, call 5, finds no memory. Call 6 is then the key of the next request, and call 7 its load.
-fn loads() -> &'static str {
-    r#"
+fn loads() -> &'static [u8] {
+    br#"
 scene unloaded failing 5:noMemory
 > lines @group@station
 @made

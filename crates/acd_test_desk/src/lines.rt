@@ -7,8 +7,8 @@ use acd_desk::Desk;
 use std::alloc::Global;
 use std::process::Abort;
 
-fn scenes() -> &'static str {
-    r#"
+fn scenes() -> &'static [u8] {
+    br#"
 scene faulty_lines
 > # empty input
 > counted <0 x>

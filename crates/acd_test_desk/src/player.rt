@@ -27,6 +27,7 @@
 use crate::book::{FailingBook, Reopened};
 use crate::comparing::same;
 use crate::streams::{Narrow, Pieces};
+use crate::texts::text_in;
 use acd_book::{Book, MemoryBook};
 use acd_desk::Desk;
 use acd_http::{Routes, exchange, lines_with_reads};
@@ -90,7 +91,7 @@ pub fn with_fault<F: Display + Drop>(
     written: &[u8],
     ended: Result<(), F>,
 ) -> String {
-    let text = str::from_utf8(written).expect(rt, "text");
+    let text = text_in(rt, written);
     let found = match ended {
         Ok(()) => String::from_str(alloc, text),
         Err(fault) => format!(in alloc; "{text}{fault}\n"),
@@ -323,8 +324,8 @@ fn play_scene(rt: &impl Abort, alloc: Global, scene: &'static str) {
 }
 
 /// What each scene's desk writes is what the script says.
-pub fn play(rt: &impl Abort, alloc: Global, script: &'static str) {
-    for scene in script.split("\nscene ").skip(1) {
+pub fn play(rt: &impl Abort, alloc: Global, script: &'static [u8]) {
+    for scene in text_in(rt, script).split("\nscene ").skip(1) {
         play_scene(rt, alloc, scene);
     }
 }

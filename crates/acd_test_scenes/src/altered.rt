@@ -1,20 +1,14 @@
 //! What is told of a book whose database something else has changed.
 
 use crate::sessions::{Scene, answers_so, opened};
-use crate::shelf::{Changing, Shelf, taken};
+use crate::shelf::{book_in, changed};
 use crate::texts::{halves, joined, push_both};
 use acd_book::Book;
 use acd_desk::{Audit, Desk, OpenFault};
 use acd_terms::Limits;
-use sqlite::{Connection, MemStore};
+use sqlite::{Alter, Connection, MemStore};
 use std::alloc::Global;
 use std::process::Abort;
-
-// What lies there once a new book has taken the requests.
-fn behind<P: Shelf>(rt: &impl Abort, alloc: Global, shelf: P, scene: &Scene) -> P {
-    let book = taken(rt, alloc, shelf, Some(Limits::GREATEST));
-    P::put(answers_so(rt, alloc, book, scene.input.as_str(), scene.output.as_str()))
-}
 
 // The place in the kept list that an audit tells, or `sound`.
 fn audited<B: Book>(rt: &impl Abort, alloc: Global, desk: &mut Desk<B>) -> String {
@@ -41,20 +35,19 @@ fn told<B: Book + Drop>(rt: &impl Abort, alloc: Global, book: B) -> String {
     }
 }
 
-fn told_of<P: Shelf>(rt: &impl Abort, alloc: Global, shelf: P) -> String {
-    told(rt, alloc, taken(rt, alloc, shelf, None))
-}
-
 // What is told of a database in which a new book takes the scene, and which is then changed.
-fn told_behind<P: Changing>(
+fn told_behind<S: Alter + Drop>(
     rt: &impl Abort,
     alloc: Global,
-    shelf: P,
+    conn: Connection<S>,
     scene: &Scene,
     sql: &str,
 ) -> String {
-    let shelf = behind(rt, alloc, shelf, scene);
-    told_of(rt, alloc, shelf.changed(rt, alloc, sql))
+    let book = book_in(rt, alloc, conn, Some(Limits::GREATEST));
+    let (input, output) = (scene.input.as_str(), scene.output.as_str());
+    let book = answers_so(rt, alloc, book, input, output);
+    let conn = changed(rt, book.into_connection(), sql);
+    told(rt, alloc, book_in(rt, alloc, conn, None))
 }
 
 /// A database in memory.

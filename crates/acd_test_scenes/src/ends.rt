@@ -145,14 +145,14 @@ pub fn compare<B: Book + Drop>(rt: &impl Abort, alloc: Global, book: B, texts: &
     compare_kept(rt, book, &held)
 }
 
-/// A kept record, the first one.
-pub fn first_record(rt: &impl Abort, alloc: Global) -> Kept {
+/// The kept record of this number, of a moment.
+pub fn record_of(rt: &impl Abort, alloc: Global, number: u64, moment: u32) -> Kept {
     Kept {
-        stamp: 1,
-        moment: 0,
+        stamp: number,
+        moment,
         request: Request {
             requester: Requester::read(b"office").expect(rt, "a requester"),
-            invoke: Invoke::new(1).expect(rt, "an invoke number"),
+            invoke: Invoke::new(number).expect(rt, "an invoke number"),
             command: Command::Tick,
         },
         status: 200,
@@ -179,7 +179,7 @@ pub fn expect_committed<B: Book + Drop>(
     refused: BookFault,
 ) {
     let mut book = book;
-    let record = first_record(rt, alloc);
+    let record = record_of(rt, alloc, 1, 0);
     same(
         rt,
         &committed(&mut book, &held.0, &held.1, &record),

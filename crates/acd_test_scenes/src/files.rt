@@ -5,7 +5,7 @@ use crate::ends::count_kept;
 use crate::fused::{closed, closed_files, connected, copied, empty_files, opened_files};
 use crate::look_ups::same;
 use crate::sessions::{Scene, answered, answers_so, arrivals, opened};
-use crate::shelf::{Shelf, book_in};
+use crate::shelf::{book_in, changed, take};
 use crate::texts::{joined, push, same_text};
 use acd_book::Book;
 use acd_desk::{Audit, Desk, Taken};
@@ -62,7 +62,7 @@ fn run<S: Alter + Drop>(
     conn: Connection<S>,
     arrivals: &[Arrival],
 ) -> (u64, Connection<S>) {
-    match conn.take(alloc, None) {
+    match take(alloc, conn, None) {
         Ok(book) => match Desk::session(alloc, book, arrivals) {
             Ok((answers, book)) => (replied(rt, &answers), book.into_connection()),
             Err((_, book)) => (0, book.into_connection()),
@@ -209,9 +209,7 @@ fn with_old_book<S: Alter + Drop>(
     alloc: Global,
     conn: Connection<S>,
 ) -> Connection<S> {
-    let mut conn = with_new_book(rt, alloc, conn);
-    conn.execute_batch(OLDER).expect(rt, "version 1");
-    conn
+    changed(rt, with_new_book(rt, alloc, conn), OLDER)
 }
 
 /// The requests are one session over two files of version 1, of which one stops behind each number of its calls in turn, as

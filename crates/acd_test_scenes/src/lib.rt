@@ -1,5 +1,7 @@
-//! Scenes from request to reply, played over a desk, its book and a switch, with ample memory. They stand in a crate
-//! of their own, so that no other crate is proved a second time for them.
+//! Scenes from request to reply, played over a desk, its book and a switch, with ample memory; and tests of the book in SQLite and
+//! of the program by their public calls, what no contract says of them: the modules `sqlbook` and `program` are named as their
+//! crates. They stand in a crate of their own, so that no other crate is proved a second time for them, and in one, since each
+//! program of tests is linked with all that it reaches, which takes longer than many of its functions.
 #![tactic(auto)]
 
 #[cfg(test)]
@@ -25,6 +27,8 @@ mod many_requests;
 #[cfg(test)]
 mod player;
 #[cfg(test)]
+mod program;
+#[cfg(test)]
 mod reads;
 #[cfg(test)]
 mod reference;
@@ -40,6 +44,8 @@ mod script;
 mod sessions;
 #[cfg(test)]
 mod shelf;
+#[cfg(test)]
+mod sqlbook;
 #[cfg(test)]
 mod tests;
 #[cfg(test)]

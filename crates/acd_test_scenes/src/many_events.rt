@@ -1,6 +1,6 @@
 //! A desk of more events than an export or a page of history takes from its book at once, three times over.
 
-use crate::ends::{committed, first_record};
+use crate::ends::{committed, record_of};
 use crate::exports::compare_pages;
 use crate::look_ups::same;
 use crate::reads;
@@ -38,7 +38,7 @@ fn book_of_many(rt: &impl Abort, alloc: Global, events: &[Event]) -> MemoryBook 
     rows.last_stamp = 1;
     rows.last_event = 2500;
     let mut book = MemoryBook::new(alloc, Limits::GREATEST);
-    let taken = committed(&mut book, &rows, events, &first_record(rt, alloc));
+    let taken = committed(&mut book, &rows, events, &record_of(rt, alloc, 1, 0));
     same(rt, &taken, &Ok(()));
     book
 }

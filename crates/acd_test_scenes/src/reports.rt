@@ -2,9 +2,10 @@
 //! rows.
 
 use crate::look_ups::same;
+use crate::scans::is_planned;
 use acd_terms::{
     AgentId, AgentState, Cause, ConnectionRecord, ConnectionState, DeviceId, Event, EventKind,
-    Report, Rows,
+    Report, Rows, find,
 };
 use std::alloc::Global;
 use std::process::Abort;
@@ -27,31 +28,45 @@ fn state_told(kind: EventKind) -> Option<ConnectionState> {
 // A connection, by its call and device, and its state.
 type End = (u64, DeviceId, ConnectionState);
 
-fn is_of(end: &End, call: u64, device: DeviceId) -> bool {
-    end.0 == call && end.1 == device
+fn add(rt: &impl Abort, ends: &mut Vec<End>, end: &End) {
+    ends.push(*end).expect(rt, "memory");
 }
 
-// The connection is gone.
-fn forget(ends: &mut Vec<End>, call: u64, device: DeviceId) {
-    ends.retain(|end| !is_of(end, call, device));
+// All but the connection of the call at the device.
+fn without(rt: &impl Abort, alloc: Global, ends: &[End], call: u64, device: DeviceId) -> Vec<End> {
+    let mut others = Vec::new(alloc);
+    for end in ends {
+        if end.0 != call || end.1 != device {
+            add(rt, &mut others, end);
+        }
+    }
+    others
 }
 
 // What an event tells of a connection is all that is known of it.
-fn learn(rt: &impl Abort, ends: &mut Vec<End>, event: &Event) {
-    let columns = event.report.columns();
-    if let (Some(call), Some(device)) = (columns.call, columns.device) {
-        forget(ends, call, device);
-        if let Some(state) = state_told(columns.kind) {
-            ends.push((call, device, state)).expect(rt, "memory");
-        }
+fn learned(
+    rt: &impl Abort,
+    alloc: Global,
+    ends: &[End],
+    event: &Event,
+    call: u64,
+    device: DeviceId,
+) -> Vec<End> {
+    let mut others = without(rt, alloc, ends, call, device);
+    if let Some(state) = state_told(event.report.columns().kind) {
+        add(rt, &mut others, &(call, device, state));
     }
+    others
 }
 
 // The connections that the events tell.
 fn ends_told(rt: &impl Abort, alloc: Global, events: &[Event]) -> Vec<End> {
     let mut ends = Vec::new(alloc);
     for event in events {
-        learn(rt, &mut ends, event);
+        let columns = event.report.columns();
+        if let (Some(call), Some(device)) = (columns.call, columns.device) {
+            ends = learned(rt, alloc, &ends, event, call, device);
+        }
     }
     ends
 }
@@ -101,18 +116,14 @@ fn last_entry(events: &[Event], group: DeviceId, call: u64) -> u64 {
     number
 }
 
-fn is_planned(rows: &Rows, device: DeviceId) -> bool {
-    rows.groups.as_slice().iter().any(|g| g.device == device)
-        || rows.stations.as_slice().iter().any(|s| s.device == device)
-}
-
 // The device is no planned one, and the caller of the live call.
 fn is_external_caller(rows: &Rows, call: u64, device: DeviceId) -> bool {
-    rows.calls
-        .as_slice()
-        .iter()
-        .any(|c| c.call == call && c.caller == device)
-        && !is_planned(rows, device)
+    for c in rows.calls.as_slice() {
+        if c.call == call && c.caller == device {
+            return !is_planned(rows, device);
+        }
+    }
+    false
 }
 
 // Each connection of the rows is told, but that of an external caller, and no other one is.
@@ -138,7 +149,7 @@ fn compare_agents(rt: &impl Abort, events: &[Event], rows: &Rows) {
     }
     for event in events {
         if let Some(told) = event.report.columns().agent {
-            assert!(rt; rows.agents.as_slice().iter().any(|a| a.agent == told));
+            assert!(rt; find(rows.agents.as_slice(), told).is_some());
         }
     }
 }

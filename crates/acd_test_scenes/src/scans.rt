@@ -21,22 +21,19 @@ pub fn monitor_of(rows: &Rows, monitor: u64) -> Option<MonitorRecord> {
     find(rows.monitors.as_slice(), monitor)
 }
 
-pub fn is_group(rows: &Rows, device: DeviceId) -> bool {
-    group_of(rows, device).is_some()
-}
-
-pub fn is_station(rows: &Rows, device: DeviceId) -> bool {
-    station_of(rows, device).is_some()
-}
-
 /// Groups and stations are planned, external callers are not.
 pub fn is_planned(rows: &Rows, device: DeviceId) -> bool {
-    is_group(rows, device) || is_station(rows, device)
+    group_of(rows, device).is_some() || station_of(rows, device).is_some()
 }
 
 /// The caller of a live call has the number.
 pub fn is_calling(rows: &Rows, device: DeviceId) -> bool {
-    rows.calls.iter().any(|c| c.caller == device)
+    for c in &rows.calls {
+        if c.caller == device {
+            return true;
+        }
+    }
+    false
 }
 
 /// The number is planned, or that of an external caller of a live call.
@@ -80,27 +77,32 @@ pub fn other_of(rows: &Rows, connection: &ConnectionRecord) -> Option<Connection
 
 /// A connection at the station is initiated, alerting or connected.
 pub fn is_live_at(rows: &Rows, station: DeviceId) -> bool {
-    rows.connections
-        .iter()
-        .any(|c| c.device == station && c.state.is_live())
+    for c in &rows.connections {
+        if c.device == station && c.state.is_live() {
+            return true;
+        }
+    }
+    false
 }
 
 /// No connection at the station is live or on hold.
 pub fn is_idle(rows: &Rows, station: DeviceId) -> bool {
-    !has_occupying(rows, station)
-}
-
-fn has_occupying(rows: &Rows, station: DeviceId) -> bool {
-    rows.connections
-        .iter()
-        .any(|c| c.device == station && c.state.is_occupying())
+    for c in &rows.connections {
+        if c.device == station && c.state.is_occupying() {
+            return false;
+        }
+    }
+    true
 }
 
 /// A distributed connection is at the agent's station.
 pub fn is_occupied(rows: &Rows, agent: &AgentRecord) -> bool {
-    rows.connections
-        .iter()
-        .any(|c| agent.station == Some(c.device) && c.is_distributed())
+    for c in &rows.connections {
+        if agent.station == Some(c.device) && c.is_distributed() {
+            return true;
+        }
+    }
+    false
 }
 
 /// The agent is of the group, ready and unoccupied, at an idle station.
@@ -130,7 +132,7 @@ pub fn first_eligible(rows: &Rows, group: DeviceId) -> Option<(u64, AgentId)> {
     let mut best = None;
     for agent in &rows.agents {
         if is_eligible(rows, group, agent) {
-            best = Some(lesser_agent(best, (agent.stamp, agent.agent)));
+            best = Some(lesser(best, (agent.stamp, agent.agent)));
         }
     }
     best
@@ -138,22 +140,18 @@ pub fn first_eligible(rows: &Rows, group: DeviceId) -> Option<(u64, AgentId)> {
 
 /// How many connections are queued.
 pub fn queued_count(rows: &Rows) -> usize {
-    rows.connections
-        .iter()
-        .filter(|c| c.state.is_queued())
-        .count()
-}
-
-fn lesser(best: Option<(u64, u64)>, pair: (u64, u64)) -> (u64, u64) {
-    match best {
-        None => pair,
-        Some(other) => { if pair < other { pair } else { other } }
+    let mut count = 0usize;
+    for c in &rows.connections {
+        if c.state.is_queued() {
+            count = count.saturating_add(1);
+        }
     }
+    count
 }
 
-fn lesser_agent(best: Option<(u64, AgentId)>, pair: (u64, AgentId)) -> (u64, AgentId) {
+fn lesser<T: Ord + Copy>(best: Option<T>, item: T) -> T {
     match best {
-        None => pair,
-        Some(other) => { if pair < other { pair } else { other } }
+        None => item,
+        Some(other) => { if item < other { item } else { other } }
     }
 }

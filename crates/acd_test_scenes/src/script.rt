@@ -17,10 +17,10 @@
 //! | `altered NAME: PART` | is taken by a book whose database is then changed by each of its lines `~ TOLD SQL` ([`altered`](crate::altered)) |
 
 use crate::altered::database;
-use crate::ends::{Held, expect_committed, expect_run, held_by};
+use crate::ends::{expect_committed, expect_run, held_by};
 use crate::player::play;
-use crate::shelf::taken;
-use crate::texts::{halves, joined, number, push};
+use crate::shelf::book_in;
+use crate::texts::{halves, joined, number, push, text_in};
 use crate::{altered, files, full};
 use acd_book::{Book, BookFault, MemoryBook};
 use acd_codec::read_request;
@@ -37,80 +37,55 @@ struct Part<'a> {
     text: String,
 }
 
-// Over a new book. Answers what it then holds, or where that isn't what happens.
+// Over three new books: the first one is asked, the second one takes what that one holds by one commit, which is refused so a
+// second time, and the third one by one session. Answers where that isn't what happens.
 fn played_over<B: Book + Drop>(
     rt: &impl Abort,
     alloc: Global,
-    book: B,
+    first: B,
+    second: B,
+    third: B,
+    refused: BookFault,
     texts: &[&str],
-) -> Result<Held, String> {
-    let (mut book, wrong) = play(rt, alloc, book, texts);
-    match wrong {
-        None => Ok(held_by(rt, &mut book)),
-        Some(wrong) => Err(wrong),
+) -> Option<String> {
+    let (mut book, wrong) = play(rt, alloc, first, texts);
+    if wrong.is_some() {
+        return wrong;
     }
+    let held = held_by(rt, &mut book);
+    expect_committed(rt, alloc, second, &held, refused);
+    expect_run(rt, alloc, third, texts, &held);
+    None
 }
 
 fn book_in_memory(alloc: Global, limits: Limits) -> MemoryBook {
     MemoryBook::new(alloc, limits)
 }
 
-// Another new book takes what one holds by one commit, and a third one by one session.
-fn again_in_memory(rt: &impl Abort, alloc: Global, limits: Limits, texts: &[&str], held: &Held) {
-    let refused = BookFault::NoMemory;
-    expect_committed(rt, alloc, book_in_memory(alloc, limits), held, refused);
-    expect_run(rt, alloc, book_in_memory(alloc, limits), texts, held);
-}
-
-// Over new books in memory with these limits.
-fn played_in_memory(
-    rt: &impl Abort,
-    alloc: Global,
-    limits: Limits,
-    texts: &[&str],
-) -> Option<String> {
-    match played_over(rt, alloc, book_in_memory(alloc, limits), texts) {
-        Ok(held) => again_in_memory(rt, alloc, limits, texts, &held),
-        Err(wrong) => return Some(wrong),
-    }
-    None
-}
-
 fn book_in_database(rt: &impl Abort, alloc: Global, limits: Limits) -> SqlBook<MemStore> {
-    taken(rt, alloc, database(rt, alloc), Some(limits))
+    book_in(rt, alloc, database(rt, alloc), Some(limits))
 }
 
-// The same over books in databases.
-fn again_in_database(rt: &impl Abort, alloc: Global, limits: Limits, texts: &[&str], held: &Held) {
-    let refused = BookFault::Store;
-    expect_committed(
-        rt,
-        alloc,
-        book_in_database(rt, alloc, limits),
-        held,
-        refused,
-    );
-    expect_run(rt, alloc, book_in_database(rt, alloc, limits), texts, held);
-}
-
-// And over books in databases.
-fn played_in_database(
+// Over books in databases.
+fn played_in_databases(
     rt: &impl Abort,
     alloc: Global,
     limits: Limits,
     texts: &[&str],
 ) -> Option<String> {
-    match played_over(rt, alloc, book_in_database(rt, alloc, limits), texts) {
-        Ok(held) => again_in_database(rt, alloc, limits, texts, &held),
-        Err(wrong) => return Some(wrong),
-    }
-    None
+    let first = book_in_database(rt, alloc, limits);
+    let second = book_in_database(rt, alloc, limits);
+    let third = book_in_database(rt, alloc, limits);
+    played_over(rt, alloc, first, second, third, BookFault::Store, texts)
 }
 
-// Over both. Answers where that isn't what happens.
+// Over books in memory, and then over books in databases. Answers where that isn't what happens.
 fn played(rt: &impl Abort, alloc: Global, limits: Limits, texts: &[&str]) -> Option<String> {
-    match played_in_memory(rt, alloc, limits, texts) {
-        None => played_in_database(rt, alloc, limits, texts),
+    let first = book_in_memory(alloc, limits);
+    let second = book_in_memory(alloc, limits);
+    let third = book_in_memory(alloc, limits);
+    match played_over(rt, alloc, first, second, third, BookFault::NoMemory, texts) {
+        None => played_in_databases(rt, alloc, limits, texts),
         wrong => wrong,
     }
 }
@@ -413,9 +388,10 @@ impl<'a> Script<'a> {
         }
     }
 
-    /// Plays its lines. The first scene that is otherwise ends the program.
-    pub fn play(&mut self, rt: &impl Abort, lines: &'a str) {
-        for line in lines.lines() {
+    /// Plays its lines, which are bytes: of a text the proof has to show that it is one. The first scene that is otherwise
+    /// ends the program.
+    pub fn play(&mut self, rt: &impl Abort, lines: &'a [u8]) {
+        for line in text_in(rt, lines).lines() {
             self.play_line(rt, line);
         }
     }

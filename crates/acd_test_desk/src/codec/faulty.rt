@@ -1,13 +1,13 @@
 //! Bytes that are no request, each with its first faulty member.
 
 use super::reads;
+use crate::texts::text_in;
 use std::alloc::Global;
 use std::process::Abort;
 
-// A member's name and the bytes in which it is the first that is faulty. Text is cheap to prove where no clause gives
-// it.
-fn texts() -> &'static str {
-    r##"
+// A member's name and the bytes in which it is the first that is faulty.
+fn texts() -> &'static [u8] {
+    br##"
 # no JSON, or no object
 json []
 json null
@@ -258,7 +258,7 @@ fn are_malformed(rt: &impl Abort, alloc: Global, texts: &str) {
 
 #[test]
 fn faulty_texts(rt: HostRuntime) {
-    are_malformed(&rt, rt.alloc(), texts());
+    are_malformed(&rt, rt.alloc(), text_in(&rt, texts()));
     are_malformed(&rt, rt.alloc(), texts_with_signs());
 }
 

@@ -1,10 +1,11 @@
 //! Bytes that are a request, with the one text of that request.
 
 use super::reads;
+use crate::texts::text_in;
 
 // Requests that are their own text, and others with their text behind `=>`.
-fn requests() -> &'static str {
-    r##"
+fn requests() -> &'static [u8] {
+    br##"
 {"device":"100","invoke":1,"name":"Billing","requester":"plan","ring":20,"service":"addGroup","wrap":30}
 {"device":"201","invoke":2,"requester":"plan","service":"addStation"}
 {"agent":"7","invoke":4,"name":"Ana","requester":"plan","service":"addAgent"}
@@ -69,7 +70,7 @@ fn requests() -> &'static str {
 
 #[test]
 fn texts_of_requests(rt: HostRuntime) {
-    for line in requests().lines() {
+    for line in text_in(&rt, requests()).lines() {
         if !line.is_empty() {
             let (asked, text) = line.split_once(" => ").unwrap_or((line, line));
             reads(&rt, rt.alloc(), asked.as_bytes(), text);

@@ -2,8 +2,8 @@
 
 /// The tests of a request: the first failure of each, and which goes before which. Of a target that is asked by GET no
 /// body is waited for.
-pub fn refusals() -> &'static str {
-    r#"
+pub fn refusals() -> &'static [u8] {
+    br#"
 scene refusals_of_a_head
 > http GET /queues/100 HTTP/1.1\r\n\r\n
 HTTP/1.1 400 Bad Request\r
@@ -193,8 +193,8 @@ closed executed 0, groups 0, stations 0, failures 0, reads 1
 }
 
 /// What a desk executes, keeps and refuses, and what is read of it.
-pub fn reads() -> &'static str {
-    r#"
+pub fn reads() -> &'static [u8] {
+    br#"
 scene body_of_the_greatest_length
 > json POST /csta HTTP/1.1\r\nHost: desk\r\nContent-Length: 4096\r\n\r\n<3992  >{"requester":"plan","invoke":1,"service":"addGroup","device":"100","name":"Billing","ring":20,"wrap":30}
 200 OK: {"invoke":1,"requester":"plan","result":{}}

@@ -1,8 +1,8 @@
 //! Several groups, times that run out, and how an agent is released.
 
 /// The lines of a [script](crate::script).
-pub fn lines() -> &'static str {
-    r#"part two_groups
+pub fn lines() -> &'static [u8] {
+    br#"part two_groups
 # A call waits in each of two groups, whose agents have after-call work.
 > 1 {"device":"110","invoke":6,"name":"Claims","requester":"plan","ring":20,"service":"addGroup","wrap":30}
 < 200 {"invoke":6,"requester":"plan","result":{}}

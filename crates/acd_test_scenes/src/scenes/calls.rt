@@ -1,8 +1,8 @@
 //! Calls that come, wait, are offered, answered, held, handed on and cleared.
 
 /// The lines of a [script](crate::script).
-pub fn lines() -> &'static str {
-    r#"part plan
+pub fn lines() -> &'static [u8] {
+    br#"part plan
 # Group 100 with a ring of 20 and a wrap of 30 seconds, stations 201 and 202, agents 7 and 8.
 > 0 {"device":"100","invoke":1,"name":"Billing","requester":"plan","ring":20,"service":"addGroup","wrap":30}
 < 200 {"invoke":1,"requester":"plan","result":{}}

@@ -1,8 +1,8 @@
 //! Offers that are rejected, and groups and agents that are corrected.
 
 /// The lines of a [script](crate::script).
-pub fn lines() -> &'static str {
-    r#"part rejected_to_the_second
+pub fn lines() -> &'static [u8] {
+    br#"part rejected_to_the_second
 # Agent 8 doesn't take the call, and agent 7, who is ready too, is offered it at once.
 > 12 {"call":1,"device":"202","invoke":5,"requester":"desk","service":"rejectCall"}
 < 200 {"invoke":5,"requester":"desk","result":{}}

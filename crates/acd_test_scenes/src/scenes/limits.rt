@@ -1,8 +1,8 @@
 //! An office at its limits.
 
 /// The lines of a [script](crate::script).
-pub fn lines() -> &'static str {
-    r#"# An office at its limits, with names, numbers and a requester of full length: 64 groups, a thousand stations with an agent at each,
+pub fn lines() -> &'static [u8] {
+    br#"# An office at its limits, with names, numbers and a requester of full length: 64 groups, a thousand stations with an agent at each,
 # 256 monitors and two thousand calls.
 
 part full_plan

@@ -1,8 +1,8 @@
 //! A morning in a small office, as tests/office.py foresees it.
 
 /// The first lines of a [script](crate::script).
-pub fn first_lines() -> &'static str {
-    r#"part morning
+pub fn first_lines() -> &'static [u8] {
+    br#"part morning
 + 0000000000 {} {"note": [1, {"to": null}], "service": "addGroup", "wrap": 20, "ring": 15, "invoke": 1, "name": "Group 0100 'of' the help line", "device": "0100", "requester": "planning-of-the-help-line-office"}
 + 0 {} {"requester":"planning-of-the-help-line-office","invoke":2,"service":"addGroup","device":"110","name":"Group 110 'of' the help line","ring":30,"wrap":45}
 + 0000000002 {} {"note": [1, {"to": null}], "device": "9", "invoke": 3, "wrap": 0, "name": "Group 9 'of' the help line", "requester": "planning-of-the-help-line-office", "service": "addGroup", "ring": 20}
@@ -397,8 +397,8 @@ pub fn first_lines() -> &'static str {
 }
 
 /// The lines behind them: in two texts each takes less to prove.
-pub fn last_lines() -> &'static str {
-    r#"! {"call":29,"cause":"newCall","device":"110","event":"queued","moment":165,"number":221}
+pub fn last_lines() -> &'static [u8] {
+    br#"! {"call":29,"cause":"newCall","device":"110","event":"queued","moment":165,"number":221}
 + 165 {"state":"ready"} {"requester":"help-line-office-of-the-city-001","invoke":25,"service":"setAgentState","agent":"16","requested":"ready"}
 ! {"agent":"16","device":"0207","event":"agentReady","moment":165,"number":222}
 ! {"call":22,"cause":"distributed","device":"9","event":"diverted","group":"9","moment":165,"number":223,"to":"0207"}

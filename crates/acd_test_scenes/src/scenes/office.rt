@@ -1,8 +1,8 @@
 //! An office of working size.
 
 /// The lines of a [script](crate::script).
-pub fn lines() -> &'static str {
-    r#"# An office of working size: twelve groups, forty stations with an agent at each, of whom twenty are ready, a monitor of
+pub fn lines() -> &'static [u8] {
+    br#"# An office of working size: twelve groups, forty stations with an agent at each, of whom twenty are ready, a monitor of
 # each group, and sixty calls, five in each group: twenty are offered, and forty wait.
 
 part office_plan

@@ -1,8 +1,8 @@
 //! Several groups for an agent, and groups with priority.
 
 /// The lines of a [script](crate::script).
-pub fn lines() -> &'static str {
-    r#"part claims
+pub fn lines() -> &'static [u8] {
+    br#"part claims
 # Group 110 with a ring of 20, a wrap of 45 seconds, and priority 5.
 > 0 {"device":"110","invoke":6,"name":"Claims","requester":"plan","ring":20,"service":"addGroup","wrap":45}
 < 200 {"invoke":6,"requester":"plan","result":{}}

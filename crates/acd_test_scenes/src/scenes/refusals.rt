@@ -1,8 +1,8 @@
 //! Refusals, limits and what is kept.
 
 /// The lines of a [script](crate::script).
-pub fn lines() -> &'static str {
-    r#"# Every refusal of every service, in its order: a request that could be refused twice over is refused by the first.
+pub fn lines() -> &'static [u8] {
+    br#"# Every refusal of every service, in its order: a request that could be refused twice over is refused by the first.
 
 part refusals_of_plan_and_calls
 - 50 7 deviceExists {"device":"100","invoke":101,"name":"Again","requester":"sup","ring":0,"service":"addGroup","wrap":0}

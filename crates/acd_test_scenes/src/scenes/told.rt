@@ -1,8 +1,8 @@
 //! What a desk tells, files, stops, changes that an audit tells, and transcripts that are wrong.
 
 /// The lines of a [script](crate::script).
-pub fn lines() -> &'static str {
-    r#"# What a desk tells, from question to text.
+pub fn lines() -> &'static [u8] {
+    br#"# What a desk tells, from question to text.
 
 part of_a_call_that_waits
 # A call waits, and nobody planned its caller.

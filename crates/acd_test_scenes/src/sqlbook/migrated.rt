@@ -1,17 +1,17 @@
 //! A version 1 that an older program left behind an answered call, and what it is once it is taken.
 
 use super::adopted::old_tables;
-use super::{book_in, changed, empty, expect_numbers};
-use crate::comparing::same;
-use acd_book::Book;
-use acd_desk::{Audit, Desk};
-use std::alloc::Global;
+use super::expect_numbers;
+use crate::altered::database;
+use crate::files::expect_sound;
+use crate::shelf::{book_in, changed};
+use crate::texts::part_of;
 use std::process::Abort;
 
-/// The rows of that file, as stock sqlite3 dumped them: the plan, a call that waited, an agent who logged on, got
-/// ready and answered it.
-pub fn left() -> &'static str {
-    r#"UPDATE meta SET last_stamp = 9, last_moment = 25, last_call = 1, last_event = 7;
+// What was left, and what it is then.
+fn parts() -> &'static [u8] {
+    br#"left: The rows of that file, as stock sqlite3 dumped them: the plan, a call that waited, an agent who logged on, got ready and answered it.
+UPDATE meta SET last_stamp = 9, last_moment = 25, last_call = 1, last_event = 7;
 INSERT INTO acd_groups VALUES (1100,'Billing',20,30,1,1,0,0,15);
 INSERT INTO stations VALUES (1201);
 INSERT INTO stations VALUES (1202);
@@ -35,23 +35,10 @@ INSERT INTO kept VALUES (5,'plan',5,0,'{"agent":"8","invoke":5,"name":"Ben","req
 INSERT INTO kept VALUES (6,'pbx',1,10,'{"called":"100","caller":"0301234","invoke":1,"requester":"pbx","service":"arriveCall"}',200,'{"invoke":1,"requester":"pbx","result":{"call":1}}');
 INSERT INTO kept VALUES (7,'desk',1,15,'{"agent":"7","device":"201","group":"100","invoke":1,"requested":"loggedOn","requester":"desk","service":"setAgentState"}',200,'{"invoke":1,"requester":"desk","result":{"state":"notReady"}}');
 INSERT INTO kept VALUES (8,'desk',2,18,'{"agent":"7","invoke":2,"requested":"ready","requester":"desk","service":"setAgentState"}',200,'{"invoke":2,"requester":"desk","result":{"state":"ready"}}');
-INSERT INTO kept VALUES (9,'desk',3,25,'{"call":1,"device":"201","invoke":3,"requester":"desk","service":"answerCall"}',200,'{"invoke":3,"requester":"desk","result":{}}')"#
-}
+INSERT INTO kept VALUES (9,'desk',3,25,'{"call":1,"device":"201","invoke":3,"requester":"desk","service":"answerCall"}',200,'{"invoke":3,"requester":"desk","result":{}}')
 
-/// The desk over the book is as its records make it.
-pub fn expect_sound<B: Book + Drop>(rt: &impl Abort, alloc: Global, book: B) -> B {
-    match Desk::open(alloc, book) {
-        Ok(mut desk) => {
-            same(rt, &desk.audit(), &Ok(Audit::Sound));
-            desk.close()
-        }
-        Err((fault, _)) => panic!(rt; "{fault:?}"),
-    }
-}
-
-// Version 2, with the rows that it had and two empty tables.
-fn migrated() -> &'static str {
-    "2 SELECT version FROM meta
+migrated: Version 2, with the rows that it had and two empty tables.
+2 SELECT version FROM meta
 1 SELECT count(*) FROM meta
 1 SELECT count(*) FROM acd_groups
 2 SELECT count(*) FROM stations
@@ -68,17 +55,23 @@ fn migrated() -> &'static str {
 15 SELECT waited FROM acd_groups
 9 SELECT stamp FROM agents WHERE name = 'Ana' AND state = 3 AND station = 1201 AND grp = 1100
 1100 SELECT grp FROM connections WHERE device = 1201
-15 SELECT waited FROM events WHERE number = 6"
+15 SELECT waited FROM events WHERE number = 6"#
+}
+
+/// The rows that were left.
+pub fn left(rt: &impl Abort) -> &'static str {
+    part_of(rt, parts(), "left")
 }
 
 #[test]
 fn a_version_1_that_an_older_program_left(rt: HostRuntime) {
     let alloc = rt.alloc();
-    let conn = changed(&rt, empty(&rt, alloc), old_tables());
-    let conn = changed(&rt, conn, left());
-    let book = expect_sound(&rt, alloc, book_in(&rt, alloc, conn));
+    let conn = changed(&rt, database(&rt, alloc), old_tables(&rt));
+    let conn = changed(&rt, conn, left(&rt));
+    let book = expect_sound(&rt, alloc, book_in(&rt, alloc, conn, None));
     let mut conn = book.into_connection();
-    expect_numbers(&rt, &mut conn, migrated());
-    let book = expect_sound(&rt, alloc, book_in(&rt, alloc, conn));
-    expect_numbers(&rt, &mut book.into_connection(), migrated());
+    let migrated = part_of(&rt, parts(), "migrated");
+    expect_numbers(&rt, &mut conn, migrated);
+    let book = expect_sound(&rt, alloc, book_in(&rt, alloc, conn, None));
+    expect_numbers(&rt, &mut book.into_connection(), migrated);
 }

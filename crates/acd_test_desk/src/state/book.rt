@@ -2,8 +2,9 @@
 
 mod watched;
 
-use crate::tables::rows_of;
-use crate::values::{device, same};
+use crate::comparing::same;
+use crate::state::tables::rows_of;
+use crate::state::values::device;
 use acd_book::{Book, BookFault, Kept, MemoryBook, Text};
 use acd_model::Change;
 use acd_terms::{

@@ -1,6 +1,6 @@
 //! The queue report, byte for byte.
 
-use crate::values::{device, group, listed, plain, same_text, waiting};
+use crate::state::values::{device, group, listed, plain, same_text, waiting};
 use acd_reports::queue_report;
 use acd_terms::{ConnectionRecord, ConnectionState, DeviceId, Figures, GroupRecord, Limits, Rows};
 use std::process::Abort;

@@ -1,6 +1,7 @@
 //! The export, byte for byte.
 
-use crate::values::{device, same, same_text};
+use crate::comparing::same;
+use crate::state::values::{device, same_text};
 use acd_reports::{events_csv, events_page};
 use acd_terms::{AgentId, Cause, DeviceId, Event, Report, Waited};
 use std::process::Abort;

@@ -2,11 +2,14 @@
 //! every thirtieth. Monitors are started and stopped on the way, together with events too, a commit is refused, and the
 //! book is closed and opened again. Each page is as the test's own lists have it.
 
-use super::{book_in, created, empty};
-use crate::comparing::same;
-use acd_book::{Book, BookFault, Kept, Text};
+use super::created;
+use crate::altered::database;
+use crate::ends::record_of;
+use crate::look_ups::same;
+use crate::shelf::book_in;
+use acd_book::{Book, BookFault};
 use acd_model::Change;
-use acd_terms::{Command, DeviceId, Event, Invoke, MonitorRecord, Report, Request, Requester};
+use acd_terms::{DeviceId, Event, MonitorRecord, Report};
 use std::alloc::Global;
 use std::process::Abort;
 
@@ -72,21 +75,6 @@ fn event(rt: &impl Abort, number: u64) -> Event {
     }
 }
 
-// The record of the commit of a number.
-fn kept(rt: &impl Abort, alloc: Global, number: u64) -> Kept {
-    Kept {
-        stamp: number,
-        moment: 10,
-        request: Request {
-            requester: Requester::read(b"office").expect(rt, "a requester"),
-            invoke: Invoke::new(number).expect(rt, "an invoke number"),
-            command: Command::Tick,
-        },
-        status: 200,
-        body: Text::new(String::from_str(alloc, "{}").expect(rt, "memory")),
-    }
-}
-
 fn add<T: Copy + Drop>(rt: &impl Abort, list: &mut Vec<T>, item: &T) {
     list.push(*item).expect(rt, "memory");
 }
@@ -100,11 +88,30 @@ fn next_events(rt: &impl Abort, alloc: Global, last: u64) -> Vec<Event> {
     events
 }
 
+// These monitors but one.
+fn without(
+    rt: &impl Abort,
+    alloc: Global,
+    monitors: &[MonitorRecord],
+    monitor: u64,
+) -> Vec<MonitorRecord> {
+    let mut others = Vec::new(alloc);
+    for other in monitors {
+        if other.monitor != monitor {
+            add(rt, &mut others, other);
+        }
+    }
+    others
+}
+
 // A monitor runs, or no longer.
-fn learn(rt: &impl Abort, monitors: &mut Vec<MonitorRecord>, change: &Change) {
+fn learn(rt: &impl Abort, alloc: Global, known: &mut Known, change: &Change) {
     match change {
-        Change::PutMonitor(monitor) => add(rt, monitors, monitor),
-        Change::RemoveMonitor(monitor) => monitors.retain(|other| other.monitor != *monitor),
+        Change::PutMonitor(monitor) => add(rt, &mut known.monitors, monitor),
+        Change::RemoveMonitor(monitor) => {
+            let others = without(rt, alloc, known.monitors.as_slice(), *monitor);
+            known.monitors = others;
+        }
         _ => {}
     }
 }
@@ -119,11 +126,11 @@ fn commit<B: Book>(
 ) {
     known.commits = known.commits.saturating_add(1);
     let events = next_events(rt, alloc, known.events);
-    let done = book.commit_changes(changes, &events, &kept(rt, alloc, known.commits));
+    let done = book.commit_changes(changes, &events, &record_of(rt, alloc, known.commits, 10));
     same(rt, &done, &Ok(()));
     known.events = known.events.saturating_add(EVENTS);
     for change in changes {
-        learn(rt, &mut known.monitors, change);
+        learn(rt, alloc, known, change);
     }
 }
 
@@ -225,7 +232,7 @@ fn begin<B: Book>(rt: &impl Abort, alloc: Global, book: &mut B, known: &mut Know
 fn expect_refused<B: Book>(rt: &impl Abort, alloc: Global, book: &mut B, known: &Known) {
     let events = next_events(rt, alloc, known.events);
     let changes = [start(rt, 11, BUSY, 0)];
-    let done = book.commit_changes(&changes, &events, &kept(rt, alloc, known.commits));
+    let done = book.commit_changes(&changes, &events, &record_of(rt, alloc, known.commits, 10));
     same(rt, &done, &Err(BookFault::Store));
     expect_pages(rt, alloc, book, known);
 }
@@ -263,12 +270,12 @@ fn pages_of_monitors_behind_many_commits(rt: HostRuntime) {
         events: 0,
         monitors: Vec::new(alloc),
     };
-    let mut book = created(&rt, alloc, empty(&rt, alloc));
+    let mut book = created(&rt, alloc, database(&rt, alloc));
     begin(&rt, alloc, &mut book, &mut known);
     expect_refused(&rt, alloc, &mut book, &known);
-    let mut book = book_in(&rt, alloc, book.into_connection());
+    let mut book = book_in(&rt, alloc, book.into_connection(), None);
     expect_pages(&rt, alloc, &mut book, &known);
     end(&rt, alloc, &mut book, &mut known);
-    let mut book = book_in(&rt, alloc, book.into_connection());
+    let mut book = book_in(&rt, alloc, book.into_connection(), None);
     expect_pages(&rt, alloc, &mut book, &known);
 }

@@ -1,14 +1,18 @@
 //! Connections that are taken for a book, and those that aren't, each by its fault.
 
-use super::{altered, changed, empty};
+use super::altered;
+use crate::altered::database;
+use crate::shelf::changed;
+use crate::texts::part_of;
 use acd_sqlbook::SqlBook;
 use sqlite::{Alter, Connection, MemStore};
 use std::alloc::Global;
 use std::process::Abort;
 
-// Changes of a new book, each behind what is told of it. The first table is a book's, and tells its version.
-fn of_new_book() -> &'static str {
-    "book UPDATE meta SET version = 2
+// Databases and changes of them.
+fn parts() -> &'static [u8] {
+    br#"of_new_book: Changes of a new book, each behind what is told of it. The first table is a book's, and tells its version.
+book UPDATE meta SET version = 2
 WrongVersion(0) DELETE FROM meta
 WrongVersion(9) UPDATE meta SET version = 9
 WrongVersion(3) UPDATE meta SET version = 3
@@ -22,12 +26,10 @@ Store DROP TABLE group_priority
 Store DROP TABLE agent_groups
 Store DROP TABLE group_priority; DROP TABLE agent_groups
 Store DROP TABLE group_priority; UPDATE meta SET version = 1
-Store DROP TABLE monitors; UPDATE meta SET version = 1"
-}
+Store DROP TABLE monitors; UPDATE meta SET version = 1
 
-// The tables of version 1 with the greatest limits, by its own texts.
-pub fn old_tables() -> &'static str {
-    "CREATE TABLE meta (id INTEGER NOT NULL PRIMARY KEY CHECK (id = 1), version INTEGER NOT NULL, max_requests INTEGER NOT NULL, max_calls INTEGER NOT NULL, max_groups INTEGER NOT NULL, max_stations INTEGER NOT NULL, max_agents INTEGER NOT NULL, max_monitors INTEGER NOT NULL, last_stamp INTEGER NOT NULL, last_moment INTEGER NOT NULL, last_call INTEGER NOT NULL, last_monitor INTEGER NOT NULL, last_event INTEGER NOT NULL) STRICT;
+old_tables: The tables of version 1 with the greatest limits, by its own texts.
+CREATE TABLE meta (id INTEGER NOT NULL PRIMARY KEY CHECK (id = 1), version INTEGER NOT NULL, max_requests INTEGER NOT NULL, max_calls INTEGER NOT NULL, max_groups INTEGER NOT NULL, max_stations INTEGER NOT NULL, max_agents INTEGER NOT NULL, max_monitors INTEGER NOT NULL, last_stamp INTEGER NOT NULL, last_moment INTEGER NOT NULL, last_call INTEGER NOT NULL, last_monitor INTEGER NOT NULL, last_event INTEGER NOT NULL) STRICT;
 CREATE TABLE acd_groups (device INTEGER NOT NULL PRIMARY KEY, name TEXT NOT NULL, ring INTEGER NOT NULL, wrap INTEGER NOT NULL, entered INTEGER NOT NULL, answered INTEGER NOT NULL, abandoned INTEGER NOT NULL, moved INTEGER NOT NULL, waited INTEGER NOT NULL) STRICT;
 CREATE TABLE stations (device INTEGER NOT NULL PRIMARY KEY) STRICT;
 CREATE TABLE agents (agent INTEGER NOT NULL PRIMARY KEY, name TEXT NOT NULL, state INTEGER NOT NULL CHECK (state BETWEEN 0 AND 4), pending INTEGER, station INTEGER UNIQUE REFERENCES stations, grp INTEGER REFERENCES acd_groups, stamp INTEGER NOT NULL, since INTEGER NOT NULL) STRICT;
@@ -36,26 +38,20 @@ CREATE TABLE connections (call INTEGER NOT NULL REFERENCES calls, device INTEGER
 CREATE TABLE monitors (monitor INTEGER NOT NULL PRIMARY KEY, device INTEGER NOT NULL, after_event INTEGER NOT NULL) STRICT;
 CREATE TABLE events (number INTEGER NOT NULL PRIMARY KEY, moment INTEGER NOT NULL, kind INTEGER NOT NULL CHECK (kind BETWEEN 1 AND 18), device INTEGER, call INTEGER, agent INTEGER, grp INTEGER, target INTEGER, cause INTEGER, waited INTEGER) STRICT;
 CREATE TABLE kept (stamp INTEGER NOT NULL PRIMARY KEY, requester TEXT NOT NULL, invoke INTEGER NOT NULL, moment INTEGER NOT NULL, request TEXT NOT NULL, status INTEGER NOT NULL, body TEXT NOT NULL, UNIQUE (requester, invoke)) STRICT;
-INSERT INTO meta VALUES (1, 1, 1000000000, 2000, 64, 1000, 1000, 256, 0, 0, 0, 0, 0)"
-}
+INSERT INTO meta VALUES (1, 1, 1000000000, 2000, 64, 1000, 1000, 256, 0, 0, 0, 0, 0)
 
-// A row of each table, as a book may hold it.
-fn rows() -> &'static str {
-    r#"INSERT INTO acd_groups VALUES (1501, 'Billing', 20, 30, 0, 0, 0, 0, 0);
+rows: A row of each table, as a book may hold it.
+INSERT INTO acd_groups VALUES (1501, 'Billing', 20, 30, 0, 0, 0, 0, 0);
 INSERT INTO stations VALUES (1201);
 INSERT INTO agents VALUES (17, 'Ann', 1, 2, 1201, 1501, 1, 0);
 INSERT INTO calls VALUES (1, 15550001, 1201, 0);
 INSERT INTO connections VALUES (1, 1201, 3, NULL, 1, 0, 0);
 INSERT INTO monitors VALUES (1, 1201, 0);
 INSERT INTO events VALUES (1, 10, 7, 1201, 1, NULL, NULL, NULL, NULL, NULL);
-INSERT INTO kept VALUES (1, 'plan', 2, 10, '{"device":"201","invoke":2,"requester":"plan","service":"addStation"}', 200, '{}')"#
-}
+INSERT INTO kept VALUES (1, 'plan', 2, 10, '{"device":"201","invoke":2,"requester":"plan","service":"addStation"}', 200, '{}')
 
-// With these rows a value out of its range in each column that has a range. A column that refers to a key holds a bad
-// value only where that key is bad, whose table is read first. Behind them reports of other kinds, with the columns
-// that these have.
-fn of_rows() -> &'static str {
-    "BadRow(Meta) UPDATE meta SET max_requests = -1
+of_rows: With these rows a value out of its range in each column that has a range. A column that refers to a key holds a bad value only where that key is bad, whose table is read first. Behind them reports of other kinds, with the columns that these have.
+BadRow(Meta) UPDATE meta SET max_requests = -1
 BadRow(Meta) UPDATE meta SET max_calls = -1
 BadRow(Meta) UPDATE meta SET max_groups = -1
 BadRow(Meta) UPDATE meta SET max_stations = -1
@@ -126,20 +122,15 @@ book UPDATE events SET kind = 16, call = NULL, agent = 17
 book UPDATE events SET kind = 12, device = NULL, grp = 1501
 book UPDATE events SET kind = 9, target = 1202
 book UPDATE events SET kind = 3, cause = 1
-book UPDATE events SET kind = 6, grp = 1501, waited = 0"
-}
+book UPDATE events SET kind = 6, grp = 1501, waited = 0
 
-// Besides these rows nine groups, from one of a lower number on, and an agent who is logged off.
-fn more_rows() -> &'static str {
-    r#"INSERT INTO acd_groups WITH RECURSIVE n (i) AS (SELECT 1 UNION ALL SELECT i + 1 FROM n WHERE i < 8) SELECT 1501 + i, 'Sales', 20, 30, 0, 0, 0, 0, 0 FROM n;
+more_rows: Besides these rows nine groups, from one of a lower number on, and an agent who is logged off.
+INSERT INTO acd_groups WITH RECURSIVE n (i) AS (SELECT 1 UNION ALL SELECT i + 1 FROM n WHERE i < 8) SELECT 1501 + i, 'Sales', 20, 30, 0, 0, 0, 0, 0 FROM n;
 INSERT INTO acd_groups VALUES (1100, 'Claims', 20, 30, 0, 0, 0, 0, 0);
-INSERT INTO agents VALUES (18, 'Ben', 0, NULL, NULL, NULL, 1, 0)"#
-}
+INSERT INTO agents VALUES (18, 'Ben', 0, NULL, NULL, NULL, 1, 0)
 
-// With these, rows of the two tables that version 2 has more. A value that is out of its range is in one of them only
-// where a key is, whose table is read first.
-fn of_new_tables() -> &'static str {
-    "book UPDATE meta SET id = 1
+of_new_tables: With these, rows of the two tables that version 2 has more. A value that is out of its range is in one of them only where a key is, whose table is read first.
+book UPDATE meta SET id = 1
 book INSERT INTO agent_groups VALUES (17, 1502)
 book INSERT INTO agent_groups SELECT 17, device FROM acd_groups WHERE device BETWEEN 1502 AND 1508
 BadRow(AgentGroups) INSERT INTO agent_groups SELECT 17, device FROM acd_groups WHERE device BETWEEN 1502 AND 1509
@@ -152,29 +143,29 @@ BadRow(AgentGroups) INSERT INTO agent_groups VALUES (17, 1502); UPDATE agents SE
 BadRow(Groups) INSERT INTO acd_groups VALUES (7, 'Other', 20, 30, 0, 0, 0, 0, 0); INSERT INTO agent_groups VALUES (17, 7)
 BadRow(Agents) INSERT INTO agents VALUES (7, 'Cem', 0, NULL, NULL, NULL, 1, 0); INSERT INTO agent_groups VALUES (7, 1502)
 book INSERT INTO group_priority VALUES (1501, 1); INSERT INTO group_priority VALUES (1100, 9)
-BadRow(Groups) INSERT INTO acd_groups VALUES (7, 'Other', 20, 30, 0, 0, 0, 0, 0); INSERT INTO group_priority VALUES (7, 5)"
-}
+BadRow(Groups) INSERT INTO acd_groups VALUES (7, 'Other', 20, 30, 0, 0, 0, 0, 0); INSERT INTO group_priority VALUES (7, 5)
 
-// What the store takes in no database with these rows.
-fn refused_by_the_store() -> &'static str {
-    "INSERT INTO group_priority VALUES (1501, 0)
+refused_by_the_store: What the store takes in no database with these rows.
+INSERT INTO group_priority VALUES (1501, 0)
 INSERT INTO group_priority VALUES (1501, 10)
 INSERT INTO group_priority VALUES (1601, 5)
 INSERT INTO agent_groups VALUES (19, 1502)
-INSERT INTO agent_groups VALUES (17, 1601)"
-}
+INSERT INTO agent_groups VALUES (17, 1601)
 
-// Events and kept records from 1 to 2200: they are read in three pages, for a page has a thousand rows.
-fn history() -> &'static str {
-    r#"INSERT INTO events WITH RECURSIVE n (i) AS (SELECT 1 UNION ALL SELECT i + 1 FROM n WHERE i < 2200) SELECT i, 10, 7, 1201, 1, NULL, NULL, NULL, NULL, NULL FROM n;
+history: Events and kept records from 1 to 2200: they are read in three pages, for a page has a thousand rows.
+INSERT INTO events WITH RECURSIVE n (i) AS (SELECT 1 UNION ALL SELECT i + 1 FROM n WHERE i < 2200) SELECT i, 10, 7, 1201, 1, NULL, NULL, NULL, NULL, NULL FROM n;
 INSERT INTO kept WITH RECURSIVE n (i) AS (SELECT 1 UNION ALL SELECT i + 1 FROM n WHERE i < 2200) SELECT i, 'plan', i, 10, '{"device":"201","invoke":' || i || ',"requester":"plan","service":"addStation"}', 200, '{}' FROM n;
-UPDATE meta SET last_stamp = 2200, last_moment = 10, last_event = 2200"#
+UPDATE meta SET last_stamp = 2200, last_moment = 10, last_event = 2200
+
+of_history: With these a moment out of its range in the second page, of each.
+book UPDATE meta SET id = 1
+BadRow(Events) UPDATE events SET moment = -1 WHERE number = 1500
+BadRow(Kept) UPDATE kept SET moment = -1 WHERE stamp = 1500"#
 }
 
-fn of_history() -> &'static str {
-    "book UPDATE meta SET id = 1
-BadRow(Events) UPDATE events SET moment = -1 WHERE number = 1500
-BadRow(Kept) UPDATE kept SET moment = -1 WHERE stamp = 1500"
+/// The tables of version 1.
+pub fn old_tables(rt: &impl Abort) -> &'static str {
+    part_of(rt, parts(), "old_tables")
 }
 
 // What is told of the connection.
@@ -199,15 +190,16 @@ fn expect_told<S: Alter + Drop>(rt: &impl Abort, alloc: Global, conn: Connection
 #[test]
 fn databases_that_are_books(rt: HostRuntime) {
     let alloc = rt.alloc();
-    let none = told(&rt, alloc, empty(&rt, alloc));
+    let none = told(&rt, alloc, database(&rt, alloc));
     assert_eq!(rt; none.as_str(), "WrongVersion(0)");
-    for (first, lines) in [
-        ("", of_new_book()),
-        (rows(), of_rows()),
-        (history(), of_history()),
-    ] {
-        for line in lines.lines() {
-            let conn = altered(&rt, alloc, empty(&rt, alloc), first);
+    for line in part_of(&rt, parts(), "of_new_book").lines() {
+        let conn = altered(&rt, alloc, database(&rt, alloc), "");
+        expect_told(&rt, alloc, conn, line);
+    }
+    for (first, lines) in [("rows", "of_rows"), ("history", "of_history")] {
+        for line in part_of(&rt, parts(), lines).lines() {
+            let first = part_of(&rt, parts(), first);
+            let conn = altered(&rt, alloc, database(&rt, alloc), first);
             expect_told(&rt, alloc, conn, line);
         }
     }
@@ -215,18 +207,18 @@ fn databases_that_are_books(rt: HostRuntime) {
 
 // A connection to a new book's database that holds these rows, and more.
 fn more(rt: &impl Abort, alloc: Global) -> Connection<MemStore> {
-    let conn = altered(rt, alloc, empty(rt, alloc), rows());
-    changed(rt, conn, more_rows())
+    let conn = altered(rt, alloc, database(rt, alloc), part_of(rt, parts(), "rows"));
+    changed(rt, conn, part_of(rt, parts(), "more_rows"))
 }
 
 #[test]
 fn further_groups_and_priorities(rt: HostRuntime) {
     let alloc = rt.alloc();
-    for line in of_new_tables().lines() {
+    for line in part_of(&rt, parts(), "of_new_tables").lines() {
         expect_told(&rt, alloc, more(&rt, alloc), line);
     }
     let mut conn = more(&rt, alloc);
-    for sql in refused_by_the_store().lines() {
+    for sql in part_of(&rt, parts(), "refused_by_the_store").lines() {
         assert!(rt; conn.execute_batch(sql).is_err(), "{sql}");
     }
 }
@@ -235,10 +227,11 @@ fn further_groups_and_priorities(rt: HostRuntime) {
 #[test]
 fn databases_of_version_1(rt: HostRuntime) {
     let alloc = rt.alloc();
-    for (first, lines) in [(rows(), of_rows()), (history(), of_history())] {
-        for line in lines.lines() {
-            let conn = changed(&rt, empty(&rt, alloc), old_tables());
-            expect_told(&rt, alloc, changed(&rt, conn, first), line);
+    for (first, lines) in [("rows", "of_rows"), ("history", "of_history")] {
+        for line in part_of(&rt, parts(), lines).lines() {
+            let conn = changed(&rt, database(&rt, alloc), old_tables(&rt));
+            let conn = changed(&rt, conn, part_of(&rt, parts(), first));
+            expect_told(&rt, alloc, conn, line);
         }
     }
 }

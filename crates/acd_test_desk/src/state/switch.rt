@@ -5,7 +5,8 @@
 
 mod services;
 
-use crate::values::{agent, device, group, listed, plain, ready, same, two_groups, waiting};
+use crate::comparing::same;
+use crate::state::values::{agent, device, group, listed, plain, ready, two_groups, waiting};
 use acd_switch::{RowFault, Switch};
 use acd_terms::{
     AgentRecord, AgentState, CallRecord, ConnectionRecord, ConnectionState, DeviceId, Figures,

@@ -9,46 +9,19 @@ mod numbers;
 mod several;
 mod watching;
 
-use crate::comparing::same;
+use crate::altered::database;
+use crate::look_ups::same;
+use crate::shelf::{book_in, changed};
 use acd_book::BookFault;
 use acd_sqlbook::SqlBook;
 use acd_terms::Limits;
-use sqlite::{Alter, Connection, MemStore};
+use sqlite::{Alter, Connection};
 use std::alloc::Global;
 use std::process::Abort;
 
-// A database of no tables.
-fn empty(rt: &impl Abort, alloc: Global) -> Connection<MemStore> {
-    match Connection::open_in_memory(alloc) {
-        Ok(conn) => conn,
-        Err(_) => panic!(rt; "no memory"),
-    }
-}
-
-fn changed<S: Alter + Drop>(rt: &impl Abort, mut conn: Connection<S>, sql: &str) -> Connection<S> {
-    conn.execute_batch(sql).expect(rt, "a change");
-    conn
-}
-
+// A new book in the database of a connection.
 fn created<S: Alter + Drop>(rt: &impl Abort, alloc: Global, conn: Connection<S>) -> SqlBook<S> {
-    if !conn.is_autocommit() {
-        panic!(rt; "a transaction");
-    }
-    match SqlBook::create(alloc, conn, Limits::GREATEST) {
-        Ok(book) => book,
-        Err((fault, _)) => panic!(rt; "{fault:?}"),
-    }
-}
-
-// The book that a database holds.
-fn book_in<S: Alter + Drop>(rt: &impl Abort, alloc: Global, conn: Connection<S>) -> SqlBook<S> {
-    if !conn.is_autocommit() {
-        panic!(rt; "a transaction");
-    }
-    match SqlBook::adopt(alloc, conn) {
-        Ok(book) => book,
-        Err((fault, _)) => panic!(rt; "{fault:?}"),
-    }
+    book_in(rt, alloc, conn, Some(Limits::GREATEST))
 }
 
 // The connection, in whose database a new book is made, behind a change of it.
@@ -79,7 +52,7 @@ fn expect_numbers<S: Alter>(rt: &impl Abort, conn: &mut Connection<S>, lines: &s
 
 #[test]
 fn a_new_book(rt: HostRuntime) {
-    let mut conn = created(&rt, rt.alloc(), empty(&rt, rt.alloc())).into_connection();
+    let mut conn = created(&rt, rt.alloc(), database(&rt, rt.alloc())).into_connection();
     expect_numbers(
         &rt,
         &mut conn,
@@ -112,11 +85,11 @@ fn a_book_is_made_in_no_other_database(rt: HostRuntime) {
         "CREATE TABLE other (n INTEGER)",
         "CREATE VIEW other AS SELECT 7 AS n",
     ] {
-        let conn = changed(&rt, empty(&rt, rt.alloc()), sql);
+        let conn = changed(&rt, database(&rt, rt.alloc()), sql);
         let fault = fault_of_making(&rt, rt.alloc(), conn);
         same(&rt, &fault, &Some(BookFault::Store));
     }
-    let book = created(&rt, rt.alloc(), empty(&rt, rt.alloc()));
+    let book = created(&rt, rt.alloc(), database(&rt, rt.alloc()));
     let fault = fault_of_making(&rt, rt.alloc(), book.into_connection());
     same(&rt, &fault, &Some(BookFault::Store));
 }

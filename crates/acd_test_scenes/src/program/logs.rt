@@ -1,9 +1,9 @@
 //! Scripts of logs: one without its file, and one that ends early.
 
-/// A log whose file has no bytes, and then isn't there: no command makes anything beside it, and with the file as it was it
-/// has all that was answered. A log that holds no commit is in nobody's way: what closing leaves, and a text.
-pub fn log_without_its_file() -> &'static str {
-    r#"copied {file} {plan} acd lines --file {file}
+/// Runs, as those of [`runs`](super::runs).
+pub fn logs() -> &'static [u8] {
+    br#"log_without_its_file: A log whose file has no bytes, and then isn't there: no command makes anything beside it, and with the file as it was it has all that was answered. A log that holds no commit is in nobody's way: what closing leaves, and a text.
+copied {file} {plan} acd lines --file {file}
 > 0 {"requester":"plan","invoke":1,"service":"addGroup","device":"100","name":"Billing","ring":20,"wrap":30}
 > 10 {"requester":"pbx","invoke":1,"service":"arriveCall","caller":"0301234","called":"100"}
 < 200 {"invoke":1,"requester":"plan","result":{}}
@@ -86,13 +86,10 @@ lines {plan}-wal 100
 0 acd lines --file {plan}
 
 is {plan} small
-"#
-}
 
-/// A log with a byte changed: in a commit that others follow, in the last one, in its head. What stands behind the changed
-/// byte is gone, which an audit of all says in the first and in the third case; a power cut may leave the second.
-pub fn log_that_ends_early() -> &'static str {
-    r#"copied {file} {plan} acd lines --file {file}
+
+log_that_ends_early: A log with a byte changed: in a commit that others follow, in the last one, in its head. What stands behind the changed byte is gone, which an audit of all says in the first and in the third case; a power cut may leave the second.
+copied {file} {plan} acd lines --file {file}
 > 0 {"requester":"plan","invoke":1,"service":"addGroup","device":"100","name":"Billing","ring":20,"wrap":30}
 > 10 {"requester":"pbx","invoke":1,"service":"arriveCall","caller":"0301234","called":"100"}
 > 12 {"requester":"pbx","invoke":2,"service":"clearConnection","call":1,"device":"0301234"}
@@ -152,6 +149,5 @@ patch {plan}-wal 7 8
 
 gone {file}.put
 
-gone {file}.log
-"#
+gone {file}.log"#
 }

@@ -1,11 +1,14 @@
 //! Runs of the program, with all that it reads and writes.
 
-use super::logs::{log_that_ends_early, log_without_its_file};
+use super::logs::logs;
 use super::scripts::unmet;
+use crate::texts::text_in;
 use std::process::Abort;
 
-fn lines_in_memory() -> &'static str {
-    r#"0 acd lines
+// Runs, which two empty lines part. The first line of each has its name, and says what it is.
+fn runs() -> &'static [u8] {
+    br#"lines_in_memory: Lines, over a desk in memory, and none.
+0 acd lines
 > 0 {"requester":"plan","invoke":1,"service":"addGroup","device":"100","name":"Billing","ring":20,"wrap":30}
 > 0 {"requester":"plan","invoke":2,"service":"addStation","device":"201"}
 > 10 {"requester":"pbx","invoke":1,"service":"arriveCall","caller":"0301234","called":"100"}
@@ -22,12 +25,10 @@ fn lines_in_memory() -> &'static str {
 < 200 {"invoke":1,"requester":"plan","result":{}}
 < 200 {"invoke":2,"requester":"plan","result":{}}
 < 200 {"invoke":1,"requester":"pbx","result":{"call":1}}
-"#
-}
 
-// A read is answered by the desk that the lines before it left, and moves no moment; no other line is one.
-fn reads_in_lines() -> &'static str {
-    r#"0 acd lines --reads
+
+reads_in_lines: A read is answered by the desk that the lines before it left, and moves no moment; no other line is one.
+0 acd lines --reads
 > 0 {"requester":"plan","invoke":1,"service":"addGroup","device":"100","name":"Billing","ring":20,"wrap":30}
 > 4294967295 GET /snapshot
 > 10 {"requester":"pbx","invoke":1,"service":"arriveCall","caller":"0301234","called":"100"}
@@ -74,12 +75,10 @@ fn reads_in_lines() -> &'static str {
 0 acd lines --file {file} --reads --end-on-store-fault
 > 0 GET /devices/201
 < 200 {"connections":[],"device":"201","kind":"station"}
-"#
-}
 
-// Help, version and toolchain, and two refusals. Of the help of the other commands is asked that there is one.
-fn help() -> &'static str {
-    r#"0 acd lines --help
+
+help: Help, version and toolchain, and two refusals. Of the help of the other commands is asked that there is one.
+0 acd lines --help
 < Answer requests in lines: a moment, a space and the request as JSON
 <
 < Usage: acd lines [OPTIONS]
@@ -160,12 +159,10 @@ fn help() -> &'static str {
 ! error: invalid value '65536' for '--port <P>': 65536 is not in 1..=65535
 !
 ! For more information, try '--help'.
-"#
-}
 
-// No file, one of no bytes, a folder, and a text.
-fn no_databases() -> &'static str {
-    r#"1 acd serve --file /absent/a.db --port 1 --connections 1
+
+no_databases: No file, one of no bytes, a folder, and a text.
+1 acd serve --file /absent/a.db --port 1 --connections 1
 ! acd: cannot open /absent/a.db
 
 1 acd serve --file /absent/a.db --port 65535 --connections 1000000
@@ -226,13 +223,10 @@ lines {file} 0
 
 1 acd lines --file {file}
 ! acd: cannot open {file}
-"#
-}
 
-// A plan's fault is found before the file's, and before a file is made. The longest plan has empty lines, which are no
-// rows.
-fn plans() -> &'static str {
-    r#"1 acd import --file / --plan {plan}
+
+plans: A plan's fault is found before the file's, and before a file is made. The longest plan has empty lines, which are no rows.
+1 acd import --file / --plan {plan}
 ! acd: cannot open {plan}
 
 lines {plan} 0
@@ -276,13 +270,10 @@ lines {plan} 1048576
 < 200 {"invoke":3,"requester":"plan","result":{}}
 < 200 {"invoke":4,"requester":"plan","result":{}}
 < 200 {"invoke":5,"requester":"plan","result":{}}
-"#
-}
 
-// The plan is imported twice: the second time its answers are the kept ones. Then a call waits, agent 7 answers it and
-// asks to log off, and the caller hangs up; and all of that again.
-fn desk_in_a_file() -> &'static str {
-    r#"lines {plan} 0
+
+desk_in_a_file: The plan is imported twice: the second time its answers are the kept ones. Then a call waits, agent 7 answers it and asks to log off, and the caller hangs up; and all of that again.
+lines {plan} 0
 > kind,number,name,ring,wrap
 > group,100,Billing,20,30
 > station,201,,,
@@ -381,12 +372,10 @@ fn desk_in_a_file() -> &'static str {
 0 acd audit --count --file {file}
 < sound
 < executed 11
-"#
-}
 
-// An agent of two groups, of which one has priority 5: the program ends before the agent is offered the call of that one.
-fn several_groups_in_a_file() -> &'static str {
-    r#"0 acd lines --file {file}
+
+several_groups_in_a_file: An agent of two groups, of which one has priority 5: the program ends before the agent is offered the call of that one.
+0 acd lines --file {file}
 > 0 {"requester":"plan","invoke":1,"service":"addGroup","device":"100","name":"Billing","ring":20,"wrap":30}
 > 0 {"requester":"plan","invoke":2,"service":"addStation","device":"201"}
 > 0 {"requester":"plan","invoke":3,"service":"addAgent","agent":"7","name":"Ana"}
@@ -436,12 +425,10 @@ slowly acd report --file {file}
 0 acd audit --file {file} --count
 < sound
 < executed 10
-"#
-}
 
-// Behind it a new file whose making was stopped at its first byte. It is made to its end, and holds no desk.
-fn new_files() -> &'static str {
-    r#"0 acd lines --file {file}
+
+new_files: Behind it a new file whose making was stopped at its first byte. It is made to its end, and holds no desk.
+0 acd lines --file {file}
 
 is {file} small
 
@@ -469,12 +456,10 @@ zeros {file} 1
 ! acd: wrong version 0
 
 is {file} small
-"#
-}
 
-// A fault that can't be told is the fault's status all the same.
-fn streams_that_fail() -> &'static str {
-    r#"cut acd lines
+
+streams_that_fail: A fault that can't be told is the fault's status all the same.
+cut acd lines
 ! acd: cannot read
 
 cut acd lines
@@ -489,7 +474,61 @@ cut acd --help
 untold 1 acd report --file /
 
 untold 2 acd
-"#
+
+
+copied_while_it_is_open: The file and its log, copied while the desk is open: the copy has all that was answered, and the requests that are sent to it once more get their replies.
+copied {file} {plan} acd lines --file {file}
+> 0 {"requester":"plan","invoke":1,"service":"addGroup","device":"100","name":"Billing","ring":20,"wrap":30}
+> 10 {"requester":"pbx","invoke":1,"service":"arriveCall","caller":"0301234","called":"100"}
+> 12 {"requester":"pbx","invoke":2,"service":"clearConnection","call":1,"device":"0301234"}
+< 200 {"invoke":1,"requester":"plan","result":{}}
+< 200 {"invoke":1,"requester":"pbx","result":{"call":1}}
+< 200 {"invoke":2,"requester":"pbx","result":{}}
+
+0 acd audit --file {plan} --count
+< sound
+< executed 3
+
+0 acd export --file {plan}
+< number,moment,event,call,device,agent,group,to,cause,waited
+< 1,10,queued,1,100,,,,newCall,
+< 2,12,connectionCleared,1,0301234,,,,,
+< 3,12,connectionCleared,1,100,,,,,
+< 4,12,callCleared,1,,,100,,,
+
+0 acd lines --file {plan}
+> 99 {"requester":"pbx","invoke":2,"service":"clearConnection","call":1,"device":"0301234"}
+> 99 {"requester":"pbx","invoke":1,"service":"arriveCall","caller":"0301234","called":"100"}
+> 20 {"requester":"pbx","invoke":3,"service":"clearConnection","call":1,"device":"0301234"}
+< 200 {"invoke":2,"requester":"pbx","result":{}}
+< 200 {"invoke":1,"requester":"pbx","result":{"call":1}}
+< 409 {"error":{"code":3,"name":"unknownCall"},"invoke":3,"requester":"pbx"}
+
+
+desk_over_http: A client that calls when it is said that the desk listens gets its reply, and other programs are told that the file is open elsewhere. Of a port that is taken the file's fault is found before the port's.
+serve {file}
+> 4 acd report --file {file}
+> ! acd: {file} is open elsewhere
+>
+> 4 acd export --file {file}
+> ! acd: {file} is open elsewhere
+>
+> 4 acd audit --file {file}
+> ! acd: {file} is open elsewhere
+>
+> 4 acd lines --file {file}
+> ! acd: {file} is open elsewhere
+
+0 acd report --file {file}
+< group           waiting ringing    entered   answered  abandoned      moved    average    longest name
+< 100                   0       0          0          0          0          0          -          - Billing
+
+taken
+> 1 acd serve --file {file} --port {port} --connections 1
+> ! acd: cannot listen on port {port}
+>
+> 1 acd serve --file / --port {port} --connections 1
+> ! acd: cannot open /"#
 }
 
 // A file that was changed by hand, and each time back. In the head of a row a byte stands for each value: 8 is the
@@ -497,8 +536,9 @@ untold 2 acd
 // the group's name. So the version takes three bytes of the greatest number of requests; a name gets a control character; the
 // group has no entry; a table has another range; and the last event is none, so that the next one has the
 // number of one that is there. Of the changed reply and the changed name an audit tells.
-fn altered_file() -> &'static str {
-    "0 acd lines --file {file}
+fn altered_file() -> &'static [u8] {
+    b"altered_file: behind each change what is told.
+0 acd lines --file {file}
 > 0 {\"requester\":\"plan\",\"invoke\":1,\"service\":\"addGroup\",\"device\":\"100\",\"name\":\"Billing\",\"ring\":20,\"wrap\":30}
 > 0 {\"requester\":\"plan\",\"invoke\":2,\"service\":\"addStation\",\"device\":\"201\"}
 > 10 {\"requester\":\"pbx\",\"invoke\":1,\"service\":\"arriveCall\",\"caller\":\"0301234\",\"called\":\"100\"}
@@ -582,87 +622,13 @@ patch {file} Killing\x14 Billing\x14
 "
 }
 
-// The file and its log, copied while the desk is open: the copy has all that was answered, and the requests that are sent to it
-// once more get their replies.
-fn copied_while_it_is_open() -> &'static str {
-    r#"copied {file} {plan} acd lines --file {file}
-> 0 {"requester":"plan","invoke":1,"service":"addGroup","device":"100","name":"Billing","ring":20,"wrap":30}
-> 10 {"requester":"pbx","invoke":1,"service":"arriveCall","caller":"0301234","called":"100"}
-> 12 {"requester":"pbx","invoke":2,"service":"clearConnection","call":1,"device":"0301234"}
-< 200 {"invoke":1,"requester":"plan","result":{}}
-< 200 {"invoke":1,"requester":"pbx","result":{"call":1}}
-< 200 {"invoke":2,"requester":"pbx","result":{}}
-
-0 acd audit --file {plan} --count
-< sound
-< executed 3
-
-0 acd export --file {plan}
-< number,moment,event,call,device,agent,group,to,cause,waited
-< 1,10,queued,1,100,,,,newCall,
-< 2,12,connectionCleared,1,0301234,,,,,
-< 3,12,connectionCleared,1,100,,,,,
-< 4,12,callCleared,1,,,100,,,
-
-0 acd lines --file {plan}
-> 99 {"requester":"pbx","invoke":2,"service":"clearConnection","call":1,"device":"0301234"}
-> 99 {"requester":"pbx","invoke":1,"service":"arriveCall","caller":"0301234","called":"100"}
-> 20 {"requester":"pbx","invoke":3,"service":"clearConnection","call":1,"device":"0301234"}
-< 200 {"invoke":2,"requester":"pbx","result":{}}
-< 200 {"invoke":1,"requester":"pbx","result":{"call":1}}
-< 409 {"error":{"code":3,"name":"unknownCall"},"invoke":3,"requester":"pbx"}
-"#
-}
-
-// A client that calls when it is said that the desk listens gets its reply, and other programs are told that the file
-// is open elsewhere. Of a port that is taken the file's fault is found before the port's.
-fn desk_over_http() -> &'static str {
-    r#"serve {file}
-> 4 acd report --file {file}
-> ! acd: {file} is open elsewhere
->
-> 4 acd export --file {file}
-> ! acd: {file} is open elsewhere
->
-> 4 acd audit --file {file}
-> ! acd: {file} is open elsewhere
->
-> 4 acd lines --file {file}
-> ! acd: {file} is open elsewhere
-
-0 acd report --file {file}
-< group           waiting ringing    entered   answered  abandoned      moved    average    longest name
-< 100                   0       0          0          0          0          0          -          - Billing
-
-taken
-> 1 acd serve --file {file} --port {port} --connections 1
-> ! acd: cannot listen on port {port}
->
-> 1 acd serve --file / --port {port} --connections 1
-> ! acd: cannot open /
-"#
-}
-
 #[test]
 fn runs_of_the_program(rt: HostRuntime) {
-    let scripts = [
-        lines_in_memory(),
-        reads_in_lines(),
-        help(),
-        no_databases(),
-        plans(),
-        desk_in_a_file(),
-        several_groups_in_a_file(),
-        new_files(),
-        streams_that_fail(),
-        altered_file(),
-        copied_while_it_is_open(),
-        log_without_its_file(),
-        log_that_ends_early(),
-        desk_over_http(),
-    ];
-    for script in scripts {
-        let unmet = unmet(&rt, script).expect(&rt, "files");
-        assert_eq!(rt; unmet, None);
+    for runs in [runs(), logs(), altered_file()] {
+        for run in text_in(&rt, runs).split("\n\n\n") {
+            let (_, steps) = run.split_once('\n').expect(&rt, "a run");
+            let unmet = unmet(&rt, steps).expect(&rt, "files");
+            assert_eq!(rt; unmet, None);
+        }
     }
 }

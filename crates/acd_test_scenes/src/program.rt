@@ -5,6 +5,6 @@ mod copying;
 mod files;
 mod logs;
 mod runs;
-mod scripts;
+pub mod scripts;
 mod serving;
 mod words;

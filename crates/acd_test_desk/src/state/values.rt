@@ -4,13 +4,7 @@ use acd_terms::{
     AgentId, AgentRecord, AgentState, ConnectionRecord, ConnectionState, DeviceId, Figures,
     GroupRecord, Groups, Listed, Name, Priority, Seconds,
 };
-use std::fmt::Debug;
 use std::process::Abort;
-
-/// The two are the same. Where it is asked in many places, a proof of each takes less than with `assert_eq!`.
-pub fn same<T: PartialEq + Debug>(rt: &impl Abort, left: &T, right: &T) {
-    assert_eq!(rt; *left, *right);
-}
 
 /// The text of this name is the one that is wanted.
 pub fn same_text(rt: &impl Abort, name: &str, found: &str, wanted: &str) {

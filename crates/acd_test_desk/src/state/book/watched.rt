@@ -1,6 +1,7 @@
 //! The numbers of the events at watched devices: which are lent, and when none are.
 
-use crate::values::{device, same};
+use crate::comparing::same;
+use crate::state::values::device;
 use acd_book::Watched;
 use acd_model::Change;
 use acd_terms::{DeviceId, Event, MonitorRecord, Report};

@@ -1,6 +1,7 @@
 //! What the tables refuse as if there were no memory.
 
-use crate::values::{agent, device, group, listed, ready, same, two_groups, waiting};
+use crate::comparing::same;
+use crate::state::values::{agent, device, group, listed, ready, two_groups, waiting};
 use acd_model::Change;
 use acd_services::change;
 use acd_tables::Tables;

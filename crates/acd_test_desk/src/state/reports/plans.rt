@@ -1,6 +1,7 @@
 //! Plans: their requests, and every fault.
 
-use crate::values::{same, same_text};
+use crate::comparing::same;
+use crate::state::values::same_text;
 use acd_reports::{PlanFault, plan_requests};
 use acd_terms::{AgentId, Command, DeviceId, Name, Request, Seconds};
 use std::alloc::{AllocError, Global};

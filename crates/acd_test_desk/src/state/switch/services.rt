@@ -5,7 +5,7 @@
 
 ghost use Rattle.acd_services.specs.NoTick.{IsNoTick};
 
-use crate::values::same;
+use crate::comparing::same;
 use acd_services::serve;
 use acd_tables::Tables;
 use acd_terms::{AgentId, Command, DeviceId, Event, Limits, Name, Outcome, Seconds, Turn};

@@ -1,9 +1,12 @@
 //! Commits of changes over a book in memory: what they leave in the tables, one that is refused, and what is answered
 //! of them.
 
-use super::commits::{events_of, holding, kept_behind, rows_of, second};
-use super::{created, empty, expect_numbers};
-use crate::comparing::same;
+use super::commits::{events_of, holding, kept_behind, part};
+use super::{created, expect_numbers};
+use crate::altered::database;
+use crate::look_ups::same;
+use crate::player::rows_of;
+use crate::texts::part_of;
 use acd_book::{Book, BookFault};
 use acd_model::Change;
 use acd_sqlbook::row_changes;
@@ -11,22 +14,22 @@ use acd_terms::{Limits, Rows};
 use std::alloc::Global;
 use std::process::Abort;
 
-// A monitor, and an event at its device.
-fn watched() -> &'static str {
-    "INSERT INTO monitors VALUES (3, 1201, 0);
+// What another book holds, and what is then in the tables.
+fn parts() -> &'static [u8] {
+    br#"watched: A monitor, and an event at its device.
+INSERT INTO monitors VALUES (3, 1201, 0);
 INSERT INTO events VALUES (1, 10, 7, 1201, 1, NULL, NULL, NULL, NULL, NULL);
-UPDATE meta SET last_monitor = 3, last_event = 1"
-}
+UPDATE meta SET last_monitor = 3, last_event = 1
 
-fn in_the_tables() -> &'static str {
-    "1201 SELECT device FROM monitors WHERE monitor = 3
+in_the_tables: A number, and a question that has it as its answer.
+1201 SELECT device FROM monitors WHERE monitor = 3
 1 SELECT number FROM events WHERE device = 1201
 1 SELECT stamp FROM kept WHERE invoke = 1
 2 SELECT last_stamp FROM meta
 10 SELECT last_moment FROM meta
 3 SELECT last_monitor FROM meta
 1 SELECT last_event FROM meta
-2 SELECT count(*) FROM kept"
+2 SELECT count(*) FROM kept"#
 }
 
 fn monitor_changes(rt: &impl Abort, alloc: Global, rows: &Rows) -> Vec<Change> {
@@ -83,10 +86,12 @@ fn expect_answers<B: Book>(rt: &impl Abort, alloc: Global, book: &mut B, other: 
 #[test]
 fn a_commit_is_in_the_tables(rt: HostRuntime) {
     let alloc = rt.alloc();
-    let mut book = created(&rt, alloc, empty(&rt, alloc));
-    let mut other = holding(&rt, alloc, empty(&rt, alloc), second(), watched());
+    let mut book = created(&rt, alloc, database(&rt, alloc));
+    let (records, rows) = (part(&rt, "two_records"), part_of(&rt, parts(), "watched"));
+    let mut other = holding(&rt, alloc, database(&rt, alloc), records, rows);
     commit_monitors(&rt, alloc, &mut book, &mut other);
     commit_records(&rt, &mut book, &mut other);
     expect_answers(&rt, alloc, &mut book, &mut other);
-    expect_numbers(&rt, &mut book.into_connection(), in_the_tables());
+    let numbers = part_of(&rt, parts(), "in_the_tables");
+    expect_numbers(&rt, &mut book.into_connection(), numbers);
 }
