@@ -28,7 +28,7 @@ TOP = DEBIAN.parents[1]
 OPERATING = TOP / "tools/operating"
 MAINTAINER = "Hullapricot maintainers <maintainers@users.noreply.hullapricot.example>"
 UNITS = ("acd.service", "acd-tick.service", "acd-gate.service", "acd-copy.service", "acd-copy.timer", "acd-local.service",
-         "acd-node.service", "acd-node-upkeep.service", "acd-node-upkeep.timer", "acd-records.service", "acd-follow.service")
+         "acd-node.service", "acd-node-upkeep.service", "acd-node-upkeep.timer", "acd-records.service", "acd-follow.service", "acd-carry.service", "acd-carry.timer")
 MANUAL = ("acd.1", "acd-calls.1", "acd-plan.1", "acd-trail.1", "acd-ready.8", "acd-tick.8", "acd-gate.8", "acd-copy.8", "acd-carry.8", "acd-follow.8", "acd-forget.8", "acd-export.1", "acd-local.8", "acd-node.8")
 BOARD = TOP / "board"
 PAGES = (".html", ".css", ".js")

@@ -27,6 +27,7 @@ MAY = {
     "acd-tick.service": (LOOPBACK | {"signal the desk", "see what the desk has open"}, LOOPBACK | OF_ROOT),
     "acd-gate.service": (LOOPBACK | {"read the roles", "read the users"}, LOOPBACK | OF_ROOT),
     "acd-copy.service": (DESK | {"priority"}, OF_ROOT | {"priority"}),
+    "acd-carry.service": (DESK, OF_ROOT),
     "acd-local.service": ({"AF_UNIX", "AF_NETLINK", "load a table"}, OF_ROOT | {"AF_UNIX", "AF_NETLINK", "load a table"}),
     "acd-node.service": (INTERNET | DESK - {"see what the desk has open"}, INTERNET | OF_ROOT),
     "acd-follow.service": (INTERNET | DESK - {"see what the desk has open"}, INTERNET | OF_ROOT),

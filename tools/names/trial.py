@@ -24,7 +24,7 @@ def everywhere(old, new):
 CASES = [
     ("a definition renamed, and all who use it", everywhere("ran_after", "run_behind"), {"run_behind"}, {"ran_after"}, None),
     ("a definition renamed alone", [(STANDS, "abbrev pub ran_after : ", "abbrev pub run_behind : "), (STANDS, "ran_after start list = run", "run_behind start list = run")], None, None, "ran_after"),
-    ("a root that wasn't there", [(FOUND, "", "\nabbrev pub TaskEnded : Finding → Type 0\nTaskEnded found = ⊤\n")], {"TaskEnded"}, set(), None),
+    ("a root that is there twice", [(FOUND, "", "\nabbrev pub TaskEnded : Finding → Type 0\nTaskEnded found = ⊤\n")], None, None, "TaskEnded"),
     ("a definition that nothing uses", [(STANDS, "", EXTRA)], set(), set(), None),
     ("one that a field uses", [(STANDS, "", EXTRA), (STANDS, FITS, FITS.replace("c.rows", "(extra c).rows"))], {"extra"}, set(), None),
     ("one that an earlier field hides", [(STANDS, "", EXTRA), (STANDS, FITS, f"  pub extra : Content\n{FITS.replace('c.rows', 'extra.rows')}")], set(), set(), None),

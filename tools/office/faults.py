@@ -3,6 +3,7 @@ from planted import Fault
 
 UNITS, PAGE, POSTINST = "usr/lib/systemd/system", "usr/share/doc/acd/OPERATING.md", "DEBIAN/postinst"
 DESK, TICKS, COPY = f"{UNITS}/acd.service", f"{UNITS}/acd-tick.service", f"{UNITS}/acd-copy.service"
+CARRY = f"{UNITS}/acd-carry.service"
 AGAIN = "StartLimitIntervalSec=0\n"
 
 FAULTS = [
@@ -23,6 +24,12 @@ FAULTS = [
     Fault("the ticks' user doesn't see what the desk has open", (TICKS, "User=acd\n", "User=acd-gate\n"), "copies", ("plan", "try_moved_file")),
     Fault("a restore that is killed leaves no link", ("usr/share/acd/acd_restore.py", "    if is_hidden(file):\n        return\n    if leaving", "    return\n    if leaving"), "copies", ("plan", "try_killed")),
     Fault("a recipe's files are for all to read", (PAGE, "        umask 077\n", ""), "copies", ("plan", "try_new_year")),
+    Fault("nothing keeps the desk down", (DESK, "ConditionPathExists=!/run/acd-carry/down\n", ""), "carried", ("prepare", "try_meanwhile")),
+    Fault("a killed carry leaves it down", (CARRY, "ExecStopPost=-+/usr/sbin/acd-carry --start\nExecStopPost=+/usr/sbin/acd-carry --start\n", ""), "carried", ("prepare", "try_killed")),
+    Fault("what starts it again isn't repeated", (CARRY, "ExecStopPost=-+", "ExecStopPost=+"), "carried", ("prepare", "try_killed")),
+    Fault("a stop waits for itself", ("usr/share/acd/acd_unit.py", '"start", "--no-block", UNIT', '"start", UNIT'), "carried", ("prepare", "try_stopped")),
+    Fault("what keeps it down lies elsewhere", ("usr/share/acd/acd_unit.py", 'Path("/run/acd-carry")', 'Path("/var/lib/acd-carry")'), "carried", ("prepare", "try_meanwhile")),
+    Fault("a desk that was down is started", ("usr/share/acd/acd_unit.py", "    if START.exists() or was_refused():", "    if True:"), "carried", ("prepare", "try_down")),
     Fault("a recipe that logs nobody off", (PAGE, '"requested":"loggedOff"}', '"requested":"notReady"}'), "plans", ("plan", "try_forgotten")),
     Fault("a mark of another system's editor is a part of the first login", ("usr/sbin/acd-gate", '.removeprefix(b"\\xef\\xbb\\xbf")', ""), "plans", ("plan", "try_roles")),
 ]

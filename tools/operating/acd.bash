@@ -4,7 +4,7 @@ _acd() {
     COMPREPLY=()
     if [[ $COMP_CWORD -eq 1 ]]; then
         offered='lines serve import report export audit help --help --version'
-    elif [[ $before == --file || $before == --plan ]]; then
+    elif [[ $before == --file || $before == --plan || $before == --archive ]]; then
         mapfile -t COMPREPLY < <(compgen -f -- "$word")
         compopt -o filenames 2>/dev/null
         return
@@ -16,7 +16,7 @@ _acd() {
             serve) offered='--file --port --connections --endless --help' ;;
             import) offered='--file --plan --help' ;;
             report | export) offered='--file --help' ;;
-            audit) offered='--file --count --whole --help' ;;
+            audit) offered='--file --archive --count --whole --help' ;;
             help) offered='lines serve import report export audit' ;;
             *) return ;;
         esac

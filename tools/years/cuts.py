@@ -140,6 +140,10 @@ class Cuts:
         self.ground.expect(f"{what}: what was left behind is sent again", self.ground.feed(file, lines), wanted)
 
     def end(self, what):
+        links = [*self.archives, self.file]
+        for archive, file in zip(links, links[1:]):
+            last = held(file)["meta"][0][8]
+            self.ground.expect(f"{what}: {file.name} behind {archive.name}", self.ground.audit(file, "--archive", archive), (0, f"sound\nexecuted {last}\n", ""))
         whole = joined(self.archives, self.file, self.folder / "joined.db")
         self.ground.expect(f"{what}: archives and file together", self.ground.audit(whole), (0, f"sound\nexecuted {self.day.switch.stamp}\n", ""))
 

@@ -1,5 +1,14 @@
 """Faults that are planted in the scripts: the file, what each is, the text that it changes, what it changes it to, and the part that finds it."""
 
+STOPPED = """    if was_up:
+        START.touch()
+    DOWN.touch()
+    # or somebody started it, as nothing kept it down yet
+    if not was_up and is_up():
+        START.touch()
+    systemctl("stop", UNIT)
+"""
+
 FAULTS = [
     ("acd-carry", "a request more is left behind", 'WHERE stamp >= ? ORDER BY stamp", (cut.stamp,)', 'WHERE stamp > ? ORDER BY stamp", (cut.stamp,)', "cuts"),
     ("acd-carry", "the cut lies within a moment", '        self.stamp = first_of(book, "kept", "stamp", self.moment)\n', '        self.stamp = max(least, self.last - keep + 1) if keep else first_of(book, "kept", "stamp", self.moment)\n', "cuts"),
@@ -59,6 +68,21 @@ FAULTS = [
     ("acd_restore.py", "the note doesn't come", "for at in (log_of, acd_chain.note_of))", "for at in (log_of,))", "chains.restored"),
     ("acd-carry", "what was broken off is cleared away", "        go_on(folder, new)\n", "", "places"),
     ("acd-carry", "one behind the other", "    put_in_place(folder / file.name, file, EXCHANGE)\n", "    os.rename(file, file.parent / note.name)\n    os.rename(folder / file.name, file)\n", "places"),
+    ("acd_unit.py", "a desk that was up isn't noted", "    if was_up:\n        START.touch()\n    DOWN", "    DOWN", "service.down"),
+    ("acd_unit.py", "it is noted once it is stopped", STOPPED, "    DOWN.touch()\n    systemctl(\"stop\", UNIT)\n    if was_up:\n        START.touch()\n", "service.kills"),
+    ("acd_unit.py", "who starts it just before", "    if not was_up and is_up():", "    if False:", "service.down"),
+    ("acd_unit.py", "a desk that was down is started", "    if START.exists() or was_refused():", "    if True:", "service.down"),
+    ("acd_unit.py", "who asks for it meanwhile is forgotten", "    if START.exists() or was_refused():", "    if START.exists():", "service.down"),
+    ("acd_unit.py", "it is forgotten before it is started", '        systemctl("start", "--no-block", UNIT)\n        START.unlink(missing_ok=True)\n', '        START.unlink(missing_ok=True)\n        systemctl("start", "--no-block", UNIT)\n',
+     "service.kills"),
+    ("acd_unit.py", "it is kept down for good", "    DOWN.unlink(missing_ok=True)\n", "", "service.down"),
+    ("acd.service", "nothing keeps it down", "ConditionPathExists=!/run/acd-carry/down\n", "", "service.down"),
+    ("acd-carry.service", "nothing starts it again", "ExecStopPost=-+/usr/sbin/acd-carry --start\nExecStopPost=+/usr/sbin/acd-carry --start\n", "", "service.down"),
+    ("acd-carry.service", "what starts it again isn't repeated", "ExecStopPost=-+", "ExecStopPost=+", "service.kills"),
+    ("acd-carry.service", "it is stopped for nothing", "ExecCondition=", "# ", "service.refusals"),
+    ("acd-carry", "what has to be mended passes over the night", "PASS_OVER if status == NOTHING else MEND", "PASS_OVER", "service.refusals"),
+    ("acd-carry", "one of several machines is carried over alone", '    if (file.parent / "at").exists():', "    if False:", "service.refusals"),
+    ("acd-carry", "beside who puts a copy back", "        fcntl.flock(folder, fcntl.LOCK_EX | fcntl.LOCK_NB)\n        yield\n", "        yield\n", "service.twice"),
     ("acd-forget", "refused requests keep it", "FROM kept WHERE instr(request, ?)", "FROM kept WHERE status = 200 AND instr(request, ?)", "forgets.forgotten"),
     ("acd-forget", "integers of events stay", '"events": ("device", "target")', '"events": ("target",)', "forgets.forgotten"),
     ("acd-forget", "live and free pages stay", '        book.execute("VACUUM")\n', "", "forgets.forgotten"),

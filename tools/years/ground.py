@@ -12,7 +12,7 @@ OPERATING = TOP / "tools/operating"
 sys.path.append(str(TOP / "tests"))
 import tables  # noqa: E402
 
-SCRIPTS = ("acd-calls", "acd-carry", "acd-copy", "acd-export", "acd-forget")
+SCRIPTS = ("acd-calls", "acd-carry", "acd-copy", "acd-export", "acd-forget", "acd-ready", "acd.service", "acd-carry.service")
 # that of Debian, which the scripts are run by
 PYTHON = "/usr/bin/python3"
 HISTORY = {"kept": "stamp", "events": "number"}
@@ -100,8 +100,8 @@ class Ground:
         """Snapshot and report."""
         return self.run("acd", "lines", "--reads", "--file", file, given=READS)
 
-    def audit(self, file):
-        return self.run("acd", "audit", "--count", "--file", file)
+    def audit(self, file, *more):
+        return self.run("acd", "audit", "--count", "--file", file, *more)
 
 
 # What a file holds
@@ -140,10 +140,11 @@ def firsts(file):
 def joined(archives, file, made):
     """One file of all of them, by SQLite: the last one with what only the archives have."""
     shutil.copy(file, made)
-    book = sqlite3.connect(made, isolation_level=None)
+    book = sqlite3.connect(made.as_uri(), uri=True, isolation_level=None)
     book.execute("PRAGMA journal_mode = DELETE")
     for archive in reversed(archives):
-        book.execute("ATTACH ? AS archive", (str(archive),))
+        # read as one that nobody changes, so that nothing is made beside it
+        book.execute("ATTACH ? AS archive", (f"{archive.as_uri()}?immutable=1",))
         for table, key in HISTORY.items():
             first, = book.execute(f"SELECT coalesce(min({key}), (SELECT {'last_stamp' if key == 'stamp' else 'last_event'} FROM main.meta) + 1) FROM main.{table}").fetchone()
             book.execute(f"INSERT INTO main.{table} SELECT * FROM archive.{table} WHERE {key} < ?", (first,))

@@ -1,13 +1,16 @@
-"""A year of an office, by a clock that is handed in: each week its file is carried over by acd-carry, which is killed at times. At the end archives and file, joined by
+"""A year of an office, by a clock that is handed in: each week its file is carried over by the command of acd-carry.service, which is killed at times. At the end archives and file, joined by
 SQLite, are sound, and so large was every file that was opened."""
 import json
+import os
 import random
 import signal
 import subprocess
 import sys
 import time
 
-from ground import PYTHON, TOP, held, joined
+from ground import TOP, held, joined
+from joined import knows_archives, stand_in
+from units import command, lines_of
 
 sys.path.append(str(TOP / "clients/python"))
 import acd_due  # noqa: E402
@@ -89,18 +92,21 @@ def archives_of(file):
     return sorted((path for path in file.parent.glob("desk.db-????-??-??-*") if not path.name.endswith(".archive")), key=lambda path: int(path.name.rpartition("-")[2]))
 
 
-def carry(ground, file, count, chance):
-    """In its place, by the command as it is; at times it is killed, and the same command ends it."""
-    words = [PYTHON, ground.scripts / "acd-carry", "--file", file, "--days", "2", "--desk", ground.program]
+def carry(ground, program, file, count, chance):
+    """By the unit's own command; at times it is killed, and the same command ends it."""
+    unit = ground.scripts / "acd-carry.service"
+    words = [*command(*lines_of(unit, "ExecStart"), ground.scripts, {"ACD_FILE": str(file), "ACD_CARRY_DAYS": "2"}), "--desk", program]
     for _ in range(chance.choice([0, 0, 1, 2])):
-        killed = subprocess.Popen(words, stdout=subprocess.DEVNULL, stderr=subprocess.DEVNULL)
-        time.sleep(chance.uniform(0, 0.6))
-        killed.send_signal(signal.SIGKILL)
+        killed = subprocess.Popen(words, stdout=subprocess.DEVNULL, stderr=subprocess.DEVNULL, start_new_session=True)
+        time.sleep(chance.uniform(0, 1.2))
+        # with what it had begun, as systemd does
+        os.killpg(killed.pid, signal.SIGKILL)
         killed.wait()
-        # a program that it had begun goes on to its end
         time.sleep(0.1)
     status, told, faults = ground.run(*words)
+    # status 3: the one that was killed had done all of it
     ground.expect(f"carried over: {faults}", (status in (0, 3), len(archives_of(file))), (True, count))
+    ground.expect(f"and audited: {told}", status == 3 or "what was broken off is ended" in told or told.splitlines()[1:] == ["sound"])
 
 
 def try_year(ground, weeks=WEEKS):
@@ -108,6 +114,7 @@ def try_year(ground, weeks=WEEKS):
     office, longest, greatest = Office(chance), 0.0, 0
     with ground.scratch() as folder:
         file = folder / "desk.db"
+        program = ground.program if knows_archives(ground.program) else stand_in(ground.program, folder)
         for week in range(weeks):
             begun = time.monotonic()
             office.desk = Desk(ground.program, file)
@@ -120,7 +127,7 @@ def try_year(ground, weeks=WEEKS):
             office.desk.close()
             rows = held(file)["kept"]
             greatest, longest = max(greatest, len(rows)), max(longest, opened)
-            carry(ground, file, week + 1, chance)
+            carry(ground, program, file, week + 1, chance)
         archives = archives_of(file)
         ground.expect("archives and file together", ground.audit(joined(archives, file, folder / "joined.db")), (0, f"sound\nexecuted {office.asked}\n", ""))
         ground.expect("no file has over nine days", greatest < office.asked / weeks / 7 * 9 + 400)

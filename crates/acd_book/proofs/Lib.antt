@@ -5,4 +5,5 @@ pub mod Left
 mod Watching
 mod Places
 mod Listing
+mod Counting
 pub mod BookSteps

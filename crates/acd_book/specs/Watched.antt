@@ -1,9 +1,13 @@
 -- The numbers of the events at watched devices.
-use Rattle.std.specs.Prelude.{◌≡◌, ℕ, ◌≤◌, ◌==◌, ◌++◌, List, map, filter, take, Some, IfSome}
-use Rattle.std.specs.HashMap.{get_by}
+use Rattle.std.specs.Prelude.{◌≡◌, ◌⊎◌, ℕ, ◌+◌, ◌-◌, ◌≤◌, ◌==◌, ◌++◌, ◌∷◌, [], Bool, false, List, map, filter, take, Option, None, Some, IfSome, option_map, if◌then◌else◌}
+use Rattle.std.specs.List.{sum_by}
+use Rattle.std.specs.HashMap.{get_by, values}
 use base.Stored.{coded_ℕ, coded_list, Coded-set}
 use Rattle.acd_terms.specs.Lists.{Every}
 use Rattle.acd_terms.specs.declared.event.Event.{Event}
+use Rattle.acd_terms.specs.declared.record.MonitorRecord.{MonitorRecord}
+use Rattle.acd_model.specs.declared.moves.Change.{Change}
+use Rattle.acd_model.specs.declared.moves.Change.TheVariants.{PutMonitor, RemoveMonitor}
 use Rattle.acd_book.specs.Content.{is_told}
 use Rattle.acd_book.specs.Memory.{number_of}
 use Rattle.acd_book.specs.declared.numbers.Numbers.{Numbers}
@@ -38,3 +42,79 @@ WatchesMore more old new = (events : List Event) → ListsEvents events old → 
 -- the numbers of the first events at a device above a number
 abbrev pub IsPage : Watched → ℕ → ℕ → ℕ → List ℕ → Type 0
 IsPage w device number limit found = (events : List Event) → ListsEvents events w → found ≡ map number_of (take limit (filter (is_told (Some device) number) events))
+
+-- ---- nothing is kept of a monitor that was stopped
+
+-- the device that a monitor is noted to watch
+abbrev pub noted_at : Watched → ℕ → Option ℕ
+noted_at w monitor = get_by (λ (m : ℕ). monitor == m) w.devices
+
+abbrev pub is_one : ℕ → ℕ → ℕ
+is_one device d = if device == d then 1 else 0
+
+-- how many monitors are noted to watch the device
+abbrev pub watching : ℕ → Watched → ℕ
+watching device w = sum_by (is_one device) (values w.devices)
+
+-- how many the list of a device counts, where there is a list
+abbrev pub counted : Watched → ℕ → Option ℕ
+counted w device = option_map (λ (l : Numbers). l.monitors) (get_by (λ (d : ℕ). device == d) w.lists)
+
+-- one monitor less: the list goes with the last one
+abbrev pub fewer : Option ℕ → Option ℕ
+fewer None = None
+fewer (Some n) = if n - 1 == 0 then None else Some (n - 1)
+
+-- the list counts none any more
+abbrev pub is_none_left : Option ℕ → Bool
+is_none_left None = false
+is_none_left (Some n) = n == 0
+
+-- one more; a list that is new may find no memory
+abbrev pub IsMore : Option ℕ → Option ℕ → Type 0
+IsMore None new = (new ≡ None) ⊎ (new ≡ Some 1)
+IsMore (Some n) new = (m : ℕ) × (new ≡ Some m) × (1 ≤ m) × (m ≤ n + 1)
+
+-- so many are counted at one device, and at each other one as many as before
+pub record CountsAt (device : ℕ) (P : Option ℕ → Option ℕ → Type 0) (old new : Watched) : Type 0 where
+  pub devices : new.devices ≡ old.devices
+  pub one : P (counted old device) (counted new device)
+  pub others : (d : ℕ) → (device == d) ≡ false → counted new d ≡ counted old d
+
+abbrev pub IsUpTo : ℕ → ℕ → Type 0
+IsUpTo most n = (1 ≤ n) × (n ≤ most)
+
+-- each list counts a monitor of its device at least, and no more than are noted
+abbrev pub KeepsWatched : Watched → Type 0
+KeepsWatched w = (device : ℕ) → IfSome (counted w device) (IsUpTo (watching device w))
+
+abbrev pub StillKeeps : Watched → Watched → Type 0
+StillKeeps old new = KeepsWatched old → KeepsWatched new
+
+-- what a change says of a monitor: the device that it watches from then on, or none
+abbrev pub said_of : ℕ → Change → Option (Option ℕ)
+said_of monitor (PutMonitor r) = if monitor == r.monitor then Some (Some r.device) else None
+said_of monitor (RemoveMonitor n) = if monitor == n then Some None else None
+said_of monitor _ = None
+
+-- what is noted of a monitor is what was said or, for want of memory, nothing; and what was noted before, where nothing was said
+abbrev pub IsNotedAs : Option (Option ℕ) → Option ℕ → Option ℕ → Type 0
+IsNotedAs None old new = new ≡ old
+IsNotedAs (Some said) old new = (new ≡ said) ⊎ (new ≡ None)
+
+abbrev pub or_before : Option (Option ℕ) → Option (Option ℕ) → Option (Option ℕ)
+or_before (Some later) before = Some later
+or_before None before = before
+
+-- of several changes the last one counts
+abbrev pub said_last : Option (Option ℕ) → List Change → ℕ → Option (Option ℕ)
+said_last before [] monitor = before
+said_last before (c ∷ cs) monitor = said_last (or_before (said_of monitor c) before) cs monitor
+
+-- behind changes just the monitors are noted that run then, each at its device, as far as there was memory
+abbrev pub NotesChanges : List Change → Watched → Watched → Type 0
+NotesChanges changes old new = (monitor : ℕ) → IsNotedAs (said_last None changes monitor) (noted_at old monitor) (noted_at new monitor)
+
+-- and of these monitors, where none was noted before
+abbrev pub NotesThese : List MonitorRecord → Watched → Type 0
+NotesThese monitors w = (monitor : ℕ) → IsNotedAs (said_last None (map PutMonitor monitors) monitor) None (noted_at w monitor)

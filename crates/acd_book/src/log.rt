@@ -5,7 +5,7 @@ ghost use Rattle.std.specs.List.{cons_option, filter_map};
 ghost use Rattle.std.proofs.Props.{props};
 ghost use Rattle.acd_book.specs.Content.{is_at, is_told};
 ghost use Rattle.acd_book.specs.Memory.{event_at, is_numbered, number_of};
-ghost use Rattle.acd_book.specs.Watched.{ListsEvents, listed_prop};
+ghost use Rattle.acd_book.specs.Watched.{KeepsWatched, ListsEvents, listed_prop};
 
 use crate::watched::Watched;
 use acd_model::Change;
@@ -19,6 +19,7 @@ pub(crate) struct Log {
     pub(crate) watched: Watched,
     ghost numbered: { is_numbered number_of 0 events.items ≡ true },
     ghost told: { ListsEvents events.items watched } by { Prim.hlevel (props, listed_prop) },
+    ghost kept: { KeepsWatched watched } by { Prim.hlevel props },
 }
 
 impl Log {

@@ -20,6 +20,7 @@ impl Numbers {
     pub(crate) fn new(alloc: Global, above: u64) -> Numbers
         ensures above { result.above ≡ above }
         ensures none { result.numbers.items ≡ [] }
+        ensures one { result.monitors ≡ 1 }
     {
         Numbers {
             above,
@@ -31,6 +32,7 @@ impl Numbers {
     // Adds a number that is no less than those before it. Any other is refused as if there were no memory.
     fn push(&mut self, number: u64) -> Result<(), AllocError>
         ensures above { self.new.above ≡ self.old.above }
+        ensures counts { self.new.monitors ≡ self.old.monitors }
         ensures added { OnOk result
             (self.new.numbers.items ≡ self.old.numbers.items ++ number ∷ []) }
     {
@@ -46,6 +48,7 @@ impl Numbers {
     /// Adds the number of an event at the device, where it stands above the first.
     pub(crate) fn note(&mut self, number: u64) -> Result<(), AllocError>
         ensures above { self.new.above ≡ self.old.above }
+        ensures counts { self.new.monitors ≡ self.old.monitors }
         ensures noted { OnOk result
             (self.new.numbers.items
             ≡ self.old.numbers.items ++ filter (nat_lt self.old.above) (number ∷ [])) }

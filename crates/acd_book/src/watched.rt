@@ -1,8 +1,10 @@
 //! The numbers of the events at the devices that are watched, so that a page of a monitor reads its own events alone.
 
-ghost use Rattle.std.specs.Prelude.{◌∷◌, [], List, IfSome};
+ghost use Rattle.std.specs.Prelude.{◌≡◌, ◌-◌, ◌==◌, ℕ, ◌∷◌, [], List, None, Some, IfSome, option_map};
 ghost use Rattle.acd_terms.specs.declared.event.Event.{Event};
+ghost use Rattle.acd_model.specs.declared.moves.Change.TheVariants.{PutMonitor, RemoveMonitor};
 ghost use Rattle.acd_book.specs.Watched.{IsPage, ListsEvents, StillWatches, WatchesAfter, WatchesFrom, WatchesMore};
+ghost use Rattle.acd_book.specs.Watched.{CountsAt, IsMore, KeepsWatched, NotesChanges, NotesThese, StillKeeps, counted, fewer, is_none_left, noted_at};
 
 use crate::numbers::Numbers;
 use acd_model::Change;
@@ -13,7 +15,8 @@ use std::collections::HashMap;
 /// For each device with a running monitor the numbers of its events, from a number on.
 ///
 /// It takes 8 bytes for each event at such a device, and lets a device's list go with its last monitor. None of its
-/// calls fails: a list that finds no memory is let go, and whoever asks for it has to look through the events.
+/// calls fails: a list that finds no memory is let go, and whoever asks for it has to look through the events. A monitor
+/// that finds none isn't noted.
 #[derive(Drop)]
 pub struct Watched {
     pub(crate) alloc: Global,
@@ -25,7 +28,9 @@ pub struct Watched {
 impl Watched {
     /// Nothing is watched.
     pub fn new(alloc: Global) -> Watched
-        ensures { (events : List Event) → ListsEvents events result }
+        ensures lists { (events : List Event) → ListsEvents events result }
+        ensures kept { KeepsWatched result }
+        ensures noted { (monitor : ℕ) → noted_at result monitor ≡ None }
     {
         Watched {
             alloc,
@@ -36,7 +41,9 @@ impl Watched {
 
     /// Watches the devices of monitors that run from now on, where no event has a number above `last`.
     pub fn of_monitors(alloc: Global, monitors: &[MonitorRecord], last: u64) -> Watched
-        ensures { WatchesAfter last result }
+        ensures lists { WatchesAfter last result }
+        ensures kept { KeepsWatched result }
+        ensures noted { NotesThese monitors.now result }
     {
         let mut watched = Watched::new(alloc);
         for monitor in monitors {
@@ -47,7 +54,9 @@ impl Watched {
 
     /// Watches the device of a monitor that runs from now on, where no event has a number above `last`.
     pub fn start(&mut self, monitor: &MonitorRecord, last: u64)
-        ensures { WatchesFrom last self.old self.new }
+        ensures lists { WatchesFrom last self.old self.new }
+        ensures kept { StillKeeps self.old self.new }
+        ensures noted { NotesChanges (PutMonitor monitor.now ∷ []) self.old self.new }
     {
         self.stop(monitor.monitor);
         if self.devices.insert(monitor.monitor, monitor.device).is_ok() {
@@ -57,7 +66,8 @@ impl Watched {
 
     // One more monitor watches the device, whose list begins here where it has none.
     fn count(&mut self, device: DeviceId, above: u64)
-        ensures { WatchesFrom above self.old self.new }
+        ensures lists { WatchesFrom above self.old self.new }
+        ensures counts { CountsAt device IsMore self.old self.new }
     {
         if let Some(list) = self.lists.get_mut(&device) {
             list.monitors = list.monitors.saturating_add(1);
@@ -68,7 +78,9 @@ impl Watched {
 
     /// A monitor is stopped, and the list of its device goes with the last one.
     pub fn stop(&mut self, monitor: u64)
-        ensures { StillWatches self.old self.new }
+        ensures lists { StillWatches self.old self.new }
+        ensures kept { StillKeeps self.old self.new }
+        ensures noted { NotesChanges (RemoveMonitor monitor ∷ []) self.old self.new }
     {
         if let Some(device) = self.devices.remove(&monitor) {
             self.discount(device);
@@ -77,7 +89,8 @@ impl Watched {
 
     // One monitor less watches the device.
     fn discount(&mut self, device: DeviceId)
-        ensures { StillWatches self.old self.new }
+        ensures lists { StillWatches self.old self.new }
+        ensures counts { CountsAt device (λ old new. new ≡ fewer old) self.old self.new }
     {
         if self.is_last(device) {
             self.lists.remove(&device);
@@ -86,7 +99,10 @@ impl Watched {
 
     // Counts one monitor less at the device, and tells whether it was the last.
     fn is_last(&mut self, device: DeviceId) -> bool
-        ensures { StillWatches self.old self.new }
+        ensures lists { StillWatches self.old self.new }
+        ensures counts { CountsAt device (λ old new. new ≡ option_map (λ n. n - 1) old)
+            self.old self.new }
+        ensures last { result ≡ is_none_left (counted self.new device) }
     {
         match self.lists.get_mut(&device) {
             None => false,
@@ -97,22 +113,35 @@ impl Watched {
         }
     }
 
+    // Starts or stops what a change starts or stops, where no event has a number above `last`.
+    fn follow(&mut self, change: &Change, last: u64)
+        ensures lists { WatchesFrom last self.old self.new }
+        ensures kept { StillKeeps self.old self.new }
+        ensures noted { NotesChanges (change.now ∷ []) self.old self.new }
+    {
+        match change {
+            Change::PutMonitor(monitor) => self.start(monitor, last),
+            Change::RemoveMonitor(monitor) => self.stop(*monitor),
+            _ => {}
+        }
+    }
+
     /// Starts and stops what changes start and stop, where no event has a number above `last`.
     pub fn change(&mut self, changes: &[Change], last: u64)
-        ensures { WatchesFrom last self.old self.new }
+        ensures lists { WatchesFrom last self.old self.new }
+        ensures kept { StillKeeps self.old self.new }
+        ensures noted { NotesChanges changes.now self.old self.new }
     {
         for change in changes {
-            match change {
-                Change::PutMonitor(monitor) => self.start(monitor, last),
-                Change::RemoveMonitor(monitor) => self.stop(*monitor),
-                _ => {}
-            }
+            self.follow(change, last);
         }
     }
 
     /// One more event, behind the others.
     pub fn note(&mut self, event: &Event)
-        ensures { WatchesMore (event.now ∷ []) self.old self.new }
+        ensures lists { WatchesMore (event.now ∷ []) self.old self.new }
+        ensures kept { StillKeeps self.old self.new }
+        ensures devices { self.new.devices ≡ self.old.devices }
     {
         let Some(device) = event.report.columns().device else {
             return;
@@ -127,7 +156,9 @@ impl Watched {
 
     /// More events, behind the others.
     pub fn note_all(&mut self, more: &[Event])
-        ensures { WatchesMore more.now self.old self.new }
+        ensures lists { WatchesMore more.now self.old self.new }
+        ensures kept { StillKeeps self.old self.new }
+        ensures devices { self.new.devices ≡ self.old.devices }
     {
         if self.lists.is_empty() {
             return;

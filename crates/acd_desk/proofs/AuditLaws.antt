@@ -1,5 +1,6 @@
 -- A content has one audit, which is Sound exactly where the content is sound.
 use Rattle.std.proofs.Common.{◌≡◌, ℕ, ◌+◌, ◌<◌, ◌≤◌, List, [], ◌∷◌, ◌++◌, length, take, drop, refl, sym, ap, subst, ◌∙◌, arith, append_assoc, append-nil, Bool, true, false, nat_lt, inl, inr, ltb-true, ltb-false, Ok}
+use Rattle.std.proofs.Math.Numerals.{lt-add-one}
 use Rattle.std.proofs.lemmas.List.{take-append-drop, take-map, length-take-le}
 use Rattle.acd_terms.specs.Lists.{Every}
 use Rattle.acd_terms.specs.declared.event.Event.{Event}
@@ -18,6 +19,7 @@ use Rattle.acd_desk.proofs.Steps.{step_numbers}
 use Rattle.acd_desk.proofs.Counting.{counted_executed}
 use Rattle.acd_desk.proofs.Sound.{New, new-distinct, distinct-new, new-take, kept-raised, length-raised, length-arrivals, firsts_own, sound_list}
 use Rattle.acd_desk.proofs.Audits.{begins}
+use Rattle.acd_desk.proofs.SharedLists.{rises_append}
 
 -- ---- a run in two parts ----
 
@@ -111,36 +113,22 @@ one_audit c (Differs n) (Differs m) h g =
 
 -- ---- a sound content stands in order ----
 
-lower : {T : Type 0} (f : T → ℕ) (m n : ℕ) (xs : List T) → m ≤ n → Rises f n xs → Rises f m xs
-lower f m n [] le h = tt
-lower f m n (x ∷ xs) le h = (below m n (f x) le h.0, h.1)
-  where
-    below : (m n k : ℕ) → m ≤ n → n < k → m < k
-    below m n k le less = omega (arith, le, less)
-
-rises_append : {T : Type 0} (f : T → ℕ) (m top : ℕ) (xs ys : List T) → m ≤ top → Rises f m xs → Every (λ (x : T). f x ≤ top) xs → Rises f top ys → Rises f m (xs ++ ys)
-rises_append f m top [] ys le h all more = lower f m top ys le more
-rises_append f m top (x ∷ xs) ys le h all more = (h.0, rises_append f (f x) top xs ys all.0 h.1 all.1 more)
-
-going_rises : (last : ℕ) (es : List Event) → GoOn last es → Rises number_of last es
+pub going_rises : (last : ℕ) (es : List Event) → GoOn last es → Rises number_of last es
 going_rises last [] h = tt
 going_rises last (e ∷ es) h = (next last e.number h.0, subst (λ (n : ℕ). Rises number_of n es) (sym h.0) (going_rises (last + 1) es h.1))
   where
     next : (n m : ℕ) → m ≡ n + 1 → n < m
     next n m is = omega (arith, is)
 
-zero_least : (n : ℕ) → 0 ≤ n
+pub zero_least : (n : ℕ) → 0 ≤ n
 zero_least n = omega arith
 
 executed_ordered : (c : Content) (a : Arrival) → IsCounted c → IsOrdered c → IsOrdered (executed c a)
 executed_ordered c a counted ordered = record {
-  kept = rises_append stamp_of 0 c.rows.last_stamp c.kept (record_of c.rows a ∷ []) (zero_least c.rows.last_stamp) ordered.kept counted.kept (one_more c.rows.last_stamp, tt);
+  kept = rises_append stamp_of 0 c.rows.last_stamp c.kept (record_of c.rows a ∷ []) (zero_least c.rows.last_stamp) ordered.kept counted.kept (lt-add-one c.rows.last_stamp, tt);
   events = rises_append number_of 0 c.rows.last_event c.events (stepped c.rows a).events (zero_least c.rows.last_event) ordered.events counted.events
       (going_rises c.rows.last_event (stepped c.rows a).events (step_numbers c.rows a.moment a.request.command));
 }
-  where
-    one_more : (n : ℕ) → n < n + 1
-    one_more n = omega arith
 
 run_ordered : (l : List Arrival) (c : Content) → IsCounted c → IsOrdered c → IsOrdered (run_from c l)
 run_ordered [] c counted ordered = ordered

@@ -1,5 +1,5 @@
 -- The reads of an audit, and what they tell of the replay.
-use Rattle.std.proofs.Common.{◌≡◌, ℕ, ◌<◌, ◌≤◌, Bool, true, false, ◌&&◌, cond, Option, Some, None, Result, Ok, IfSome, refl, sym, ap, subst, ◌∙◌, true≢false, take}
+use Rattle.std.proofs.Common.{◌≡◌, ℕ, ◌+◌, ◌<◌, ◌≤◌, Bool, true, false, ◌&&◌, cond, Option, Some, None, Result, Ok, IfSome, refl, sym, ap, subst, ◌∙◌, true≢false, take, arith, inl, inr, ◌⊎◌}
 use Rattle.std.specs.Bool.{Decides}
 use Rattle.acd_terms.specs.Limits.{limits_fit}
 use Rattle.acd_terms.specs.Lists.{Every}
@@ -11,13 +11,16 @@ use Rattle.acd_book.specs.declared.fault.BookFault.{BookFault}
 use Rattle.acd_book.specs.Content.{Content, IsKeptAfter}
 use Rattle.acd_book.specs.Order.{IsOrdered}
 use Rattle.acd_book.specs.State.{BookState, Reads}
+use Rattle.acd_desk.specs.declared.audit.Audit.{Audit}
+use Rattle.acd_desk.specs.declared.audit.Audit.TheVariants.{Sound, Differs}
 use Rattle.acd_desk.specs.declared.replay.Course.{Course}
 use Rattle.acd_desk.specs.declared.replay.Step.{Step}
 use Rattle.acd_desk.specs.declared.replay.Step.TheVariants as step
+use Rattle.acd_desk.specs.Audit.{IsFirstDifference, IsAudit}
 use Rattle.acd_desk.specs.Firsts.{stepped}
 use Rattle.acd_desk.specs.Noting.{IsNoted}
 use Rattle.acd_desk.specs.Pages.{IsPageOf, ReadsIfOpen}
-use Rattle.acd_desk.specs.Replay.{again, rows_of, Replays, Knows, Goes, IsEnd, BeginsReplay, IsReplayed, IsStep, CountsOne, Ends}
+use Rattle.acd_desk.specs.Replay.{again, rows_of, Replays, Knows, Goes, IsEnd, BeginsReplay, IsReplayed, IsStep, CountsOne, IsAll}
 use Rattle.acd_desk.proofs.Audits.{starts_replay, replay_unlike, replay_full, replay_sound, replay_rest}
 use Rattle.acd_desk.proofs.Courses.{knows_next, goes_next}
 use Rattle.acd_desk.proofs.Steps.{step_stamp, step_limits}
@@ -71,20 +74,16 @@ step_differs a b d r n found k played behind is_next is_played one two =
     let at = next_at c n (rows_of r).last_stamp found (Some k) behind is_next told in
     replay_unlike c (rows_of r) k g.replays at (subst (IsReplayed c r k) is_played (plays (knows_next c r k g at))))
 
-ends : (c : Content) (s : Rows) → IsNext s.last_stamp c None → (w : Bool) → Decides w (IsEnd c s) → Ends c s w
-ends c s found true told = λ p. replay_sound c s p found (told.0 refl)
-ends c s found false told = λ p. replay_rest c s p found (λ ended. true≢false (sym (told.1 ended)))
-
-last_is : (c : Content) (r : Course) (w : Bool) → Ends c (rows_of r) w → IsStep c r (cond w step.Ended step.Differs)
-last_is c r true ends = λ g. ends g.replays
-last_is c r false ends = λ g. ends g.replays
+last_is : (c : Content) (r : Course) → IsNext (rows_of r).last_stamp c None → (w : Bool) → Decides w (IsEnd c (rows_of r)) → IsStep c r (cond w step.Ended step.Differs)
+last_is c r found true told = λ g. replay_sound c (rows_of r) g.replays found (told.0 refl)
+last_is c r found false told = λ g. replay_rest c (rows_of r) g.replays found (λ ended. true≢false (sym (told.1 ended)))
 
 pub step_last : (a b d : BookState) (r : Course) (n : ℕ) (found : Option Kept) (whole : Bool) (last : Step) → n ≡ (rows_of r).last_stamp → found ≡ None → Reads a b (Ok found) (IsNext n)
     → Reads b d (Ok whole) (λ (c : Content) (found : Bool). Decides found (IsEnd c (rows_of r))) → last ≡ cond whole step.Ended step.Differs
     → Reads a d (Ok last) (λ (c : Content) (found : Step). IsStep c r found)
 step_last a b d r n found whole last behind is_next one two is =
     then_told (λ (c : Content) (found : Step). IsStep c r found) a b d found whole last one two
-    (λ c told whole_told. subst (IsStep c r) (sym is) (last_is c r whole (ends c (rows_of r) (next_at c n (rows_of r).last_stamp found None behind is_next told) whole whole_told)))
+    (λ c told whole_told. subst (IsStep c r) (sym is) (last_is c r (next_at c n (rows_of r).last_stamp found None behind is_next told) whole whole_told))
 
 pub counts_one : (s : Rows) (k : Kept) (played : Option Course) (next : Course) → played ≡ Some next → StepsOn s k played → CountsOne s (step.Replayed next)
 counts_one s k played next is_played goes =
@@ -93,18 +92,47 @@ counts_one s k played next is_played goes =
       ap (λ (r : Rows). r.last_stamp) is ∙ step_stamp s (again k).moment (again k).request.command,
     )
 
--- ---- the limit is reached ----
+-- ---- all that is kept ----
 
-pub all_not : (a b : BookState) (s : Rows) (n : ℕ) (found : Option Kept) (k : Kept) → n ≡ s.last_stamp → found ≡ Some k → s.limits.requests ≤ s.last_stamp → Reads a b (Ok found) (IsNext n)
-    → Reads a b (Ok false) (λ (c : Content) (found : Bool). Ends c s found)
-all_not a b s n found k behind is_next full r =
-    then_ok (λ (c : Content) (found : Bool). Ends c s found) a b found false r (λ c told p. replay_full c s k p (next_at c n s.last_stamp found (Some k) behind is_next told) full)
+pub all_not : (a b : BookState) (s : Rows) (n : ℕ) (found : Option Kept) (k : Kept) → n ≡ s.last_stamp → found ≡ Some k → Reads a b (Ok found) (IsNext n)
+    → Reads a b (Ok false) (λ (c : Content) (found : Bool). IsAll c s found)
+all_not a b s n found k behind is_next r =
+    then_ok (λ (c : Content) (found : Bool). IsAll c s found) a b found false r (λ c told. inl (k, next_at c n s.last_stamp found (Some k) behind is_next told))
+
+all_is : (c : Content) (s : Rows) → IsNext s.last_stamp c None → (w : Bool) → Decides w (IsEnd c s) → IsAll c s w
+all_is c s found true told = (found, told.0 refl)
+all_is c s found false told = inr (found, λ ended. true≢false (sym (told.1 ended)))
 
 pub all_whole : (a b d : BookState) (s : Rows) (n : ℕ) (found : Option Kept) (whole : Result Bool BookFault) → n ≡ s.last_stamp → found ≡ None → Reads a b (Ok found) (IsNext n)
-    → Reads b d whole (λ (c : Content) (found : Bool). Decides found (IsEnd c s)) → Reads a d whole (λ (c : Content) (found : Bool). Ends c s found)
+    → Reads b d whole (λ (c : Content) (found : Bool). Decides found (IsEnd c s)) → Reads a d whole (λ (c : Content) (found : Bool). IsAll c s found)
 all_whole a b d s n found whole behind is_next one two =
-    then_read (λ (c : Content) (found : Bool). Ends c s found) a b d found whole one two
-    (λ c told w whole_told. ends c s (next_at c n s.last_stamp found None behind is_next told) w whole_told)
+    then_read (λ (c : Content) (found : Bool). IsAll c s found) a b d found whole one two
+    (λ c told w whole_told. all_is c s (next_at c n s.last_stamp found None behind is_next told) w whole_told)
+
+-- a replay that has come to the limit of executed requests
+pub seen_all : (a b d : BookState) (r : Course) (s : Rows) (all : Bool) → s ≡ rows_of r → all ≡ true → Reads a b (Ok tt) (Seen r) → Reads b d (Ok all) (λ (c : Content) (found : Bool). IsAll c s found)
+    → Reads a d (Ok Sound) (λ (c : Content) (found : Audit). IsOrdered c → IsAudit c found)
+seen_all a b d r s all same is seen read =
+    then_told (λ (c : Content) (found : Audit). IsOrdered c → IsAudit c found) a b d tt all Sound seen read
+    (λ c before told ordered.
+    let whole : IsAll c (rows_of r) true = subst (λ (x : Rows). IsAll c x true) same (subst (IsAll c s) is told) in
+    replay_sound c (rows_of r) (before ordered).replays whole.0 whole.1)
+
+pub seen_rest : (a b d : BookState) (r : Course) (s : Rows) (most : ℕ) (all : Bool) → s ≡ rows_of r → (rows_of r).last_stamp ≡ most → (rows_of r).limits.requests ≡ most → all ≡ false → Reads a b (Ok tt) (Seen r)
+    → Reads b d (Ok all) (λ (c : Content) (found : Bool). IsAll c s found) → Reads a d (Ok (Differs (most + 1))) (λ (c : Content) (found : Audit). IsOrdered c → IsAudit c found)
+seen_rest a b d r s most all same stamp limit is seen read =
+    then_told (λ (c : Content) (found : Audit). IsOrdered c → IsAudit c found) a b d tt all (Differs (most + 1)) seen read
+    (λ c before told ordered.
+    let p = (before ordered).replays in
+    let rest : IsAll c (rows_of r) false = subst (λ (x : Rows). IsAll c x false) same (subst (IsAll c s) is told) in
+    subst (λ (n : ℕ). IsFirstDifference c (n + 1)) stamp
+    (elim rest [
+      | inl more ↦ replay_full c (rows_of r) more.0 p more.1 (reached (rows_of r) most stamp limit)
+      | inr none ↦ replay_rest c (rows_of r) p none.0 none.1
+    ]))
+  where
+    reached : (x : Rows) (most : ℕ) → x.last_stamp ≡ most → x.limits.requests ≡ most → x.limits.requests ≤ x.last_stamp
+    reached x most stamp limit = omega (arith, stamp, limit)
 
 -- ---- the beginning ----
 
@@ -126,3 +154,7 @@ begins_empty limits s fits is = subst (λ (r : Rows). (r.last_stamp ≡ 0) × (r
 pub seen_more : (a b d : BookState) (r : Course) (taken : Step) (next : Course) → taken ≡ step.Replayed next → Reads a b (Ok tt) (Seen r) → Reads b d (Ok taken) (λ (c : Content) (found : Step). IsStep c r found)
     → Reads a d (Ok tt) (Seen next)
 seen_more a b d r taken next is seen read = then_told (Seen next) a b d tt taken tt seen read (λ c before goes_on ordered. subst (IsStep c r) is goes_on (before ordered))
+
+-- the stamp of a switch that was lent
+pub stamp_of_switch : (n : ℕ) (lent own : Rows) → n ≡ lent.last_stamp → lent ≡ own → n ≡ own.last_stamp
+stamp_of_switch n lent own is same = is ∙ ap (λ (r : Rows). r.last_stamp) same

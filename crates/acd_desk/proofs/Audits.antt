@@ -1,5 +1,5 @@
 -- A replay goes on record by record, and ends where the content is sound or differs.
-use Rattle.std.proofs.Common.{◌≡◌, ℕ, ◌+◌, ◌<◌, ◌≤◌, List, [], ◌∷◌, ◌++◌, length, take, drop, refl, sym, ap, ap₂, subst, ◌∙◌, arith, append_assoc, append-nil, Bool, true, false, cond, nat_lt, filter, find, Option, Some, None, is_some, option_map, inl, inr, ◌⊎◌, true≢false, lt-ltb, ltb-true, ltb-false}
+use Rattle.std.proofs.Common.{◌≡◌, ℕ, ◌+◌, ◌<◌, ◌≤◌, List, [], ◌∷◌, ◌++◌, length, take, drop, refl, sym, ap, ap₂, subst, ◌∙◌, arith, append_assoc, append-nil, Bool, true, false, cond, nat_lt, filter, find, Option, Some, None, is_some, option_map, inl, inr, true≢false, lt-ltb, ltb-true, ltb-false}
 use Rattle.std.specs.Option.{option_or}
 use Rattle.std.proofs.Math.Seq.{take-append_seam, take-append-add}
 use Rattle.std.proofs.lemmas.Bool.{le-ltb}
@@ -7,7 +7,7 @@ use Rattle.std.proofs.lemmas.List.{map-append, length-append, append_cancel_left
 use Rattle.std.proofs.lemmas.List.Elements.{filter-append}
 use Rattle.std.proofs.lemmas.List.Folds.{find-append}
 use Rattle.acd_terms.specs.Limits.{limits_fit}
-use Rattle.acd_terms.specs.Lists.{Every, Among}
+use Rattle.acd_terms.specs.Lists.{Every}
 use Rattle.acd_terms.specs.Rows.{empty_rows}
 use Rattle.acd_terms.specs.declared.rows.Limits.{Limits}
 use Rattle.acd_terms.specs.declared.rows.Rows.{Rows}
@@ -22,6 +22,8 @@ use Rattle.acd_desk.specs.Replies.{after}
 use Rattle.acd_desk.specs.Stands.{arrivals_of, IsSound}
 use Rattle.acd_desk.specs.Audit.{replayed, Agrees, AgreesBefore, IsFirstDifference}
 use Rattle.acd_desk.specs.Replay.{again, Splits, Replays, Matches, IsEnd}
+use Rattle.acd_desk.proofs.NextRecords.{none_left, next_left}
+use Rattle.acd_desk.proofs.SharedLists.{not_both}
 use Rattle.acd_desk.proofs.Steps.{step_stamp, step_event, step_numbers}
 use Rattle.acd_desk.proofs.Runs.{run-limits, after_firsts, executes}
 use Rattle.acd_desk.proofs.Counting.{counted_run}
@@ -33,63 +35,11 @@ use Rattle.acd_book.proofs.Left.{left_behind}
 
 -- ---- lists in order ----
 
-rises_after : (last : ℕ) (es left : List Event) → GoOn last es → Rises number_of last (es ++ left) → Rises number_of (last + length es) left
+pub rises_after : (last : ℕ) (es left : List Event) → GoOn last es → Rises number_of last (es ++ left) → Rises number_of (last + length es) left
 rises_after last [] left go rise = subst (λ (n : ℕ). Rises number_of n left) (omega arith) rise
 rises_after last (e ∷ es) left go rise =
     let next : Rises number_of (last + 1) (es ++ left) = subst (λ (n : ℕ). Rises number_of n (es ++ left)) go.0 rise.1 in
     subst (λ (n : ℕ). Rises number_of n left) (omega arith) (rises_after (last + 1) es left go.1 next)
-
-among_every : {T : Type 0} (P : T → Type 0) (x : T) (xs : List T) → Every P xs → Among x xs → P x
-among_every P x [] h at = absurd at
-among_every P x (y ∷ ys) h at = elim at [
-  | inl same ↦ subst P (sym same) h.0
-  | inr rest ↦ among_every P x ys h.1 rest
-]
-
-every_left : {T : Type 0} (P : T → Type 0) (xs ys : List T) → Every P (xs ++ ys) → Every P ys
-every_left P [] ys h = h
-every_left P (x ∷ xs) ys h = every_left P xs ys h.1
-
-among_cases : {T : Type 0} (x : T) (xs ys : List T) → Among x (xs ++ ys) → Among x xs ⊎ Among x ys
-among_cases x [] ys at = inr at
-among_cases x (y ∷ xs) ys at = elim at [
-  | inl same ↦ inl (inl same)
-  | inr rest ↦ elim (among_cases x xs ys rest) [
-    | inl here ↦ inl (inr here)
-    | inr there ↦ inr there
-  ]
-]
-
-rises_above : (n : ℕ) (x : Kept) (xs : List Kept) → Rises stamp_of n xs → Among x xs → n < x.stamp
-rises_above n x [] rise at = absurd at
-rises_above n x (y ∷ ys) rise at = elim at [
-  | inl same ↦ subst (λ (k : Kept). n < k.stamp) (sym same) rise.0
-  | inr rest ↦ let first : n < y.stamp = rise.0 in let more : y.stamp < x.stamp = rises_above y.stamp x ys rise.1 rest in omega (arith, first, more)
-]
-
-not_both : (a b : ℕ) → a < b → b ≤ a → ⊥
-not_both a b lt le = omega (arith, lt, le)
-
--- no record is left where none has a greater stamp
-pub none_left : (n : ℕ) (past left : List Kept) → Rises stamp_of n left → IsKeptAfter (past ++ left) n None → left ≡ []
-none_left n past [] rise h = refl
-none_left n past (k ∷ left) rise h = absurd (not_both n k.stamp rise.0 (every_left (λ (other : Kept). other.stamp ≤ n) past (k ∷ left) h).0)
-
--- the record of the least greater stamp is the next
-pub next_left : (n : ℕ) (past left : List Kept) (k : Kept) → Every (λ (other : Kept). other.stamp ≤ n) past → Rises stamp_of n left → IsKeptAfter (past ++ left) n (Some k)
-    → (tail : List Kept) × (left ≡ k ∷ tail)
-next_left n past [] k h rise found = elim (among_cases k past [] found.0) [
-  | inl here ↦ absurd (not_both n k.stamp found.1 (among_every (λ (other : Kept). other.stamp ≤ n) k past h here))
-  | inr there ↦ absurd there
-]
-next_left n past (x ∷ left) k h rise found = elim (among_cases k past (x ∷ left) found.0) [
-  | inl here ↦ absurd (not_both n k.stamp found.1 (among_every (λ (other : Kept). other.stamp ≤ n) k past h here))
-  | inr there ↦ elim there [
-    | inl same ↦ (left, ap (λ (y : Kept). y ∷ left) (sym same))
-    | inr behind ↦ absurd (not_both x.stamp k.stamp (rises_above x.stamp k left rise.1 behind)
-        ((every_left (λ (other : Kept). n < other.stamp → k.stamp ≤ other.stamp) past (x ∷ left) found.2).0 rise.0))
-  ]
-]
 
 every_find : (P : Kept → Type 0) (p : Kept → Bool) (xs : List Kept) (x : Kept) → Every P xs → find p xs ≡ Some x → P x
 every_find P p [] x h is = absurd (some_none x (sym is))
@@ -108,7 +58,7 @@ every_find P p (y ∷ ys) x h is =
 longer : (l : List Kept) (k : Kept) → l ≡ l ++ k ∷ [] → ⊥
 longer l k same = let size = length-append l (k ∷ []) in let equal = ap (λ (x : List Kept). length x) same in omega (arith, size, equal)
 
-none_of : (o : Option Kept) → is_some o ≡ false → o ≡ None
+pub none_of : (o : Option Kept) → is_some o ≡ false → o ≡ None
 none_of None h = refl
 none_of (Some k) h = absurd (true≢false h)
 
@@ -205,29 +155,32 @@ agreed_matches c r k tail el s ag =
       subst (λ (n : Limits). r.rows.last_stamp < n.requests) (split_limits c r (k ∷ tail) el s) room.1,
     )
 
--- a key whose first record is the next one is new to the run
-unkept : (c r : Content) (k : Kept) (tail : List Kept) (el : List Event) → Splits c r (k ∷ tail) el → Matches c r.rows k → kept_of r.kept k.request.requester k.request.invoke ≡ None
-unkept c r k tail el s m =
+-- the key of a record that is the first of its key has none before it
+pub unkept_before : (whole front tail : List Kept) (k : Kept) (n : ℕ) → whole ≡ front ++ k ∷ tail → Every (λ (x : Kept). x.stamp ≤ n) front → k.stamp ≡ n + 1
+    → option_map stamp_of (kept_of whole k.request.requester k.request.invoke) ≡ Some k.stamp → kept_of front k.request.requester k.request.invoke ≡ None
+unkept_before whole front tail k n is lows stamp first =
     let p : List ℕ = k.request.requester in
     let q : ℕ = k.request.invoke in
-    let found : kept_of c.kept p q ≡ option_or (kept_of r.kept p q) (kept_of (k ∷ tail) p q)
-    = ap (λ (l : List Kept). kept_of l p q) s.kept ∙ find-append (λ (x : Kept). is_key p q x.request) r.kept (k ∷ tail) in
-    let stamp : k.stamp ≡ r.rows.last_stamp + 1 = ap (λ (x : Kept). x.stamp) m.kept in
-    let cases : (o : Option Kept) → kept_of r.kept p q ≡ o → o ≡ None
-    = λ o. elim o as (λ o. kept_of r.kept p q ≡ o → o ≡ None) [
+    let found : kept_of whole p q ≡ option_or (kept_of front p q) (kept_of (k ∷ tail) p q)
+    = ap (λ (l : List Kept). kept_of l p q) is ∙ find-append (λ (x : Kept). is_key p q x.request) front (k ∷ tail) in
+    let cases : (o : Option Kept) → kept_of front p q ≡ o → o ≡ None
+    = λ o. elim o as (λ o. kept_of front p q ≡ o → o ≡ None) [
       | None ↦ λ is. refl
       | Some x ↦ λ is.
-          let low : x.stamp ≤ r.rows.last_stamp = every_find (λ (y : Kept). y.stamp ≤ r.rows.last_stamp) (λ (y : Kept). is_key p q y.request) r.kept x (split_counted c r (k ∷ tail) el s).kept is in
-          let told : Some x.stamp ≡ Some k.stamp = ap (option_map stamp_of) (ap (λ (o : Option Kept). option_or o (kept_of (k ∷ tail) p q)) (sym is) ∙ sym found) ∙ m.first in
-          absurd (clash x.stamp k.stamp r.rows.last_stamp told low stamp)
+          let low : x.stamp ≤ n = every_find (λ (y : Kept). y.stamp ≤ n) (λ (y : Kept). is_key p q y.request) front x lows is in
+          let told : Some x.stamp ≡ Some k.stamp = ap (option_map stamp_of) (ap (λ (o : Option Kept). option_or o (kept_of (k ∷ tail) p q)) (sym is) ∙ sym found) ∙ first in
+          absurd (clash x.stamp k.stamp n told low stamp)
     ] in
-    cases (kept_of r.kept p q) refl
+    cases (kept_of front p q) refl
   where
     some_number : (a b : ℕ) → Some a ≡ Some b → a ≡ b
     some_number a b e = cc
 
     clash : (a b n : ℕ) → Some a ≡ Some b → a ≤ n → b ≡ n + 1 → ⊥
     clash a b n e low is = let same = some_number a b e in omega (arith, same, low, is)
+
+unkept : (c r : Content) (k : Kept) (tail : List Kept) (el : List Event) → Splits c r (k ∷ tail) el → Matches c r.rows k → kept_of r.kept k.request.requester k.request.invoke ≡ None
+unkept c r k tail el s m = unkept_before c.kept r.kept tail k r.rows.last_stamp s.kept (split_counted c r (k ∷ tail) el s).kept (ap (λ (x : Kept). x.stamp) m.kept) m.first
 
 -- a record that matches is one more of the run
 splits_next : (c r : Content) (k : Kept) (tail : List Kept) (el : List Event) → Splits c r (k ∷ tail) el → Matches c r.rows k → r.rows.last_stamp < c.rows.limits.requests
@@ -378,14 +331,14 @@ replay_full c s k p found full =
     replay_differs c s k p found (λ m room. not_both s.last_stamp c.rows.limits.requests room
     (subst (λ (n : Limits). n.requests ≤ s.last_stamp) (ap (λ (x : Rows). x.limits) p.rows ∙ split_limits c p.ran p.kept_left p.events_left p.splits) full))
 
-nothing_more : (el : List Event) → take 1 el ≡ [] → el ≡ []
+pub nothing_more : (el : List Event) → take 1 el ≡ [] → el ≡ []
 nothing_more [] h = refl
 nothing_more (e ∷ es) h = absurd (not_empty e h)
   where
     not_empty : (e : Event) → e ∷ [] ≡ [] → ⊥
     not_empty e h = cc
 
-same_content : (c r : Content) → c.rows ≡ r.rows → c.events ≡ r.events → c.kept ≡ r.kept → c ≡ r
+pub same_content : (c r : Content) → c.rows ≡ r.rows → c.events ≡ r.events → c.kept ≡ r.kept → c ≡ r
 same_content c r e1 e2 e3 =
     let whole : Rows → List Event → List Kept → Content = λ x y z. record { rows = x; events = y; kept = z } in
     ap (λ (x : Rows). whole x c.events c.kept) e1 ∙ ap (λ (y : List Event). whole r.rows y c.kept) e2 ∙ ap (λ (z : List Kept). whole r.rows r.events z) e3

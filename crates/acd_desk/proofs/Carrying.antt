@@ -22,6 +22,7 @@ use Rattle.acd_desk.specs.Leads.{led, answers_to, StopsFrom}
 use Rattle.acd_desk.specs.Carried.{Archive, together, joined, IsNewTo, NoneSentAgain}
 use Rattle.acd_desk.specs.CarriedLaws.{IsAsTogether, IsRunOfAll, IsCutAgain, CarriedRuns}
 use Rattle.acd_desk.proofs.Leading.{sound_led, sound_answers}
+use Rattle.acd_desk.proofs.SharedLists.{every_back}
 use Rattle.acd_desk.proofs.Sound.{ran_sound, stop_sound}
 use Rattle.acd_desk.proofs.ContentLaws.{sound_keeps_laws, sound_rules, sound_counted}
 
@@ -32,7 +33,7 @@ looked_up : (p : Archive) (older : List Kept) (q : List ℕ) (i : ℕ) → kept_
 looked_up p older q i new =
     find-append (λ (k : Kept). is_key q i k.request) p.kept older ∙ ap (λ (o : Option Kept). option_or o (kept_of older q i)) new
 
-executed_together : (p : Archive) (c : Content) (a : Arrival) → executed (together p c) a ≡ together p (executed c a)
+pub executed_together : (p : Archive) (c : Content) (a : Arrival) → executed (together p c) a ≡ together p (executed c a)
 executed_together p c a =
     ap₂ (λ (es : List Event) (ks : List Kept). record { rows = (stepped c.rows a).rows; events = es; kept = ks })
     (append_assoc p.events c.events (stepped c.rows a).events)
@@ -81,17 +82,14 @@ run_of_all p c list sound new =
 
 -- ---- opened, and carried over again ----
 
-every_right : {X : Type 0} (P : X → Type 0) (xs ys : List X) → Every P (xs ++ ys) → Every P ys
-every_right P [] ys h = h
-every_right P (x ∷ xs) ys h = every_right P xs ys h.1
+pub counted_behind : (p : Archive) (c : Content) → IsCounted (together p c) → IsCounted c
+counted_behind p c whole = record {
+  events = every_back (λ (e : Event). e.number ≤ c.rows.last_event) p.events c.events whole.events;
+  kept = every_back (λ (k : Kept). k.stamp ≤ c.rows.last_stamp) p.kept c.kept whole.kept;
+}
 
 pub counted_alone : (p : Archive) (c : Content) → IsSound (together p c) → IsCounted c
-counted_alone p c sound =
-    let whole : IsCounted (together p c) = sound_counted (together p c) sound in
-    record {
-      events = every_right (λ (e : Event). e.number ≤ c.rows.last_event) p.events c.events whole.events;
-      kept = every_right (λ (k : Kept). k.stamp ≤ c.rows.last_stamp) p.kept c.kept whole.kept;
-    }
+counted_alone p c sound = counted_behind p c (sound_counted (together p c) sound)
 
 pub opens_alone : (p : Archive) (c : Content) → IsSound (together p c) → BreaksNoRule c.rows × IsCounted c
 opens_alone p c sound = (sound_rules (together p c) sound, counted_alone p c sound)

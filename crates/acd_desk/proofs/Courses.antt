@@ -19,7 +19,7 @@ use Rattle.acd_desk.proofs.PlaceLemmas.{same_place}
 use Rattle.acd_desk.proofs.Steps.{step_stamp}
 
 -- where the keys of all are noted, none has a key that isn't
-none_of_new : (keys : Noted) (r : Request) (xs : List Kept) → Every (λ (k : Kept). IsNoted keys k.request) xs → ¬ IsNoted keys r → kept_of xs r.requester r.invoke ≡ None
+pub none_of_new : (keys : Noted) (r : Request) (xs : List Kept) → Every (λ (k : Kept). IsNoted keys k.request) xs → ¬ IsNoted keys r → kept_of xs r.requester r.invoke ≡ None
 none_of_new keys r [] noted new = refl
 none_of_new keys r (x ∷ xs) noted new =
     ap (λ (b : Bool). cond b (Some x) (kept_of xs r.requester r.invoke)) (other (is_key r.requester r.invoke x.request) refl) ∙ none_of_new keys r xs noted.1 new
@@ -58,7 +58,7 @@ knows_next c r k g at = record {
   page = g.page;
 }
 
-noted_more : (old new : Noted) (k : Kept) (xs : List Kept) → ((other : Request) → IsNoted old other → IsNoted new other) → IsNoted new k.request
+pub noted_more : (old new : Noted) (k : Kept) (xs : List Kept) → ((other : Request) → IsNoted old other → IsNoted new other) → IsNoted new k.request
     → Every (λ (k : Kept). IsNoted old k.request) xs → Every (λ (k : Kept). IsNoted new k.request) (xs ++ k ∷ [])
 noted_more old new k [] others own noted = (own, tt)
 noted_more old new k (x ∷ xs) others own noted = (others x.request noted.0, noted_more old new k xs others own noted.1)

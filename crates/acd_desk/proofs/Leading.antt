@@ -12,7 +12,7 @@ use Rattle.acd_desk.proofs.Longer.{ran_none, ran_push, replies_push, sent-push}
 
 -- ---- one more ----
 
-led_push : (c : Content) (l : List Arrival) (a : Arrival) → after (led c l) a ≡ led c (l ++ a ∷ [])
+pub led_push : (c : Content) (l : List Arrival) (a : Arrival) → after (led c l) a ≡ led c (l ++ a ∷ [])
 led_push c [] a = refl
 led_push c (x ∷ l) a = led_push (after c x) l a
 

@@ -44,3 +44,12 @@ pub mod PlaceLemmas
 pub mod Courses
 pub mod Comparing
 pub mod NamesInert
+pub mod NextRecords
+pub mod SharedLists
+pub mod BothReads
+pub mod NewerRuns
+pub mod Overlaps
+pub mod StepsWith
+pub mod CleanCuts
+pub mod InTime
+pub mod AuditedWith

@@ -1,7 +1,7 @@
 -- What is read of a sound content, page by page, rebuilds it.
 use Rattle.std.proofs.Common.{◌≡◌, ℕ, zero, suc, ◌+◌, ◌<◌, ◌≤◌, List, [], ◌∷◌, ◌++◌, length, take, drop, nat_lt, refl, sym, ap, subst, ◌∙◌, arith, append_assoc, append-nil, length-append, Bool, true, false, cond, ◌==◌, is_some, inl, inr, take-append-drop}
 use Rattle.std.proofs.lemmas.Bool.{and_parts, and_from}
-use Rattle.std.proofs.lemmas.List.{map-append, nil_from_length}
+use Rattle.std.proofs.lemmas.List.{nil_from_length}
 use Rattle.acd_terms.specs.declared.rows.Limits.{Limits}
 use Rattle.acd_terms.specs.declared.command.Arrival.{Arrival}
 use Rattle.acd_book.specs.declared.kept.Kept.{Kept}
@@ -16,7 +16,7 @@ use Rattle.acd_desk.specs.Rebuilding.{last_read, IsRead, nothing, page, IsAllRea
 use Rattle.acd_desk.proofs.AuditLaws.{sound_agrees}
 use Rattle.acd_desk.proofs.Longer.{ran_none, ran_push}
 use Rattle.acd_desk.proofs.Runs.{run-limits}
-use Rattle.acd_desk.proofs.Sound.{run_sound, ran_sound}
+use Rattle.acd_desk.proofs.Sound.{run_sound, ran_sound, arrivals_append}
 use Rattle.acd_desk.proofs.Steps.{step_stamp}
 
 -- ---- the kept records of a run are numbered from 1 to the last stamp ----
@@ -132,9 +132,6 @@ none_left c read sound b all = elim all [
       nil_from_length b.0 (omega (arith, long, here, parts, last))
       )
 ]
-
-arrivals_append : (xs ys : List Kept) → arrivals_of (xs ++ ys) ≡ arrivals_of xs ++ arrivals_of ys
-arrivals_append xs ys = map-append (λ (k : Kept). record { moment = k.moment; request = k.request }) xs ys
 
 pub pages_rebuild : PagesRebuild
 pages_rebuild c read h =

@@ -87,6 +87,9 @@ kept-raised (x ∷ l) c =
     ∙ ap (λ (s : List Arrival). s ++ raised_from (executed c x) l) (map-append (λ (k : Kept). record { moment = k.moment; request = k.request }) c.kept (record_of c.rows x ∷ []))
     ∙ append_assoc (arrivals_of c.kept) (record { moment = executed_moment c.rows x.moment; request = x.request } ∷ []) (raised_from (executed c x) l)
 
+pub arrivals_append : (xs ys : List Kept) → arrivals_of (xs ++ ys) ≡ arrivals_of xs ++ arrivals_of ys
+arrivals_append xs ys = map-append (λ (k : Kept). record { moment = k.moment; request = k.request }) xs ys
+
 pub length-arrivals : (ks : List Kept) → length (arrivals_of ks) ≡ length ks
 length-arrivals [] = refl
 length-arrivals (k ∷ ks) = let e = length-arrivals ks in omega (arith, e)

@@ -133,7 +133,7 @@ told_rows old new rows r is working = record {
 abbrev pub stands : BookState → Working → Standing
 stands b w = record { book = b; switch = switch_of w; failed = is_failed w }
 
-without_memory : {B F : Type 0} (b d : BookState) (w : Working) (Q : Content → B → Type 0) → BookStep F b d → Unchanged b d → ¬ F → is_failed w ≡ false → Told (stands b w) (stands d w) (Err NoMemory) Q
+pub without_memory : {B F : Type 0} (b d : BookState) (w : Working) (Q : Content → B → Type 0) → BookStep F b d → Unchanged b d → ¬ F → is_failed w ≡ false → Told (stands b w) (stands d w) (Err NoMemory) Q
 without_memory b d w Q step unchanged none working = record {
   step = step_so step (λ failed. absurd (none failed));
   unchanged = unchanged;
@@ -146,7 +146,7 @@ without_memory b d w Q step unchanged none working = record {
   loads = λ working gone. gone;
 }
 
-store_failed : {B F : Type 0} (b d : BookState) (w : Working) (Q : Content → B → Type 0) → BookStep F b d → Unchanged b d
+pub store_failed : {B F : Type 0} (b d : BookState) (w : Working) (Q : Content → B → Type 0) → BookStep F b d → Unchanged b d
     → (let new : Standing = record { book = d; switch = None; failed = true } in IsCause (stands b w) new ⊎ ((switch_of w ≡ None) × IsDeceived (stands b w) new))
     → Told (stands b w) (record { book = d; switch = None; failed = true }) (Err StoreFault) Q
 store_failed b d w Q step unchanged cause = record {

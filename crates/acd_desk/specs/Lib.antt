@@ -35,3 +35,9 @@ pub mod Noting
 pub mod NameLaws
 pub mod CarriedLaws
 pub mod WithArchive
+pub mod Sharing
+pub mod AuditWith
+pub mod Pairs
+pub mod Overlap
+pub mod ReplayWith
+pub mod AuditedWith

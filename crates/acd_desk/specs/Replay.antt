@@ -1,5 +1,5 @@
 -- How far the replay of a content has come.
-use Rattle.std.specs.Prelude.{◌≡◌, ◌+◌, take, Bool, true, false, List, [], ◌++◌, length, Option, Some, None, option_map}
+use Rattle.std.specs.Prelude.{◌≡◌, ◌⊎◌, ◌+◌, take, Bool, true, false, List, [], ◌++◌, length, Option, Some, None, option_map}
 use Rattle.acd_terms.specs.Limits.{limits_fit}
 use Rattle.acd_terms.specs.declared.rows.Rows.{Rows}
 use Rattle.acd_terms.specs.declared.event.Event.{Event}
@@ -7,7 +7,7 @@ use Rattle.acd_terms.specs.Lists.{Every}
 use Rattle.acd_terms.specs.declared.command.Arrival.{Arrival}
 use Rattle.acd_terms.specs.declared.command.Request.{Request}
 use Rattle.acd_book.specs.declared.kept.Kept.{Kept}
-use Rattle.acd_book.specs.Content.{Content, kept_of, events_behind}
+use Rattle.acd_book.specs.Content.{Content, kept_of, IsKeptAfter, events_behind}
 use Rattle.acd_book.specs.Memory.{stamp_of, number_of}
 use Rattle.acd_book.specs.Order.{Rises, IsOrdered}
 use Rattle.acd_desk.specs.Firsts.{stepped, record_of, run}
@@ -66,6 +66,11 @@ pub record Matches (c : Content) (s : Rows) (k : Kept) : Type 0 where
 abbrev pub IsEnd : Content → Rows → Type 0
 IsEnd c s = (events_behind c.events s.last_event 1 ≡ []) × (c.rows ≡ s)
 
+-- no record is left behind these rows, and no event, and the tables are these; or something is
+abbrev pub IsAll : Content → Rows → Bool → Type 0
+IsAll c s true = IsKeptAfter c.kept s.last_stamp None × IsEnd c s
+IsAll c s false = ((k : Kept) × IsKeptAfter c.kept s.last_stamp (Some k)) ⊎ (IsKeptAfter c.kept s.last_stamp None × ¬ IsEnd c s)
+
 -- the notes tell that no earlier record has the key of this one, where it isn't noted
 abbrev pub TellsKeys : Content → Noted → Kept → Type 0
 TellsKeys c keys k = ¬ IsNoted keys k.request → IsFirstOfKey c k
@@ -108,8 +113,3 @@ abbrev pub CountsOne : Rows → Step → Type 0
 CountsOne s (Replayed next) = ((rows_of next).limits ≡ s.limits) × ((rows_of next).last_stamp ≡ s.last_stamp + 1)
 CountsOne s Differs = Unit {0}
 CountsOne s Ended = Unit {0}
-
--- whether a replay that can't go on has replayed all that is kept
-abbrev pub Ends : Content → Rows → Bool → Type 0
-Ends c s true = Replays c s → IsSound c
-Ends c s false = Replays c s → IsFirstDifference c (s.last_stamp + 1)

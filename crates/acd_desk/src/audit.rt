@@ -3,12 +3,19 @@
 ghost use Rattle.acd_desk.specs.Standing.{book_of};
 ghost use Rattle.acd_desk.specs.Told.{DeskTold};
 ghost use Rattle.acd_desk.specs.Audit.{IsAudited, TellsSound};
+ghost use Rattle.acd_desk.specs.Pages.{ReadsIfOpen};
+ghost use Rattle.std.specs.Prelude.{◌≡◌};
+ghost use Rattle.acd_desk.specs.AuditedWith.{desk_part, archive_part, audit_fault, left_by_pair, IsAuditedWith};
 
 use crate::desk::Desk;
 use crate::fault::DeskFault;
+use crate::newer::audited_with;
+use crate::open_fault::OpenFault;
+use crate::pair::PairFault;
 use crate::replay::audited;
 use crate::working::Working;
 use acd_book::Book;
+use thiserror::Error;
 
 /// What an audit answers.
 #[derive(Clone, Copy, Debug, PartialEq, Eq)]
@@ -18,6 +25,17 @@ pub enum Audit {
     /// The first place in the kept list, from 1, whose record or events are not what the kept requests give;
     /// or the place behind the list, where only the tables or events that belong to none are not.
     Differs(u64),
+}
+
+/// Why an audit with an archive gave no answer.
+#[derive(Clone, Copy, Debug, PartialEq, Eq, Error)]
+pub enum AuditFault {
+    /// The desk gave none.
+    #[error("the desk gave no answer")]
+    Desk(DeskFault),
+    /// Its archive gave none, or the archive's rows break a rule.
+    #[error("the archive gave no answer")]
+    Archive(OpenFault),
 }
 
 impl<B: Book> Desk<B> {
@@ -36,6 +54,36 @@ impl<B: Book> Desk<B> {
         match audited(self.alloc, &mut self.book) {
             Ok(audit) => Ok(audit),
             Err(fault) => Err(self.failed(fault)),
+        }
+    }
+
+    /// The same of a desk that was carried over, with the archive that it goes on from: up to the archive's last stamp its records have to be
+    /// the archive's own, and what is newer is run again from the archive's state on. It changes nothing in either.
+    pub fn audit_with<A: Book>(&mut self, archive: &mut A) -> Result<Audit, AuditFault>
+        ensures told { DeskTold B.Book self.old self.new (desk_part result) (λ c found. Unit {0}) }
+        ensures archive { ReadsIfOpen (A.state archive.old) (A.state archive.new)
+            (archive_part result) (λ a found. Unit {0}) }
+        ensures audited { IsAuditedWith (A.state archive.old) (A.state archive.new)
+            (B.state (book_of self.old)) (B.state (book_of self.new)) result }
+    {
+        if self.has_failed() {
+            return Err(AuditFault::Desk(DeskFault::StoreFault));
+        }
+        match audited_with(self.alloc, archive, &mut self.book) {
+            Ok(audit) => Ok(audit),
+            Err(fault) => Err(self.told_not(fault)),
+        }
+    }
+
+    // What a fault of either is to the audit: where the desk's store has failed, the desk has.
+    fn told_not(&mut self, fault: PairFault) -> AuditFault
+        ensures fault { result ≡ audit_fault fault }
+        ensures left { self.new
+            ≡ record self.old { working = left_by_pair fault self.old.working } }
+    {
+        match fault {
+            PairFault::Own(fault) => AuditFault::Desk(self.failed(fault)),
+            PairFault::Archive(fault) => AuditFault::Archive(fault),
         }
     }
 }

@@ -11,6 +11,7 @@ ghost use Rattle.acd_desk.specs.PageSizes.{PagesAreShort, SoundIsReplied};
 ghost use Rattle.acd_desk.specs.NameLaws.{ContentIgnoresNames, AnswersIgnoreNames};
 ghost use Rattle.acd_desk.specs.CarriedLaws.{CarriedGoesOn, CarriedIsRunOfAll, CarriedAgain, CarriedOpens, CarriedRuns};
 ghost use Rattle.acd_desk.specs.WithArchive.{AuditsWithArchive, AuditsLinkByLink};
+ghost use Rattle.acd_desk.specs.AuditWith.{SoundStandsInTime};
 
 use acd_book::Book;
 
@@ -115,4 +116,5 @@ pub fn carried_runs<B: Book>()
 pub fn audits_with_archive()
     ensures one { AuditsWithArchive }
     ensures links { AuditsLinkByLink }
+    ensures in_time { SoundStandsInTime }
 {}

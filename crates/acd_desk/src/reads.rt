@@ -131,10 +131,12 @@ impl<B: Book> Desk<B> {
         self.look(|tables| tables.last_stamp())
     }
 
-    /// How many requests were executed. A sound book keeps as many records.
+    /// How many requests were executed. A sound book keeps as many records, where none lie in an archive.
     pub fn executed(&mut self) -> Result<u64, DeskFault>
-        ensures { DeskTold B.Book self.old self.new result (λ c count.
+        ensures kept { DeskTold B.Book self.old self.new result (λ c count.
             IsSound c → count ≡ length c.kept) }
+        ensures last { DeskTold B.Book self.old self.new result (λ c count.
+            count ≡ c.rows.last_stamp) }
     {
         self.last_stamp()
     }

@@ -13,7 +13,7 @@ ghost use Rattle.acd_desk.specs.Firsts.{stepped};
 ghost use Rattle.acd_desk.specs.Audit.{IsAudit};
 ghost use Rattle.acd_desk.specs.Noting.{IsNoted};
 ghost use Rattle.acd_desk.specs.Pages.{IsPageOf, ReadsIfOpen};
-ghost use Rattle.acd_desk.specs.Replay.{again, IsFirstOfKey, Matches, IsEnd, BeginsReplay, IsReplayed, IsStep, CountsOne, Ends, Knows, TellsKeys};
+ghost use Rattle.acd_desk.specs.Replay.{again, IsFirstOfKey, Matches, IsEnd, BeginsReplay, IsReplayed, IsStep, CountsOne, IsAll, Knows, TellsKeys};
 
 use crate::audit::Audit;
 use crate::executing::executed;
@@ -141,8 +141,8 @@ fn replays_as_kept<B: Book>(
     is_as_kept(alloc, book, keys, page, kept, last, &expected, &done.events)
 }
 
-// Replays a record: the course behind it, where the record and its events are what its request gives.
-fn replayed<B: Book>(
+/// Replays a record: the course behind it, where the record and its events are what its request gives.
+pub(crate) fn replayed<B: Book>(
     alloc: Global,
     book: &mut B,
     course: Course,
@@ -188,8 +188,8 @@ fn has_tables<B: Book>(book: &mut B, switch: &Switch) -> Result<bool, BookFault>
     Ok(are_same_rows(&rows, &replayed))
 }
 
-// Whether no event is left behind a replay, and the tables are those of the replay.
-fn is_whole<B: Book>(book: &mut B, switch: &Switch) -> Result<bool, BookFault>
+/// Whether no event is left behind a replay, and the tables are those of the replay.
+pub(crate) fn is_whole<B: Book>(book: &mut B, switch: &Switch) -> Result<bool, BookFault>
     ensures { Reads (B.state book.old) (B.state book.new) result
         (λ c found. Decides found (IsEnd c switch.now)) }
 {
@@ -200,8 +200,8 @@ fn is_whole<B: Book>(book: &mut B, switch: &Switch) -> Result<bool, BookFault>
     }
 }
 
-// The step at which no record is left.
-fn last_step(is_whole: bool) -> Step
+/// The step at which no record is left.
+pub(crate) fn last_step(is_whole: bool) -> Step
     ensures { result ≡ cond is_whole Step.Ended Step.Differs }
 {
     if is_whole { Step::Ended } else { Step::Differs }
@@ -223,11 +223,10 @@ fn next_step<B: Book>(alloc: Global, book: &mut B, course: Course) -> Result<Ste
     }
 }
 
-// Whether a replay that has come to the limit of executed requests has replayed all that is kept.
-fn is_all<B: Book>(book: &mut B, switch: &Switch) -> Result<bool, BookFault>
-    requires { switch.now.limits.requests ≤ switch.now.last_stamp }
+/// Whether a replay has come past all that is kept.
+pub(crate) fn is_all<B: Book>(book: &mut B, switch: &Switch) -> Result<bool, BookFault>
     ensures { Reads (B.state book.old) (B.state book.new) result
-        (λ c found. Ends c switch.now found) }
+        (λ c found. IsAll c switch.now found) }
 {
     let Some(_) = book.kept_after(switch.last_stamp())? else {
         return is_whole(book, switch);
@@ -244,16 +243,24 @@ fn unplayed(alloc: Global, limits: Limits) -> Result<LoadedSwitch, AllocError>
     Ok(LoadedSwitch { switch })
 }
 
-// A course that has come past nothing yet.
+/// A course that has come past nothing yet, from this switch on.
+pub(crate) fn coursed(alloc: Global, loaded: LoadedSwitch) -> Result<Course, AllocError>
+    ensures rows { IfOk result (λ first. first.loaded.switch.value ≡ loaded.switch.value) }
+    ensures page { IfOk result (λ first. (c : Content) → IsPageOf c first.page) }
+{
+    let keys = Noted::none(alloc)?;
+    let page = Page::empty(alloc);
+    Ok(Course { loaded, keys, page })
+}
+
+// The same from an empty switch on.
 fn uncoursed(alloc: Global, limits: Limits) -> Result<Course, AllocError>
     requires { limits_fit limits ≡ true }
     ensures rows { IfOk result (λ first. first.loaded.switch.value ≡ empty_rows limits) }
     ensures page { IfOk result (λ first. (c : Content) → IsPageOf c first.page) }
 {
     let loaded = unplayed(alloc, limits)?;
-    let keys = Noted::none(alloc)?;
-    let page = Page::empty(alloc);
-    Ok(Course { loaded, keys, page })
+    coursed(alloc, loaded)
 }
 
 // A course under the limits of the book, where they fit.
@@ -291,7 +298,8 @@ pub(crate) fn audited<B: Book>(alloc: Global, book: &mut B) -> Result<Audit, Boo
             Step::Ended => return Ok(Audit::Sound),
         }
     }
-    if is_all(book, &course.loaded.switch)? {
+    let all = is_all(book, &course.loaded.switch)?;
+    if all {
         Ok(Audit::Sound)
     } else {
         Ok(Audit::Differs(most + 1))

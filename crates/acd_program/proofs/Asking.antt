@@ -1,5 +1,5 @@
 -- What is told of a book, by what its desk told; and over a connection, by what its book told.
-use Rattle.std.proofs.Common.{◌≡◌, ℕ, Ok, subst, ◌∙◌}
+use Rattle.std.proofs.Common.{◌≡◌, ℕ, Result, Ok, Err, sym, subst, ◌∙◌}
 use Rattle.acd_book.specs.Content.{Content}
 use Rattle.acd_book.specs.Order.{IsOrdered}
 use Rattle.acd_book.specs.State.{BookState}
@@ -10,11 +10,15 @@ use Rattle.acd_desk.specs.Audit.{IsFirstDifference}
 use Rattle.acd_desk.specs.Carried.{Archive, no_archive, together}
 use Rattle.acd_desk.specs.Standing.{Standing, Starts, StartsWith}
 use Rattle.acd_desk.specs.Stands.{IsSound}
-use Rattle.acd_desk.specs.Opening.{Opened}
+use Rattle.acd_desk.specs.declared.fault.DeskFault.{DeskFault}
+use Rattle.acd_desk.specs.declared.open_fault.OpenFault.{OpenFault}
+use Rattle.acd_desk.specs.Opening.{Opened, Refused}
 use Rattle.acd_desk.specs.Told.{Told}
 use Rattle.acd_desk.proofs.AuditLaws.{one_audit}
+use Rattle.acd_desk.proofs.Telling.{told_nothing, told_then}
 use Rattle.acd_program.specs.declared.auditing.Finding.{Finding}
 use Rattle.acd_program.specs.declared.auditing.Finding.TheVariants.{Sound, Counted, Differs}
+use Rattle.acd_program.specs.Ended.{OnlyAsked}
 use Rattle.acd_program.specs.Found.{IsFinding, IsFindingOf}
 use Rattle.acd_program.specs.Work.{WasAsked, IsFindingIfOrdered}
 use Rattle.acd_program.specs.Taking.{IsOf}
@@ -35,6 +39,35 @@ asked_by old d e x P o t =
           subst (λ (c : Content). P c x) (same clean sound) (t.value clean starts.0 starts.2 starts.1);
       stops = λ clean sound c at. o.stops (t.step.clean clean) sound c (t.unchanged.stops clean (o.step.sound (t.step.clean clean) sound) c at);
     }
+
+-- nothing was asked of it where it makes no desk
+pub only_refused : (old new : BookState) (why : OpenFault) → Refused old why new → OnlyAsked old new
+only_refused old new why r = record { clean = r.step.clean; sound = r.step.sound; stops = r.unchanged.stops }
+
+-- whatever a desk told
+pub only_asked : {A : Type 0} (d e : Standing) (r : Result A DeskFault) (P : Content → A → Type 0) → Told d e r P → OnlyAsked d.book e.book
+only_asked d e r P t = record { clean = t.step.clean; sound = t.step.sound; stops = t.unchanged.stops }
+
+-- a read behind another one ended by a fault
+pub told_fault : {A B C : Type 0} (old mid new : Standing) (x : A) (f : DeskFault) (r : Result C DeskFault) (P : Content → A → Type 0) (Q : Content → B → Type 0) (R : Content → C → Type 0)
+    → Told old mid (Ok x) P → Told mid new (Err f) Q → r ≡ Err f → Told old new r R
+told_fault {C = C} old mid new x f r P Q R first second is =
+    subst (λ (y : Result C DeskFault). Told old new y R) (sym is) (told_then old mid new x (Err f) P R R (λ c y before after. after) first (told_nothing mid new f Q R second))
+
+-- nothing was asked of it
+pub only_left : (s : BookState) → OnlyAsked s s
+only_left s = record { clean = λ clean. clean; sound = λ clean sound. sound; stops = λ clean sound c at. at }
+
+-- over the book that it was opened over
+pub only_opened : (old : BookState) (d : Standing) (now : BookState) → Opened old d → OnlyAsked d.book now → OnlyAsked old now
+only_opened old d now o asked = record {
+  clean = λ clean. o.step.clean (asked.clean clean);
+  sound = λ clean sound. asked.sound clean (o.step.sound (asked.clean clean) sound);
+  stops = λ clean sound c at. o.stops (asked.clean clean) sound c (asked.stops clean (o.step.sound (asked.clean clean) sound) c at);
+}
+
+pub only_told : {A : Type 0} (old : BookState) (d e : Standing) (r : Result A DeskFault) (P : Content → A → Type 0) → Opened old d → Told d e r P → OnlyAsked old e.book
+only_told old d e r P o t = only_opened old d e.book o (only_asked d e r P t)
 
 -- what follows from an answer is an answer
 pub asked_so : {A B : Type 0} (old new : BookState) (x : A) (y : B) (P : Content → A → Type 0) (Q : Content → B → Type 0) → ((c : Content) → P c x → Q c y) → WasAsked old P x new → WasAsked old Q y new

@@ -1,5 +1,5 @@
 -- That the lines of an input were answered, by what was answered over a desk in memory or over a file.
-use Rattle.std.proofs.Common.{◌≡◌, inl, inr, ℕ, Bool, true, false, List, Option, Some, None, Result, Ok, Err, OnOk, refl, sym, subst, true≢false}
+use Rattle.std.proofs.Common.{◌≡◌, inl, inr, ℕ, Bool, true, false, List, Option, Some, None, Result, Ok, Err, IfErr, OnOk, refl, sym, subst, true≢false}
 use Rattle.std.specs.Io.KnownBytes.{Appends}
 use Rattle.sqlite_disk.specs.declared.Disk.{Ghosts}
 use Rattle.acd_book.specs.Content.{Content}
@@ -10,14 +10,14 @@ use Rattle.acd_lines.specs.Laws.{RequestsRun}
 use Rattle.acd_lines.specs.Answers.{Answers}
 use Rattle.acd_lines.specs.Input.{line_of}
 use Rattle.acd_io.specs.Sent.{Begins}
-use Rattle.acd_lines.specs.Lines.{LinesAnswered, AllLines, FirstLines, ArrivalsAnswered, RunInTurn, Streams}
+use Rattle.acd_lines.specs.Lines.{LinesAnswered, AllLines, FirstLines, ArrivalsAnswered, RunInTurn, Streams, streams}
 use Rattle.acd_lines.specs.Parts.{InTurn}
 use Rattle.acd_lines.specs.declared.fault.LinesFault.{LinesFault}
 use Rattle.acd_lines.proofs.Weaker.{answered_so}
 use Rattle.acd_program.specs.Answered.{in_memory, IsNewDesk, AnsweredFromNothing}
 use Rattle.acd_program.specs.Desks.{OverNewDesk}
 use Rattle.acd_program.specs.LinesOver.{Whole, LinesInMemory, in_turn}
-use Rattle.acd_program.specs.Sessions.{LinesAreFromNothing}
+use Rattle.acd_program.specs.Sessions.{LinesAreFromNothing, MemoryEnded}
 use Rattle.acd_program.specs.Tasks.{MemoryAnswered, FileAnswered, InputAnswered}
 use Rattle.acd_program.proofs.Answering.{in_memory_quiet, lines_from_nothing, answers_none}
 
@@ -59,6 +59,18 @@ memory_whole T io (Ok u) (inr some) = record {
 pub memory_lines : (reads is_so : Bool) (io : Streams) (r : Result (Unit {0}) LinesFault) → reads ≡ is_so → LinesInMemory (in_turn is_so in_memory) io r → OnOk r (OverNewDesk (Whole in_memory (in_turn reads in_memory) false io))
 memory_lines reads is_so io r is h =
     subst (λ (b : Bool). OnOk r (OverNewDesk (Whole in_memory (in_turn b in_memory) false io))) (sym is) (memory_whole (in_turn is_so in_memory) io r h)
+
+-- behind a fault
+memory_told : {R W : Type 0} (remaining : R → Option (List ℕ)) (contents : W → Option (List ℕ)) → LinesAreFromNothing remaining contents → (reads : Bool) (reader : R × R) (writer : W × W) (r : Result (Unit {0}) LinesFault)
+    → LinesInMemory (in_turn reads in_memory) (streams remaining contents reader writer) r → IfErr r (MemoryEnded reads (streams remaining contents reader writer))
+memory_told remaining contents law reads reader writer (Ok u) h = tt
+memory_told remaining contents law true reader writer (Err why) h = h
+memory_told remaining contents law false reader writer (Err why) h = law reader writer (Err why) h
+
+pub memory_ended : {R W : Type 0} (remaining : R → Option (List ℕ)) (contents : W → Option (List ℕ)) → LinesAreFromNothing remaining contents → (reads is_so : Bool) (reader : R × R) (writer : W × W) (r : Result (Unit {0}) LinesFault) → reads ≡ is_so
+    → LinesInMemory (in_turn is_so in_memory) (streams remaining contents reader writer) r → IfErr r (MemoryEnded reads (streams remaining contents reader writer))
+memory_ended remaining contents law reads is_so reader writer r is h =
+    subst (λ (b : Bool). IfErr r (MemoryEnded b (streams remaining contents reader writer))) (sym is) (memory_told remaining contents law is_so reader writer r h)
 
 memory_answered : RequestsRun in_memory → (reads : Bool) (io : Streams) → OverNewDesk (Whole in_memory (in_turn reads in_memory) false io) → MemoryAnswered reads io
 memory_answered runs true io h = h

@@ -11,3 +11,8 @@ pub mod Served
 pub mod LinesOver
 pub mod Inputs
 pub mod Plans
+pub mod CommandLines
+pub mod Coming
+pub mod Ended
+pub mod TasksEnded
+pub mod AuditsBehind

@@ -25,7 +25,7 @@ use Rattle.acd_program.specs.Faults.{lines_fault, open_fault, told_by}
 use Rattle.acd_program.specs.Desks.{OverDesk, OverDatabase, in_database}
 use Rattle.acd_program.specs.LinesOver.{Whole, LinesTold, LinesOver, LinesIn, DatabaseAnswered}
 use Rattle.acd_program.specs.Over.{AnswersOver, OverConnection, Unserved}
-use Rattle.acd_program.specs.Sessions.{SessionTold, LinesAreSessions}
+use Rattle.acd_program.specs.Sessions.{SessionTold, DatabaseEnded, LinesAreSessions}
 use Rattle.acd_program.specs.Taking.{IsOf, IsTaken}
 use Rattle.acd_program.specs.declared.fault.Fault.{Fault}
 use Rattle.acd_program.proofs.Over.{lines_over, lines_well, lines_failed, lines_since, well_lines_since, failed_lines_since, over_connection}
@@ -145,7 +145,7 @@ lines_are_sessions {S} store remaining contents runs makes ends reader writer r 
     let io : Streams = streams remaining contents reader writer in
     let new : BookState = book_of store h.last in
     subst (λ (x : Held S). OverConnection (SessionTold ends io r) makes s (state store x)) (sym h.back)
-    (over_connection (SessionTold ends io r) makes s (state store h.last.conn) (book_of store h.taken) h.last.noted h.last.failures (λ old of told. told_since ends io r old (book_of store h.taken) new of told) h.of_old
+    (over_connection (SessionTold ends io r) (SessionTold ends io r) makes s (state store h.last.conn) (book_of store h.taken) h.last.noted h.last.failures (λ old of told. told_since ends io r old (book_of store h.taken) new of told) h.of_old
     (session_of_desk (in_database store) runs ends io r (book_of store h.taken) h.last h.over))
 
 -- without a fault they are the whole session
@@ -155,6 +155,13 @@ pub session_in : {S R W : Type 0} (store : Ghosts S) (remaining : R → Option (
 session_in store remaining contents law makes ends reader writer given (Err why) conn h = tt
 session_in store remaining contents law makes ends reader writer given (Ok u) conn (inl none) = absurd (ok_err none.told)
 session_in store remaining contents law makes ends reader writer given (Ok u) conn (inr some) = law makes ends reader writer (Ok u) given conn some
+
+-- or its beginning
+pub ended_in : {S R W : Type 0} (store : Ghosts S) (remaining : R → Option (List ℕ)) (contents : W → Option (List ℕ)) → LinesAreSessions store remaining contents → (makes ends : Bool) (reader : R × R) (writer : W × W) (given : Held S) (r : Result (Unit {0}) Fault) (conn : Held S)
+    → LinesIn store (InTurn line_of (Answers (standing (in_database store)))) makes ends (streams remaining contents reader writer) (state store given) r conn
+    → DatabaseEnded store makes false ends (streams remaining contents reader writer) (state store given) r conn
+ended_in store remaining contents law makes ends reader writer given r conn (inl none) = inl none
+ended_in store remaining contents law makes ends reader writer given r conn (inr some) = inr (law makes ends reader writer r given conn some)
 
 -- that a new book may be made was known
 pub answered_made : {S : Type 0} (store : Ghosts S) (is_new makes reads ends : Bool) (io : Streams) (s : State) (conn : Held S) → (is_new ≡ true → makes ≡ true) → DatabaseAnswered store is_new reads ends io s conn → DatabaseAnswered store makes reads ends io s conn

@@ -82,9 +82,9 @@ pub failed_lines_since : (P : List (List ℕ) → Type 0) (W : List ℕ → Type
 failed_lines_since P W old mid new of h = arrivals_so P (IsFailedSession mid new) (IsFailedSession old new) W (λ l ts s. (session_of IsFault old mid new l ts of s.0, s.1)) h
 
 -- whatever carries over to what a book came of is said of the database
-pub over_connection : (P : BookState → BookState → Type 0) (makes : Bool) (s t : State) (mid : BookState) (noted : Notes) (failures : ℕ)
-    → ((old : BookState) → IsOf old mid → P mid (followed noted (book_state t failures)) → P old (followed noted (book_state t failures))) → IsTaken makes s mid → P mid (followed noted (book_state t failures)) → OverConnection P makes s t
-over_connection P makes s t mid noted failures carries taken h = (
+pub over_connection : (P Q : BookState → BookState → Type 0) (makes : Bool) (s t : State) (mid : BookState) (noted : Notes) (failures : ℕ)
+    → ((old : BookState) → IsOf old mid → P mid (followed noted (book_state t failures)) → Q old (followed noted (book_state t failures))) → IsTaken makes s mid → P mid (followed noted (book_state t failures)) → OverConnection Q makes s t
+over_connection P Q makes s t mid noted failures carries taken h = (
   failures,
   noted,
   elim taken [

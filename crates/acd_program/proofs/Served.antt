@@ -1,31 +1,45 @@
 -- What serving over a database leaves, step by step.
-use Rattle.std.proofs.Common.{◌≡◌, ℕ, Bool, false, List, [], Option, Result, Ok, Err, OnOk, Some, None, sym, subst, refl, append-nil}
+use Rattle.std.proofs.Common.{◌≡◌, inl, inr, ℕ, Bool, true, false, List, [], Option, Result, Ok, Err, OnOk, IsTrue, Some, None, sym, subst, refl, append-nil}
+use Rattle.std.proofs.KnownBytes.{Appends-nil}
+use Rattle.std.specs.Io.KnownBytes.{Appends}
 use Rattle.sqlite.specs.State.{State}
-use Rattle.sqlite.specs.Held.{Held}
+use Rattle.sqlite.specs.Held.{Held, state}
 use Rattle.sqlite.specs.Files.{over_files}
 use Rattle.sqlite_disk.specs.declared.Disk as disk
+use Rattle.sqlite_trees.specs.Tree.{Trees}
 use Rattle.sqlite_trees.specs.declared.store.Store.{Ghosts}
 use Rattle.acd_book.specs.declared.book.Book as book
-use Rattle.acd_book.specs.State.{BookState}
 use Rattle.acd_sqlbook.specs.View.{BookView, book_of}
 use Rattle.acd_desk.specs.declared.desk.Desk.{Desk}
-use Rattle.acd_desk.specs.Opening.{Opened}
 use Rattle.acd_desk.specs.Standing.{Standing, standing}
 use Rattle.acd_io.specs.Sent.{Begins, WasSent}
 use Rattle.acd_io.proofs.Sends.{begins_so}
 use Rattle.acd_lines.specs.Lines.{Streams}
 use Rattle.acd_http.specs.Listening.{ServedAll, ServedUntilFailed, ServedFor, outcome_lines}
-use Rattle.acd_program.specs.Desks.{OverDesk, OverDatabase, in_database}
+use Rattle.acd_terms.proofs.Results.{ok_err}
+use Rattle.acd_program.specs.Desks.{OverDatabase, in_database}
+use Rattle.acd_program.specs.Faults.{open_fault, told_by}
+use Rattle.acd_program.specs.Over.{Unserved}
 use Rattle.acd_program.specs.Taking.{IsTaken}
 use Rattle.acd_program.specs.Statuses.{TellsConnections}
-use Rattle.acd_program.specs.Serving.{Served}
-use Rattle.acd_program.specs.declared.task.Task.{Task}
-use Rattle.acd_program.specs.declared.task.Task.TheVariants as task
+use Rattle.acd_program.specs.Serving.{Served, listening_line, ends_failed, ListenTold, ServeTold, ServeOver, ServeIn}
+use Rattle.acd_program.specs.declared.fault.Fault.{Fault}
+use Rattle.acd_program.specs.declared.asked.Task.{Task}
+use Rattle.acd_program.specs.declared.asked.Task.TheVariants as task
 use Rattle.acd_program.specs.Tasks.{ServedIn, TaskDone}
+use Rattle.acd_program.proofs.LinesOver.{over_made}
+use Rattle.acd_program.proofs.Taking.{unserved_refused, unserved_makes}
 
 -- what was written whole is a beginning of itself
+pub begins_whole : (a b : Option (List ℕ)) (text : List ℕ) → Appends a b text → Begins a b text
+begins_whole a b text h = record { front = text; rest = []; whole = sym (append-nil text); written = h }
+
+-- and so is nothing
+pub begins_none : (a : Option (List ℕ)) (text : List ℕ) → Begins a a text
+begins_none a text = record { front = []; rest = text; whole = refl; written = Appends-nil a }
+
 begun : {E : Type 0} (r : Result (Unit {0}) E) (a b : Option (List ℕ)) (text : List ℕ) → WasSent r a b text → Begins a b text
-begun (Ok u) a b text h = record { front = text; rest = []; whole = sym (append-nil text); written = h }
+begun (Ok u) a b text h = begins_whole a b text h
 begun (Err e) a b text h = begins_so a b text h
 
 pub begins_all : {D E : Type 0} (stands : D → Standing) (many : ℕ) (d e : D) (r : Result (Unit {0}) E) (a b : Option (List ℕ)) → ServedAll stands many d e (WasSent r a b) → ServedAll stands many d e (Begins a b)
@@ -39,17 +53,62 @@ told_for : {D : Type 0} (stands : D → Standing) (span : Option ℕ) (d e : D) 
 told_for stands (Some many) d e a b h = (h.outcomes, h.out)
 told_for stands None d e a b h = (h.1.outcomes, h.1.out)
 
--- a desk over the book served them
-pub serves_over : {B F : Type 0} (says : book.Ghosts B) (r : Result (Unit {0}) F) (old : BookState) (span : Option ℕ) (first final : Desk B) (last : B) (a b : Option (List ℕ)) → Opened old (standing says first) → last ≡ final.book
-    → OnOk r (ServedFor (standing says) span first final (Begins a b)) → OnOk r (span ≡ None → (standing says final).failed ≡ false) → OnOk r (OverDesk says (Served says span a b) old last)
-serves_over says (Ok u) old span first final last a b opened back h well = record { first = first; final = final; opened = opened; did = record { served = h; well = well }; back = back }
-serves_over says (Err e) old span first final last a b opened back h well = tt
+-- an endless service without a fault is by a desk that hasn't failed
+well_for : (u : Unit {0}) (span : Option ℕ) (failed : Bool) → ◌≡◌ {A = Result (Unit {0}) Fault} (Ok u) (told_by (Ok tt) (ends_failed span failed)) → span ≡ None → failed ≡ false
+well_for u span false told is = refl
+well_for u None true told is = absurd (ok_err told)
+well_for u (Some many) true told is = absurd (cc is)
 
--- over the book that was taken of the database
-pub serves_database : {S F : Type 0} (store : Ghosts S) (r : Result (Unit {0}) F) (makes : Bool) (span : Option ℕ) (s : State) (taken last : BookView S) (a b : Option (List ℕ)) (conn : Held S) → IsTaken makes s (book_of store taken) → conn ≡ last.conn
-    → OnOk r (OverDesk (in_database store) (Served (in_database store) span a b) (book_of store taken) last) → OnOk r (OverDatabase store makes (Served (in_database store) span a b) s conn)
-serves_database store (Ok u) makes span s taken last a b conn of back h = record { taken = taken; last = last; of_old = of; over = h; back = back }
-serves_database store (Err e) makes span s taken last a b conn of back h = tt
+module _ (span : Option ℕ) (a b : Option (List ℕ)) (port : ℕ) (before behind : Option (List ℕ)) where
+  module _ {B : Type 0} (says : book.Ghosts B) where
+    -- connections are waited for once the whole line is written
+    pub serve_answered : (r : Result (Unit {0}) Fault) (d e : Desk B) → Appends before behind (listening_line port) → ListenTold span a b says r d e → ServeTold span a b port before behind says r d e
+    serve_answered r d e line (inl none) = inl (none, begins_whole before behind (listening_line port) line)
+    serve_answered r d e line (inr some) = inr (some, line)
+
+    -- without a fault they were served as was asked for
+    serves_told : (u : Unit {0}) (d e : Desk B) → ServeTold span a b port before behind says (Ok u) d e → Served says span a b d e
+    serves_told u d e (inl none) = absurd (ok_err none.0.ended)
+    serves_told u d e (inr some) = record { served = some.0.served; well = well_for u span (standing says e).failed some.0.ended }
+
+  module _ {S : Type 0} (store : Ghosts S) (s : State) (r : Result (Unit {0}) Fault) (conn : Held S) where
+    -- over the book that was taken of the database
+    pub serve_in : (makes : Bool) (taken last : BookView S) → ((db : Trees) → IsTrue s.is_open → s.may_leave db → db ≡ s.committed.trees) → IsTaken makes s (book_of store taken) → conn ≡ last.conn
+        → ServeOver span a b port before behind (in_database store) (book_of store taken) r last → ServeIn span a b port before behind store makes s r conn
+    serve_in makes taken last settles of back (inl none) = inl (record {
+      why = open_fault none.why;
+      ended = none.ended;
+      unserved = subst (λ (x : Held S). Unserved makes s (state store x)) (sym back)
+          (unserved_refused makes s (state store last.conn) (book_of store taken) last.noted last.failures none.why settles of none.refused);
+      quiet = none.quiet;
+      unsaid = none.unsaid;
+    })
+    serve_in makes taken last settles of back (inr some) = inr (record { taken = taken; last = last; of_old = of; over = some; back = back })
+
+    -- where it was known whether a new book may be made
+    pub serve_made : (is_new makes : Bool) → (is_new ≡ true → makes ≡ true) → ServeIn span a b port before behind store is_new s r conn → ServeIn span a b port before behind store makes s r conn
+    serve_made is_new makes may (inl none) =
+        inl (record { why = none.why; ended = none.ended; unserved = unserved_makes is_new makes s (state store conn) may none.unserved; quiet = none.quiet; unsaid = none.unsaid })
+    serve_made is_new makes may (inr some) = inr (over_made store is_new makes (ServeTold span a b port before behind (in_database store) r) s conn may some)
+
+  -- without a fault they were served as was asked for
+  pub serves_in : {S : Type 0} (store : Ghosts S) (s : State) (r : Result (Unit {0}) Fault) (conn : Held S) (makes : Bool) → ServeIn span a b port before behind store makes s r conn
+      → OnOk r (OverDatabase store makes (Served (in_database store) span a b) s conn)
+  serves_in store s (Err e) conn makes h = tt
+  serves_in store s (Ok u) conn makes (inl none) = absurd (ok_err none.ended)
+  serves_in store s (Ok u) conn makes (inr some) = record {
+    taken = some.taken;
+    last = some.last;
+    of_old = some.of_old;
+    over = record {
+      first = some.over.first;
+      final = some.over.final;
+      opened = some.over.opened;
+      did = serves_told (in_database store) u some.over.first some.over.final some.over.did;
+      back = some.over.back;
+    };
+    back = some.back;
+  }
 
 pub file_tells : {D : Type 0} {g : disk.Ghosts D} (IsFresh : Bool → D → Type 0) (span : Option ℕ) (a b : Option (List ℕ)) → ServedIn g IsFresh span a b → TellsConnections a b
 file_tells IsFresh span a b h = told_for (standing (in_database over_files)) span h.served.over.first h.served.over.final a b h.served.over.did.served

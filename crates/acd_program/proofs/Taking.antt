@@ -22,8 +22,10 @@ use Rattle.acd_sqlbook.specs.View.{BookView, book_of}
 use Rattle.sqlite.specs.Held.{state}
 use Rattle.sqlite_trees.specs.declared.store.Store.{Ghosts}
 use Rattle.acd_sqlbook.proofs.Followed.{blank_of}
+use Rattle.acd_program.specs.Ended.{OnlyAsked}
 use Rattle.acd_program.specs.Over.{held, unmade, Unserved}
 use Rattle.acd_program.specs.Taking.{IsOf, IsTaken}
+use Rattle.acd_program.proofs.Asking.{only_refused}
 
 pub of_held : (s t : State) (noted : Notes) (failures : ℕ) → (HasCleanDisk t → IsAdopted s.now (book_state s 0) (book_state t failures)) → IsBlank noted → failures ≡ 0 → (HasCleanDisk t → HasCleanDisk s)
     → IsOf (held s) (followed noted (book_state t failures))
@@ -32,6 +34,7 @@ of_held s t noted failures adopted none counted clean = record {
   content = λ here filed. (adopted here).content filed;
   stops = λ here filed. (adopted here).stops filed;
   opened = λ here filed. (adopted here).was_open;
+  live = λ here filed. (adopted here).live;
   ordered = λ here filed. (adopted here).ordered filed;
 }
 
@@ -42,6 +45,7 @@ of_unmade s t noted failures made none counted clean = record {
   content = λ here _. (made here).content;
   stops = λ here _. (made here).only;
   opened = λ here _. tt;
+  live = λ here _. (made here).live;
   ordered = λ here _. subst IsOrdered (sym (made here).content) (record { kept = tt; events = tt });
 }
 
@@ -78,17 +82,24 @@ none_made (Err e) behind makes s asked empty h = unserved_unmade makes s (behind
 left_as : (t : State) (noted : Notes) (failures : ℕ) (db : Trees) (c : Content) → SoundWith noted (book_state t failures) → t.may_leave db → content_of db ≡ c → Encodes db c
 left_as t noted failures db c sound left is = let own = sound.0.left db left in subst (Encodes db) (sym (decoded db own.0 own.1) ∙ is) own.1
 
--- what a book that makes no desk may leave
-pub unserved_refused : (makes : Bool) (s t : State) (mid : BookState) (noted : Notes) (failures : ℕ) (why : OpenFault) → ((db : Trees) → IsTrue s.is_open → s.may_leave db → db ≡ s.committed.trees) → IsTaken makes s mid → Refused mid why (followed noted (book_state t failures)) → Unserved makes s t
-unserved_refused makes s t mid noted failures why settles (inl had) refused = λ clean filed db left.
-    let here = refused.step.clean clean in
+-- what a book may leave of which a desk was only asked, or that makes none
+pub unserved_asked : (makes : Bool) (s t : State) (mid : BookState) (noted : Notes) (failures : ℕ) → ((db : Trees) → IsTrue s.is_open → s.may_leave db → db ≡ s.committed.trees) → IsTaken makes s mid → OnlyAsked mid (followed noted (book_state t failures)) → Unserved makes s t
+unserved_asked makes s t mid noted failures settles (inl had) asked = λ clean filed db left.
+    let here = asked.clean clean in
     let sound = had.step.sound here filed in
-    let before = had.stops here filed (content_of db) (refused.unchanged.stops clean sound (content_of db) (db, left, refl)) in
+    let before = had.stops here filed (content_of db) (asked.stops clean sound (content_of db) (db, left, refl)) in
     let same : content_of db ≡ content_of s.committed.trees = before.2 ∙ ap content_of (settles before.0 (had.opened here filed) before.1) in
-    inr (inl (left_as t noted failures db (content_of s.committed.trees) (refused.step.sound clean sound) left same))
-unserved_refused makes s t mid noted failures why settles (inr made) refused = λ clean filed db left.
-    let here = refused.step.clean clean in
+    inr (inl (left_as t noted failures db (content_of s.committed.trees) (asked.sound clean sound) left same))
+unserved_asked makes s t mid noted failures settles (inr made) asked = λ clean filed db left.
+    let here = asked.clean clean in
     let new = made.2 in
     let sound = new.step.sound here tt in
-    let same = new.stops here tt (content_of db) (refused.unchanged.stops clean sound (content_of db) (db, left, refl)) in
-    inr (inr (made.0, made.1, left_as t noted failures db nothing (refused.step.sound clean sound) left same))
+    let same = new.stops here tt (content_of db) (asked.stops clean sound (content_of db) (db, left, refl)) in
+    inr (inr (made.0, made.1, left_as t noted failures db nothing (asked.sound clean sound) left same))
+
+pub unserved_refused : (makes : Bool) (s t : State) (mid : BookState) (noted : Notes) (failures : ℕ) (why : OpenFault) → ((db : Trees) → IsTrue s.is_open → s.may_leave db → db ≡ s.committed.trees) → IsTaken makes s mid → Refused mid why (followed noted (book_state t failures)) → Unserved makes s t
+unserved_refused makes s t mid noted failures why settles of refused = unserved_asked makes s t mid noted failures settles of (only_refused mid (followed noted (book_state t failures)) why refused)
+
+-- where it was known whether a new book may be made
+pub unserved_makes : (is_new makes : Bool) (s t : State) → (is_new ≡ true → makes ≡ true) → Unserved is_new s t → Unserved makes s t
+unserved_makes is_new makes s t may h = λ clean filed db left. elim (h clean filed db left) [ inl was ↦ inl was | inr w ↦ elim w [ inl second ↦ inr (inl second) | inr made ↦ inr (inr (may made.0, made.1, made.2)) ] ]

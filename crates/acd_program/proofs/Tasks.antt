@@ -1,5 +1,5 @@
 -- That a task was done, by the work over a connection to files.
-use Rattle.std.proofs.Common.{◌≡◌, ℕ, Bool, true, false, List, [], Option, Result, Ok, Err, IfOk, OnOk, sym, ap, subst, ◌∙◌}
+use Rattle.std.proofs.Common.{◌≡◌, ℕ, Bool, true, false, List, [], Option, Result, Ok, Err, IfOk, IfErr, OnOk, sym, ap, subst, ◌∙◌}
 use Rattle.std.specs.Io.KnownBytes.{Appends}
 use Rattle.sqlite_disk.specs.declared.Disk.{Ghosts}
 use Rattle.sqlite_store.specs.declared.store.FileStore.{FileStore}
@@ -20,12 +20,10 @@ use Rattle.acd_lines.specs.Lines.{AllRequests, RequestsAnswered, Streams}
 use Rattle.acd_lines.proofs.Weaker.{out_so}
 use Rattle.acd_program.specs.Over.{IsSession, OverConnection}
 use Rattle.acd_program.specs.Work.{WasAsked, IsTextOf, ImportsOver, AuditsOver, WorkDone, IsPrinted, text_left, status_left}
-use Rattle.acd_program.specs.InFiles.{IsLaidIn, WorkedOver}
-use Rattle.acd_program.specs.Files.{IsOpenedIn}
-use Rattle.acd_program.specs.Tasks.{WorkedIn, InFile, IsOpenedFrom, InputAnswered, AuditedIn, WholeAudit, TaskDone}
-use Rattle.acd_program.specs.declared.task.Task.{Task}
-use Rattle.acd_program.specs.declared.task.Task.TheVariants as task
-use Rattle.sqlite_disk.specs.declared.Files.{Files}
+use Rattle.acd_program.specs.InFiles.{IsLaidIn, WorkedOver, IsOpenedFrom, InFile}
+use Rattle.acd_program.specs.Tasks.{WorkedIn, InputAnswered, AuditedIn, WholeAudit, TaskDone}
+use Rattle.acd_program.specs.declared.asked.Task.{Task}
+use Rattle.acd_program.specs.declared.asked.Task.TheVariants as task
 use Rattle.acd_program.proofs.InFiles.{over_so, over_fact, over_makes, appends_nothing}
 
 imports_printed : (requests : List Request) (old new : BookState) (before between behind : Option (List ℕ)) → Appends between behind [] → ImportsOver requests old before between new → ImportsOver requests old before behind new
@@ -134,17 +132,15 @@ worked_over {F = F} (Ok status) work makes conn last done closed before between 
   told = p.told;
 }
 
--- it was opened over files that were just opened
-pub opened_from : {D F : Type 0} {g : Ghosts D} (IsFresh : Bool → D → Type 0) (r : Result (Held (FileStore D g)) F) (pair : Files D) → IsFresh true pair.log × IsFresh false pair.db → IfOk r (λ (conn : Held (FileStore D g)). IsOpenedIn g pair conn)
-    → IfOk r (λ (conn : Held (FileStore D g)). IsOpenedFrom g IsFresh conn)
-opened_from IsFresh (Ok conn) pair fresh h = record { pair = pair; fresh = fresh; opened = h }
-opened_from IsFresh (Err e) pair fresh h = tt
-
 -- the work was done over the connection that was opened
 pub worked_from : {D F : Type 0} {g : Ghosts D} (IsFresh : Bool → D → Type 0) (r : Result ℕ F) (is_new makes : Bool) (work : Work) (conn : Held (FileStore D g)) (before behind : Option (List ℕ)) → IsOpenedFrom g IsFresh conn → (is_new ≡ true → makes ≡ true)
     → IfOk r (λ (status : ℕ). WorkedOver is_new work conn before behind status) → IfOk r (λ (status : ℕ). WorkedIn g IsFresh makes work before behind status)
 worked_from IsFresh (Ok status) is_new makes work conn before behind opened may h = (conn, opened, worked_in is_new makes work conn before behind status may h)
 worked_from IsFresh (Err e) is_new makes work conn before behind opened may h = tt
+
+-- what is so of an error that was handed on
+pub err_from : {A E : Type 0} (r : Result A E) (e : E) (P : E → Type 0) → r ≡ Err e → P e → IfErr r P
+err_from {A} {E} r e P is h = subst (λ (x : Result A E). IfErr x P) (sym is) h
 
 pub ok_so : {A F : Type 0} (r : Result A F) (P Q : A → Type 0) → ((x : A) → P x → Q x) → IfOk r P → IfOk r Q
 ok_so (Ok x) P Q follows h = follows x h

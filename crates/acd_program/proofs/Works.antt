@@ -1,5 +1,5 @@
 -- What work over a book leaves, by what its desk left; and over a connection, by what its book left.
-use Rattle.std.proofs.Common.{◌≡◌, ℕ, Bool, List, Option, Some, Result, Ok, Err, IfOk, inl, inr}
+use Rattle.std.proofs.Common.{◌≡◌, ℕ, Bool, List, Option, Some, Result, Ok, Err, IfOk}
 use Rattle.std.specs.Prelude.{String}
 use Rattle.std.specs.Io.KnownBytes.{Appends}
 use Rattle.acd_terms.specs.declared.command.Request.{Request}
@@ -29,9 +29,9 @@ use Rattle.acd_program.specs.declared.desk.Done.{Done}
 use Rattle.acd_program.specs.declared.desk.Done.TheVariants as left
 use Rattle.acd_program.specs.Found.{IsFindingOf}
 use Rattle.acd_program.specs.Work.{ImportsOver, IsFindingIfOrdered, IsTextOf, AuditsOver, WorkDone, telling_text}
-use Rattle.acd_program.specs.Over.{IsSession, OverConnection, held, unmade}
+use Rattle.acd_program.specs.Over.{IsSession, OverConnection}
 use Rattle.acd_program.specs.Taking.{IsOf, IsTaken}
-use Rattle.acd_program.proofs.Over.{session_of}
+use Rattle.acd_program.proofs.Over.{session_of, over_connection}
 use Rattle.acd_program.proofs.Asking.{asked_of, asked_in_order}
 
 pub imports_over : (old : BookState) (d e : Standing) (requests : List Request) (before behind : Option (List ℕ)) → Opened old d
@@ -68,11 +68,6 @@ pub database_done : {E : Type 0} (r : Result Done E) (work : Work) (makes : Bool
     → IfOk r (λ (d : Done). WorkDone IsFindingIfOrdered work mid before behind d (followed noted (book_state t failures)))
     → IfOk r (λ (d : Done). OverConnection (λ (old new : BookState). WorkDone IsFindingOf work old before behind d new) makes s t)
 database_done (Err e) work makes s t mid noted failures before behind taken h = tt
-database_done (Ok d) work makes s t mid noted failures before behind taken h = (
-  failures,
-  noted,
-  elim taken [
-    | inl had ↦ inl (work_of work (held s) mid (followed noted (book_state t failures)) before behind d had h)
-    | inr made ↦ inr (made.0, made.1, work_of work (unmade s) mid (followed noted (book_state t failures)) before behind d made.2 h)
-  ],
-)
+database_done (Ok d) work makes s t mid noted failures before behind taken h =
+    over_connection (λ (old new : BookState). WorkDone IsFindingIfOrdered work old before behind d new) (λ (old new : BookState). WorkDone IsFindingOf work old before behind d new) makes s t mid noted failures
+    (λ old of done. work_of work old mid (followed noted (book_state t failures)) before behind d of done) taken h

@@ -7,6 +7,8 @@ use Rattle.acd_book.specs.declared.fault.BookFault.{BookFault}
 use Rattle.acd_book.specs.declared.fault.BookFault.TheVariants as book
 use Rattle.acd_sql_schema.specs.declared.fault.AdoptFault.{AdoptFault}
 use Rattle.acd_sql_schema.specs.declared.fault.AdoptFault.TheVariants as adopt
+use Rattle.acd_desk.specs.declared.audit.AuditFault.{AuditFault}
+use Rattle.acd_desk.specs.declared.audit.AuditFault.TheVariants as audit
 use Rattle.acd_desk.specs.declared.fault.DeskFault.{DeskFault}
 use Rattle.acd_desk.specs.declared.fault.DeskFault.TheVariants as desk
 use Rattle.acd_desk.specs.declared.open_fault.OpenFault.{OpenFault}
@@ -43,6 +45,11 @@ open_fault opening.Store = Store
 abbrev pub desk_fault : DeskFault → Fault
 desk_fault desk.NoMemory = NoMemory
 desk_fault desk.StoreFault = Store
+
+-- of an audit with an archive
+abbrev pub audit_fault : AuditFault → Fault
+audit_fault (audit.Desk why) = desk_fault why
+audit_fault (audit.Archive why) = open_fault why
 
 -- of lines
 abbrev pub lines_fault : LinesFault → Fault

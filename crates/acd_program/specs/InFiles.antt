@@ -1,5 +1,5 @@
 -- What is done over a database in files, from the connection on to what is printed.
-use Rattle.std.specs.Prelude.{◌≡◌, ℕ, Bool, List, Option}
+use Rattle.std.specs.Prelude.{◌≡◌, ℕ, Bool, true, false, List, Option}
 use Rattle.std.specs.Io.KnownBytes.{Appends}
 use Rattle.sqlite_disk.specs.declared.Disk.{Ghosts}
 use Rattle.sqlite_disk.specs.declared.Files.{Files}
@@ -11,6 +11,7 @@ use Rattle.sqlite.specs.Files.{file_state, IsClosed}
 use Rattle.sqlite.specs.Closing.{IsCopied}
 use Rattle.acd_book.specs.State.{BookState}
 use Rattle.acd_program.specs.Found.{IsFindingOf}
+use Rattle.acd_program.specs.Files.{IsOpenedIn}
 use Rattle.acd_program.specs.Over.{OverConnection}
 use Rattle.acd_program.specs.Work.{WorkDone, text_left, status_left}
 use Rattle.acd_program.specs.declared.desk.Work.{Work}
@@ -34,3 +35,19 @@ module _ {D : Type 0} {g : Ghosts D} where
     pub closed : IsLaidIn last
     pub printed : Appends between behind (text_left left)
     pub told : status ≡ status_left left
+
+-- `IsFresh is_log file` says that a file is a log, or a database file, that was just opened
+module _ {D : Type 0} (disk : Ghosts D) (IsFresh : Bool → D → Type 0) where
+  -- it was opened over two files that were just opened
+  pub record IsOpenedFrom (conn : Held (FileStore D disk)) : Type 0 where
+    pub pair : Files D
+    pub fresh : IsFresh true pair.log × IsFresh false pair.db
+    pub opened : IsOpenedIn disk pair conn
+
+  -- a database in files was opened, this was done over its book, and it was closed into its file
+  pub record InFile (P : BookState → BookState → Type 0) (makes : Bool) : Type 0 where
+    pub conn : Held (FileStore D disk)
+    pub last : Held (FileStore D disk)
+    pub opened : IsOpenedFrom conn
+    pub done : OverConnection P makes (file_state conn) (file_state last)
+    pub closed : IsLaidIn last

@@ -6,6 +6,7 @@ pub mod Taking
 pub mod Found
 pub mod Work
 pub mod InFiles
+pub mod Behind
 pub mod Files
 pub mod Desks
 pub mod Serving
@@ -13,3 +14,6 @@ pub mod LinesOver
 pub mod Sessions
 pub mod Tasks
 pub mod Names
+pub mod CommandLine
+pub mod Ended
+pub mod TasksEnded

@@ -1,6 +1,7 @@
 -- Lines that ask for services alone: as a session over a database, and as what the abstract desk answers over a new desk in memory.
-use Rattle.std.specs.Prelude.{◌≡◌, ◌⊎◌, ℕ, Bool, true, List, Option, Result, Ok, Err}
+use Rattle.std.specs.Prelude.{◌≡◌, ◌⊎◌, ℕ, Bool, true, false, List, Option, Result, Ok, Err}
 use Rattle.std.specs.Io.KnownBytes.{Appends}
+use Rattle.sqlite.specs.State.{State}
 use Rattle.sqlite.specs.Held.{Held, state}
 use Rattle.sqlite_trees.specs.declared.store.Store.{Ghosts}
 use Rattle.acd_book.specs.State.{BookState}
@@ -14,7 +15,8 @@ use Rattle.acd_desk.specs.Standing.{standing}
 use Rattle.acd_program.specs.Answered.{in_memory, AnsweredFromNothing, AnswersAll}
 use Rattle.acd_program.specs.Faults.{lines_fault}
 use Rattle.acd_program.specs.Desks.{OverDatabase, in_database}
-use Rattle.acd_program.specs.LinesOver.{LinesTold, LinesInMemory}
+use Rattle.acd_http.specs.ReadingLines.{ReadInTurn}
+use Rattle.acd_program.specs.LinesOver.{in_turn, LinesTold, LinesIn, LinesInMemory, NoneServed}
 use Rattle.acd_program.specs.Over.{IsSession, IsFailedSession, AnswersOver, OverConnection}
 use Rattle.acd_program.specs.declared.fault.Fault.{Fault}
 use Rattle.acd_program.specs.declared.fault.Fault.TheVariants.{Store}
@@ -42,6 +44,12 @@ LinesAreSessions {S} {R} {W} store remaining contents = (makes ends : Bool) (rea
     → OverDatabase store makes (LinesTold (in_database store) (InTurn line_of (Answers (standing (in_database store)))) ends (streams remaining contents reader writer) result) (state store old) new
     → OverConnection (SessionTold ends (streams remaining contents reader writer) result) makes (state store old) (state store new)
 
+-- how lines over the database ended: where they are requests alone, by a session, whole or begun; else each of them by the desk that the lines before it left
+abbrev pub DatabaseEnded : {S : Type 0} → Ghosts S → Bool → Bool → Bool → Streams → State → Result (Unit {0}) Fault → Held S → Type 0
+DatabaseEnded store makes false ends io old result new =
+    NoneServed store (in_turn false (in_database store)) makes ends io old result new ⊎ OverConnection (SessionTold ends io result) makes old (state store new)
+DatabaseEnded store makes true ends io old result new = LinesIn store (ReadInTurn (in_database store)) makes ends io old result new
+
 -- ---- in memory
 
 -- all lines are answered so, or behind any fault a beginning of them
@@ -53,3 +61,8 @@ abbrev pub LinesAreFromNothing : {R W : Type 0} → (R → Option (List ℕ)) �
 LinesAreFromNothing {R} {W} remaining contents = (reader : R × R) (writer : W × W) (result : Result (Unit {0}) LinesFault)
     → LinesInMemory (InTurn line_of (Answers (standing in_memory))) (streams remaining contents reader writer) result
     → AnswersTold (streams remaining contents reader writer) result
+
+-- how lines over a new desk in memory ended by a fault: where they are requests alone, as the abstract desk answers a beginning of them; else each by the desk that the lines before it left
+abbrev pub MemoryEnded : Bool → Streams → LinesFault → Type 0
+MemoryEnded false io why = AnswersTold io (Err why)
+MemoryEnded true io why = LinesInMemory (ReadInTurn in_memory) io (Err why)

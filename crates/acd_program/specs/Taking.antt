@@ -13,6 +13,7 @@ pub record IsOf (old new : BookState) : Type 0 where
   pub content : new.is_clean → old.is_sound → new.content ≡ old.content
   pub stops : new.is_clean → old.is_sound → Within new.stops old.stops
   pub opened : new.is_clean → old.is_sound → old.is_open
+  pub live : new.is_clean → old.is_sound → new.is_open
   pub ordered : new.is_clean → old.is_sound → IsOrdered new.content
 
 -- the book that the database held or, where it had no tables and one was to be made, a new one

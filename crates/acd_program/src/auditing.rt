@@ -2,12 +2,15 @@
 
 ghost use Rattle.std.specs.Prelude.{◌≡◌, IfOk};
 ghost use Rattle.acd_book.specs.State.{IfHonest};
+ghost use Rattle.acd_desk.specs.AuditedWith.{desk_part, archive_part};
+ghost use Rattle.acd_desk.specs.Pages.{ReadsIfOpen};
 ghost use Rattle.acd_desk.specs.Standing.{standing};
 ghost use Rattle.acd_desk.specs.Told.{DeskTold};
+ghost use Rattle.acd_program.specs.Behind.{IsFoundBehind};
 ghost use Rattle.acd_program.specs.Found.{uncounted, IsFinding, HasCount};
 
 use acd_book::Book;
-use acd_desk::{Audit, Desk, DeskFault};
+use acd_desk::{Audit, AuditFault, Desk, DeskFault};
 
 /// What an audit finds.
 #[derive(Clone, Copy, Debug, PartialEq, Eq)]
@@ -41,6 +44,29 @@ pub(crate) fn audited<B: Book>(desk: &mut Desk<B>, counts: bool) -> Result<Findi
             let count = desk.executed()?;
             Ok(Finding::Counted(count))
         }
+        told => Ok(uncounted(told)),
+    }
+}
+
+/// Audits what the desk's book holds behind the archive that it goes on from.
+pub(crate) fn audited_behind<A: Book, B: Book>(
+    desk: &mut Desk<B>,
+    archive: &mut A,
+    counts: bool,
+) -> Result<Finding, AuditFault>
+    ensures found { IsFoundBehind (A.state archive.old) (A.state archive.new)
+        (standing B.Book desk.old) (standing B.Book desk.new) result }
+    ensures told { DeskTold B.Book desk.old desk.new (desk_part result) (λ c found. Unit {0}) }
+    ensures archive { ReadsIfOpen (A.state archive.old) (A.state archive.new)
+        (archive_part result) (λ a found. Unit {0}) }
+    ensures counted { IfOk result (HasCount counts) }
+{
+    let told = desk.audit_with(archive)?;
+    match told {
+        Audit::Sound if counts => match desk.executed() {
+            Ok(count) => Ok(Finding::Counted(count)),
+            Err(fault) => Err(AuditFault::Desk(fault)),
+        },
         told => Ok(uncounted(told)),
     }
 }

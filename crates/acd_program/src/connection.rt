@@ -6,12 +6,16 @@ ghost use Rattle.sqlite.specs.State.{HasCleanDisk};
 ghost use Rattle.acd_terms.specs.Limits.{greatest_limits};
 ghost use Rattle.acd_sql_schema.specs.SettingUp.{MayMake};
 ghost use Rattle.acd_sqlbook.specs.View.{book_of};
+ghost use Rattle.acd_http.specs.ReadingLines.{ReadInTurn};
 ghost use Rattle.acd_lines.specs.Input.{asked};
 ghost use Rattle.acd_lines.specs.Lines.{streams};
 ghost use Rattle.acd_lines.specs.Parts.{InTurn};
 ghost use Rattle.acd_program.specs.Faults.{unmade_fault};
+ghost use Rattle.acd_program.specs.Desks.{in_database};
+ghost use Rattle.acd_program.specs.Ended.{IsOfDesk};
 ghost use Rattle.acd_program.specs.LinesOver.{DatabaseAnswered, LinesIn};
 ghost use Rattle.acd_program.specs.Over.{Unserved, unmade};
+ghost use Rattle.acd_program.specs.Sessions.{DatabaseEnded};
 ghost use Rattle.acd_program.specs.Taking.{IsOf, IsTaken};
 
 use crate::fault::Fault;
@@ -20,11 +24,15 @@ use crate::session::lines_over_book;
 use acd_book::BookFault;
 use acd_http::RequestsAndReads;
 use acd_lines::{Answering, Requests};
+use acd_sql_schema::{Found, fault_of, look_over};
 use acd_sqlbook::{AdoptFault, SqlBook, has_no_tables};
 use acd_terms::Limits;
 use sqlite::{Alter, Connection};
 use std::alloc::Global;
 use std::io::{Read, Write};
+
+// A table that version 1 doesn't have.
+const SECOND: &[u8; 12] = b"agent_groups";
 
 // Why no book was made, as why none is taken.
 fn unmade_fault(fault: BookFault) -> AdoptFault
@@ -71,6 +79,25 @@ pub(crate) fn book_over<S: Alter>(
     SqlBook::adopt(alloc, conn)
 }
 
+/// The book that a database holds, of version 2: tables of version 1 stay what they are.
+pub(crate) fn archive_over<S: Alter>(
+    alloc: Global,
+    mut conn: Connection<S>,
+) -> Result<SqlBook<S>, (AdoptFault, Connection<S>)>
+    requires { conn.in_transaction ≡ false }
+    ensures { IfOk result (λ b. IsTaken false (state S.Store conn) (book_of S.Store b)) }
+{
+    if conn.schema().table_named(SECOND).is_some() {
+        return book_over(alloc, conn, false);
+    }
+    let fault = match look_over(alloc, &mut conn) {
+        Ok(Found::Book(_)) => AdoptFault::WrongVersion(1),
+        Ok(Found::Fault(fault)) => fault,
+        Err(error) => fault_of(error),
+    };
+    Err((fault, conn))
+}
+
 /// Answers lines over the book that a database holds or, where it has no tables and one is to be made, over a
 /// new one with the greatest limits, and gives the connection back.
 pub fn lines_over_connection<'a, S: Alter, A: Answering<SqlBook<S>>, R: Read, W: Write>(
@@ -86,6 +113,7 @@ pub fn lines_over_connection<'a, S: Alter, A: Answering<SqlBook<S>>, R: Read, W:
     ensures done { LinesIn S.Store (InTurn (asked A.unmarked A.long A.read) A.answers) makes ends
         (streams R.remaining W.contents (reader.old, reader.new) (writer.old, writer.new))
         (state S.Store conn) result.0 result.1 }
+    ensures known { IfErr result.0 IsOfDesk }
     ensures idle { result.1.in_transaction ≡ false }
 {
     let book = match book_over(alloc, conn, makes) {
@@ -109,6 +137,10 @@ fn with_reads<'a, S: Alter, R: Read, W: Write>(
     ensures done { OnOk result.0 (DatabaseAnswered S.Store makes true ends
         (streams R.remaining W.contents (reader.old, reader.new) (writer.old, writer.new))
         (state S.Store conn) result.1) }
+    ensures told { LinesIn S.Store (ReadInTurn (in_database S.Store)) makes ends
+        (streams R.remaining W.contents (reader.old, reader.new) (writer.old, writer.new))
+        (state S.Store conn) result.0 result.1 }
+    ensures known { IfErr result.0 IsOfDesk }
     ensures idle { result.1.in_transaction ≡ false }
 {
     match RequestsAndReads::new(alloc) {
@@ -133,6 +165,11 @@ pub(crate) fn database_lines<'a, S: Alter, R: Read, W: Write>(
     ensures done { OnOk result.0 (DatabaseAnswered S.Store makes reads ends
         (streams R.remaining W.contents (reader.old, reader.new) (writer.old, writer.new))
         (state S.Store conn) result.1) }
+    // whatever ended them
+    ensures told { DatabaseEnded S.Store makes reads ends
+        (streams R.remaining W.contents (reader.old, reader.new) (writer.old, writer.new))
+        (state S.Store conn) result.0 result.1 }
+    ensures known { IfErr result.0 IsOfDesk }
     ensures idle { result.1.in_transaction ≡ false }
 {
     if reads {

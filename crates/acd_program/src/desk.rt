@@ -1,13 +1,14 @@
 //! What is done over a database. What needs a desk is done over any book, so that one function alone names the store.
 
-ghost use Rattle.std.specs.Prelude.{◌≡◌, false, [], Some, IfOk, OnOk, unwrap_or};
+ghost use Rattle.std.specs.Prelude.{◌≡◌, false, [], Some, IfOk, IfErr, OnOk, OnErr, unwrap_or};
 ghost use Rattle.sqlite.specs.Held.{state};
 ghost use Rattle.acd_desk.specs.Stands.{IsSound};
 ghost use Rattle.acd_desk.specs.Carried.{Archive, together};
 ghost use Rattle.acd_desk.specs.Told.{DeskTold};
 ghost use Rattle.acd_desk.specs.Tells.{told};
 ghost use Rattle.acd_program.specs.Found.{IsFindingOf};
-ghost use Rattle.acd_program.specs.Over.{OverConnection};
+ghost use Rattle.acd_program.specs.Ended.{IsOfDesk, OnlyAsked, OnlyReads, StoppedPlan, StoppedOver, WorkStopped};
+ghost use Rattle.acd_program.specs.Over.{OverConnection, Unserved};
 ghost use Rattle.acd_program.specs.Work.{telling_text, text_left, status_left, ImportsOver, TellsOver, AuditsOver, IsFindingIfOrdered, WorkDone};
 
 use crate::auditing::{Finding, audited};
@@ -62,6 +63,9 @@ fn imported<'a, B: Book, W: Write>(
         (ImportsOver requests.now (B.state book) (W.contents writer.old) (W.contents writer.new)
         (B.state result.1)) }
     ensures nothing { IfOk result.0 (λ done. done ≡ Done.Nothing) }
+    ensures stopped { OnErr result.0 (StoppedPlan requests.now (W.contents writer.old)
+        (W.contents writer.new) (B.state book) (B.state result.1)) }
+    ensures known { IfErr result.0 IsOfDesk }
 {
     let mut desk = match Desk::open(alloc, book) {
         Ok(desk) => desk,
@@ -95,7 +99,10 @@ fn done_by(text: Option<String>) -> Done
 }
 
 fn told<'a, B: Book>(alloc: Global, book: B, telling: Telling) -> (Result<Done, Fault<'a>>, B)
-    ensures { IfOk result.0 (λ done. TellsOver telling (B.state book) done (B.state result.1)) }
+    ensures over { IfOk result.0
+        (λ done. TellsOver telling (B.state book) done (B.state result.1)) }
+    ensures kept { OnlyAsked (B.state book) (B.state result.1) }
+    ensures known { IfErr result.0 IsOfDesk }
 {
     let mut desk = match Desk::open(alloc, book) {
         Ok(desk) => desk,
@@ -107,6 +114,16 @@ fn told<'a, B: Book>(alloc: Global, book: B, telling: Telling) -> (Result<Done, 
     }
 }
 
+// Gives the book back. Of one that differs a terminal may be told more.
+fn book_of<B: Book>(book: Watched<'_, B>, found: Finding) -> B
+    ensures { result ≡ book.entry.inner }
+{
+    match found {
+        Finding::Differs(_) => book.into_unlike(),
+        _ => book.into_inner(),
+    }
+}
+
 // The replay is watched.
 fn audit<'a, B: Book>(
     alloc: Global,
@@ -114,16 +131,21 @@ fn audit<'a, B: Book>(
     counts: bool,
     ending: Ending,
 ) -> (Result<Done, Fault<'a>>, B)
-    ensures { IfOk result.0
+    ensures over { IfOk result.0
         (λ done. AuditsOver IsFindingIfOrdered counts ending (B.state book.entry.inner) done
         (B.state result.1)) }
+    ensures kept { OnlyAsked (B.state book.entry.inner) (B.state result.1) }
+    ensures known { IfErr result.0 IsOfDesk }
 {
     let mut desk = match Desk::open(alloc, book) {
         Ok(desk) => desk,
         Err((fault, book)) => return (Err(Fault::from(fault)), book.into_inner()),
     };
     match audited(&mut desk, counts) {
-        Ok(found) => (Ok(Done::Audited(found, ending)), desk.close().into_inner()),
+        Ok(found) => (
+            Ok(Done::Audited(found, ending)),
+            book_of(desk.close(), found),
+        ),
         Err(fault) => (Err(Fault::from(fault)), desk.close().into_inner()),
     }
 }
@@ -134,9 +156,16 @@ fn over_book<'a, B: Book, W: Write>(
     work: Work<'_>,
     writer: &mut W,
 ) -> (Result<Done, Fault<'a>>, B)
-    ensures { IfOk result.0
+    ensures over { IfOk result.0
         (λ done. WorkDone IsFindingIfOrdered work.entry (B.state book) (W.contents writer.old)
         (W.contents writer.new) done (B.state result.1)) }
+    // work that only reads changes nothing, whatever comes of it, and writes nothing
+    ensures kept { OnlyReads work.entry → OnlyAsked (B.state book) (B.state result.1) }
+    ensures silent { OnlyReads work.entry → writer.new ≡ writer.old }
+    // where a fault ended it
+    ensures stopped { OnErr result.0 (StoppedOver work.entry (W.contents writer.old)
+        (W.contents writer.new) (B.state book) (B.state result.1)) }
+    ensures known { IfErr result.0 IsOfDesk }
 {
     match work {
         Work::Import(requests) => imported(rt.alloc(), book, requests, writer),
@@ -157,10 +186,16 @@ pub(crate) fn over_database<'a, S: Alter, W: Write>(
     writer: &mut W,
 ) -> (Result<Done, Fault<'a>>, Connection<S>)
     requires { conn.in_transaction ≡ false }
-    ensures { IfOk result.0
+    ensures over { IfOk result.0
         (λ done. OverConnection
         (λ old new. WorkDone IsFindingOf work.entry old (W.contents writer.old)
         (W.contents writer.new) done new) makes (state S.Store conn) (state S.Store result.1)) }
+    ensures kept { OnlyReads work.entry
+        → Unserved makes (state S.Store conn) (state S.Store result.1) }
+    ensures silent { OnlyReads work.entry → writer.new ≡ writer.old }
+    ensures stopped { OnErr result.0 (WorkStopped work.entry makes (state S.Store conn)
+        (state S.Store result.1) (W.contents writer.old) (W.contents writer.new)) }
+    ensures known { IfErr result.0 IsOfDesk }
 {
     let book = match book_over(rt.alloc(), conn, makes) {
         Ok(book) => book,

@@ -4,7 +4,7 @@ ghost use Rattle.std.specs.Prelude.{◌≡◌};
 ghost use Rattle.acd_program.specs.Names.{table_name, rule_name};
 
 use acd_book::BookFault;
-use acd_desk::{DeskFault, OpenFault};
+use acd_desk::{AuditFault, DeskFault, OpenFault};
 use acd_io::Stopped;
 use acd_lines::LinesFault;
 use acd_reports::PlanFault;
@@ -163,6 +163,20 @@ impl<'a> From<DeskFault> for Fault<'a> {
         match fault {
             DeskFault::NoMemory => Fault::NoMemory,
             DeskFault::StoreFault => Fault::Store,
+        }
+    }
+}
+
+impl<'a> From<AuditFault> for Fault<'a> {
+    ghost use Rattle.std.specs.Prelude.{◌≡◌};
+    ghost use Rattle.acd_program.specs.Faults.{audit_fault};
+
+    ghost from_gives = { λ why fault. fault ≡ audit_fault why };
+
+    fn from(fault: AuditFault) -> Fault<'a> {
+        match fault {
+            AuditFault::Desk(fault) => Fault::from(fault),
+            AuditFault::Archive(fault) => Fault::from(fault),
         }
     }
 }

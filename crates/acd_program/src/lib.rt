@@ -6,7 +6,9 @@
 //! ```
 #![tactic(auto)]
 
+mod asked;
 mod auditing;
+mod behind;
 mod connection;
 mod desk;
 mod fault;

@@ -1,8 +1,9 @@
 //! The pages of a file: how long they are in a new one, and how many of them the store keeps in memory.
 
-ghost use Rattle.std.specs.Prelude.{◌≡◌, ◌≤◌, ◌<◌, ◌↔◌, length, IsTrue, IfOk};
+ghost use Rattle.std.specs.Prelude.{◌≡◌, ◌/◌, ◌≤◌, ◌<◌, ◌↔◌, length, IsTrue, IfOk, IfErr};
 ghost use Rattle.sqlite_wal.specs.Reads.{IsClean, AreClean, OnlyReads};
-ghost use Rattle.acd_program.specs.Files.{new_page, IfClean, IsLoneIn, AreReadOnly, IsCreated, IsReadAndCreated, IsBegun};
+ghost use Rattle.acd_program.specs.Ended.{IsOfOpening};
+ghost use Rattle.acd_program.specs.Files.{new_page, page_of, treated, IfClean, IsLoneIn, AreReadOnly, OfPage, IsCreated, IsReadAndCreated, IsUnmade, IsUnbegun, IsBegun};
 
 use crate::fault::Fault;
 use crate::lone_log::is_lone;
@@ -25,7 +26,9 @@ const CACHE: usize = 8_192_000;
 const ONE_PAGE: usize = 1;
 
 /// What kept a file from being read, as a fault.
-pub(crate) fn disk_fault<'a>(error: io::Error, path: &'a str) -> Fault<'a> {
+pub(crate) fn disk_fault<'a>(error: io::Error, path: &'a str) -> Fault<'a>
+    ensures known { IsOfOpening result }
+{
     match error.kind() {
         io::ErrorKind::OutOfMemory => Fault::NoMemory,
         _ => Fault::CannotOpen(path),
@@ -45,42 +48,54 @@ fn may_be_new<D: Disk>(files: &mut Files<D>) -> io::Result<bool>
     Ok(files.db.len()? <= NEW_PAGE)
 }
 
+// How the store treats the one page of a new file.
+fn one_page(seed: u64) -> Options
+    ensures { result ≡ record (treated new_page seed) { cache_pages = 1 } }
+{
+    Options {
+        cache_pages: ONE_PAGE,
+        ..Options::new(seed)
+    }
+}
+
 // The files, with a database of no tables in them unless they hold one. A stop leaves none, one that the next call finishes, or all of it.
 fn created<'a, D: Disk + Drop>(
     alloc: Global,
     files: Files<D>,
     seed: u64,
     path: &'a str,
-) -> Result<Files<D>, Fault<'a>>
+) -> Result<Files<D>, (Fault<'a>, Files<D>)>
     requires log { IsTrue (D.Disk.is_usable files.log) }
     requires db { IsTrue (D.Disk.is_usable files.db) }
     ensures created { IfOk result (λ new. IsCreated D.Disk files new) }
     ensures clean { IfOk result (λ new. IfClean D.Disk new (AreClean D.Disk files.log files.db)) }
+    ensures left { IfErr result (λ e. IsUnmade D.Disk files e.1) }
+    ensures known { IfErr result (λ e. IsOfOpening e.0) }
 {
     let Some(size) = PageSize::new(NEW_PAGE) else {
-        return Err(Fault::CannotOpen(path));
+        return Err((Fault::CannotOpen(path), files));
     };
-    let options = Options {
-        cache_pages: ONE_PAGE,
-        ..Options::new(seed)
+    let pager = match Pager::new(alloc, files, size, one_page(seed)) {
+        Ok(pager) => pager,
+        Err(failed) => return Err((Fault::NoMemory, failed.value)),
     };
-    let Ok(pager) = Pager::new(alloc, files, size, options) else {
-        return Err(Fault::NoMemory);
-    };
-    let Ok(unopened) = Unopened::new(alloc, pager, &[]) else {
-        return Err(Fault::NoMemory);
+    let unopened = match Unopened::new(alloc, pager, &[]) {
+        Ok(unopened) => unopened,
+        Err(failed) => return Err((Fault::NoMemory, failed.value.close())),
     };
     match unopened.create() {
         Ok(store) => Ok(store.close()),
         // They hold a database, or something else that it leaves as it is.
         Err((OpenError::Refused, left)) => Ok(left.close()),
-        Err((OpenError::OutOfMemory, _)) => Err(Fault::NoMemory),
-        Err(_) => Err(Fault::CannotOpen(path)),
+        Err((OpenError::OutOfMemory, left)) => Err((Fault::NoMemory, left.close())),
+        Err((_, left)) => Err((Fault::CannotOpen(path), left.close())),
     }
 }
 
 /// What kept a log from being read, as a fault.
-pub(crate) fn log_fault<'a>(error: Error, path: &'a str) -> Fault<'a> {
+pub(crate) fn log_fault<'a>(error: Error, path: &'a str) -> Fault<'a>
+    ensures known { IsOfOpening result }
+{
     match error {
         Error::OutOfMemory => Fault::NoMemory,
         Error::Io(error) => disk_fault(error, path),
@@ -94,17 +109,19 @@ fn created_beside<'a, D: Disk + Drop>(
     mut files: Files<D>,
     seed: u64,
     path: &'a str,
-) -> Result<Files<D>, Fault<'a>>
+) -> Result<Files<D>, (Fault<'a>, Files<D>)>
     requires log { IsTrue (D.Disk.is_usable files.log) }
     requires db { IsTrue (D.Disk.is_usable files.db) }
     ensures created { IfOk result (λ new. IsReadAndCreated D.Disk files new) }
     ensures clean { IfOk result (λ new. IfClean D.Disk new (AreClean D.Disk files.log files.db)) }
     ensures spared { IfOk result (λ new. IfClean D.Disk new (¬ IsLoneIn D.Disk files)) }
+    ensures left { IfErr result (λ e. IsUnbegun D.Disk files e.1) }
+    ensures known { IfErr result (λ e. IsOfOpening e.0) }
 {
     match is_lone(alloc, &mut files) {
         Ok(false) => created(alloc, files, seed, path),
-        Ok(true) => Err(Fault::CannotOpen(path)),
-        Err(error) => Err(log_fault(error, path)),
+        Ok(true) => Err((Fault::CannotOpen(path), files)),
+        Err(error) => Err((log_fault(error, path), files)),
     }
 }
 
@@ -114,12 +131,14 @@ pub(crate) fn begun<'a, D: Disk + Drop>(
     mut files: Files<D>,
     seed: u64,
     path: &'a str,
-) -> Result<Files<D>, Fault<'a>>
+) -> Result<Files<D>, (Fault<'a>, Files<D>)>
     requires log { IsTrue (D.Disk.is_usable files.log) }
     requires db { IsTrue (D.Disk.is_usable files.db) }
     ensures log { IfOk result (λ files. IsTrue (D.Disk.is_usable files.log)) }
     ensures db { IfOk result (λ files. IsTrue (D.Disk.is_usable files.db)) }
     ensures begun { IfOk result (λ new. IsBegun D.Disk files new) }
+    ensures left { IfErr result (λ e. IsUnbegun D.Disk files e.1) }
+    ensures known { IfErr result (λ e. IsOfOpening e.0) }
 {
     match may_be_new(&mut files) {
         Ok(false) => Ok(files),
@@ -128,30 +147,41 @@ pub(crate) fn begun<'a, D: Disk + Drop>(
             if files.may_be_used() {
                 Ok(files)
             } else {
-                Err(Fault::CannotOpen(path))
+                Err((Fault::CannotOpen(path), files))
             }
         }
-        Err(error) => Err(disk_fault(error, path)),
+        Err(error) => Err((disk_fault(error, path), files)),
     }
 }
 
 // How many pages of this size the store keeps. A page that isn't kept is read and digested anew.
 fn kept_pages(page: usize) -> usize
     ensures most { result ≤ 8192000 }
+    ensures kept { 0 < page → result ≡ 8192000 / page }
 {
     CACHE / page.max(1)
+}
+
+// How long a page is: as long as was found or, where nothing was, as in a new file.
+fn page_bytes(found: Option<PageSize>) -> usize
+    ensures some { 0 < result }
+    ensures length { result ≡ page_of found }
+{
+    match found {
+        Some(size) => size.bytes(),
+        None => NEW_PAGE,
+    }
 }
 
 fn cache_pages<D: Disk>(files: &mut Files<D>) -> io::Result<usize>
     requires log { IsTrue (D.Disk.is_usable files.old.log) }
     requires db { IsTrue (D.Disk.is_usable files.old.db) }
     ensures read { AreReadOnly D.Disk files.old files.new }
+    ensures kept { IfOk result
+        (λ pages. OfPage D.Disk files.old files.new (λ page. pages ≡ 8192000 / page)) }
 {
-    let page = match probe_page_size(files)? {
-        Some(size) => size.bytes(),
-        None => NEW_PAGE,
-    };
-    Ok(kept_pages(page))
+    let found = probe_page_size(files)?;
+    Ok(kept_pages(page_bytes(found)))
 }
 
 /// How the store treats the pages of these files.
@@ -165,6 +195,9 @@ pub(crate) fn options<'a, D: Disk>(
     ensures log { IsTrue (D.Disk.is_usable files.new.log) }
     ensures db { IsTrue (D.Disk.is_usable files.new.db) }
     ensures read { AreReadOnly D.Disk files.old files.new }
+    ensures treated { IfOk result
+        (λ options. OfPage D.Disk files.old files.new (λ page. options ≡ treated page seed)) }
+    ensures known { IfErr result IsOfOpening }
 {
     match cache_pages(files) {
         Ok(cache_pages) => Ok(Options {

@@ -1,8 +1,9 @@
 //! The plan of an import.
 
-ghost use Rattle.std.specs.Prelude.{◌≡◌, ℕ, List, take, Ok, IfOk, IfSome};
+ghost use Rattle.std.specs.Prelude.{◌≡◌, ℕ, List, take, Ok, IfOk, IfErr, IfSome};
 ghost use Rattle.acd_reports.specs.Plan.{plan_requests};
 ghost use Rattle.acd_io.specs.Read.{IsInput};
+ghost use Rattle.acd_program.specs.Ended.{IsOfOpening};
 
 use crate::fault::Fault;
 use acd_reports::plan_requests;
@@ -25,7 +26,9 @@ pub(crate) fn bytes_from<R: Read + Drop>(alloc: Global, reader: R) -> io::Result
 }
 
 // What reading the plan met, as a fault.
-fn reading_fault<'a>(error: io::Error, path: &'a str) -> Fault<'a> {
+fn reading_fault<'a>(error: io::Error, path: &'a str) -> Fault<'a>
+    ensures known { IsOfOpening result }
+{
     match error.kind() {
         io::ErrorKind::OutOfMemory => Fault::NoMemory,
         _ => Fault::CannotOpen(path),
@@ -38,9 +41,10 @@ fn plan_from<'a, R: Read + Drop>(
     reader: R,
     path: &'a str,
 ) -> Result<Vec<Request>, Fault<'a>>
-    ensures { IfOk result
+    ensures plan { IfOk result
         (λ requests. (bytes : List ℕ) × IsInput (R.remaining reader) bytes
         × (plan_requests bytes ≡ Ok requests.items)) }
+    ensures known { IfErr result IsOfOpening }
 {
     let bytes = match bytes_from(alloc, reader) {
         Ok(bytes) => bytes,
@@ -54,8 +58,9 @@ fn plan_from<'a, R: Read + Drop>(
 
 /// The requests of the plan at a path.
 pub(crate) fn read_plan<'a>(rt: &HostRuntime, path: &'a str) -> Result<Vec<Request>, Fault<'a>>
-    ensures { IfOk result
+    ensures plan { IfOk result
         (λ requests. (bytes : List ℕ) × (plan_requests bytes ≡ Ok requests.items)) }
+    ensures known { IfErr result IsOfOpening }
 {
     match fs::open(rt, path) {
         Ok(file) => plan_from(rt.alloc(), file, path),

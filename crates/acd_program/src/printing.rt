@@ -25,8 +25,12 @@ const ENDS_EARLY: u8 = 5;
 // How often the writer is called at most.
 const CALLS: u64 = u64::MAX;
 
-// Writes a line that ends in a number.
-fn send_number<W: Write>(writer: &mut W, front: &[u8], number: u64) -> Result<(), Stopped>
+/// Writes a line that ends in a number.
+pub(crate) fn send_number<W: Write>(
+    writer: &mut W,
+    front: &[u8],
+    number: u64,
+) -> Result<(), Stopped>
     ensures { WasSent result (W.contents writer.old) (W.contents writer.new)
         (front.now ++ (decimal number ++ 10 ∷ [])) }
 {

@@ -42,8 +42,9 @@ pub(crate) struct Progress<'a> {
     // When the line was last due, where it is shown at all.
     due: Option<Instant>,
     is_shown: bool,
-    replayed: u64,
     all: u64,
+    // The stamp of the first request that is kept, or 0.
+    first: u64,
 }
 
 impl<'a> Progress<'a> {
@@ -57,8 +58,8 @@ impl<'a> Progress<'a> {
             rt,
             due,
             is_shown: false,
-            replayed: 0,
             all: 0,
+            first: 0,
         }
     }
 
@@ -69,23 +70,36 @@ impl<'a> Progress<'a> {
         }
     }
 
-    // One more is replayed.
-    fn step(&mut self) {
+    // All up to a stamp are replayed, or were compared with an archive's.
+    fn step(&mut self, stamp: u64) {
         if self.is_due() {
-            let _ = eprint!(self.rt;
-                "acd: {} of {} requests replayed\x1b[K\r",
-                self.replayed, self.all
-            );
+            let _ = eprint!(self.rt; "acd: {} of {} requests replayed\x1b[K\r", stamp, self.all);
             self.due = Instant::now(self.rt).ok();
             self.is_shown = true;
         }
-        self.replayed = self.replayed.saturating_add(1);
+    }
+
+    fn advise(&self) {
+        if self.first > 1 && self.rt.stderr().is_terminal() {
+            let _ = eprintln!(self.rt;
+                "acd: the first request that it keeps is #{}: where it was carried over, name its archive by --archive",
+                self.first
+            );
+        }
     }
 
     fn end(&self) {
         if self.is_shown {
             let _ = eprint!(self.rt; "\x1b[K");
         }
+    }
+}
+
+// The stamp of a record, or 0.
+fn stamp_of(found: &Option<Kept>) -> u64 {
+    match found {
+        Some(kept) => kept.stamp,
+        None => 0,
     }
 }
 
@@ -110,6 +124,14 @@ impl<'a, B: Book> Watched<'a, B> {
         let Watched { inner, progress } = self;
         progress.end();
         inner
+    }
+
+    /// The same, of a book that differs from its own replay. Where older requests lie in an archive, it says so.
+    pub(crate) fn into_unlike(self) -> B
+        ensures { result ≡ self.entry.inner }
+    {
+        self.progress.advise();
+        self.into_inner()
     }
 }
 
@@ -141,8 +163,12 @@ impl<'a, B: Book> Book for Watched<'a, B> {
     }
 
     fn kept_after(&mut self, stamp: u64) -> Result<Option<Kept>, BookFault> {
-        self.progress.step();
-        self.inner.kept_after(stamp)
+        self.progress.step(stamp);
+        let kept = self.inner.kept_after(stamp)?;
+        if stamp == 0 {
+            self.progress.first = stamp_of(&kept);
+        }
+        Ok(kept)
     }
 
     fn requests_after(&mut self, stamp: u64, limit: usize) -> Result<Vec<Kept>, BookFault> {

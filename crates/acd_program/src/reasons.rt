@@ -1,11 +1,11 @@
 //! Why a command could not do what it was asked, for whoever sits at a terminal: it is told behind the line of the fault, by
 //! what stands at a path by then. Where the program can't tell, nothing is.
 
+use crate::asked::Task;
 use crate::fault::Fault;
 use crate::file::{holds_log, log_path};
 use crate::plan::bytes_from;
 use crate::plan_lines::{first_line, form_of, line_of};
-use crate::task::Task;
 use acd_reports::PlanFault;
 use std::alloc::Global;
 use std::fs::{self, Metadata, OpenOptions};
@@ -49,6 +49,7 @@ fn of_kind(kind: ErrorKind) -> Option<&'static str> {
     }
 }
 
+// Whether its log holds a commit.
 fn is_lone(rt: &HostRuntime, path: &str) -> bool {
     matches!(holds_log(rt, path), Ok(true))
 }
@@ -166,6 +167,15 @@ fn of_opening(rt: &HostRuntime, path: &str) -> Option<&'static str> {
     }
 }
 
+// Why an archive isn't opened, which is to stay as it is.
+fn of_archive(rt: &HostRuntime, path: &str) -> Option<&'static str> {
+    let reason = of_opening(rt, path);
+    if reason.is_none() && is_lone(rt, path) {
+        return Some("its log holds requests: acd report lays them in");
+    }
+    reason
+}
+
 // Why a plan isn't read.
 fn of_reading(rt: &HostRuntime, path: &str) -> Option<&'static str> {
     match fs::metadata(rt, path) {
@@ -255,6 +265,11 @@ fn is_plan(task: Task<'_>, path: &str) -> bool {
     matches!(task, Task::Import { plan, .. } if plan == path)
 }
 
+// Whether a path is that of an archive.
+fn is_archive(task: Task<'_>, path: &str) -> bool {
+    matches!(task, Task::AuditBehind { archive, .. } if archive == path)
+}
+
 // The file of a desk that the task names.
 fn file_of(task: Task<'_>) -> Option<&str> {
     match task {
@@ -262,6 +277,8 @@ fn file_of(task: Task<'_>) -> Option<&str> {
         Task::Serve { file, .. } => Some(file),
         Task::Import { file, .. } => Some(file),
         Task::AuditWhole { file, .. } => Some(file),
+        // of two files such a fault doesn't say which is at fault
+        Task::AuditBehind { .. } => None,
         Task::Read { file, .. } => Some(file),
     }
 }
@@ -273,6 +290,7 @@ pub(crate) fn explain(rt: &HostRuntime, task: Task<'_>, fault: Fault<'_>) {
     }
     match (fault, file_of(task)) {
         (Fault::CannotOpen(path), _) if is_plan(task, path) => tell(rt, of_reading(rt, path)),
+        (Fault::CannotOpen(path), _) if is_archive(task, path) => tell(rt, of_archive(rt, path)),
         (Fault::CannotOpen(path), _) => tell(rt, of_opening(rt, path)),
         (Fault::WrongVersion(0), Some(file)) => tell(rt, of_no_version(rt, file)),
         (Fault::Store, Some(file)) => tell(rt, of_owner(rt, file)),

@@ -1,30 +1,37 @@
 //! The program over three streams.
 
-ghost use Rattle.std.specs.Prelude.{◌≡◌, ◌≢◌, ◌≤◌, ◌⊎◌, false, Ok, IfOk, OnOk};
+ghost use Rattle.std.specs.Prelude.{◌≡◌, ◌≤◌, ◌⊎◌, false, map, Ok, Err, IfOk, IfErr, OnOk, OnErr};
 ghost use Rattle.sqlite_std_file.specs.File.{IsFresh};
 ghost use Rattle.acd_lines.specs.Lines.{streams};
 ghost use Rattle.acd_program.specs.Answered.{in_memory};
 ghost use Rattle.acd_program.specs.Desks.{OverNewDesk};
+ghost use Rattle.acd_program.specs.Ended.{IsOfDesk, IsOfOpening, PrintedOf, WorkEnded};
 ghost use Rattle.acd_program.specs.LinesOver.{in_turn, Whole};
+ghost use Rattle.acd_program.specs.Sessions.{MemoryEnded};
 ghost use Rattle.acd_program.specs.Statuses.{IsDone, fault_status, TellsConnections};
 ghost use Rattle.acd_program.specs.Work.{IsPrinted};
 ghost use Rattle.acd_program.specs.InFiles.{WorkedOver};
-ghost use Rattle.acd_program.specs.Tasks.{WorkedIn, FileAnswered, InputAnswered, ImportedIn, ServedIn, WholeAudit, TaskDone, SomeTaskDone};
+ghost use Rattle.acd_program.specs.Tasks.{WorkedIn, FileAnswered, InputAnswered, ImportedIn, ServedIn, WholeAudit, IsToldEnding, AuditedWith, TaskDone, NamedTaskDone};
+ghost use Rattle.acd_program.specs.TasksEnded.{WorkEndedIn, PlanEnded, AuditEnded, BehindEnded, ServiceEnded, InputEnded, TaskEnded, FaultTold};
 
+use crate::asked::Task;
+use crate::behind::over_archive;
 use crate::connection::database_lines;
 use crate::desk::{Done, Work, over_database};
 use crate::fault::Fault;
 use crate::file::{close_connection, connect, log_ending};
+use crate::laws::lines_are_from_nothing;
 use crate::memory::lines_over_memory;
 use crate::plan::read_plan;
 use crate::printing::print;
 use crate::reasons::explain;
 use crate::serving::serve;
-use crate::task::{Task, parse};
+use crate::task::parse;
 use acd_book::MemoryBook;
 use acd_http::RequestsAndReads;
 use acd_lines::laws::requests_run;
 use acd_lines::{LinesFault, Requests};
+use acd_log::Ending;
 use clap::Error;
 use clap::error::ErrorKind;
 use sqlite::{Connection, FileFrom, FileStore};
@@ -47,7 +54,9 @@ fn done_and_closed<'a>(
     done: Result<(), Fault<'a>>,
     closed: Result<(), Fault<'a>>,
 ) -> Result<(), Fault<'a>>
-    ensures { OnOk result ((done.entry ≡ Ok tt) × (closed.entry ≡ Ok tt)) }
+    ensures both { OnOk result ((done.entry ≡ Ok tt) × (closed.entry ≡ Ok tt)) }
+    ensures first { IfErr result (λ fault. (done.entry ≡ Err fault)
+        ⊎ ((done.entry ≡ Ok tt) × (closed.entry ≡ Err fault))) }
 {
     done?;
     closed?;
@@ -67,6 +76,9 @@ fn work_over<'a, D: Disk + Drop, W: Write>(
     ensures worked { IfOk result
         (λ status. WorkedOver makes work.entry conn (W.contents writer.old)
         (W.contents writer.new) status) }
+    ensures ended { OnErr result
+        (WorkEnded makes work.entry conn (W.contents writer.old) (W.contents writer.new)) }
+    ensures late { IfErr result IsOfDesk }
 {
     let (done, conn) = over_database(rt, conn, makes, work, writer);
     print_done(done, close_connection(conn), writer)
@@ -85,6 +97,9 @@ fn work_in<'a, S: Start, W: Write>(
     ensures worked { IfOk result
         (λ status. WorkedIn ⟦<FileFrom<S> as Disk>⟧ IsFresh makes work.entry
         (W.contents writer.old) (W.contents writer.new) status) }
+    ensures ended { IfErr result
+        (WorkEndedIn ⟦<FileFrom<S> as Disk>⟧ IsFresh makes work.entry (W.contents writer.old)
+        (W.contents writer.new) (writer.new ≡ writer.old)) }
 {
     let (conn, is_new) = connect(rt, file, makes, start)?;
     work_over(rt, conn, is_new, work, writer)
@@ -100,7 +115,10 @@ fn lines_in<'a, S: Start, R: Read, W: Write>(
     reader: &mut R,
     writer: &mut W,
 ) -> Result<(), Fault<'a>>
-    ensures { OnOk result (FileAnswered ⟦<FileFrom<S> as Disk>⟧ IsFresh reads ends
+    ensures answered { OnOk result (FileAnswered ⟦<FileFrom<S> as Disk>⟧ IsFresh reads ends
+        (streams R.remaining W.contents (reader.old, reader.new) (writer.old, writer.new))) }
+    ensures ended { IfErr result
+        (InputEnded ⟦<FileFrom<S> as Disk>⟧ IsFresh (Some file.entry) reads ends
         (streams R.remaining W.contents (reader.old, reader.new) (writer.old, writer.new))) }
 {
     let (conn, is_new) = connect(rt, file, true, start)?;
@@ -115,9 +133,12 @@ fn lines_in_memory<R: Read, W: Write>(
     reader: &mut R,
     writer: &mut W,
 ) -> Result<(), LinesFault>
-    ensures { OnOk result (OverNewDesk (Whole in_memory (in_turn reads in_memory) false
+    ensures answered { OnOk result (OverNewDesk (Whole in_memory (in_turn reads in_memory) false
         (streams R.remaining W.contents (reader.old, reader.new) (writer.old, writer.new)))) }
+    ensures ended { IfErr result (MemoryEnded reads
+        (streams R.remaining W.contents (reader.old, reader.new) (writer.old, writer.new))) }
 {
+    lines_are_from_nothing::<R, W>();
     if reads {
         let mut lines = RequestsAndReads::new(alloc)?;
         return lines_over_memory(alloc, &mut lines, reader, writer);
@@ -140,6 +161,9 @@ fn answer_lines<'a, S: Start, R: Read, W: Write>(
         (λ status. InputAnswered ⟦<FileFrom<S> as Disk>⟧ IsFresh file.entry reads ends
         (streams R.remaining W.contents (reader.old, reader.new) (writer.old, writer.new))
         status) }
+    ensures ended { IfErr result
+        (InputEnded ⟦<FileFrom<S> as Disk>⟧ IsFresh file.entry reads ends
+        (streams R.remaining W.contents (reader.old, reader.new) (writer.old, writer.new))) }
 {
     match file {
         None => {
@@ -165,6 +189,9 @@ fn import_plan<'a, S: Start, W: Write>(
     ensures imported { IfOk result
         (λ status. ImportedIn ⟦<FileFrom<S> as Disk>⟧ IsFresh (W.contents writer.old)
         (W.contents writer.new) status) }
+    ensures ended { IfErr result
+        (PlanEnded ⟦<FileFrom<S> as Disk>⟧ IsFresh (W.contents writer.old) (W.contents writer.new)
+        (writer.new ≡ writer.old)) }
 {
     let requests = read_plan(rt, plan)?;
     work_in(rt, start, file, true, Work::Import(&requests), writer)
@@ -182,6 +209,9 @@ fn audit_whole<'a, S: Start, W: Write>(
     ensures audited { IfOk result
         (λ status. WholeAudit ⟦<FileFrom<S> as Disk>⟧ IsFresh counts (W.contents writer.old)
         (W.contents writer.new) status) }
+    ensures ended { IfErr result
+        (AuditEnded ⟦<FileFrom<S> as Disk>⟧ IsFresh counts (W.contents writer.old)
+        (W.contents writer.new) (writer.new ≡ writer.old)) }
 {
     let ending = log_ending(rt, file)?;
     work_in(
@@ -194,6 +224,42 @@ fn audit_whole<'a, S: Start, W: Write>(
     )
 }
 
+// How the log of a file ends, where it is to be looked at.
+fn told_ending<'a>(rt: &HostRuntime, file: &'a str, whole: bool) -> Result<Ending, Fault<'a>>
+    ensures ending { IfOk result (IsToldEnding whole) }
+    ensures known { IfErr result IsOfOpening }
+{
+    if whole {
+        return log_ending(rt, file);
+    }
+    Ok(Ending::Plain)
+}
+
+// Audits the desk in a file behind the archive that it goes on from. Of a log, that of the file alone is looked at.
+fn audit_behind<'a, S: Start, W: Write>(
+    rt: &HostRuntime,
+    start: S,
+    beside: S,
+    file: &'a str,
+    archive: &'a str,
+    counts: bool,
+    whole: bool,
+    writer: &mut W,
+) -> Result<u8, Fault<'a>>
+    ensures known { IfOk result IsDone }
+    ensures audited { IfOk result
+        (λ status. AuditedWith ⟦<FileFrom<S> as Disk>⟧ IsFresh counts whole
+        (W.contents writer.old) (W.contents writer.new) status) }
+    ensures ended { IfErr result
+        (BehindEnded ⟦<FileFrom<S> as Disk>⟧ IsFresh counts whole (W.contents writer.old)
+        (W.contents writer.new) (writer.new ≡ writer.old)) }
+{
+    let ending = told_ending(rt, file, whole)?;
+    let (conn, _) = connect(rt, file, false, start)?;
+    let (done, conn) = over_archive(rt, conn, beside, archive, counts, ending);
+    print_done(done, close_connection(conn), writer)
+}
+
 fn serve_file<'a, S: Start, W: Write, E: Write>(
     rt: &HostRuntime,
     start: S,
@@ -203,9 +269,12 @@ fn serve_file<'a, S: Start, W: Write, E: Write>(
     writer: &mut W,
     errors: &mut E,
 ) -> Result<(), Fault<'a>>
-    ensures { OnOk result
+    ensures served { OnOk result
         (ServedIn ⟦<FileFrom<S> as Disk>⟧ IsFresh connections (E.contents errors.old)
         (E.contents errors.new)) }
+    ensures ended { IfErr result (ServiceEnded ⟦<FileFrom<S> as Disk>⟧ IsFresh connections port
+        (W.contents writer.old) (W.contents writer.new) (E.contents errors.old)
+        (E.contents errors.new) (writer.new ≡ writer.old)) }
 {
     let (conn, is_new) = connect(rt, file, true, start)?;
     let (done, conn) = serve(rt, conn, is_new, port, connections, writer, errors);
@@ -222,6 +291,11 @@ fn print_done<'a, W: Write>(
     ensures printed { IfOk result
         (λ status. IsPrinted done.entry closed.entry (W.contents writer.old) (W.contents writer.new)
         status) }
+    ensures cut { OnErr result
+        (PrintedOf done.entry (W.contents writer.old) (W.contents writer.new)) }
+    ensures spared { OnErr done.entry (writer.new ≡ writer.old) }
+    ensures first { IfErr result
+        (λ fault. (done.entry ≡ Err fault) ⊎ ((fault ≡ Fault.Write) ⊎ (closed.entry ≡ Err fault))) }
 {
     let left = done?;
     let status = print(&left, writer)?;
@@ -229,10 +303,11 @@ fn print_done<'a, W: Write>(
     Ok(status)
 }
 
-// Does it, and gives the exit status where no fault ended it.
+// Does it, and gives the exit status where no fault ended it. A second file may be opened beside the desk's.
 fn execute<'a, S: Start, R: Read, W: Write, E: Write>(
     rt: &HostRuntime,
     start: S,
+    beside: S,
     task: Task<'a>,
     reader: &mut R,
     writer: &mut W,
@@ -247,6 +322,13 @@ fn execute<'a, S: Start, R: Read, W: Write, E: Write>(
     ensures told { IfOk result
         (λ status. (errors.new ≡ errors.old)
         ⊎ ((status ≡ 0) × TellsConnections (E.contents errors.old) (E.contents errors.new))) }
+    // where a fault ended it
+    ensures ended { IfErr result (TaskEnded ⟦<FileFrom<S> as Disk>⟧ IsFresh task.entry
+        (streams R.remaining W.contents (reader.old, reader.new) (writer.old, writer.new))
+        (E.contents errors.old) (E.contents errors.new)) }
+    // that another program has the file is found before anything is read or written
+    ensures elsewhere { IfErr result (λ fault. fault_status fault ≡ 4
+        → (reader.new ≡ reader.old) × (writer.new ≡ writer.old)) }
 {
     match task {
         Task::Lines { file, reads, ends } => {
@@ -262,6 +344,12 @@ fn execute<'a, S: Start, R: Read, W: Write, E: Write>(
         }
         Task::Import { file, plan } => import_plan(rt, start, file, plan, writer),
         Task::AuditWhole { file, counts } => audit_whole(rt, start, file, counts, writer),
+        Task::AuditBehind {
+            file,
+            archive,
+            counts,
+            whole,
+        } => audit_behind(rt, start, beside, file, archive, counts, whole, writer),
         Task::Read { file, work } => work_in(rt, start, file, false, work, writer),
     }
 }
@@ -282,8 +370,7 @@ fn fail<E: Write>(fault: Fault<'_>, errors: &mut E) -> u8
 fn tell<W: Write, E: Write>(alloc: Global, error: &Error, writer: &mut W, errors: &mut E) -> u8
     ensures success { result ≡ 0 → errors.new ≡ errors.old }
     ensures refused { result ≡ 2 → writer.new ≡ writer.old }
-    ensures differs { result ≢ 3 }
-    ensures known { result ≤ 4 }
+    ensures known { result ≤ 2 }
 {
     if error.kind() == ErrorKind::OutOfMemory {
         return fail(Fault::NoMemory, errors);
@@ -321,18 +408,25 @@ pub fn program<S: AsStr, R: Read, W: Write, E: Write>(
     // for a command line that is refused nothing is read, and nothing is written but why
     ensures refused { result ≡ 2 → (reader.new ≡ reader.old) × (writer.new ≡ writer.old) }
     ensures known { result ≤ 5 }
-    // such a status is that of a task which was done so, or help was asked for, and nothing was read
+    // such a status is that of the task which the words name, done so, or help was asked for, and nothing was read
     ensures done { IsDone result
         → ((result ≡ 0) × (reader.new ≡ reader.old) × (errors.new ≡ errors.old))
-        ⊎ SomeTaskDone ⟦<FileFrom<Unknown> as Disk>⟧ IsFresh
+        ⊎ NamedTaskDone ⟦<FileFrom<Unknown> as Disk>⟧ IsFresh (map S.text words.now)
         (streams R.remaining W.contents (reader.old, reader.new) (writer.old, writer.new))
         (E.contents errors.old) (E.contents errors.new) result }
+    // a fault ended the task that they name, or nothing was done, and nothing was read
+    ensures ended { FaultTold ⟦<FileFrom<Unknown> as Disk>⟧ IsFresh (map S.text words.now)
+        (streams R.remaining W.contents (reader.old, reader.new) (writer.old, writer.new))
+        (E.contents errors.old) result }
+    // nothing was read or written where another program has the file
+    ensures elsewhere { result ≡ 4
+        → (reader.new ≡ reader.old) × (writer.new ≡ writer.old) }
 {
     let task = match parse(rt.alloc(), words) {
         Ok(task) => task,
         Err(error) => return tell(rt.alloc(), &error, writer, errors),
     };
-    match execute(rt, Unknown, task, reader, writer, errors) {
+    match execute(rt, Unknown, Unknown, task, reader, writer, errors) {
         Ok(status) => status,
         Err(fault) => {
             let status = fail(fault, errors);

@@ -1,15 +1,15 @@
 //! The desk of a database, over HTTP.
 
-ghost use Rattle.std.specs.Prelude.{◌≡◌, false, None, OnOk};
+ghost use Rattle.std.specs.Prelude.{◌≡◌, false, IfErr, OnOk, Some, None};
 ghost use Rattle.sqlite.specs.Held.{state};
-ghost use Rattle.acd_desk.specs.Standing.{standing};
-ghost use Rattle.acd_io.specs.Sent.{Begins};
-ghost use Rattle.acd_http.specs.Listening.{ServedAll, ServedUntilFailed, ServedFor};
-ghost use Rattle.acd_program.specs.Desks.{OverDesk, OverDatabase, in_database};
-ghost use Rattle.acd_program.specs.Serving.{Served};
+ghost use Rattle.acd_io.specs.Sent.{WasSent};
+ghost use Rattle.acd_program.specs.Desks.{OverDatabase, in_database};
+ghost use Rattle.acd_program.specs.Ended.{IsOfDesk};
+ghost use Rattle.acd_program.specs.Serving.{Served, listening_line, ListenTold, ServeTold, ServeOver, ServeIn};
 
 use crate::connection::book_over;
 use crate::fault::Fault;
+use crate::printing::send_number;
 use crate::session::unless_failed;
 use acd_book::Book;
 use acd_desk::Desk;
@@ -18,7 +18,9 @@ use sqlite::{Alter, Connection};
 use std::io::{ErrorKind, Write};
 use std::net::{Ipv4Addr, SocketAddr, TcpListener};
 
-fn listen<'a>(rt: &HostRuntime, port: u16) -> Result<TcpListener, Fault<'a>> {
+fn listen<'a>(rt: &HostRuntime, port: u16) -> Result<TcpListener, Fault<'a>>
+    ensures known { IfErr result IsOfDesk }
+{
     match TcpListener::bind(rt, SocketAddr::from((Ipv4Addr::LOCALHOST, port))) {
         Ok(listener) => Ok(listener),
         Err(error) if error.kind() == ErrorKind::OutOfMemory => Err(Fault::NoMemory),
@@ -27,11 +29,13 @@ fn listen<'a>(rt: &HostRuntime, port: u16) -> Result<TcpListener, Fault<'a>> {
 }
 
 // Says that connections are waited for.
-fn say<'a, W: Write>(port: u16, writer: &mut W) -> Result<(), Fault<'a>> {
-    match writeln!(writer, "listening on 127.0.0.1:{port}") {
-        Ok(()) => Ok(()),
-        Err(_) => Err(Fault::Write),
-    }
+fn say<'a, W: Write>(port: u16, writer: &mut W) -> Result<(), Fault<'a>>
+    ensures said { WasSent result (W.contents writer.old) (W.contents writer.new)
+        (listening_line port) }
+    ensures known { IfErr result IsOfDesk }
+{
+    send_number(writer, b"listening on 127.0.0.1:", u64::from(port))?;
+    Ok(())
 }
 
 // Answers so many connections. A line of one of them that could not be written is no fault of the command.
@@ -42,9 +46,9 @@ fn answer_some<'a, B: Book, E: Write>(
     connections: u32,
     errors: &mut E,
 ) -> Result<(), Fault<'a>>
-    ensures { OnOk result
-        (ServedAll (standing B.Book) connections desk.old desk.new
-        (Begins (E.contents errors.old) (E.contents errors.new))) }
+    ensures told { ListenTold (Some connections) (E.contents errors.old) (E.contents errors.new)
+        B.Book result desk.old desk.new }
+    ensures known { IfErr result IsOfDesk }
 {
     match serve_on(
         rt,
@@ -67,10 +71,9 @@ fn answer_until_failed<'a, B: Book, E: Write>(
     desk: &mut Desk<B>,
     errors: &mut E,
 ) -> Result<(), Fault<'a>>
-    ensures served { OnOk result
-        (ServedUntilFailed (standing B.Book) desk.old desk.new
-        (Begins (E.contents errors.old) (E.contents errors.new))) }
-    ensures well { OnOk result ((standing B.Book desk.new).failed ≡ false) }
+    ensures told { ListenTold None (E.contents errors.old) (E.contents errors.new)
+        B.Book result desk.old desk.new }
+    ensures known { IfErr result IsOfDesk }
 {
     match serve_until_failed(rt, rt.alloc(), listener, desk, errors) {
         Ok(()) => unless_failed(desk),
@@ -86,10 +89,9 @@ fn answer<'a, B: Book, E: Write>(
     connections: Option<u32>,
     errors: &mut E,
 ) -> Result<(), Fault<'a>>
-    ensures served { OnOk result
-        (ServedFor (standing B.Book) connections desk.old desk.new
-        (Begins (E.contents errors.old) (E.contents errors.new))) }
-    ensures well { OnOk result (connections ≡ None → (standing B.Book desk.new).failed ≡ false) }
+    ensures told { ListenTold connections (E.contents errors.old) (E.contents errors.new)
+        B.Book result desk.old desk.new }
+    ensures known { IfErr result IsOfDesk }
 {
     match connections {
         Some(connections) => answer_some(rt, listener, desk, connections, errors),
@@ -105,10 +107,9 @@ fn serve_desk<'a, B: Book, W: Write, E: Write>(
     writer: &mut W,
     errors: &mut E,
 ) -> Result<(), Fault<'a>>
-    ensures served { OnOk result
-        (ServedFor (standing B.Book) connections desk.old desk.new
-        (Begins (E.contents errors.old) (E.contents errors.new))) }
-    ensures well { OnOk result (connections ≡ None → (standing B.Book desk.new).failed ≡ false) }
+    ensures told { ServeTold connections (E.contents errors.old) (E.contents errors.new)
+        port (W.contents writer.old) (W.contents writer.new) B.Book result desk.old desk.new }
+    ensures known { IfErr result IsOfDesk }
 {
     let listener = listen(rt, port)?;
     say(port, writer)?;
@@ -123,9 +124,10 @@ fn serve_book<'a, B: Book, W: Write, E: Write>(
     writer: &mut W,
     errors: &mut E,
 ) -> (Result<(), Fault<'a>>, B)
-    ensures { OnOk result.0
-        (OverDesk B.Book (Served B.Book connections (E.contents errors.old)
-        (E.contents errors.new)) (B.state book) result.1) }
+    ensures told { ServeOver connections (E.contents errors.old) (E.contents errors.new)
+        port (W.contents writer.old) (W.contents writer.new) B.Book (B.state book)
+        result.0 result.1 }
+    ensures known { IfErr result.0 IsOfDesk }
 {
     let mut desk = match Desk::open(rt.alloc(), book) {
         Ok(desk) => desk,
@@ -151,6 +153,11 @@ pub(crate) fn serve<'a, S: Alter, W: Write, E: Write>(
     ensures served { OnOk result.0
         (OverDatabase S.Store makes (Served (in_database S.Store) connections
         (E.contents errors.old) (E.contents errors.new)) (state S.Store conn) result.1) }
+    // whatever ended it
+    ensures told { ServeIn connections (E.contents errors.old) (E.contents errors.new)
+        port (W.contents writer.old) (W.contents writer.new) S.Store makes (state S.Store conn)
+        result.0 result.1 }
+    ensures known { IfErr result.0 IsOfDesk }
 {
     let book = match book_over(rt.alloc(), conn, makes) {
         Ok(book) => book,

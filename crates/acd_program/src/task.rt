@@ -1,48 +1,20 @@
-//! What a command line asks for.
+//! How a command line is read.
 
+ghost use Rattle.std.specs.Prelude.{◌≡◌, [], false, codes, map, IsTrue, IfOk, IfSome};
+ghost use Rattle.clap.specs.Words.{App, app_of, found_of, rows_of, subcommand_rows_of, with_subcommand};
+ghost use Rattle.acd_program.specs.CommandLine.{HasApp, HasRule, IsTaskWith, IsTaskIn, IsSpan, IsTaskOf, acd, connections_rule, command_of, export_shape, file_rule, flag_rule, import_shape, is_given, lines_shape, number_rule, option_rule, report_shape, audit_shape, serve_shape};
+
+use crate::asked::Task;
 use crate::desk::{Telling, Work};
 use acd_log::Ending;
 use clap::builder::ValueParser;
 use clap::error::ErrorKind;
-use clap::{Arg, ArgAction, ArgGroup, ArgMatches, Command, Error};
+use clap::{Arg, ArgAction, ArgMatches, Command, Error};
 use std::alloc::{AllocError, Global};
 use std::convert::AsStr;
 
-/// What a command line asks for, with the paths that it names.
-#[derive(Clone, Copy)]
-pub(crate) enum Task<'a> {
-    /// Answer the lines of standard input, requests alone or reads too, over a desk in memory or in a file; a storeFault
-    /// may be what ends them.
-    Lines {
-        file: Option<&'a str>,
-        reads: bool,
-        ends: bool,
-    },
-    /// Answer connections over HTTP: so many, or until the store has failed.
-    Serve {
-        file: &'a str,
-        port: u16,
-        connections: Option<u32>,
-    },
-    /// Take the requests of a plan.
-    Import {
-        file: &'a str,
-        plan: &'a str,
-    },
-    /// Audit the desk in a file, and say how its log ended before it was opened.
-    AuditWhole {
-        file: &'a str,
-        counts: bool,
-    },
-    /// Print what is told of the desk in a file: the queue report, all event reports, or what an audit finds.
-    Read {
-        file: &'a str,
-        work: Work<'a>,
-    },
-}
-
 /// What `acd --version` tells behind the program's name: the version, and the toolchain that proved it.
-const VERSION: &str = "1.11 (rattle-kit-13f)";
+const VERSION: &str = "1.12 (rattle-kit-13f)";
 
 const FILE: &str = "file";
 
@@ -54,9 +26,6 @@ const CONNECTIONS: &str = "connections";
 
 const ENDLESS: &str = "endless";
 
-// Of these one is given.
-const SPAN: &str = "span";
-
 const READS: &str = "reads";
 
 const END_ON_STORE_FAULT: &str = "end-on-store-fault";
@@ -65,10 +34,16 @@ const COUNT: &str = "count";
 
 const WHOLE: &str = "whole";
 
+const ARCHIVE: &str = "archive";
+
+const GREATEST_PORT: u64 = 65_535;
+
 /// How many connections are served at most.
 const MOST_CONNECTIONS: u64 = 1_000_000;
 
-fn file_option<'a>(alloc: Global) -> Arg<'a> {
+fn file_option<'a>(alloc: Global) -> Arg<'a>
+    ensures { HasRule file_rule result }
+{
     Arg::new(alloc, FILE)
         .long(FILE)
         .value_name("F")
@@ -76,7 +51,9 @@ fn file_option<'a>(alloc: Global) -> Arg<'a> {
         .action(ArgAction::Set)
 }
 
-fn plan_option<'a>(alloc: Global) -> Arg<'a> {
+fn plan_option<'a>(alloc: Global) -> Arg<'a>
+    ensures { HasRule (option_rule (codes "plan")) result }
+{
     Arg::new(alloc, PLAN)
         .long(PLAN)
         .value_name("C")
@@ -84,7 +61,19 @@ fn plan_option<'a>(alloc: Global) -> Arg<'a> {
         .action(ArgAction::Set)
 }
 
-fn flag<'a>(alloc: Global, name: &'a str, help: &'a str) -> Arg<'a> {
+fn archive_option<'a>(alloc: Global) -> Arg<'a>
+    ensures { HasRule (option_rule (codes "archive")) result }
+{
+    Arg::new(alloc, ARCHIVE)
+        .long(ARCHIVE)
+        .value_name("A")
+        .help("The archive that the file goes on from, where it was carried over")
+        .action(ArgAction::Set)
+}
+
+fn flag<'a>(alloc: Global, name: &'a str, help: &'a str) -> Arg<'a>
+    ensures { HasRule (flag_rule name.entry.now) result }
+{
     Arg::new(alloc, name)
         .long(name)
         .help(help)
@@ -98,7 +87,9 @@ fn number_option<'a>(
     letter: &'a str,
     help: &'a str,
     most: u64,
-) -> Arg<'a> {
+) -> Arg<'a>
+    ensures { HasRule (number_rule name.entry.now most) result }
+{
     Arg::new(alloc, name)
         .long(name)
         .value_name(letter)
@@ -107,7 +98,24 @@ fn number_option<'a>(
         .action(ArgAction::Set)
 }
 
-fn lines_command<'a>(alloc: Global) -> Result<Command<'a>, AllocError> {
+// One of it and --endless is given.
+fn connections_option<'a>(alloc: Global) -> Result<Arg<'a>, AllocError>
+    ensures { IfOk result (HasRule connections_rule) }
+{
+    number_option(
+        alloc,
+        CONNECTIONS,
+        "N",
+        "How many connections to serve, from 1 to 1000000",
+        MOST_CONNECTIONS,
+    )
+    .required_unless_present(ENDLESS)?
+    .conflicts_with(ENDLESS)
+}
+
+fn lines_command<'a>(alloc: Global) -> Result<Command<'a>, AllocError>
+    ensures { IfOk result (HasApp (record { top = lines_shape; subs = [] })) }
+{
     Command::new(alloc, "lines")
         .about("Answer requests in lines: a moment, a space and the request as JSON")
         .after_help(
@@ -126,42 +134,35 @@ fn lines_command<'a>(alloc: Global) -> Result<Command<'a>, AllocError> {
         ))
 }
 
-fn serve_command<'a>(alloc: Global) -> Result<Command<'a>, AllocError> {
+fn serve_command<'a>(alloc: Global) -> Result<Command<'a>, AllocError>
+    ensures { IfOk result (HasApp (record { top = serve_shape; subs = [] })) }
+{
     let port = number_option(
         alloc,
         PORT,
         "P",
         "The port to listen on, from 1 to 65535",
-        u64::from(u16::MAX),
+        GREATEST_PORT,
     );
     Command::new(alloc, "serve")
         .about("Answer requests over HTTP on 127.0.0.1")
         .after_help(
             "Example:\n  acd serve --file desk.db --port 8080 --connections 1000\n\nConnections are served one after the other, each with one request; behind the last one\nthe command ends. With --endless in the place of --connections it ends, with status 1,\nonce its store has failed. A file that isn't there, or has no bytes, is made.",
         )
+        .override_usage("acd serve --file <F> --port <P> <--connections <N>|--endless>")
         .arg(file_option(alloc).required(true))?
         .arg(port.required(true))?
-        .arg(number_option(
-            alloc,
-            CONNECTIONS,
-            "N",
-            "How many connections to serve, from 1 to 1000000",
-            MOST_CONNECTIONS,
-        ))?
+        .arg(connections_option(alloc)?)?
         .arg(flag(
             alloc,
             ENDLESS,
             "Serve until the store fails, or the command is ended",
-        ))?
-        .group(
-            ArgGroup::new(alloc, SPAN)
-                .arg(CONNECTIONS)?
-                .arg(ENDLESS)?
-                .required(true),
-        )
+        ))
 }
 
-fn import_command<'a>(alloc: Global) -> Result<Command<'a>, AllocError> {
+fn import_command<'a>(alloc: Global) -> Result<Command<'a>, AllocError>
+    ensures { IfOk result (HasApp (record { top = import_shape; subs = [] })) }
+{
     Command::new(alloc, "import")
         .about("Add the groups, stations and agents of a plan")
         .after_help(
@@ -171,27 +172,34 @@ fn import_command<'a>(alloc: Global) -> Result<Command<'a>, AllocError> {
         .arg(plan_option(alloc).required(true))
 }
 
-fn report_command<'a>(alloc: Global) -> Result<Command<'a>, AllocError> {
+fn report_command<'a>(alloc: Global) -> Result<Command<'a>, AllocError>
+    ensures { IfOk result (HasApp (record { top = report_shape; subs = [] })) }
+{
     Command::new(alloc, "report")
         .about("Print the queue report at the last executed moment")
         .after_help("Example:\n  acd report --file desk.db")
         .arg(file_option(alloc).required(true))
 }
 
-fn export_command<'a>(alloc: Global) -> Result<Command<'a>, AllocError> {
+fn export_command<'a>(alloc: Global) -> Result<Command<'a>, AllocError>
+    ensures { IfOk result (HasApp (record { top = export_shape; subs = [] })) }
+{
     Command::new(alloc, "export")
         .about("Print all event reports as CSV")
         .after_help("Example:\n  acd export --file desk.db > events.csv")
         .arg(file_option(alloc).required(true))
 }
 
-fn audit_command<'a>(alloc: Global) -> Result<Command<'a>, AllocError> {
+fn audit_command<'a>(alloc: Global) -> Result<Command<'a>, AllocError>
+    ensures { IfOk result (HasApp (record { top = audit_shape; subs = [] })) }
+{
     Command::new(alloc, "audit")
         .about("Run the kept requests again, and compare what they give with the file")
         .after_help(
             "Example:\n  acd audit --file desk.db\n\nIt prints sound or, with status 3, the first request whose record or events differ.",
         )
         .arg(file_option(alloc).required(true))?
+        .arg(archive_option(alloc))?
         .arg(flag(
             alloc,
             COUNT,
@@ -208,11 +216,17 @@ fn audit_command<'a>(alloc: Global) -> Result<Command<'a>, AllocError> {
 fn with<'a>(
     acd: Result<Command<'a>, AllocError>,
     made: Result<Command<'a>, AllocError>,
-) -> Result<Command<'a>, AllocError> {
+) -> Result<Command<'a>, AllocError>
+    ensures { (above below : App) → IfOk acd.entry (HasApp above)
+        → IfOk made.entry (HasApp below)
+        → IfOk result (HasApp (with_subcommand above below.top)) }
+{
     acd?.subcommand(made?)
 }
 
-fn all_commands<'a>(alloc: Global) -> Result<Command<'a>, AllocError> {
+fn all_commands<'a>(alloc: Global) -> Result<Command<'a>, AllocError>
+    ensures { IfOk result (HasApp acd) }
+{
     let acd = Command::new(alloc, "acd")
         .version(VERSION)
         .about("The desk of a help line: an automatic call distributor")
@@ -225,75 +239,141 @@ fn all_commands<'a>(alloc: Global) -> Result<Command<'a>, AllocError> {
     with(acd, audit_command(alloc))
 }
 
-fn lines_of<'a>(options: &ArgMatches<'a>) -> Task<'a> {
+// Whether the flag was given.
+fn is_given(options: &ArgMatches<'_>, flag: &str) -> bool
+    ensures { result ≡ is_given flag.now (rows_of (found_of options.now)) }
+{
+    options.get_one(flag).unwrap_or(false)
+}
+
+fn lines_of<'a>(options: &ArgMatches<'a>) -> Task<'a>
+    ensures { IsTaskWith (codes "lines") (rows_of (found_of options.now)) result }
+{
     Task::Lines {
         file: options.get_str(FILE),
-        reads: options.get_flag(READS),
-        ends: options.get_flag(END_ON_STORE_FAULT),
+        reads: is_given(options, READS),
+        ends: is_given(options, END_ON_STORE_FAULT),
     }
 }
 
-fn serving_of<'a>(options: &ArgMatches<'a>) -> Option<Task<'a>> {
+// How many connections, or no end of them: one of both is asked for.
+fn span_of(options: &ArgMatches<'_>) -> Option<Option<u32>>
+    ensures { IfSome result (IsSpan (rows_of (found_of options.now))) }
+{
+    let endless = is_given(options, ENDLESS);
+    if !options.contains_id(CONNECTIONS) {
+        return if endless { Some(None) } else { None };
+    }
+    if endless {
+        return None;
+    }
+    Some(Some(options.get_one(CONNECTIONS)?))
+}
+
+fn serving_of<'a>(options: &ArgMatches<'a>) -> Option<Task<'a>>
+    ensures { IfSome result (IsTaskWith (codes "serve") (rows_of (found_of options.now))) }
+{
     Some(Task::Serve {
         file: options.get_str(FILE)?,
         port: options.get_one(PORT)?,
-        connections: options.get_one(CONNECTIONS),
+        connections: span_of(options)?,
     })
 }
 
-fn import_of<'a>(options: &ArgMatches<'a>) -> Option<Task<'a>> {
+fn import_of<'a>(options: &ArgMatches<'a>) -> Option<Task<'a>>
+    ensures { IfSome result (IsTaskWith (codes "import") (rows_of (found_of options.now))) }
+{
     Some(Task::Import {
         file: options.get_str(FILE)?,
         plan: options.get_str(PLAN)?,
     })
 }
 
-fn whole_of<'a>(options: &ArgMatches<'a>) -> Option<Task<'a>> {
-    Some(Task::AuditWhole {
-        file: options.get_str(FILE)?,
-        counts: options.get_flag(COUNT),
-    })
-}
-
-// What is read of the desk in a file.
-fn reading_of<'a>(command: &str, counts: bool) -> Option<Work<'a>> {
-    match command {
-        "report" => Some(Work::Tell(Telling::Report)),
-        "export" => Some(Work::Tell(Telling::Export)),
-        "audit" => Some(Work::Audit {
+// What is audited of the desk in a file, behind no archive.
+fn audit_alone<'a>(file: &'a str, counts: bool, whole: bool) -> Task<'a>
+    ensures whole { IsTrue whole → result ≡ Task.AuditWhole file.entry counts }
+    ensures plain { whole ≡ false
+        → result ≡ Task.Read file.entry (Work.Audit counts Ending.Plain) }
+{
+    if whole {
+        return Task::AuditWhole { file, counts };
+    }
+    Task::Read {
+        file,
+        work: Work::Audit {
             counts,
             ending: Ending::Plain,
-        }),
-        _ => None,
+        },
     }
 }
 
-fn task_in<'a>(matches: &ArgMatches<'a>) -> Option<Task<'a>> {
-    let (command, options) = matches.subcommand()?;
+// What is audited of the desk in a file.
+fn audit_of<'a>(options: &ArgMatches<'a>) -> Option<Task<'a>>
+    ensures { IfSome result (IsTaskWith (codes "audit") (rows_of (found_of options.now))) }
+{
+    let file = options.get_str(FILE)?;
+    let counts = is_given(options, COUNT);
+    let whole = is_given(options, WHOLE);
+    match options.get_str(ARCHIVE) {
+        Some(archive) => Some(Task::AuditBehind {
+            file,
+            archive,
+            counts,
+            whole,
+        }),
+        None => Some(audit_alone(file, counts, whole)),
+    }
+}
+
+// What is told of the desk in a file.
+fn telling_of<'a>(options: &ArgMatches<'a>, telling: Telling) -> Option<Task<'a>>
+    ensures { IfSome result (IsTaskWith (command_of telling) (rows_of (found_of options.now))) }
+{
+    Some(Task::Read {
+        file: options.get_str(FILE)?,
+        work: Work::Tell(telling),
+    })
+}
+
+// The task of a command with these options.
+fn named<'a>(command: &str, options: &ArgMatches<'a>) -> Option<Task<'a>>
+    ensures { IfSome result (IsTaskWith command.now (rows_of (found_of options.now))) }
+{
     match command {
         "lines" => Some(lines_of(options)),
         "serve" => serving_of(options),
         "import" => import_of(options),
-        "audit" if options.get_flag(WHOLE) => whole_of(options),
-        _ => Some(Task::Read {
-            file: options.get_str(FILE)?,
-            work: reading_of(command, options.get_flag(COUNT))?,
-        }),
+        "report" => telling_of(options, Telling::Report),
+        "export" => telling_of(options, Telling::Export),
+        "audit" => audit_of(options),
+        _ => None,
     }
+}
+
+fn task_in<'a>(matches: &ArgMatches<'a>) -> Option<Task<'a>>
+    ensures { IfSome result (IsTaskIn (subcommand_rows_of matches.now)) }
+{
+    let (command, options) = matches.subcommand()?;
+    named(command, options)
 }
 
 // The task of the words, or None where they name no command.
 fn chosen<'a, S: AsStr>(
     commands: &mut Command<'a>,
     words: &'a [S],
-) -> Result<Option<Task<'a>>, Error> {
+) -> Result<Option<Task<'a>>, Error>
+    ensures { app_of commands.old ≡ acd
+        → IfOk result (λ task. IfSome task (IsTaskOf (map S.text words.entry.now))) }
+{
     let matches = commands.try_get_matches_from_mut(words)?;
     Ok(task_in(&matches))
 }
 
 /// What the words ask for; the first is the program's name. The other outcome is a text to print, which may be
 /// the help that was asked for.
-pub(crate) fn parse<'a, S: AsStr>(alloc: Global, words: &'a [S]) -> Result<Task<'a>, Error> {
+pub(crate) fn parse<'a, S: AsStr>(alloc: Global, words: &'a [S]) -> Result<Task<'a>, Error>
+    ensures { IfOk result (IsTaskOf (map S.text words.entry.now)) }
+{
     let mut commands = all_commands(alloc)?;
     match chosen(&mut commands, words)? {
         Some(task) => Ok(task),

@@ -1,5 +1,5 @@
 -- The groups that may have an offer, through the changes of sets.
-use Rattle.std.proofs.Common.{◌≡◌, ℕ, Bool, true, false, ◌&&◌, ◌||◌, not, List, Option, Some, None, refl, ap, sym, ◌∙◌}
+use Rattle.std.proofs.Common.{◌≡◌, ℕ, Bool, true, false, true≢false, ◌==◌, ◌&&◌, ◌||◌, not, List, [], ◌∷◌, ◌++◌, Option, Some, None, refl, ap, sym, subst, ◌∙◌, eqb-true}
 use Rattle.std.specs.Ordering.{is_eq, nat_cmp, ordering_then}
 use Rattle.std.specs.declared.cmp.Ordering.{Ordering}
 use Rattle.std.specs.declared.cmp.Ordering.TheVariants.{Less, Equal, Greater}
@@ -10,12 +10,13 @@ use Rattle.acd_terms.specs.Groups.{is_one_of}
 use Rattle.acd_terms.specs.declared.rows.Rows.{Rows}
 use Rattle.acd_terms.specs.declared.record.GroupRecord.{GroupRecord}
 use Rattle.acd_model.specs.Scans.{group_of}
-use Rattle.acd_lemmas.proofs.Lists.{eq_is}
+use Rattle.acd_lemmas.proofs.Lists.{eq_is, some_is}
 use Rattle.acd_lemmas.proofs.Keyed.{cmp_self}
 use Rattle.acd_lemmas.proofs.State.{group_key}
 use Rattle.acd_tables.specs.Sets.{Forgotten}
-use Rattle.acd_tables.specs.Indexed.{PairSets, pair_cmp, lists, OfferKey, offer_cmp, offer_key, ListsOffers}
-use Rattle.acd_tables.specs.Swaps.{is_entry, is_of_group, Enters, Leaves, Undoes}
+use Rattle.acd_tables.specs.Indexed.{PairSets, pair_cmp, lists, OfferKey, offer_cmp, offer_key, HasOffer, ListsOffers}
+use Rattle.acd_tables.specs.Swaps.{is_entry, is_of_group, Enters, Leaves, Undoes, GroupsJust, NotesJust, NotesNoMore}
+use Rattle.acd_tables.proofs.Entries.{any_last}
 
 both_equal : (a b : Ordering) → is_eq (ordering_then a b) ≡ true → (a ≡ Equal) × (b ≡ Equal)
 both_equal Less b e = absurd (cc (e))
@@ -89,6 +90,46 @@ module _ (s : Rows) where
           let yes : lists ready n q ≡ true = ap (λ x. lists ready x q) same ∙ l in
           absurd (cc (no, yes))
       by false e = old g r p q there h l
+
+  -- of a group that went, or has an offer
+  pub offers-just : (queues ready : PairSets) (pruned offering : BTreeSet OfferKey) (n : ℕ) (z r : GroupRecord) (may : Bool) → group_of s n ≡ Some z → group_of s n ≡ Some r → (may ≡ true → HasOffer queues ready n)
+      → Forgotten offer_cmp offering pruned (offer_key z) (not may) → contains offer_cmp pruned (offer_key r) ≡ true → HasOffer queues ready n
+  offers-just queues ready pruned offering n z r true found there some forgot k = some refl
+  offers-just queues ready pruned offering n z r false found there some forgot k =
+      let same : z ≡ r = some_is z r (sym found ∙ there) in
+      let own : is_eq (offer_cmp (offer_key z) (offer_key r)) ≡ true = ap (λ (x : GroupRecord). is_eq (offer_cmp (offer_key x) (offer_key r))) same ∙ own_key (offer_key r) in
+      let gone : contains offer_cmp pruned (offer_key r) ≡ false = forgot (offer_key r) ∙ ap (λ (b : Bool). not b && contains offer_cmp offering (offer_key r)) own in
+      absurd (true≢false (sym k ∙ gone))
+
+  pub offers-fewer : (pruned offering : BTreeSet OfferKey) (key : OfferKey) (gone : Bool) → Forgotten offer_cmp offering pruned key gone → NotesNoMore offering pruned
+  offers-fewer pruned offering key gone forgot k there = was_there (gone && is_eq (offer_cmp key k)) _ _ (forgot k) there
+
+  -- one more group
+  pub just_more : (queues ready : PairSets) (once offering : BTreeSet OfferKey) (gs : List ℕ) (x : ℕ) → GroupsJust s queues ready offering gs → NotesNoMore offering once
+      → ((r : GroupRecord) → group_of s x ≡ Some r → contains offer_cmp once (offer_key r) ≡ true → HasOffer queues ready x) → GroupsJust s queues ready once (gs ++ x ∷ [])
+  just_more queues ready once offering gs x old fewer one g r of there noted = by (is_one_of gs g) refl
+    where
+      last : (is_one_of gs g || (x == g)) ≡ true
+      last = sym (any_last (λ (y : ℕ). y == g) gs x) ∙ of
+
+      by : (b : Bool) → is_one_of gs g ≡ b → HasOffer queues ready g
+      by true e = old g r e there (fewer (offer_key r) noted)
+      by false e =
+          let same : x ≡ g = eqb-true x g (ap (λ (b : Bool). b || (x == g)) (sym e) ∙ last) in
+          subst (λ (n : ℕ). HasOffer queues ready n) same (one r (subst (λ (n : ℕ). group_of s n ≡ Some r) (sym same) there) noted)
+
+  -- fewer are noted
+  pub just_left : {E : Type 0} (queues ready : PairSets) (once offering : BTreeSet OfferKey) (entry : Option (List ℕ × E)) → NotesJust s queues ready offering entry → NotesNoMore offering once → NotesJust s queues ready once entry
+  just_left queues ready once offering None old fewer = tt
+  just_left queues ready once offering (Some k) old fewer = λ g r of there noted. old g r of there (fewer (offer_key r) noted)
+
+  -- an entry of one group
+  pub just_alone : {E : Type 0} (queues ready : PairSets) (offering : BTreeSet OfferKey) (entry : Option (List ℕ × E)) (gs : List ℕ) (k : E) (x : ℕ) → entry ≡ Some (gs, k) → gs ≡ x ∷ []
+      → ((r : GroupRecord) → group_of s x ≡ Some r → contains offer_cmp offering (offer_key r) ≡ true → HasOffer queues ready x) → NotesJust s queues ready offering entry
+  just_alone queues ready offering entry gs k x is one just =
+      subst (λ (o : Option (List ℕ × _)). NotesJust s queues ready offering o) (sym is)
+      (subst (λ (l : List ℕ). GroupsJust s queues ready offering l) (sym one)
+      (just_more queues ready offering offering [] x (λ g r of there noted. absurd (true≢false (sym of))) (λ y h. h) just))
 
   -- the same members give the same offers
   pub offers-same : (queues queues' ready ready' : PairSets) (offering : BTreeSet OfferKey) → ((g : ℕ) (p : ℕ × ℕ) → lists queues' g p ≡ lists queues g p) → ((g : ℕ) (p : ℕ × ℕ) → lists ready' g p ≡ lists ready g p)

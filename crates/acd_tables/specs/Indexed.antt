@@ -82,6 +82,10 @@ abbrev pub ListsOffers : Rows → PairSets → PairSets → BTreeSet OfferKey �
 ListsOffers s queues ready offering = (g : Device) (r : GroupRecord) (p q : ℕ × ℕ) → group_of s g ≡ Some r → lists queues g p ≡ true → lists ready g q ≡ true
     → contains offer_cmp offering (offer_key r) ≡ true
 
+-- somebody waits in the group, and an agent is able to take an offer
+abbrev pub HasOffer : PairSets → PairSets → Device → Type 0
+HasOffer queues ready g = ((p : ℕ × ℕ) × (lists queues g p ≡ true)) × ((q : ℕ × ℕ) × (lists ready g q ≡ true))
+
 -- stations and the agents there
 abbrev pub SeatMap : Type 0
 SeatMap = HashMap Device Agent (BuildHasherDefault FoldHasher)

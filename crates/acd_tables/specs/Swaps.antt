@@ -1,5 +1,5 @@
 -- What a change takes into the exact sets, and out of them.
-use Rattle.std.specs.Prelude.{◌≡◌, ℕ, Bool, false, not, ◌&&◌, ◌||◌, ◌==◌, true, List, [], ◌∷◌, filter, Option, Some, None, if◌then◌else◌}
+use Rattle.std.specs.Prelude.{◌≡◌, ⊤, ℕ, Bool, false, not, ◌&&◌, ◌||◌, ◌==◌, true, List, [], ◌∷◌, filter, Option, Some, None, if◌then◌else◌}
 use Rattle.std.specs.declared.cmp.Ordering.{Ordering}
 use Rattle.std.specs.Ordering.{nat_cmp, is_eq}
 use Rattle.std.specs.BTreeMap.{BTreeMap}
@@ -15,7 +15,7 @@ use Rattle.acd_model.specs.Scans.{group_of, agent_of, connection_of, has}
 use Rattle.acd_model.specs.Choice.{waiting_pair, ready_pair}
 use Rattle.acd_model.specs.Writes.{with_connection, without_connection}
 use Rattle.acd_tables.specs.Sets.{holds, has_set, Stays}
-use Rattle.acd_tables.specs.Indexed.{pair_cmp, waits_at, is_able_since, OfferKey, offer_cmp, offer_key, ListsOffers, SeatMap, agent_seated}
+use Rattle.acd_tables.specs.Indexed.{PairSets, HasOffer, pair_cmp, waits_at, is_able_since, OfferKey, offer_cmp, offer_key, ListsOffers, SeatMap, agent_seated}
 use Rattle.acd_tables.specs.declared.indexes.Indexes.{Indexes}
 use Rattle.acd_tables.specs.declared.indexes.Entries.{Entries}
 use Rattle.acd_tables.specs.declared.indexes.Swap.{Swap}
@@ -79,6 +79,24 @@ Offers s x = ListsOffers s x.queues x.ready x.offering
 abbrev pub NotesGroups : Rows → BTreeSet OfferKey → List Device → Type 0
 NotesGroups s offering gs = (g : Device) (r : GroupRecord) → is_one_of gs g ≡ true → group_of s g ≡ Some r → contains offer_cmp offering (offer_key r) ≡ true
 
+-- no group came to those that are noted
+abbrev pub NotesNoMore : BTreeSet OfferKey → BTreeSet OfferKey → Type 0
+NotesNoMore old new = (k : OfferKey) → contains offer_cmp new k ≡ true → contains offer_cmp old k ≡ true
+
+-- each of these groups that is noted has an offer
+abbrev pub GroupsJust : Rows → PairSets → PairSets → BTreeSet OfferKey → List Device → Type 0
+GroupsJust s queues ready offering gs = (g : Device) (r : GroupRecord) → is_one_of gs g ≡ true → group_of s g ≡ Some r → contains offer_cmp offering (offer_key r) ≡ true → HasOffer queues ready g
+
+-- the same of the groups of an entry
+abbrev pub NotesJust : {E : Type 0} → Rows → PairSets → PairSets → BTreeSet OfferKey → Option (List Device × E) → Type 0
+NotesJust s queues ready offering None = ⊤
+NotesJust s queues ready offering (Some k) = GroupsJust s queues ready offering k.0
+
+-- and of both entries
+pub record IsPruned (s : Rows) (queues ready : PairSets) (offering : BTreeSet OfferKey) (entries : Entries) : Type 0 where
+  pub of_queue : NotesJust s queues ready offering entries.queue
+  pub of_ready : NotesJust s queues ready offering entries.ready
+
 -- the indexes with the entries
 pub record Entered (s : Rows) (old new : Indexes) (entries : Entries) : Type 0 where
   pub queues : Enters pair_cmp old.queues new.queues entries.queue
@@ -103,6 +121,7 @@ pub record TakenOut (s : Rows) (old new : Indexes) (entries : Entries) : Type 0 
   pub queues : Leaves pair_cmp old.queues new.queues entries.queue
   pub ready : Leaves pair_cmp old.ready new.ready entries.ready
   pub offers : Offers s new
+  pub pruned : IsPruned s new.queues new.ready new.offering entries
   pub rest : KeepsRest old new
 
 -- one of the two

@@ -8,8 +8,8 @@ ghost use Rattle.acd_terms.specs.declared.record.GroupRecord.{GroupRecord};
 ghost use Rattle.acd_model.specs.Scans.{group_of};
 ghost use Rattle.std.specs.BTreeSet.{contains};
 ghost use Rattle.acd_tables.specs.Sets.{holds, Stays};
-ghost use Rattle.acd_tables.specs.Indexed.{lists, OfferKey, offer_cmp, offer_key, ListsOffers};
-ghost use Rattle.acd_tables.specs.Swaps.{is_entry, Enters, Leaves, Undoes, LeavesBut, NotesGroups, left_of, is_of_group, Offers, Entered, Undone, Untouched, TakenOut, IsBlank};
+ghost use Rattle.acd_tables.specs.Indexed.{lists, OfferKey, offer_cmp, offer_key, HasOffer, ListsOffers};
+ghost use Rattle.acd_tables.specs.Swaps.{is_entry, Enters, Leaves, Undoes, LeavesBut, NotesGroups, NotesJust, NotesNoMore, IsPruned, left_of, is_of_group, Offers, Entered, Undone, Untouched, TakenOut, IsBlank};
 
 use crate::alone::Alone;
 use crate::records::Records;
@@ -111,7 +111,9 @@ impl Indexes {
     /// Takes out what leaves, and the groups of the swap that have no offer.
     pub(crate) fn settle(&mut self, records: &Records, swap: &Swap)
         requires { Offers records.now self.old }
-        ensures { TakenOut records.now self.old self.new swap.now.leaving }
+        ensures taken { TakenOut records.now self.old self.new swap.now.leaving }
+        ensures pruned { IsPruned records.now self.new.queues self.new.ready self.new.offering
+            swap.now.entering }
     {
         self.take_out(records, &swap.leaving);
         self.prune(records, &swap.entering);
@@ -121,6 +123,9 @@ impl Indexes {
     fn prune(&mut self, records: &Records, entries: &Entries)
         requires { Offers records.now self.old }
         ensures offers { ListsOffers records.now self.old.queues self.old.ready self.new.offering }
+        ensures pruned { IsPruned records.now self.old.queues self.old.ready self.new.offering
+            entries.now }
+        ensures fewer { NotesNoMore self.old.offering self.new.offering }
         ensures rest { self.new ≡ record self.old { offering = self.new.offering } }
     {
         prune_alone(
@@ -256,7 +261,11 @@ fn prune_group(
     group: DeviceId,
 )
     requires { ListsOffers records.now queues.now ready.now offering.old }
-    ensures { ListsOffers records.now queues.now ready.now offering.new }
+    ensures offers { ListsOffers records.now queues.now ready.now offering.new }
+    ensures pruned { (r : GroupRecord) → group_of records.now group ≡ Some r
+        → contains offer_cmp offering.new (offer_key r) ≡ true
+        → HasOffer queues.now ready.now group }
+    ensures fewer { NotesNoMore offering.old offering.new }
 {
     if let Some(record) = records.group(group) {
         let gone = !may_offer(queues, ready, group);
@@ -273,7 +282,9 @@ fn prune_alone<E: Copy>(
     entry: &Option<(Alone, E)>,
 )
     requires { ListsOffers records.now queues.now ready.now offering.old }
-    ensures { ListsOffers records.now queues.now ready.now offering.new }
+    ensures offers { ListsOffers records.now queues.now ready.now offering.new }
+    ensures pruned { NotesJust records.now queues.now ready.now offering.new entry.now }
+    ensures fewer { NotesNoMore offering.old offering.new }
 {
     if let Some((alone, _)) = entry {
         prune_group(records, queues, ready, offering, alone.group());
@@ -289,7 +300,9 @@ fn prune_entry<E: Copy>(
     entry: &Option<(Few, E)>,
 )
     requires { ListsOffers records.now queues.now ready.now offering.old }
-    ensures { ListsOffers records.now queues.now ready.now offering.new }
+    ensures offers { ListsOffers records.now queues.now ready.now offering.new }
+    ensures pruned { NotesJust records.now queues.now ready.now offering.new entry.now }
+    ensures fewer { NotesNoMore offering.old offering.new }
 {
     if let Some((groups, _)) = entry {
         for group in groups.as_slice() {
@@ -304,8 +317,9 @@ pub(crate) fn may_offer(
     ready: &BTreeMap<DeviceId, BTreeSet<(u64, AgentId)>>,
     group: DeviceId,
 ) -> bool
-    ensures { result ≡ false → (p q : ℕ × ℕ) → lists queues.now group p ≡ true
+    ensures none { result ≡ false → (p q : ℕ × ℕ) → lists queues.now group p ≡ true
         → lists ready.now group q ≡ false }
+    ensures some { result ≡ true → HasOffer queues.now ready.now group }
 {
     !has_none(queues, group) && !has_none(ready, group)
 }
@@ -313,7 +327,8 @@ pub(crate) fn may_offer(
 // The set of the group has no member.
 #[tactic(auto, unfolding(crate::specs::Sets::holds))]
 fn has_none<E: Ord + Copy>(sets: &BTreeMap<DeviceId, BTreeSet<E>>, group: DeviceId) -> bool
-    ensures { result ≡ true → (e : E) → holds nat_cmp E.cmp sets.now group e ≡ false }
+    ensures none { result ≡ true → (e : E) → holds nat_cmp E.cmp sets.now group e ≡ false }
+    ensures some { result ≡ false → (e : E) × (holds nat_cmp E.cmp sets.now group e ≡ true) }
 {
     match sets.get(&group) {
         None => true,

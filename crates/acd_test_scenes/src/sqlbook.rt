@@ -1,6 +1,7 @@
 //! A book in SQLite: new ones, those that are taken, and commits. What a database holds is a text of SQL.
 
 mod adopted;
+mod carried;
 mod changes;
 mod commits;
 mod further;

@@ -127,10 +127,10 @@ help: Help, version and toolchain, and two refusals. Of the help of the other co
 < once its store has failed. A file that isn't there, or has no bytes, is made.
 
 0 acd --version
-< acd 1.11 (rattle-kit-13f)
+< acd 1.12 (rattle-kit-13f)
 
 0 acd -V
-< acd 1.11 (rattle-kit-13f)
+< acd 1.12 (rattle-kit-13f)
 
 2 acd report
 ! error: the following required arguments were not provided:
@@ -149,7 +149,7 @@ help: Help, version and toolchain, and two refusals. Of the help of the other co
 
 2 acd serve --file a.db --port 1
 ! error: the following required arguments were not provided:
-!   <--connections <N>|--endless>
+!   --connections <N>
 !
 ! Usage: acd serve --file <F> --port <P> <--connections <N>|--endless>
 !
@@ -505,6 +505,58 @@ copied {file} {plan} acd lines --file {file}
 < 409 {"error":{"code":3,"name":"unknownCall"},"invoke":3,"requester":"pbx"}
 
 
+file_behind_its_archive: A file behind what it was before: a copy of then is an archive, of which nothing was left behind. It has to be closed into its file, and stays as it is. Of both, the file's fault is told; and a request of the archive that was changed is told by its stamp.
+copied {file} {plan} acd lines --file {file}
+> 0 {"requester":"plan","invoke":1,"service":"addGroup","device":"100","name":"Billing","ring":20,"wrap":30}
+> 10 {"requester":"pbx","invoke":1,"service":"arriveCall","caller":"0301234","called":"100"}
+< 200 {"invoke":1,"requester":"plan","result":{}}
+< 200 {"invoke":1,"requester":"pbx","result":{"call":1}}
+
+1 acd audit --file {file} --archive {plan}
+! acd: cannot open {plan}
+
+gone {plan}
+
+1 acd audit --file {file} --archive {plan}
+! acd: cannot open {plan}
+
+gone {plan}-wal
+
+put {file} {plan}
+
+0 acd audit --file {file} --archive {plan} --count
+< sound
+< executed 2
+
+4 acd audit --file {file} --archive {file}
+! acd: {file} is open elsewhere
+
+0 acd lines --file {file}
+> 12 {"requester":"pbx","invoke":2,"service":"clearConnection","call":1,"device":"0301234"}
+< 200 {"invoke":2,"requester":"pbx","result":{}}
+
+0 acd audit --file {file} --archive {plan}
+< sound
+
+0 acd audit --file {file} --archive {plan} --count --whole
+< sound
+< executed 3
+
+3 acd audit --file {plan} --archive {file} --count
+< differs at request 3
+
+1 acd audit --file /absent/a.db --archive {plan}
+! acd: cannot open /absent/a.db
+
+1 acd audit --file / --archive /absent/a.db
+! acd: cannot open /
+
+patch {plan} "call":1} "call":2}
+
+3 acd audit --file {file} --archive {plan}
+< differs at request 2
+
+
 desk_over_http: A client that calls when it is said that the desk listens gets its reply, and other programs are told that the file is open elsewhere. Of a port that is taken the file's fault is found before the port's.
 serve {file}
 > 4 acd report --file {file}
@@ -619,6 +671,13 @@ patch {file} Killing\x14 Billing\x14
 0 acd audit --file {file} --count
 < sound
 < executed 3
+
+put {file} {plan}
+
+patch {plan} \0\x01\x04\x02 \0\x04\x01\x02
+
+1 acd audit --file {file} --archive {plan}
+! acd: wrong version 37460682
 "
 }
 

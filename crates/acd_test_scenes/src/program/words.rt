@@ -23,6 +23,9 @@ fn command_lines() -> &'static str {
 2 acd export --file
 2 acd audit
 2 acd audit --count
+2 acd audit --archive /absent/a.db
+2 acd audit --file /absent/a.db --archive
+2 acd report --file /absent/a.db --archive /absent/b.db
 2 acd serve --file /absent/a.db --port 1
 2 acd serve --file /absent/a.db --connections 1
 2 acd serve --port 1 --connections 1

@@ -1,7 +1,7 @@
-use Rattle.std.proofs.Common.{◌+◌, ℕ, ap, subst, ◌∙◌}
+use Rattle.std.proofs.Common.{◌≡◌, ◌+◌, ◌≤◌, ℕ, ap, subst, ◌∙◌, arith}
 use Rattle.acd_terms.specs.declared.rows.Limits.{Limits}
 use Rattle.acd_desk.specs.Replay.{CountsOne}
-use Rattle.acd_desk.proofs.AuditSteps.{seen_more}
+use Rattle.acd_desk.proofs.AuditSteps.{seen_more, seen_all, seen_rest}
 use Rattle.acd_desk.proofs.replay.audited.Goals as goal
 
 pub loop-count-preserved : goal.loop-count-preserved
@@ -13,3 +13,15 @@ loop-count-preserved g c =
       seen = seen_more (g.B.Book.state c.args.book.now) (g.B.Book.state c.loop-count.book) (g.B.Book.state c.next_step.new.book) c.loop-count.course c.in_ok-next.field-0 c.in-Replayed.next c.in-Replayed.is
           c.loop-count.invariant.seen c.in_ok-next.ensures.told;
     }
+
+pub returns-then-all : goal.returns-then-all
+returns-then-all g c =
+    seen_all (g.B.Book.state c.args.book.now) (g.B.Book.state c.loop-count.book) (g.B.Book.state c.is_all.new.book) c.loop-count.course _ c.in_ok-all.all c.deref-2.ensures c.if-all.true c.loop-count.invariant.seen c.in_ok-all.ensures
+
+at_end : (n most : ℕ) → n ≤ most → most ≤ n → n ≡ most
+at_end n most le more = omega (arith, le, more)
+
+pub returns : goal.returns
+returns g c =
+    seen_rest (g.B.Book.state c.args.book.now) (g.B.Book.state c.loop-count.book) (g.B.Book.state c.is_all.new.book) c.loop-count.course _ _ c.in_ok-all.all c.deref-2.ensures
+    (c.loop-count.invariant.stamp ∙ at_end _ _ c.loop-count.auto.count-end c.loop-count-test.false) c.loop-count.invariant.limit c.if-all.false c.loop-count.invariant.seen c.in_ok-all.ensures

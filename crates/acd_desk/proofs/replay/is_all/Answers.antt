@@ -8,4 +8,4 @@ returns-in_default g c =
 
 pub returns : goal.returns
 returns g c =
-    all_not (g.B.Book.state c.args.book.now) (g.B.Book.state c.kept_after.new.self) c.args.switch.now c.last_stamp.result c.in_ok-kept_after.field-0 c.in-Some.field-0 c.last_stamp.ensures c.in-Some.is c.requires c.in_ok-kept_after.ensures
+    all_not (g.B.Book.state c.args.book.now) (g.B.Book.state c.kept_after.new.self) c.args.switch.now c.last_stamp.result c.in_ok-kept_after.field-0 c.in-Some.field-0 c.last_stamp.ensures c.in-Some.is c.in_ok-kept_after.ensures

@@ -1,5 +1,5 @@
 use Rattle.std.proofs.Common.{◌≡◌, ◌∙◌, ℕ, Bool, Result, ap, subst, rules}
-use Rattle.acd_desk.proofs.AuditSteps.{step_last, step_replayed, step_differs, counts_one}
+use Rattle.acd_desk.proofs.AuditSteps.{step_last, step_replayed, step_differs, counts_one, stamp_of_switch}
 use Rattle.std.specs.Bool.{Decides}
 use Rattle.acd_terms.specs.declared.rows.Rows.{Rows}
 use Rattle.acd_book.specs.Content.{Content}
@@ -10,9 +10,6 @@ use Rattle.acd_desk.specs.Replay.{IsStep, IsEnd}
 use Rattle.acd_desk.proofs.Reading.{then_fault}
 use Rattle.acd_desk.proofs.ReadsAhead.{read_fault}
 use Rattle.acd_desk.proofs.replay.next_step.Goals as goal
-
-stamp_of_switch : (n : ℕ) (lent own : Rows) → n ≡ lent.last_stamp → lent ≡ own → n ≡ own.last_stamp
-stamp_of_switch n lent own is same = is ∙ ap (λ (r : Rows). r.last_stamp) same
 
 whole_of_switch : (a b : BookState) (found : Result Bool BookFault) (lent own : Rows) → lent ≡ own → Reads a b found (λ (c : Content) (told : Bool). Decides told (IsEnd c lent))
     → Reads a b found (λ (c : Content) (told : Bool). Decides told (IsEnd c own))

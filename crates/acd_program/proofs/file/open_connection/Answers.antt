@@ -1,6 +1,4 @@
-use Rattle.sqlite_std_file.specs.File.{IsFresh}
-use Rattle.acd_program.proofs.Tasks.{opened_from}
 use Rattle.acd_program.proofs.file.open_connection.Goals as goal
 
-pub returns-clause-opened : goal.returns-clause-opened
-returns-clause-opened g c = opened_from IsFresh c.open_files.result c.in_ok-files.files c.in_ok-files.ensures.fresh c.open_files.ensures.opened
+pub returns-in-Ok-clause-opened : goal.returns-in-Ok-clause-opened
+returns-in-Ok-clause-opened g c = record { pair = c.in_ok-files.files; fresh = c.in_ok-files.ensures.fresh; opened = c.in-Ok.ensures.opened }

@@ -1,4 +1,4 @@
-use Rattle.acd_program.proofs.Begun.{created_behind, spared_behind}
+use Rattle.acd_program.proofs.Begun.{created_behind, spared_behind, unmade_behind, unbegun_read}
 use Rattle.acd_program.proofs.paging.created_beside.Goals as goal
 
 pub returns-in-Ok-false-clause-created : goal.returns-in-Ok-false-clause-created
@@ -7,3 +7,12 @@ returns-in-Ok-false-clause-created g c = created_behind c.created.result c.args.
 pub returns-in-Ok-false-clause-spared : goal.returns-in-Ok-false-clause-spared
 returns-in-Ok-false-clause-spared g c =
     spared_behind c.created.result c.args.files c.is_lone.new.files c.is_lone.ensures.read c.in-Ok-false.field-0 c.in-Ok-false.field-0-test c.in-Ok-false.ensures.lone c.created.ensures.clean
+
+pub returns-in-Ok-false-clause-left : goal.returns-in-Ok-false-clause-left
+returns-in-Ok-false-clause-left g c = unmade_behind c.created.result c.args.files c.is_lone.new.files c.is_lone.ensures.read c.created.ensures.left
+
+pub returns-in-Ok-true-clause-left : goal.returns-in-Ok-true-clause-left
+returns-in-Ok-true-clause-left g c = unbegun_read c.args.files c.is_lone.new.files c.is_lone.ensures.read
+
+pub returns-in-Err-clause-left : goal.returns-in-Err-clause-left
+returns-in-Err-clause-left g c = unbegun_read c.args.files c.is_lone.new.files c.is_lone.ensures.read

@@ -1,8 +1,11 @@
-use Rattle.std.proofs.Common.{refl, inr}
+use Rattle.std.proofs.Common.{rules, refl, inr}
 use Rattle.sqlite_std_file.specs.File.{IsFresh}
 use Rattle.acd_lines.specs.Lines.{streams}
+use Rattle.acd_program.proofs.AuditsBehind.{behind_task}
 use Rattle.acd_program.proofs.Tasks.{lines_task, whole_task, read_task}
 use Rattle.acd_program.proofs.Served.{file_tells, serve_task}
+use Rattle.acd_program.proofs.TasksEnded.{lines_ended, service_ended, import_ended, whole_ended, read_ended, behind_ended, err_elsewhere}
+use Rattle.acd_program.proofs.Tasks.{err_from}
 use Rattle.acd_program.proofs.running.execute.Goals as goal
 
 pub returns-in-Lines-clause-done : goal.returns-in-Lines-clause-done
@@ -13,11 +16,11 @@ returns-in-Lines-clause-done g c =
 pub returns-in_ok-serve_file-in-Serve-clause-done : goal.returns-in_ok-serve_file-in-Serve-clause-done
 returns-in_ok-serve_file-in-Serve-clause-done g c =
     serve_task _ IsFresh c.args.task (streams g.R.Read.remaining g.W.Write.contents (c.args.reader.now, c.args.reader.now) (c.args.writer.now, c.serve_file.new.writer))
-    (g.E.Write.contents c.args.errors.now) (g.E.Write.contents c.serve_file.new.errors) c.in-Serve.file c.in-Serve.port c.in-Serve.connections c.in-Serve.is c.in_ok-serve_file-in-Serve.ensures
+    (g.E.Write.contents c.args.errors.now) (g.E.Write.contents c.serve_file.new.errors) c.in-Serve.file c.in-Serve.port c.in-Serve.connections c.in-Serve.is c.in_ok-serve_file-in-Serve.ensures.served
 
 pub returns-in_ok-serve_file-in-Serve-clause-told : goal.returns-in_ok-serve_file-in-Serve-clause-told
 returns-in_ok-serve_file-in-Serve-clause-told g c =
-    inr (refl, file_tells IsFresh c.in-Serve.connections (g.E.Write.contents c.args.errors.now) (g.E.Write.contents c.serve_file.new.errors) c.in_ok-serve_file-in-Serve.ensures)
+    inr (refl, file_tells IsFresh c.in-Serve.connections (g.E.Write.contents c.args.errors.now) (g.E.Write.contents c.serve_file.new.errors) c.in_ok-serve_file-in-Serve.ensures.served)
 
 pub returns-in-AuditWhole-clause-done : goal.returns-in-AuditWhole-clause-done
 returns-in-AuditWhole-clause-done g c =
@@ -28,3 +31,57 @@ pub returns-in-Read-clause-done : goal.returns-in-Read-clause-done
 returns-in-Read-clause-done g c =
     read_task _ IsFresh c.work_in.result c.args.task (streams g.R.Read.remaining g.W.Write.contents (c.args.reader.now, c.args.reader.now) (c.args.writer.now, c.work_in.new.writer)) _ _
     c.in-Read.file c.in-Read.work c.in-Read.is c.work_in.ensures.worked
+
+pub returns-in-Lines-clause-ended : goal.returns-in-Lines-clause-ended
+returns-in-Lines-clause-ended g c =
+    lines_ended _ IsFresh c.answer_lines.result c.args.task (streams g.R.Read.remaining g.W.Write.contents (c.args.reader.now, c.answer_lines.new.reader) (c.args.writer.now, c.answer_lines.new.writer)) _ _
+    c.in-Lines.file c.in-Lines.reads c.in-Lines.ends c.in-Lines.is refl c.answer_lines.ensures.ended
+
+pub returns-in-Import-clause-ended : goal.returns-in-Import-clause-ended
+returns-in-Import-clause-ended g c =
+    import_ended _ IsFresh c.import_plan.result c.args.task (streams g.R.Read.remaining g.W.Write.contents (c.args.reader.now, c.args.reader.now) (c.args.writer.now, c.import_plan.new.writer)) _ _
+    c.in-Import.file c.in-Import.plan c.in-Import.is refl refl c.import_plan.ensures.ended
+
+pub returns-in-AuditWhole-clause-ended : goal.returns-in-AuditWhole-clause-ended
+returns-in-AuditWhole-clause-ended g c =
+    whole_ended _ IsFresh c.audit_whole.result c.args.task (streams g.R.Read.remaining g.W.Write.contents (c.args.reader.now, c.args.reader.now) (c.args.writer.now, c.audit_whole.new.writer)) _ _
+    c.in-AuditWhole.file c.in-AuditWhole.counts c.in-AuditWhole.is refl refl c.audit_whole.ensures.ended
+
+pub returns-in-Read-clause-ended : goal.returns-in-Read-clause-ended
+returns-in-Read-clause-ended g c =
+    read_ended _ IsFresh c.work_in.result c.args.task (streams g.R.Read.remaining g.W.Write.contents (c.args.reader.now, c.args.reader.now) (c.args.writer.now, c.work_in.new.writer)) _ _
+    c.in-Read.file c.in-Read.work c.in-Read.is refl refl c.work_in.ensures.ended
+
+pub returns-in_err-serve_file-in-Serve-clause-ended : goal.returns-in_err-serve_file-in-Serve-clause-ended
+returns-in_err-serve_file-in-Serve-clause-ended g c =
+    service_ended _ IsFresh c.from_residual.result c.args.task (streams g.R.Read.remaining g.W.Write.contents (c.args.reader.now, c.args.reader.now) (c.args.writer.now, c.serve_file.new.writer))
+    (g.E.Write.contents c.args.errors.now) (g.E.Write.contents c.serve_file.new.errors) c.in-Serve.file c.in-Serve.port c.in-Serve.connections c.in-Serve.is refl
+    (err_from c.from_residual.result c.in_err-serve_file-in-Serve.field-0.0 _ (search rules) c.in_err-serve_file-in-Serve.ensures.ended)
+
+pub returns-in-Lines-clause-elsewhere : goal.returns-in-Lines-clause-elsewhere
+returns-in-Lines-clause-elsewhere g c = err_elsewhere _ IsFresh _ _ _ _ _ (returns-in-Lines-clause-ended g c)
+
+pub returns-in_err-serve_file-in-Serve-clause-elsewhere : goal.returns-in_err-serve_file-in-Serve-clause-elsewhere
+returns-in_err-serve_file-in-Serve-clause-elsewhere g c = err_elsewhere _ IsFresh _ _ _ _ _ (returns-in_err-serve_file-in-Serve-clause-ended g c)
+
+pub returns-in-Import-clause-elsewhere : goal.returns-in-Import-clause-elsewhere
+returns-in-Import-clause-elsewhere g c = err_elsewhere _ IsFresh _ _ _ _ _ (returns-in-Import-clause-ended g c)
+
+pub returns-in-AuditWhole-clause-elsewhere : goal.returns-in-AuditWhole-clause-elsewhere
+returns-in-AuditWhole-clause-elsewhere g c = err_elsewhere _ IsFresh _ _ _ _ _ (returns-in-AuditWhole-clause-ended g c)
+
+pub returns-in-Read-clause-elsewhere : goal.returns-in-Read-clause-elsewhere
+returns-in-Read-clause-elsewhere g c = err_elsewhere _ IsFresh _ _ _ _ _ (returns-in-Read-clause-ended g c)
+
+pub returns-in-AuditBehind-clause-done : goal.returns-in-AuditBehind-clause-done
+returns-in-AuditBehind-clause-done g c =
+    behind_task _ IsFresh c.audit_behind.result c.args.task (streams g.R.Read.remaining g.W.Write.contents (c.args.reader.now, c.args.reader.now) (c.args.writer.now, c.audit_behind.new.writer)) _ _
+    c.in-AuditBehind.file c.in-AuditBehind.archive c.in-AuditBehind.counts c.in-AuditBehind.whole c.in-AuditBehind.is c.audit_behind.ensures.audited
+
+pub returns-in-AuditBehind-clause-ended : goal.returns-in-AuditBehind-clause-ended
+returns-in-AuditBehind-clause-ended g c =
+    behind_ended _ IsFresh c.audit_behind.result c.args.task (streams g.R.Read.remaining g.W.Write.contents (c.args.reader.now, c.args.reader.now) (c.args.writer.now, c.audit_behind.new.writer)) _ _
+    c.in-AuditBehind.file c.in-AuditBehind.archive c.in-AuditBehind.counts c.in-AuditBehind.whole c.in-AuditBehind.is refl refl c.audit_behind.ensures.ended
+
+pub returns-in-AuditBehind-clause-elsewhere : goal.returns-in-AuditBehind-clause-elsewhere
+returns-in-AuditBehind-clause-elsewhere g c = err_elsewhere _ IsFresh _ _ _ _ _ (returns-in-AuditBehind-clause-ended g c)

@@ -1,7 +1,12 @@
-use Rattle.acd_program.proofs.Served.{serves_over}
+use Rattle.std.proofs.Common.{Err, inl, inr, refl, ap}
+use Rattle.acd_program.proofs.Coming.{late_as, open_late}
 use Rattle.acd_program.proofs.serving.serve_book.Goals as goal
 
-pub returns : goal.returns
-returns g c =
-    serves_over g.B.Book c.serve_desk-done.result (g.B.Book.state c.args.book) c.args.connections c.in-Ok.desk c.serve_desk-done.new.desk c.close.result
-    (g.E.Write.contents c.args.errors.now) (g.E.Write.contents c.serve_desk-done.new.errors) c.in-Ok.ensures c.close.ensures c.serve_desk-done.ensures.served c.serve_desk-done.ensures.well
+pub returns-in-Err-clause-told : goal.returns-in-Err-clause-told
+returns-in-Err-clause-told g c = inl (record { why = c.in-Err.fault; ended = ap Err c.from.ensures; refused = c.in-Err.ensures; quiet = refl; unsaid = refl })
+
+pub returns-clause-told : goal.returns-clause-told
+returns-clause-told g c = inr (record { first = c.in-Ok.desk; final = c.serve_desk-done.new.desk; opened = c.in-Ok.ensures; did = c.serve_desk-done.ensures.told; back = c.close.ensures })
+
+pub returns-in-Err-clause-known : goal.returns-in-Err-clause-known
+returns-in-Err-clause-known g c = late_as _ _ c.from.ensures (open_late c.in-Err.fault)

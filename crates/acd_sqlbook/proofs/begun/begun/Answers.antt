@@ -12,7 +12,7 @@ returns-in_err-rows-clause-found g c =
 pub returns-clause-found : goal.returns-clause-found
 returns-clause-found g c =
     let index : Index = record { watched = c.of_monitors-watched.result; last = c.earliest-last.result } in
-    begins (state g.S.Store c.args.conn.now) (state g.S.Store c.rows.new.conn) (state g.S.Store c.noted_to_the_end.new.conn) c.in_ok-rows.rows index c.noted_to_the_end.result c.of_monitors-watched.ensures c.in_ok-rows.ensures.found c.noted_to_the_end.ensures.found
+    begins (state g.S.Store c.args.conn.now) (state g.S.Store c.rows.new.conn) (state g.S.Store c.noted_to_the_end.new.conn) c.in_ok-rows.rows index c.noted_to_the_end.result c.of_monitors-watched.ensures.lists c.in_ok-rows.ensures.found c.noted_to_the_end.ensures.found
 
 pub returns-in_err-rows-clause-blamed : goal.returns-in_err-rows-clause-blamed
 returns-in_err-rows-clause-blamed g c = blames_as (state g.S.Store c.args.conn.now) (state g.S.Store c.rows.new.conn) c.in_err-rows.field-0.0 c.from_residual.result (search rules) c.in_err-rows.ensures.blamed

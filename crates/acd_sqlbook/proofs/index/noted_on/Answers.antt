@@ -14,7 +14,7 @@ returns c =
       rise = e.0;
       end = e.3;
       of_both = λ events indexes. record {
-        lists = c.note_all.ensures events (c.change.ensures events indexes.last indexes.lists);
+        lists = c.note_all.ensures.lists events (c.change.ensures.lists events indexes.last indexes.lists);
         last = every-append (λ (x : Event). x.number ≤ top) events more (events_raised i.last top events e.1 indexes.last) e.2;
       };
     }

@@ -24,7 +24,7 @@ returns-in-Ok-clause-indexed c =
     let now = with_agent s c.args.item.now in
     let made = c.in-Ok.ensures.ok in
     rw made (IsIndexed-agent s c.args.item.now c.args.indexes.now y c.settle.new.self seats working c.agent_swap-swap.result c.requires c.in_ok-undo.ensures.ok
-    (subst (λ t. TakenOut t (record y { seats = seats; working = working }) c.settle.new.self c.agent_swap-swap.result.leaving) made c.settle.ensures) c.agent_swap-swap.ensures
+    (subst (λ t. TakenOut t (record y { seats = seats; working = working }) c.settle.new.self c.agent_swap-swap.result.leaving) made c.settle.ensures.taken) c.agent_swap-swap.ensures
     (subst (λ t. Seats t seats) made c.put_seated.ensures.seated) (subst (λ t. Working t working) made c.put_seated.ensures.noted))
 
 pub returns-in-Err-clause-indexed : goal.returns-in-Err-clause-indexed

@@ -23,7 +23,7 @@ returns-in-Ok-clause-indexed c =
     let ringing = c.put_listed.new.ringing in
     let made = c.in-Ok.ensures.ok in
     rw made (IsIndexed-put s c.args.item.now c.args.indexes.now y c.settle.new.self lines ringing c.connection_swap-swap.result c.queued_after-queued.result c.requires c.in_ok-undo.ensures.ok
-    (subst (λ t. TakenOut t (record y { lines = lines; ringing = ringing }) c.settle.new.self c.connection_swap-swap.result.leaving) made c.settle.ensures) c.connection_swap-swap.ensures
+    (subst (λ t. TakenOut t (record y { lines = lines; ringing = ringing }) c.settle.new.self c.connection_swap-swap.result.leaving) made c.settle.ensures.taken) c.connection_swap-swap.ensures
     (subst (λ t. Lines t lines) made c.put_listed.ensures.listed) (subst (λ t. Ringing t ringing) made c.put_listed.ensures.noted) c.queued_after-queued.ensures)
 
 pub returns-in-Err-clause-indexed : goal.returns-in-Err-clause-indexed

@@ -40,5 +40,5 @@ returns-in_err-put_group-clause-indexed c =
 pub returns-clause-indexed : goal.returns-clause-indexed
 returns-clause-indexed c =
     rw c.in_ok-put_group.ensures.ok (IsIndexed-group c.args.records.now c.args.item c.group-old.result c.args.indexes.now c.add_set.new.sets c.add_set-2.new.sets c.note.new.noted c.forget_rank.new.offering c.may_offer-offers.result
-    c.group-old.ensures c.requires c.in_ok-add_set.ensures.ok c.in_ok-add_set-2.ensures.ok c.may_offer-offers.ensures
+    c.group-old.ensures c.requires c.in_ok-add_set.ensures.ok c.in_ok-add_set-2.ensures.ok c.may_offer-offers.ensures.none
     (subst (λ (k : OfferKey). Noted offer_cmp c.args.indexes.now.offering c.note.new.noted k c.may_offer-offers.result) c.offer_key.ensures c.in_ok-note.ensures.ok) c.forget_rank.ensures)

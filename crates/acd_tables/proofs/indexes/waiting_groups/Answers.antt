@@ -13,6 +13,6 @@ loop-group-preserved c =
     record {
       all = subst (λ (l : List ℕ). (g : ℕ) (p : ℕ × ℕ) → is_one_of l g ≡ true → lists c.args.queues.now g p ≡ true → is_one_of c.push_if.new.entered g ≡ true)
           (sym (more ∙ ap (λ (v : ℕ). take i c.args.groups.now ++ v ∷ []) (sym c.group-item.is)))
-          (waits_more c.args.queues.now _ c.loop-group.waiting c.push_if.new.entered _ _ c.loop-group.invariant.all (λ e. c.has_none-is_waiting.ensures (not-false c.has_none-is_waiting.result e)) c.push_if.ensures);
+          (waits_more c.args.queues.now _ c.loop-group.waiting c.push_if.new.entered _ _ c.loop-group.invariant.all (λ e. c.has_none-is_waiting.ensures.none (not-false c.has_none-is_waiting.result e)) c.push_if.ensures);
       few = no_longer _ _ _ _ _ c.push_if.ensures c.loop-group.invariant.few;
     }

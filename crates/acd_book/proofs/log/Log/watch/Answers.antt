@@ -9,4 +9,7 @@ invariant_of-self-clause-told c =
     let s = c.args.self.now in
     let all : 0 + length s.events.items ≡ c.len-last.result = search rules in
     let low = subst (λ (n : ℕ). Every (λ (e : Event). e.number ≤ n) s.events.items) all (none_exceeds 0 s.events.items s.numbered) in
-    c.change.ensures s.events.items low s.told
+    c.change.ensures.lists s.events.items low s.told
+
+pub invariant_of-self-clause-kept : goal.invariant_of-self-clause-kept
+invariant_of-self-clause-kept c = c.change.ensures.kept c.args.self.now.kept

@@ -9,4 +9,4 @@ invariant_of-self-clause-told c =
     let s = c.args.self.now in
     let all : 0 + length s.events.items ≡ c.len-last.result = search rules in
     let low = subst (λ (n : ℕ). Every (λ (e : Event). e.number ≤ n) s.events.items) all (none_exceeds 0 s.events.items s.numbered) in
-    c.of_monitors.ensures s.events.items low
+    c.of_monitors.ensures.lists s.events.items low

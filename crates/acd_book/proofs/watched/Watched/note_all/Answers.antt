@@ -6,14 +6,18 @@ use Rattle.acd_lemmas.proofs.Lists.{take-push}
 use Rattle.std.proofs.lemmas.List.{take_all}
 
 pub loop-event-preserved : goal.loop-event-preserved
-loop-event-preserved c events h =
-    let i = c.loop-event.event-index in
-    let more = c.args.more.now in
-    let e = c.event-item.result in
-    let longer = append_assoc events (take i more) (e ∷ [])
-    ∙ ap (λ (l : List Event). events ++ l) (ap (λ (x : Event). take i more ++ x ∷ []) c.event-item.is ∙ sym (take-push i more e c.loop-event-test.true)) in
-    subst (λ (l : List Event). ListsEvents l c.note.new.self) longer (c.note.ensures (events ++ take i more) (c.loop-event.invariant events h))
+loop-event-preserved c = record {
+  lists = λ events h.
+      let i = c.loop-event.event-index in
+      let more = c.args.more.now in
+      let e = c.event-item.result in
+      let longer = append_assoc events (take i more) (e ∷ [])
+      ∙ ap (λ (l : List Event). events ++ l) (ap (λ (x : Event). take i more ++ x ∷ []) c.event-item.is ∙ sym (take-push i more e c.loop-event-test.true)) in
+      subst (λ (l : List Event). ListsEvents l c.note.new.self) longer (c.note.ensures.lists (events ++ take i more) (c.loop-event.invariant.lists events h));
+  kept = λ kept. c.note.ensures.kept (c.loop-event.invariant.kept kept);
+  devices = c.note.ensures.devices ∙ c.loop-event.invariant.devices;
+}
 
-pub returns : goal.returns
-returns c events h =
-    subst (λ (l : List Event). ListsEvents (events ++ l) c.loop-event.self) (take_all c.loop-event.event-index c.args.more.now c.loop-event-test.false) (c.loop-event.invariant events h)
+pub returns-clause-lists : goal.returns-clause-lists
+returns-clause-lists c events h =
+    subst (λ (l : List Event). ListsEvents (events ++ l) c.loop-event.self) (take_all c.loop-event.event-index c.args.more.now c.loop-event-test.false) (c.loop-event.invariant.lists events h)

@@ -13,5 +13,6 @@ returns c = subst (λ z. TakenOut c.args.records.now c.args.self.now z c.args.en
   queues = c.leave_alone.ensures;
   ready = c.leave_entry.ensures;
   offers = c.prune.ensures.offers;
+  pruned = c.prune.ensures.pruned;
   rest = record { seats = refl; lines = refl; ringing = refl; working = refl; queued = refl };
 })

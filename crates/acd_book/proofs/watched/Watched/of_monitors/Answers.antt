@@ -1,0 +1,24 @@
+use Rattle.std.proofs.Common.{◌++◌, ◌∷◌, [], List, take, sym, subst, ap, ◌∙◌}
+use Rattle.std.proofs.lemmas.List.{take_all}
+use Rattle.acd_terms.specs.declared.record.MonitorRecord.{MonitorRecord}
+use Rattle.acd_lemmas.proofs.Lists.{take-push}
+use Rattle.acd_book.specs.Watched.{NotesThese}
+use Rattle.acd_book.proofs.Counting.{started_on}
+use Rattle.acd_book.proofs.watched.Watched.of_monitors.Goals as goal
+
+pub loop-monitor-preserved : goal.loop-monitor-preserved
+loop-monitor-preserved c =
+    let i = c.loop-monitor.monitor-index in
+    let monitors = c.args.monitors.now in
+    let x = c.monitor-item.result in
+    let inv = c.loop-monitor.invariant in
+    let longer = ap (λ (y : MonitorRecord). take i monitors ++ y ∷ []) c.monitor-item.is ∙ sym (take-push i monitors x c.loop-monitor-test.true) in
+    record {
+      lists = λ events low. c.start.ensures.lists events low (inv.lists events low);
+      kept = c.start.ensures.kept inv.kept;
+      noted = subst (λ (l : List MonitorRecord). NotesThese l c.start.new.self) longer (started_on (take i monitors) x c.loop-monitor.watched c.start.new.self inv.noted c.start.ensures.noted);
+    }
+
+pub returns-clause-noted : goal.returns-clause-noted
+returns-clause-noted c =
+    subst (λ (l : List MonitorRecord). NotesThese l c.loop-monitor.watched) (take_all c.loop-monitor.monitor-index c.args.monitors.now c.loop-monitor-test.false) c.loop-monitor.invariant.noted

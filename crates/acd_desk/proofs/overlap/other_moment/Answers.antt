@@ -1,0 +1,22 @@
+use Rattle.std.proofs.Common.{Bool, Ok, Err, refl, rules}
+use Rattle.acd_desk.proofs.BothReads.{both_fault, archive_read}
+use Rattle.acd_desk.proofs.Overlaps.{FindsMoment, moment_unclean, moment_clean}
+use Rattle.acd_desk.proofs.overlap.other_moment.Goals as goal
+
+pub returns-in_err-clean : goal.returns-in_err-clean
+returns-in_err-clean g c =
+    both_fault {T = Bool} (FindsMoment c.args.cut c.args.last) (g.A.Book.state c.args.archive.now) (g.A.Book.state c.is_clean_cut.new.archive) (g.B.Book.state c.args.book.now) (g.B.Book.state c.args.book.now) c.in_err-clean.field-0.0 c.from_residual.result
+    (archive_read (g.A.Book.state c.args.archive.now) (g.A.Book.state c.is_clean_cut.new.archive) (g.B.Book.state c.args.book.now) c.is_clean_cut.result (Err c.in_err-clean.field-0.0) (Err c.in_err-clean.field-0.0) c.is_clean_cut.ensures c.in_err-clean.ensures refl)
+    (search rules)
+
+pub returns-then-not-clean : goal.returns-then-not-clean
+returns-then-not-clean g c =
+    moment_unclean (g.A.Book.state c.args.archive.now) (g.A.Book.state c.is_clean_cut.new.archive) (g.B.Book.state c.args.book.now) (g.B.Book.state c.args.book.now) c.args.cut c.args.last c.in_ok-clean.clean c.if-not-clean.true
+    (archive_read (g.A.Book.state c.args.archive.now) (g.A.Book.state c.is_clean_cut.new.archive) (g.B.Book.state c.args.book.now) c.is_clean_cut.result (Ok c.in_ok-clean.clean) (Ok c.in_ok-clean.clean) c.is_clean_cut.ensures c.in_ok-clean.ensures refl)
+
+pub returns : goal.returns
+returns g c =
+    moment_clean (g.A.Book.state c.args.archive.now) (g.A.Book.state c.is_clean_cut.new.archive) (g.A.Book.state c.other_event.new.archive) (g.B.Book.state c.args.book.now) (g.B.Book.state c.args.book.now) (g.B.Book.state c.other_event.new.book)
+    c.args.cut c.args.last c.in_ok-clean.clean c.other_event.result c.if-not-clean.false
+    (archive_read (g.A.Book.state c.args.archive.now) (g.A.Book.state c.is_clean_cut.new.archive) (g.B.Book.state c.args.book.now) c.is_clean_cut.result (Ok c.in_ok-clean.clean) (Ok c.in_ok-clean.clean) c.is_clean_cut.ensures c.in_ok-clean.ensures refl)
+    c.other_event.ensures

@@ -1,0 +1,97 @@
+-- What the audit of a content with its archive answers.
+use Rattle.std.specs.Prelude.{◌≡◌, ◌≢◌, ℕ, ◌+◌, ◌<◌, ◌≤◌, List, [], ◌∷◌, ◌++◌, length, Option, Some, None, Result, IfOk}
+use Rattle.acd_terms.specs.Lists.{Every}
+use Rattle.acd_terms.specs.declared.rows.Rows.{Rows}
+use Rattle.acd_terms.specs.declared.event.Event.{Event}
+use Rattle.acd_book.specs.declared.kept.Kept.{Kept}
+use Rattle.acd_book.specs.Content.{Content, kept_of, IsKeptAfter, IsCounted, GoOn}
+use Rattle.acd_book.specs.Memory.{stamp_of, number_of}
+use Rattle.acd_book.specs.Order.{Rises, IsOrdered}
+use Rattle.acd_book.specs.State.{BookState, IfHonest}
+use Rattle.acd_desk.specs.declared.audit.Audit.{Audit}
+use Rattle.acd_desk.specs.declared.audit.Audit.TheVariants.{Sound, Differs}
+use Rattle.acd_desk.specs.Stands.{arrivals_of, IsSound}
+use Rattle.acd_desk.specs.Leads.{led}
+use Rattle.acd_desk.specs.Replay.{Matches}
+use Rattle.acd_desk.specs.Carried.{Archive, together}
+use Rattle.acd_desk.specs.WithArchive.{IsCut, IsSoundWith}
+
+-- no moment goes back from one to the next
+abbrev pub Ascends : {T : Type 0} → (T → ℕ) → ℕ → List T → Type 0
+Ascends moment last [] = Unit {0}
+Ascends moment last (x ∷ xs) = (last ≤ moment x) × Ascends moment (moment x) xs
+
+-- the events are numbered on up to the counter, from whatever number
+pub record IsNumbered (a : Content) : Type 0 where
+  pub before : ℕ
+  pub go_on : GoOn before a.events
+  pub up_to : before + length a.events ≡ a.rows.last_event
+
+-- what each sound content keeps, also where older records lie in an archive of its own
+pub record StandsInTime (a : Content) : Type 0 where
+  pub ordered : IsOrdered a
+  pub counted : IsCounted a
+  pub numbered : IsNumbered a
+  pub kept : Ascends (λ (k : Kept). k.moment) 0 a.kept
+  pub events : Ascends (λ (e : Event). e.moment) 0 a.events
+
+-- the content begins with the archive's last records and all events of these, and the rest is newer
+pub record HoldsArchive (a c : Content) : Type 0 where
+  pub left : Archive
+  pub carried : Content
+  pub cut : IsCut a left carried
+  pub kept_left : List Kept
+  pub events_left : List Event
+  pub kept : c.kept ≡ carried.kept ++ kept_left
+  pub events : c.events ≡ carried.events ++ events_left
+  pub kept_rise : Rises stamp_of a.rows.last_stamp kept_left
+  pub events_rise : Rises number_of a.rows.last_event events_left
+
+-- the content is what a run of its first newer requests makes of the archive, without what was left behind there, and what is left behind them
+pub record RunsOn (a c r : Content) (kept_left : List Kept) (events_left : List Event) : Type 0 where
+  pub left : Archive
+  pub carried : Content
+  pub cut : IsCut a left carried
+  pub newer : List Kept
+  pub ran : r.kept ≡ carried.kept ++ newer
+  pub made : together left r ≡ led a (arrivals_of newer)
+  pub kept : c.kept ≡ r.kept ++ kept_left
+  pub events : c.events ≡ r.events ++ events_left
+  pub counted : IsCounted r
+  pub kept_rise : Rises stamp_of r.rows.last_stamp kept_left
+  pub events_rise : Rises number_of r.rows.last_event events_left
+
+-- such a run leaves these rows
+pub record RunsTo (a c : Content) (s : Rows) : Type 0 where
+  pub ran : Content
+  pub kept_left : List Kept
+  pub events_left : List Event
+  pub runs : RunsOn a c ran kept_left events_left
+  pub rows : s ≡ ran.rows
+
+-- the record is the one that a step from these rows keeps of its request, its events are there, and no earlier record of either has its key
+pub record MatchesWith (a c : Content) (s : Rows) (k : Kept) : Type 0 where
+  pub own : Matches c s k
+  pub older : kept_of a.kept k.request.requester k.request.invoke ≡ None
+
+-- all up to this stamp is as it has to be, and what stands there, where something does and a request is left, isn't
+pub record IsNewerDifference (a c : Content) (n : ℕ) : Type 0 where
+  pub rows : Rows
+  pub before : RunsTo a c rows
+  pub place : n ≡ rows.last_stamp + 1
+  pub differs : (k : Kept) → IsKeptAfter c.kept rows.last_stamp (Some k) → rows.last_stamp < rows.limits.requests → ¬ MatchesWith a c rows k
+
+-- the stamp at which the content differs from the archive's records and what its newer requests make of the archive's state
+pub record IsDifferenceWith (a c : Content) (n : ℕ) : Type 0 where
+  pub unsound : ¬ IsSoundWith a c
+  -- up to the archive's last stamp: its records aren't the archive's, or some of their events aren't
+  pub older : n ≤ a.rows.last_stamp → ¬ HoldsArchive a c
+  pub newer : a.rows.last_stamp < n → IsNewerDifference a c n
+
+abbrev pub IsAuditWith : Content → Content → Audit → Type 0
+IsAuditWith a c Sound = IsSoundWith a c
+IsAuditWith a c (Differs n) = IsDifferenceWith a c n
+
+-- what is sound, by itself or with an archive of its own, stands in time
+abbrev pub SoundStandsInTime : Type 0
+SoundStandsInTime = (p : Archive) (a : Content) → IsSound (together p a) → StandsInTime a

@@ -1,0 +1,44 @@
+-- What a desk answers to an audit with an archive.
+use Rattle.std.specs.Prelude.{Result, Ok, Err, IfOk}
+use Rattle.acd_book.specs.Order.{IsOrdered}
+use Rattle.acd_book.specs.State.{BookState, IfHonest}
+use Rattle.acd_book.specs.declared.fault.BookFault.{BookFault}
+use Rattle.acd_book.specs.declared.fault.BookFault.TheVariants as book
+use Rattle.acd_desk.specs.declared.audit.Audit.{Audit}
+use Rattle.acd_desk.specs.declared.audit.AuditFault.{AuditFault}
+use Rattle.acd_desk.specs.declared.audit.AuditFault.TheVariants.{Desk, Archive}
+use Rattle.acd_desk.specs.declared.fault.DeskFault.{DeskFault}
+use Rattle.acd_desk.specs.declared.fault.DeskFault.TheVariants as desk
+use Rattle.acd_desk.specs.declared.pair.PairFault.{PairFault}
+use Rattle.acd_desk.specs.declared.pair.PairFault.TheVariants as pair
+use Rattle.acd_desk.specs.declared.working.Working.{Working}
+use Rattle.acd_desk.specs.AuditWith.{StandsInTime, IsAuditWith}
+use Rattle.acd_desk.specs.Faults.{fault_of, left_by}
+use Rattle.acd_desk.specs.Pairs.{by_opening}
+
+-- what it is to the desk: where the archive told nothing, the desk has told no fault of its store
+abbrev pub desk_part : {T : Type 0} → Result T AuditFault → Result T DeskFault
+desk_part (Ok found) = Ok found
+desk_part (Err (Desk fault)) = Err fault
+desk_part (Err (Archive fault)) = Err desk.NoMemory
+
+-- and to the archive
+abbrev pub archive_part : {T : Type 0} → Result T AuditFault → Result T BookFault
+archive_part (Ok found) = Ok found
+archive_part (Err (Desk fault)) = Err book.NoMemory
+archive_part {T = T} (Err (Archive fault)) = by_opening {T = T} (Err fault)
+
+-- what a fault of either is to the audit, and what it leaves of the desk
+abbrev pub audit_fault : PairFault → AuditFault
+audit_fault (pair.Own fault) = Desk (fault_of fault)
+audit_fault (pair.Archive fault) = Archive fault
+
+abbrev pub left_by_pair : PairFault → Working → Working
+left_by_pair (pair.Own fault) w = left_by fault w
+left_by_pair (pair.Archive fault) w = w
+
+-- an answer is the audit of what the open book holds, with what the open archive holds: an archive that stands in time, and a content in order
+abbrev pub IsAuditedWith : BookState → BookState → BookState → BookState → Result Audit AuditFault → Type 0
+IsAuditedWith old_archive new_archive old new result =
+    IfHonest old_archive new_archive (IfHonest old new (old_archive.is_open → old.is_open
+    → IfOk result (λ (found : Audit). StandsInTime old_archive.content → IsOrdered old.content → IsAuditWith old_archive.content old.content found)))

@@ -1,0 +1,386 @@
+//! The records that a book has in common with the archive that it goes on from.
+
+ghost use Rattle.std.specs.Prelude.{◌≡◌, ◌<◌, ◌≤◌, ◌∷◌, [], IfOk, IfSome, is_some};
+ghost use Rattle.std.specs.Bool.{Decides};
+ghost use Rattle.acd_book.specs.Content.{Content, kept_behind, events_behind};
+ghost use Rattle.acd_book.specs.Memory.{stamp_of, number_of};
+ghost use Rattle.acd_book.specs.Order.{IsOrdered};
+ghost use Rattle.acd_book.specs.State.{Reads};
+ghost use Rattle.acd_desk.specs.Pages.{IsPageOf, ReadsIfOpen};
+ghost use Rattle.acd_desk.specs.Pairs.{ReadsBoth};
+ghost use Rattle.acd_desk.specs.Sharing.{cut_before};
+ghost use Rattle.acd_desk.specs.AuditWith.{StandsInTime, HoldsArchive};
+ghost use Rattle.acd_desk.specs.Overlap.{AreInOrder, cut_stamp, cut_number, KeepsArchive, TellsArchive, IsNextOf, IsNextRecord, IsOtherPlace, listed, IsOther, IsOtherUpTo, IsCleanCut, IsBefore, IsFirstUpTo, IsLast, earlier};
+
+use crate::page::Page;
+use crate::pair::{PairFault, of_archive, of_own};
+use crate::same::{are_same_events, is_same_kept};
+use acd_book::{Book, BookFault, Kept};
+use acd_terms::Event;
+use std::alloc::Global;
+
+/// What an archive and a book have next, above a place.
+#[derive(Clone, Copy)]
+pub(crate) enum Next {
+    /// The same, at this place.
+    Same(u64),
+    /// The archive has something that the book hasn't: by a record of this stamp, or an event of this moment.
+    Other(u64),
+    /// The archive has nothing more.
+    Over,
+}
+
+// ---- the cut ----
+
+/// Where an archive was cut: the last stamp and the last event number that were left behind.
+#[derive(Clone, Copy)]
+pub(crate) struct Cut {
+    pub(crate) stamp: u64,
+    pub(crate) number: u64,
+}
+
+// The stamp before that of the first record, or the last of all.
+fn stamp_before(records: &[Kept], last: u64) -> u64
+    ensures { result ≡ cut_before stamp_of last records.now }
+{
+    match records {
+        [] => last,
+        [first, ..] => last.min(first.stamp.saturating_sub(1)),
+    }
+}
+
+// The number before that of the first event, or the last of all.
+fn number_before(events: &[Event], last: u64) -> u64
+    ensures { result ≡ cut_before number_of last events.now }
+{
+    match events {
+        [] => last,
+        [first, ..] => last.min(first.number.saturating_sub(1)),
+    }
+}
+
+// The last stamp that was left behind.
+fn cut_stamp<B: Book>(book: &mut B, last: u64) -> Result<u64, BookFault>
+    ensures { Reads (B.state book.old) (B.state book.new) result
+        (λ c found. IsOrdered c → found ≡ cut_before stamp_of last c.kept) }
+{
+    let first = book.requests_after(0, 1)?;
+    Ok(stamp_before(&first, last))
+}
+
+// The last event number that was left behind.
+fn cut_number<B: Book>(book: &mut B, last: u64) -> Result<u64, BookFault>
+    ensures { Reads (B.state book.old) (B.state book.new) result
+        (λ c found. IsOrdered c → found ≡ cut_before number_of last c.events) }
+{
+    let first = book.events_after(0, 1)?;
+    Ok(number_before(&first, last))
+}
+
+// Whether the event of a number, where it comes first of these, is before a moment.
+fn is_before(events: &[Event], number: u64, moment: u32) -> bool
+    ensures { Decides result (IsBefore events.now number moment) }
+{
+    match events {
+        [event, ..] if event.number == number => event.moment < moment,
+        _ => true,
+    }
+}
+
+// Whether the last event that was left behind is before the first record that was carried over.
+fn is_clean_cut<A: Book>(archive: &mut A, stamp: u64, number: u64) -> Result<bool, BookFault>
+    ensures { Reads (A.state archive.old) (A.state archive.new) result
+        (λ a found. StandsInTime a → number ≤ a.rows.last_event
+        → Decides found (IsCleanCut a stamp number)) }
+{
+    let Some(first) = archive.kept_after(stamp)? else {
+        return Ok(true);
+    };
+    let last = archive.events_after(number.saturating_sub(1), 1)?;
+    Ok(is_before(&last, number, first.moment))
+}
+
+// ---- records ----
+
+// What both have next, where the archive has a record.
+fn next_of_own(kept: &Kept, own: &Option<Kept>) -> Next
+    ensures next { IsNextOf stamp_of (kept.now ∷ []) (listed own.now) result }
+    ensures place { IsOtherPlace stamp_of (kept.now ∷ []) result }
+{
+    match own {
+        Some(other) if is_same_kept(other, kept) => Next::Same(kept.stamp),
+        Some(other) => Next::Other(kept.stamp.min(other.stamp)),
+        None => Next::Other(kept.stamp),
+    }
+}
+
+// What both have next, by their next records.
+fn next_of_records(theirs: &Option<Kept>, own: &Option<Kept>) -> Next
+    ensures next { IsNextOf stamp_of (listed theirs.now) (listed own.now) result }
+    ensures place { IsOtherPlace stamp_of (listed theirs.now) result }
+{
+    match theirs {
+        Some(kept) => next_of_own(kept, own),
+        None => Next::Over,
+    }
+}
+
+// The next record of both.
+fn next_record<A: Book, B: Book>(
+    archive: &mut A,
+    book: &mut B,
+    stamp: u64,
+) -> Result<Next, PairFault>
+    ensures { ReadsBoth (A.state archive.old) (A.state archive.new) (B.state book.old)
+        (B.state book.new) result (IsNextRecord stamp) }
+{
+    let theirs = of_archive(archive.kept_after(stamp))?;
+    let own = of_own(book.kept_after(stamp))?;
+    Ok(next_of_records(&theirs, &own))
+}
+
+// The stamp of the first record, where it isn't above the last one.
+fn stamp_up_to(records: &[Kept], last: u64) -> Option<u64>
+    ensures first { IsFirstUpTo stamp_of last records.now result }
+    ensures place { IfSome result (λ place. place ≤ last) }
+{
+    match records {
+        [kept, ..] if kept.stamp <= last => Some(kept.stamp),
+        _ => None,
+    }
+}
+
+// The stamp of the book's next record, where it isn't above the last one.
+fn record_up_to<B: Book>(book: &mut B, stamp: u64, last: u64) -> Result<Option<u64>, BookFault>
+    ensures { Reads (B.state book.old) (B.state book.new) result
+        (λ c found. IsFirstUpTo stamp_of last (kept_behind c.kept stamp 1) found
+        × IfSome found (λ place. place ≤ last)) }
+{
+    let next = book.requests_after(stamp, 1)?;
+    Ok(stamp_up_to(&next, last))
+}
+
+// The first stamp above this one, up to the last, at which the book's records aren't the archive's.
+fn other_record<A: Book, B: Book>(
+    archive: &mut A,
+    book: &mut B,
+    above: u64,
+    last: u64,
+) -> Result<Option<u64>, PairFault>
+    ensures { ReadsBoth (A.state archive.old) (A.state archive.new) (B.state book.old)
+        (B.state book.new) result (λ a c found. AreInOrder a c → last ≡ a.rows.last_stamp
+        → above ≡ cut_stamp a c → IsOtherUpTo last (KeepsArchive a c) found) }
+{
+    let mut stamp = above;
+    for _ in above..last {
+        match next_record(archive, book, stamp)? {
+            Next::Same(next) => stamp = next,
+            Next::Other(place) => return Ok(Some(place)),
+            Next::Over => return of_own(record_up_to(book, stamp, last)),
+        }
+    }
+    Ok(None)
+}
+
+// ---- events ----
+
+// What both have next, by their next events.
+fn next_of_events(theirs: &[Event], own: &[Event]) -> Next
+    ensures { IsNextOf number_of theirs.now own.now result }
+{
+    match theirs {
+        [] => Next::Over,
+        [event, ..] if are_same_events(own, theirs) => Next::Same(event.number),
+        [event, ..] => Next::Other(u64::from(event.moment)),
+    }
+}
+
+/// Events that were read ahead of an archive, and of the book that goes on from it.
+#[derive(Drop)]
+pub(crate) struct Pages {
+    pub(crate) archive: Page,
+    pub(crate) own: Page,
+}
+
+// The next event of both.
+fn next_event<A: Book, B: Book>(
+    alloc: Global,
+    archive: &mut A,
+    book: &mut B,
+    pages: &mut Pages,
+    number: u64,
+) -> Result<Next, PairFault>
+    ensures { ReadsBoth (A.state archive.old) (A.state archive.new) (B.state book.old)
+        (B.state book.new) result
+        (λ a c found. IsPageOf a pages.old.archive → IsPageOf c pages.old.own
+        → IsPageOf a pages.new.archive × IsPageOf c pages.new.own
+        × IsNextOf number_of (events_behind a.events number 1) (events_behind c.events number 1)
+        found) }
+{
+    let theirs = of_archive(pages.archive.events_after(alloc, archive, number, 1))?;
+    let own = of_own(pages.own.events_after(alloc, book, number, 1))?;
+    Ok(next_of_events(&theirs, &own))
+}
+
+// The moment of the first event, where its number isn't above the last one.
+fn moment_up_to(events: &[Event], last: u64) -> Option<u64>
+    ensures { IsFirstUpTo number_of last events.now result }
+{
+    match events {
+        [event, ..] if event.number <= last => Some(u64::from(event.moment)),
+        _ => None,
+    }
+}
+
+// The moment of the book's next event, where its number isn't above the last one.
+fn event_up_to<B: Book>(book: &mut B, number: u64, last: u64) -> Result<Option<u64>, BookFault>
+    ensures { Reads (B.state book.old) (B.state book.new) result
+        (λ c found. IsFirstUpTo number_of last (events_behind c.events number 1) found) }
+{
+    let next = book.events_after(number, 1)?;
+    Ok(moment_up_to(&next, last))
+}
+
+// The moment of the first event above a number, up to the last one, that isn't the archive's.
+fn other_event<A: Book, B: Book>(
+    alloc: Global,
+    archive: &mut A,
+    book: &mut B,
+    above: u64,
+    last: u64,
+) -> Result<Option<u64>, PairFault>
+    ensures { ReadsBoth (A.state archive.old) (A.state archive.new) (B.state book.old)
+        (B.state book.new) result (λ a c found. AreInOrder a c → last ≡ a.rows.last_event
+        → above ≡ cut_number a c → IsOther (TellsArchive a c) found) }
+{
+    let mut pages = Pages {
+        archive: Page::empty(alloc),
+        own: Page::empty(alloc),
+    };
+    let mut number = above;
+    for _ in above..last {
+        match next_event(alloc, archive, book, &mut pages, number)? {
+            Next::Same(next) => number = next,
+            Next::Other(moment) => return Ok(Some(moment)),
+            Next::Over => return of_own(event_up_to(book, number, last)),
+        }
+    }
+    Ok(None)
+}
+
+// The stamp of the archive's first record above this one that isn't before a moment, or the last one.
+fn stamp_at<A: Book>(archive: &mut A, above: u64, last: u64, moment: u64) -> Result<u64, BookFault>
+    ensures told { ReadsIfOpen (A.state archive.old) (A.state archive.new) result
+        (λ a found. Unit {0}) }
+    ensures within { IfOk result (λ found. found ≤ last) }
+{
+    let mut stamp = above;
+    for _ in above..last {
+        let Some(kept) = archive.kept_after(stamp)? else {
+            return Ok(last);
+        };
+        stamp = kept.stamp;
+        if u64::from(kept.moment) >= moment {
+            return Ok(stamp.min(last));
+        }
+    }
+    Ok(last)
+}
+
+// ---- both ----
+
+// The moment of the first event that the book hasn't as the archive has it; 0 where some of those of the first record that was carried
+// over were left behind.
+fn other_moment<A: Book, B: Book>(
+    alloc: Global,
+    archive: &mut A,
+    book: &mut B,
+    cut: Cut,
+    last: u64,
+) -> Result<Option<u64>, PairFault>
+    ensures { ReadsBoth (A.state archive.old) (A.state archive.new) (B.state book.old)
+        (B.state book.new) result (λ a c found. AreInOrder a c → last ≡ a.rows.last_event
+        → cut.number ≡ cut_number a c
+        → IsOther (IsCleanCut a cut.stamp cut.number × TellsArchive a c) found) }
+{
+    let clean = of_archive(is_clean_cut(archive, cut.stamp, cut.number))?;
+    if !clean {
+        return Ok(Some(0));
+    }
+    other_event(alloc, archive, book, cut.number, last)
+}
+
+// The stamp that belongs to a moment, where there is one.
+fn stamp_of_moment<A: Book>(
+    archive: &mut A,
+    above: u64,
+    last: u64,
+    moment: Option<u64>,
+) -> Result<Option<u64>, BookFault>
+    ensures told { ReadsIfOpen (A.state archive.old) (A.state archive.new) result
+        (λ a found. Unit {0}) }
+    ensures same { IfOk result (λ found. is_some found ≡ is_some moment) }
+    ensures within { IfOk result (λ found. IfSome found (λ stamp. stamp ≤ last)) }
+{
+    match moment {
+        Some(moment) => Ok(Some(stamp_at(archive, above, last, moment)?)),
+        None => Ok(None),
+    }
+}
+
+// The lesser of two stamps, where there is one.
+fn earlier(first: Option<u64>, second: Option<u64>) -> Option<u64>
+    ensures { result ≡ earlier first second }
+{
+    match (first, second) {
+        (Some(first), Some(second)) => Some(first.min(second)),
+        (None, second) => second,
+        (first, None) => first,
+    }
+}
+
+// Where the archive was cut, by what the book has first.
+fn cut_of<B: Book>(book: &mut B, stamp: u64, number: u64) -> Result<Cut, BookFault>
+    ensures { Reads (B.state book.old) (B.state book.new) result (λ c found. IsOrdered c
+        → (found.stamp ≡ cut_before stamp_of stamp c.kept)
+        × (found.number ≡ cut_before number_of number c.events)) }
+{
+    let stamp = cut_stamp(book, stamp)?;
+    let number = cut_number(book, number)?;
+    Ok(Cut { stamp, number })
+}
+
+// The first stamp above the cut at which they differ.
+fn other_above<A: Book, B: Book>(
+    alloc: Global,
+    archive: &mut A,
+    book: &mut B,
+    cut: Cut,
+    last: Cut,
+) -> Result<Option<u64>, PairFault>
+    ensures { ReadsBoth (A.state archive.old) (A.state archive.new) (B.state book.old)
+        (B.state book.new) result (λ a c found. AreInOrder a c → IsLast a last
+        → (cut.stamp ≡ cut_stamp a c) × (cut.number ≡ cut_number a c)
+        → IsOtherUpTo last.stamp (HoldsArchive a c) found) }
+{
+    let kept = other_record(archive, book, cut.stamp, last.stamp)?;
+    let moment = other_moment(alloc, archive, book, cut, last.number)?;
+    let event = of_archive(stamp_of_moment(archive, cut.stamp, last.stamp, moment))?;
+    Ok(earlier(kept, event))
+}
+
+/// The first stamp up to the archive's last one at which the book isn't as the archive: by its record, or by an event of it, which has its
+/// stamp by its moment alone.
+pub(crate) fn other_place<A: Book, B: Book>(
+    alloc: Global,
+    archive: &mut A,
+    book: &mut B,
+    last: Cut,
+) -> Result<Option<u64>, PairFault>
+    ensures { ReadsBoth (A.state archive.old) (A.state archive.new) (B.state book.old)
+        (B.state book.new) result (λ a c found. AreInOrder a c → IsLast a last
+        → IsOtherUpTo last.stamp (HoldsArchive a c) found) }
+{
+    let cut = of_own(cut_of(book, last.stamp, last.number))?;
+    other_above(alloc, archive, book, cut, last)
+}

@@ -1,0 +1,143 @@
+-- The commands with their options, and the task that the words of a command line name.
+use Rattle.std.specs.Prelude.{◌≡◌, ℕ, ◌∷◌, [], Bool, true, false, List, Option, Some, None, is_some, find, codes, option_map}
+use Rattle.std.specs.Option.{option_map_or}
+use Rattle.std.specs.Str.{bytes_eq}
+use Rattle.std.specs.Str.Parse.{IsNumeral, digits_value, without_leading_plus}
+use Rattle.std.specs.Borrow.{Bor}
+use Rattle.clap.specs.Simple.{new_shape}
+use Rattle.clap.specs.Words.{App, Row, Rule, Shape, Text, app_of, first_of, new_rule, one_of, rule_of, subcommand_of}
+use Rattle.clap.specs.declared.builder.Arg.{Arg}
+use Rattle.clap.specs.declared.builder.Command.{Command}
+use Rattle.clap.specs.declared.builder.Command.TheViews.{out-Command as fields_of}
+use Rattle.clap.specs.declared.builder.action.ArgAction.TheVariants.{Set, SetTrue}
+use Rattle.clap.specs.declared.builder.value_parser.ValueParser.TheVariants.{Unsigned}
+use Rattle.acd_log.specs.declared.ending.Ending.TheVariants.{Plain}
+use Rattle.acd_program.specs.declared.desk.Work.{Work}
+use Rattle.acd_program.specs.declared.desk.Work.TheVariants as kind
+use Rattle.acd_program.specs.declared.desk.Telling.{Telling}
+use Rattle.acd_program.specs.declared.desk.Telling.TheVariants.{Report, Export}
+use Rattle.acd_program.specs.declared.asked.Task.{Task}
+use Rattle.acd_program.specs.declared.asked.Task.TheVariants.{Lines, Serve, Import, AuditWhole, AuditBehind, Read}
+
+-- ---- the commands
+
+-- an option with one value
+abbrev pub option_rule : Text → Rule
+option_rule name = record (new_rule name) { long = Some name; value_names = 1; action = Some Set }
+
+abbrev pub required : Rule → Rule
+required rule = record rule { required = true }
+
+-- one for a number from 1 on
+abbrev pub number_rule : Text → ℕ → Rule
+number_rule name most = record (option_rule name) { parser = Some (Unsigned 1 most) }
+
+abbrev pub flag_rule : Text → Rule
+flag_rule name = record (new_rule name) { long = Some name; action = Some SetTrue }
+
+abbrev pub file_rule : Rule
+file_rule = option_rule (codes "file")
+
+abbrev pub with_rules : Text → List Rule → Shape
+with_rules name rules = record (new_shape name) { rules = rules }
+
+abbrev pub lines_shape : Shape
+lines_shape = with_rules (codes "lines") (file_rule ∷ flag_rule (codes "reads") ∷ flag_rule (codes "end-on-store-fault") ∷ [])
+
+-- it has a rule on another option: one of both is given
+abbrev pub connections_rule : Rule
+connections_rule = record (number_rule (codes "connections") 1000000) { is_free = false }
+
+abbrev pub serve_shape : Shape
+serve_shape = with_rules (codes "serve")
+    (required file_rule ∷ required (number_rule (codes "port") 65535) ∷ connections_rule ∷ flag_rule (codes "endless") ∷ [])
+
+abbrev pub import_shape : Shape
+import_shape = with_rules (codes "import") (required file_rule ∷ required (option_rule (codes "plan")) ∷ [])
+
+abbrev pub report_shape : Shape
+report_shape = with_rules (codes "report") (required file_rule ∷ [])
+
+abbrev pub export_shape : Shape
+export_shape = with_rules (codes "export") (required file_rule ∷ [])
+
+abbrev pub audit_shape : Shape
+audit_shape = with_rules (codes "audit")
+    (required file_rule ∷ option_rule (codes "archive") ∷ flag_rule (codes "count") ∷ flag_rule (codes "whole") ∷ [])
+
+-- the program with its commands
+abbrev pub acd : App
+acd = record {
+  top = record (new_shape (codes "acd")) { has_version = true; subcommand_required = true; is_leaf = false };
+  subs = lines_shape ∷ serve_shape ∷ import_shape ∷ report_shape ∷ export_shape ∷ audit_shape ∷ [];
+}
+
+-- a parse reads just this of the command, and of the option
+pub record HasApp (a : App) (c : Command) : Type 0 where
+  pub app : app_of c ≡ a
+  pub local : (fields_of c).has_globals ≡ false
+
+pub record HasRule (r : Rule) (a : Arg) : Type 0 where
+  pub rule : rule_of a ≡ r
+  pub local : a.global ≡ false
+
+-- ---- the task
+
+-- the option was given, or it has a default
+abbrev pub has_option : Text → List Row → Bool
+has_option name options = is_some (find (λ (r : Row). bytes_eq r.id name) options)
+
+-- the flag was given
+abbrev pub is_given : Text → List Row → Bool
+is_given name options = option_map_or (λ (text : Text). bytes_eq text (codes "true")) (one_of name options) false
+
+-- the option has this text
+abbrev pub IsText : Text → List Row → Bor Text → Type 0
+IsText name options text = first_of name options ≡ Some text.now
+
+-- the option was not given
+abbrev pub HasNone : Text → List Row → Type 0
+HasNone name options = first_of name options ≡ None
+
+-- the option has a text that is this number
+abbrev pub IsNumber : Text → List Row → ℕ → Type 0
+IsNumber name options n =
+    (text : Text) × (one_of name options ≡ Some text) × IsNumeral 10 (without_leading_plus text) × (digits_value 10 (without_leading_plus text) ≡ n)
+
+-- so many connections or, where none is named, no end of them: one of both was asked for
+abbrev pub IsSpan : List Row → Option ℕ → Type 0
+IsSpan options (Some n) = IsNumber (codes "connections") options n × (is_given (codes "endless") options ≡ false)
+IsSpan options None = (has_option (codes "connections") options ≡ false) × (is_given (codes "endless") options ≡ true)
+
+-- the command that tells it
+abbrev pub command_of : Telling → Text
+command_of Report = codes "report"
+command_of Export = codes "export"
+
+-- what is read of a file
+abbrev pub IsWork : Text → List Row → Work → Type 0
+IsWork command options (kind.Tell telling) = command ≡ command_of telling
+IsWork command options (kind.Audit counts ending) =
+    (command ≡ codes "audit") × HasNone (codes "archive") options × (counts ≡ is_given (codes "count") options) × (false ≡ is_given (codes "whole") options) × (ending ≡ Plain)
+IsWork command options (kind.Import requests) = ⊥
+
+-- the task of a command with these options
+abbrev pub IsTaskWith : Text → List Row → Task → Type 0
+IsTaskWith command options (Lines file reads ends) =
+    (command ≡ codes "lines") × (option_map (λ (f : Bor Text). f.now) file ≡ first_of (codes "file") options) × (reads ≡ is_given (codes "reads") options) × (ends ≡ is_given (codes "end-on-store-fault") options)
+IsTaskWith command options (Serve file port connections) =
+    (command ≡ codes "serve") × IsText (codes "file") options file × IsNumber (codes "port") options port × IsSpan options connections
+IsTaskWith command options (Import file plan) = (command ≡ codes "import") × IsText (codes "file") options file × IsText (codes "plan") options plan
+IsTaskWith command options (AuditWhole file counts) =
+    (command ≡ codes "audit") × IsText (codes "file") options file × HasNone (codes "archive") options × (counts ≡ is_given (codes "count") options) × (true ≡ is_given (codes "whole") options)
+IsTaskWith command options (AuditBehind file archive counts whole) =
+    (command ≡ codes "audit") × IsText (codes "file") options file × IsText (codes "archive") options archive × (counts ≡ is_given (codes "count") options) × (whole ≡ is_given (codes "whole") options)
+IsTaskWith command options (Read file work) = IsText (codes "file") options file × IsWork command options work
+
+abbrev pub IsTaskIn : Option (Text × List Row) → Task → Type 0
+IsTaskIn None task = ⊥
+IsTaskIn (Some matches) task = IsTaskWith matches.0 matches.1 task
+
+-- the words, of which the first is the program's name, name the task
+abbrev pub IsTaskOf : List Text → Task → Type 0
+IsTaskOf words = IsTaskIn (subcommand_of acd words)

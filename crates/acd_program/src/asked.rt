@@ -1,0 +1,43 @@
+//! What a command line asks for.
+
+use crate::desk::Work;
+
+/// What a command line asks for, with the paths that it names.
+#[derive(Clone, Copy)]
+pub(crate) enum Task<'a> {
+    /// Answer the lines of standard input, requests alone or reads too, over a desk in memory or in a file; a storeFault
+    /// may be what ends them.
+    Lines {
+        file: Option<&'a str>,
+        reads: bool,
+        ends: bool,
+    },
+    /// Answer connections over HTTP: so many, or until the store has failed.
+    Serve {
+        file: &'a str,
+        port: u16,
+        connections: Option<u32>,
+    },
+    /// Take the requests of a plan.
+    Import {
+        file: &'a str,
+        plan: &'a str,
+    },
+    /// Audit the desk in a file, and say how its log ended before it was opened.
+    AuditWhole {
+        file: &'a str,
+        counts: bool,
+    },
+    /// Audit the desk in a file behind the archive that it goes on from; where it is looked at whole, say how its log ended.
+    AuditBehind {
+        file: &'a str,
+        archive: &'a str,
+        counts: bool,
+        whole: bool,
+    },
+    /// Print what is told of the desk in a file: the queue report, all event reports, or what an audit finds.
+    Read {
+        file: &'a str,
+        work: Work<'a>,
+    },
+}

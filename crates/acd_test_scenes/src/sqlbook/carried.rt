@@ -1,0 +1,123 @@
+//! A book that goes on from an archive, and what an audit of both tells where one of them was changed.
+
+use super::adopted::old_tables;
+use super::created;
+use super::further::served;
+use super::migrated::left;
+use crate::altered::database;
+use crate::look_ups::same;
+use crate::shelf::{book_in, changed};
+use crate::texts::{halves, number, part_of};
+use acd_desk::{Audit, AuditFault, Desk, OpenFault};
+use acd_terms::Rule;
+use sqlite::{Connection, MemStore};
+use std::alloc::Global;
+use std::process::Abort;
+
+// What goes on from the archive, and changes of one of both.
+fn parts() -> &'static [u8] {
+    br#"newer: The call is ended, and the after-call work.
+> 40 {"requester":"pbx","invoke":2,"service":"clearConnection","call":1,"device":"0301234"}
+> 75 {"requester":"clock","invoke":1,"service":"tick"}
+< 200 {"invoke":2,"requester":"pbx","result":{}}
+< 200 {"invoke":1,"requester":"clock","result":{}}
+= 11 SELECT max(stamp) FROM kept
+
+changes: The stamp that is told, which of both is changed, and how: records and events that both have, first of all and last; newer ones; tables, counters and limits; and a key that only the archive has.
+9 file UPDATE kept SET status = 409 WHERE stamp = 9
+9 archive UPDATE kept SET status = 409 WHERE stamp = 9
+8 file UPDATE kept SET moment = 17 WHERE stamp = 8
+8 archive DELETE FROM kept WHERE stamp = 8
+9 file DELETE FROM kept WHERE stamp = 9
+8 file DELETE FROM events WHERE number = 3
+9 file DELETE FROM events WHERE number = 6
+9 file UPDATE events SET waited = 16 WHERE number = 6
+9 archive UPDATE events SET waited = 16 WHERE number = 6
+10 file UPDATE kept SET status = 409 WHERE stamp = 10
+10 file UPDATE events SET moment = 41 WHERE number = 9
+11 file DELETE FROM events WHERE number = 12
+12 file INSERT INTO events VALUES (13,75,16,1201,NULL,17,NULL,NULL,NULL,NULL)
+12 file UPDATE acd_groups SET name = 'Bills'
+12 archive UPDATE acd_groups SET name = 'Bills'
+12 archive UPDATE acd_groups SET waited = 16
+12 archive UPDATE meta SET last_call = 2
+12 file UPDATE meta SET max_calls = 1999
+12 archive UPDATE meta SET max_calls = 1999
+10 file UPDATE kept SET invoke = 1, request = '{"call":1,"device":"0301234","invoke":1,"requester":"pbx","service":"clearConnection"}', body = '{"invoke":1,"requester":"pbx","result":{}}' WHERE stamp = 10"#
+}
+
+// What an older program left, in tables of version 2.
+fn archive(rt: &impl Abort, alloc: Global) -> Connection<MemStore> {
+    let conn = changed(rt, database(rt, alloc), old_tables(rt));
+    let conn = changed(rt, conn, left(rt));
+    book_in(rt, alloc, conn, None).into_connection()
+}
+
+// A book behind the archive, and behind newer requests.
+fn whole(rt: &impl Abort, alloc: Global) -> Connection<MemStore> {
+    served(rt, alloc, archive(rt, alloc), part_of(rt, parts(), "newer"))
+}
+
+// The same, without what came before the agent got ready.
+fn carried(rt: &impl Abort, alloc: Global) -> Connection<MemStore> {
+    changed(
+        rt,
+        whole(rt, alloc),
+        "DELETE FROM kept WHERE stamp < 8; DELETE FROM events WHERE number < 3",
+    )
+}
+
+// What an audit of the file tells behind the archive.
+fn told(
+    rt: &impl Abort,
+    alloc: Global,
+    archive: Connection<MemStore>,
+    file: Connection<MemStore>,
+) -> Result<Audit, AuditFault> {
+    let mut archive = book_in(rt, alloc, archive, None);
+    match Desk::open(alloc, book_in(rt, alloc, file, None)) {
+        Ok(mut desk) => desk.audit_with(&mut archive),
+        Err((fault, _)) => panic!(rt; "{fault:?}"),
+    }
+}
+
+// What is told where the archive is behind the first change, and the file behind the second.
+fn told_behind(
+    rt: &impl Abort,
+    alloc: Global,
+    first: &str,
+    second: &str,
+) -> Result<Audit, AuditFault> {
+    let archive = changed(rt, archive(rt, alloc), first);
+    told(rt, alloc, archive, changed(rt, carried(rt, alloc), second))
+}
+
+#[test]
+fn differences_from_an_archive(rt: HostRuntime) {
+    let alloc = rt.alloc();
+    same(&rt, &told_behind(&rt, alloc, "", ""), &Ok(Audit::Sound));
+    for line in part_of(&rt, parts(), "changes").lines() {
+        let (place, change) = halves(&rt, line);
+        let (of, sql) = halves(&rt, change);
+        let (first, second) = if of == "file" { ("", sql) } else { (sql, "") };
+        let found = told_behind(&rt, alloc, first, second);
+        same(&rt, &found, &Ok(Audit::Differs(number(&rt, place))));
+    }
+}
+
+// The whole is an archive too, of which nothing was left behind. Not so are a later file, and a new one.
+#[test]
+fn wrong_archives(rt: HostRuntime) {
+    let alloc = rt.alloc();
+    let found = told(&rt, alloc, archive(&rt, alloc), whole(&rt, alloc));
+    same(&rt, &found, &Ok(Audit::Sound));
+    let found = told(&rt, alloc, carried(&rt, alloc), archive(&rt, alloc));
+    same(&rt, &found, &Ok(Audit::Differs(1)));
+    let new = created(&rt, alloc, database(&rt, alloc)).into_connection();
+    let found = told(&rt, alloc, new, carried(&rt, alloc));
+    same(&rt, &found, &Ok(Audit::Differs(1)));
+    let broken = "UPDATE acd_groups SET entered = 0";
+    let found = told_behind(&rt, alloc, broken, "");
+    let rows = OpenFault::Rows(Rule::Counters);
+    same(&rt, &found, &Err(AuditFault::Archive(rows)));
+}

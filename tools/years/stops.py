@@ -1,0 +1,101 @@
+"""How long nobody is answered while acd-carry.service carries a desk's file over, by the clock: each night, and at the first time. Beside it stands what the openings
+of both files and their audit take alone."""
+import shutil
+import subprocess
+import threading
+import time
+
+from cuts import LAID, lay_history
+from figures import requests
+from ground import log_of
+from kills import PLAN
+from service import DAY, Service, try_service
+
+NIGHTS = {"three days of 2,000 calls": 24000, "three days of 20,000 calls": 232500}
+DAYS = 3
+# what scripts take besides, in seconds, and how much slower it may be beside other work
+BESIDES, SLOWER = 3, 2
+
+
+class Stops(Service):
+    def make(self):
+        """Each trial has a file of its own."""
+
+    def file_of(self, count, laid=0):
+        for part in (self.first, log_of(self.first)):
+            part.unlink(missing_ok=True)
+        begin = int(time.time()) - DAYS * DAY
+        if laid:
+            lay_history(self.ground, self.first, laid)
+        self.ground.feed(self.first, [*(f"{begin} {line.partition(' ')[2]}" for line in PLAN), *requests(count, DAYS, begin)])
+
+    def seconds(self, *words):
+        """By the clock, the least of two: what else runs makes it slower."""
+        took = []
+        for _ in range(2):
+            begun = time.monotonic()
+            self.ground.expect(f"{words[0]}", self.ground.run(self.program, *words)[0], 0)
+            took.append(time.monotonic() - begun)
+        return min(took)
+
+    def stopped(self):
+        """The longest time without an answer, while the unit does its work."""
+        longest, is_over = [0.0], threading.Event()
+
+        def ask():
+            last = time.monotonic()
+            while not is_over.is_set():
+                if self.ask("GET", "/queues/100"):
+                    longest[0], last = max(longest[0], time.monotonic() - last), time.monotonic()
+                time.sleep(0.005)
+
+        asking = threading.Thread(target=ask)
+        asking.start()
+        self.carried("carried over")
+        self.ground.expect("the desk is back", self.is_there(300))
+        time.sleep(0.2)
+        is_over.set()
+        asking.join()
+        return longest[0]
+
+    def measure(self, what):
+        self.laid(seconds=300)
+        took = self.stopped()
+        self.desk.stop()
+        archive, = (path for path in self.place.glob("desk.db-????-??-??-*") if not path.name.endswith(".archive"))
+        old, new = self.seconds("report", "--file", archive), self.seconds("report", "--file", self.file)
+        audit = self.seconds("audit", "--file", self.file, "--archive", archive)
+        # the old one is opened once, and the new one twice, and then by the desk
+        alone = old + 2 * new + audit
+        self.ground.expect(f"{what}: {took:.2f} s, and its openings and audit {alone:.2f} s", took < SLOWER * alone + BESIDES)
+        by = "" if self.is_real else ", by a stand-in,"
+        print(f"{what}: nobody is answered for {took:.2f} s. An opening of the old file takes {old:.2f} s, of the new one {new:.2f} s, their audit{by} {audit:.2f} s: "
+              f"one, two and one are {alone:.2f} s", flush=True)
+        shutil.rmtree(self.place)
+
+
+def measure_all(ground, folder):
+    stops = Stops(ground, folder)
+    try:
+        for what, count in NIGHTS.items():
+            stops.file_of(count)
+            stops.measure(what)
+        stops.file_of(NIGHTS["three days of 2,000 calls"], LAID)
+        stops.measure("the first time, behind a million")
+    finally:
+        stops.desk.stop()
+
+
+def try_all(ground, case=None):
+    with ground.scratch() as folder:
+        # the name space's own
+        subprocess.run(["mount", "-t", "tmpfs", "run", "/run"], check=True)
+        try:
+            if case != "stops":
+                (folder / "service").mkdir()
+                try_service(ground, folder / "service", case)
+            if case in (None, "stops"):
+                (folder / "stops").mkdir()
+                measure_all(ground, folder / "stops")
+        finally:
+            subprocess.run(["umount", "--lazy", "/run"], check=True)
