@@ -47,7 +47,8 @@ FAULTS = [
     ("a monitor without its beginning", "required: [after, device, monitor]\n      properties: {after:", "required: [device, monitor]\n      properties: {behind:"),
     ("a snapshot without its moment", "last: {$ref: '#/components/schemas/Figure'}, moment: {$ref: '#/components/schemas/Moment'},",
      "last: {$ref: '#/components/schemas/Figure'},"),
-    ("a long page of 999", "maxItems: 1000,", "maxItems: 999,"),
+    ("a long page of 999", "events: {type: array, maxItems: 1000,", "events: {type: array, maxItems: 999,"),
+    ("a page of 999 requests", "requests: {type: array, maxItems: 1000,", "requests: {type: array, maxItems: 999,"),
 ]
 
 
