@@ -64,7 +64,9 @@ class Clone(Office):
         version = (TOP / "CHANGELOG.md").read_text().split()[2]
         self.expect("what is made", self.names(f"{CLONE}/out"), [f"acd-exchange_{version}_all.deb", f"acd_{version}_amd64.deb"])
         self.expect("it can be installed", self.container.shell(f"dpkg --install {CLONE}/out/acd_*.deb")[0], 0)
-        self.expect_in("OPERATING says what it takes", self.inside(f"{CLONE}/docs/OPERATING.md").read_text(), "apt-get install --no-install-recommends binutils dpkg-dev python3 ")
+        page = self.inside(f"{CLONE}/docs/OPERATING.md").read_text()
+        self.expect_in("OPERATING says what it takes", page, "apt-get install --no-install-recommends binutils dpkg-dev python3 ")
+        self.expect("what it installs is what is made", set(re.findall(r"apt-get install \S*/(\S+\.deb)", page)), {f"acd_{version}_amd64.deb"})
         for name in ("README.md", "/usr/share/doc/acd/copyright"):
             self.expect_in(f"{name} names the licence", self.inside(Path(CLONE) / name).read_text(), "MIT OR Apache-2.0")
 
