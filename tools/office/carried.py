@@ -161,7 +161,9 @@ class Carried(Office):
         second.start()
         for act in ("start", "restart"):
             self.expect(f"a {act} meanwhile", (self.run("systemctl", act, "acd"), self.show("ActiveState")), ((0, ""), ["inactive"]))
-        self.expect_in("by hand meanwhile", self.run("runuser", "-u", "acd", "--", "acd-carry", "--file", FILE)[1], "just now; nothing was changed|is open elsewhere")
+        # by what the first one is at just then: its desk's program has the file open, or it waits to put the new one in its place
+        self.expect_in("by hand meanwhile", self.run("runuser", "-u", "acd", "--", "acd-carry", "--file", FILE)[1],
+                       r"just now; nothing was changed|is open elsewhere|is open in process \d+ \(/usr/bin/acd .*\): systemctl stop acd-carry; nothing was touched")
         carrying.join()
         second.join()
         self.expect("both", told, [(0, "")] * 2)
@@ -223,7 +225,8 @@ class Carried(Office):
                 self.done("systemctl", "start", "--no-block", "acd-carry")
                 time.sleep(wait)
                 begun = time.monotonic()
-                self.run("systemctl", *words)
+                # one that waited for itself would be ended by systemd behind three minutes
+                self.run("timeout", "30", "systemctl", *words)
                 self.expect(f"{what}: soon", time.monotonic() - begun < 20)
                 self.expect(f"{what}: it ends", self.eventually(lambda: self.show("ActiveState", unit="acd-carry")[0] in ("inactive", "failed"), True), True)
                 self.is_back(what)
