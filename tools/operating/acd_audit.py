@@ -9,7 +9,7 @@ from dataclasses import dataclass
 
 import acd_chain
 import acd_log
-from acd_pair import log_of
+from acd_pair import holds_something, log_of
 
 SOUND, EARLY, UNSOUND, UNAUDITED = "sound", "early", "unsound", "unaudited"
 # what `acd audit --whole` ends with where the log ends early
@@ -50,7 +50,11 @@ def last_stamp(file):
 
 def carried(file, archive):
     """Of a file that was carried over. A program that can't look at it behind its archive opens it, and what both have is compared by SQL."""
+    had_log = log_of(archive).exists()
     told = acd_chain.audited(QUIETLY, file, archive, "--whole", "--count")
+    # the audit makes one beside an archive, too, and leaves nothing in it
+    if not had_log and not holds_something(log_of(archive)):
+        log_of(archive).unlink(missing_ok=True)
     if told:
         found = finding(told[0], told[1].splitlines())
         return Finding(SOUND, found.said, last_stamp(file)) if found.verdict == SOUND else found

@@ -181,6 +181,8 @@ class Chains:
         ground.expect("the archive's copy, and its digest", (sha256(lies), text_of(f"{lies}.sha256")), (sha256(first), f"{sha256(first)}  {first.name}\n"))
         ground.expect("the note goes along", note_of(made / "desk.db"), note_of(office.file))
         ground.expect("the number goes on", (office.copies / "executed").read_text().splitlines()[0], "executed 162")
+        ground.expect("nothing else lies there", {path.name for path in lies.parent.iterdir()}, {first.name, f"{first.name}.sha256"})
+        ground.expect("audited by hand", (ground.audit(made / "desk.db", "--archive", lies)[0], log_of(lies).exists()), (0, True))
         office.serve(81, 131)
         was = lies.stat()
         office.carry()
@@ -328,7 +330,8 @@ class Places(Kills):
         is_new, archive = rows == self.wanted, file.with_name(self.archive)
         self.states.add(is_new)
         ground.expect(f"{what}: the file is the old one or the new one", is_new or rows == self.rows)
-        places = [path for path in (archive, file.parent / "desk.db.carry/desk.db") if path.exists()]
+        # before they change places the other one may be half made, and can't be read
+        places = [path for path in (archive, file.parent / "desk.db.carry/desk.db") if is_new and path.exists()]
         ground.expect(f"{what}: the old one is there", self.rows in (rows, *map(held, places)))
         status, told, faults = ground.run(PYTHON, ground.scripts / "acd-copy", "--file", file, "--folder", file.parent / "copies")
         done = not (is_new and (file.parent / "desk.db.carry/desk.db.archive").exists())

@@ -51,6 +51,8 @@ FAULTS = [
     ("acd-carry", "an archive's name that is taken", "        refuse_taken(archive)\n", "", "chains.in_place"),
     ("acd_chain.py", "an archive is copied each time", '    if copy.exists() and Path(f"{copy}{DIGEST}").exists():\n', "    if False:\n", "chains.copied"),
     ("acd_chain.py", "digests aren't looked at", "            if digest(copy) != noted_digest(copy):", "            if False:", "chains.copied"),
+    ("acd_chain.py", "an empty log is taken for an archive", ' or copy.name.endswith("-wal") and not acd_pair.holds_something(copy):', ":", "chains.copied"),
+    ("acd_audit.py", "the audit leaves a log beside an archive", "    if not had_log and not holds_something(log_of(archive)):\n", "    if False:\n", "chains.copied"),
     ("acd_chain.py", "another archive is copied", "    if digest(new) != note.digest:", "    if False:", "chains.copied"),
     ("acd_chain.py", "limits aren't compared", "        if ours != theirs:", "        if False:", "chains.copied"),
     ("acd_chain.py", "events aren't compared", '("kept", "stamp", "last_stamp"), ("events", "number", "last_event")):', '("kept", "stamp", "last_stamp"),):', "chains.copied"),

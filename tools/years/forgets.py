@@ -149,7 +149,7 @@ class Forgets:
         ground.expect("it stands in archives, as text and as integer",
                       (all(stands(path, caller) for path in archives[:3]), all(integers(path, caller) for path in archives[:3])), (True, True))
         status, told, faults = self.forget(office, "--caller", caller)
-        ground.expect(f"forgotten: {faults}", (status, faults, "'sound' of the new archives" in told), (0, "", True))
+        ground.expect(f"forgotten: {faults}", (status, faults, f"'{', '.join(['sound'] * (1 + len(archives)))}' of the new archives" in told), (0, "", True))
         copies = office.archives(office.copies / "archives")
         ground.expect("in live and in free pages", [path.name for path in archives + copies if stands(path, caller)], [])
         ground.expect("nor as an integer of rows", [path.name for path in archives + copies if integers(path, caller)], [])
