@@ -102,8 +102,11 @@ class Audits:
             self.see(f"UPDATE events SET waited = waited + 1 WHERE number = {number}", ("file",), place)
 
     def tables(self):
+        """A monitor's number of the archive is told before, by the first reply behind it that has one."""
+        (monitored,), = asked(self.file, f"SELECT min(stamp) FROM kept WHERE stamp > {self.last} AND status = 200 AND instr(request, '\"service\":\"monitorStart\"')")
         for change in TABLES:
-            self.see(change, ("file", "archive"), self.end + 1)
+            self.see(change, ("file",), self.end + 1)
+            self.see(change, ("archive",), monitored if monitored and "last_monitor" in change else self.end + 1)
 
     def others(self):
         """In the wrong order; a file behind itself; an archive that isn't there."""

@@ -223,6 +223,7 @@ class Chains:
                           "UPDATE meta SET max_calls = max_calls - 1", "DELETE FROM events WHERE number = (SELECT max(number) - 1 FROM events)"):
             changed(office.file, statement)
             self.bad(statement, office, "unsound", "the copy isn't sound")
+            self.bad(f"{statement}, by SQL", office, "unsound", "the copy isn't sound", program=self.stand_in('case "$*" in *--archive*) exit 2;; esac'))
             for part in (whole, log_of(whole)):
                 shutil.copyfile(part, office.folder / part.name)
         lies = office.copies / "archives" / office.archives()[0].name
@@ -246,17 +247,23 @@ class Chains:
         away.rename(copy)
         office.good("with its own")
 
+    def stand_in(self, does):
+        """A program that does this where it has to audit something."""
+        program = self.folder / "stand-in/acd"
+        program.parent.mkdir(exist_ok=True)
+        program.write_text(f'#!/bin/sh\nif [ "$1" = audit ]; then {does}; fi\nexec {self.ground.program} "$@"\n')
+        program.chmod(0o755)
+        return program
+
     def by_memory(self, office):
         """What ends the audit for its memory; and a program that looks behind the archive: stand-ins."""
-        program, last = self.folder / "stand-in/acd", office.copies / "archives" / office.archives()[-1].name
-        program.parent.mkdir(exist_ok=True)
+        last = office.copies / "archives" / office.archives()[-1].name
         for what, does, name, said in (("killed", "kill -9 $$", r"\S+\.unaudited", "the copy's audit wasn't ended"),
                                        ("no memory", "echo 'acd: no memory' >&2; exit 1", r"\S+\.unaudited", "the copy's audit wasn't ended"),
                                        ("differs", "echo 'differs at request 7'; exit 3", "unsound", "the audit says 'differs at request 7'"),
                                        ("early", "echo 'sound, but its log ends early'; exit 5", r"\S+\.early", "log ends early"),
                                        ("sound", f'case "$*" in *--archive\\ {last}*) echo sound; echo executed 9;; esac', None, "")):
-            program.write_text(f'#!/bin/sh\nif [ "$1" = audit ]; then {does}; exit; fi\nexec {self.ground.program} "$@"\n')
-            program.chmod(0o755)
+            program = self.stand_in(f"{does}; exit")
             if name:
                 self.bad(what, office, name, said, program=program)
             else:
