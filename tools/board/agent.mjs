@@ -117,6 +117,7 @@ async function secondClicks(hands) {
   await hands.click(requested('ready'), '✓ Ready');
   await hands.call();
   await until(() => browser.find(button('answerCall')), 10);
+  await sleep(450);
   await browser.run('window.posts.length = 0');
   const pointer = await browser.run(`const box = document.querySelector('#calls [data-service=answerCall]').getBoundingClientRect(); return [Math.round(box.left + 20), Math.round(box.top + box.height / 2)]`);
   const press = [{type: 'pointerDown', button: 0}, {type: 'pointerUp', button: 0}, {type: 'pause', duration: 150}];

@@ -49,6 +49,7 @@ export async function owners({see, browser, desk, front, text: shown, ...hands})
     const found = await requester();
     see(`the requester with ${what}`, wanted.test(found), found);
     await until(() => browser.find('#log-on-button:enabled'), 20);
+    await sleep(450);
     await browser.click('#log-on-button');
     see(`the desk takes it, with ${what}`, Boolean(await until(async () => (await said()).includes('✓ Log on'), 10)), await said());
     await desk.post({requester: `try-owners-${what.length}`, invoke: 1, service: 'setAgentState', agent: '8', requested: 'loggedOff'});
