@@ -10,7 +10,7 @@ def make(self,*given,**named):
 rtlib.Crate.__init__=make
 COUNT=os.environ.get("FROM","/work/count")
 log=open(os.environ.get("LOG","/tmp/count.log"),errors="replace").read()
-proved=set(re.findall(r"^rt: (\w+) proved$",log,re.M))
+proved=set(re.findall(r"^rt: (\w+) proved$",log,re.M))|set(re.findall(r"^rt: (\w+) is kept",log,re.M))
 def crates(top):
     os.chdir(top); seen={}
     def walk(c):
