@@ -34,7 +34,7 @@ use Rattle.acd_program.specs.Behind.{Anything, IsFindingWith, IsFindingBehind, I
 use Rattle.acd_program.specs.Found.{HasCount, finding_line}
 use Rattle.acd_io.specs.Sent.{Begins}
 use Rattle.acd_program.specs.Ended.{IsOfDesk, IsOfClosing, PrintedOf, IsShut}
-use Rattle.acd_program.specs.Over.{Unserved}
+use Rattle.acd_program.specs.Over.{LeavesFiled, Unserved}
 use Rattle.acd_program.specs.TasksEnded.{AuditCut, BehindEnded}
 use Rattle.acd_program.specs.declared.fault.Fault.{Fault}
 use Rattle.acd_program.specs.declared.fault.Fault.TheVariants.{Write}
@@ -47,6 +47,7 @@ use Rattle.acd_program.specs.declared.asked.Task.{Task}
 use Rattle.acd_program.specs.declared.asked.Task.TheVariants as task
 use Rattle.acd_program.specs.Work.{IsPrinted, text_left, status_left}
 use Rattle.acd_program.proofs.Asking.{asked_by, asked_of, asked_so}
+use Rattle.acd_program.proofs.Called.{called, leaves_filed, asked_called}
 use Rattle.acd_program.proofs.InFiles.{over_so}
 use Rattle.acd_program.proofs.Over.{over_connection}
 use Rattle.acd_program.proofs.Tasks.{ok_so}
@@ -99,7 +100,8 @@ module _ {D : Type 0} (disk : Ghosts D) (IsFresh : Bool → D → Type 0) where
           last = last;
           opened = opened;
           done = over_connection (λ (old now : BookState). ReadsIfOpen old now (Ok x) Anything × IsFoundBehind old now d e (Ok x)) (λ (old now : BookState). WasRead old now × FindsBehind old now d e x) false
-              (file_state conn) (file_state last) mid noted failures (λ old of h. both_of old mid new d e x h.0 h.1 of) taken (read, finds);
+              (file_state conn) (file_state last) mid noted failures (λ old of h. both_of old mid new d e x h.0 h.1 of)
+              (λ old h. (asked_called (LeavesFiled (file_state last)) new (leaves_filed (file_state last) noted failures) old (tt {0}) Anything h.0, h.1)) taken (read, finds);
           closed = subst (λ (y : Result (Unit {0}) F). OnOk y (IsLaidIn last)) both.1 laid;
         };
       }
@@ -161,6 +163,11 @@ module _ {D : Type 0} (disk : Ghosts D) (IsFresh : Bool → D → Type 0) where
             subst (λ (c : Content). IsFindingWith a.content c found) (of.content before is) (were.answer clean sound own_clean (of.step.sound before is) stands (of.ordered before is));
       }) h
 
+  behind_left : (Filed : Type 0) (new : BookState) → (new.is_sound → Filed) → (old : BookState) (found : Finding) → BehindArchive disk IsFresh IsFindingIn old new found → BehindArchive disk IsFresh IsFindingIn old (called new Filed) found
+  behind_left Filed new so old found h =
+      in_file_so (λ (a b : BookState). WereAsked IsFindingIn a b old new found) (λ (a b : BookState). WereAsked IsFindingIn a b old (called new Filed) found)
+      (λ a b were. record { archive = were.archive; own = asked_called Filed new so old found Anything were.own; answer = were.answer }) h
+
   audited_over : (counts : Bool) (ending : Ending) (s t : State) (mid : BookState) (noted : Notes) (failures : ℕ) (done : Done) → IsTaken false s mid
       → AuditsBehind disk IsFresh counts ending mid (followed noted (book_state t failures)) done → AuditedBehind disk IsFresh counts ending s t done
   audited_over counts ending s t mid noted failures left.Nothing taken h = h
@@ -168,7 +175,8 @@ module _ {D : Type 0} (disk : Ghosts D) (IsFresh : Bool → D → Type 0) where
   audited_over counts ending s t mid noted failures (left.Audited found told) taken h = (
     h.0,
     over_connection (λ (old new : BookState). BehindArchive disk IsFresh IsFindingInOrder old new found) (λ (old new : BookState). BehindArchive disk IsFresh IsFindingIn old new found) false
-        s t mid noted failures (λ old of behind. behind_since old mid (followed noted (book_state t failures)) found of behind) taken h.1,
+        s t mid noted failures (λ old of behind. behind_since old mid (followed noted (book_state t failures)) found of behind)
+        (λ old behind. behind_left (LeavesFiled t) (followed noted (book_state t failures)) (leaves_filed t noted failures) old found behind) taken h.1,
     h.2,
   )
 

@@ -1,27 +1,32 @@
 -- What is read of the matches of a command line, and what the builders make of its commands.
-use Rattle.std.proofs.Common.{◌≡◌, ◌≢◌, ℕ, suc, Bool, true, false, ◌&&◌, ◌||◌, ◌==◌, not, length, List, [], ◌∷◌, ◌++◌, Option, None, Some, Result, Ok, IfOk, refl, ap, ap₂, sym, subst, ◌∙◌, codes, arith}
+use Rattle.std.proofs.Common.{◌≡◌, ◌≢◌, ◌≤◌, ℕ, suc, Bool, true, false, ◌&&◌, ◌||◌, ◌==◌, not, length, List, [], ◌∷◌, ◌++◌, Option, None, Some, Result, Ok, Err, IfOk, IfErr, IsErrAnd, inl, inr, refl, ap, ap₂, sym, subst, ◌∙◌, codes, arith}
 use Rattle.std.specs.Prelude.{find, is_some, option_map, unwrap_or}
 use Rattle.std.specs.Option.{option_map_or}
 use Rattle.std.specs.Borrow.{Bor}
 use Rattle.std.specs.Str.{bytes_eq}
 use Rattle.std.specs.Str.Parse.{IsNumeral, ParsesBool, digits_value, true_text, without_leading_plus}
 use Rattle.std.proofs.lemmas.Bool.Decides.{nat_tests}
+use Rattle.std.proofs.lemmas.Result.{err_from_is_err_and}
 use Rattle.std.proofs.lemmas.Slice.Eq.{bytes_eq-Decides}
 use Rattle.clap.specs.Matches.{ReadsOne, first_value, matched_of, one_text}
 use Rattle.clap.specs.Built.{AddsArg, AddsSubcommand}
 use Rattle.clap.specs.Adds.{AddsConflicts, AddsRequiredUnless}
 use Rattle.clap.specs.Walk.{is_free_arg}
-use Rattle.clap.specs.Words.{App, HasMatchesOf, Row, Rule, Text, app_of, first_of, is_simple, new_app, rows_of, rule_of, subcommand_of, subcommand_rows_of, with_rule, with_subcommand}
+use Rattle.clap.specs.Words.{App, HasMatchesOf, Row, Rule, Text, app_of, first_of, is_simple, new_app, rows_of, rule_of, subcommand_of, subcommand_rows_of, takes, with_rule, with_subcommand, kind_of}
 use Rattle.clap.specs.declared.builder.Arg.{Arg}
 use Rattle.clap.specs.declared.builder.Command.{Command}
 use Rattle.clap.specs.declared.builder.command.Command.TheOpen.{Command-F}
 use Rattle.clap.specs.declared.builder.Command.TheViews.{out-Command as fields_of}
 use Rattle.clap.specs.Simple.{app_of_fields}
+use Rattle.clap.specs.declared.error.Error.{Error}
+use Rattle.clap.specs.declared.error.kind.ErrorKind.{ErrorKind}
+use Rattle.clap.specs.declared.error.kind.ErrorKind.TheVariants.{OutOfMemory}
 use Rattle.clap.specs.declared.parser.matches.ArgMatches.{ArgMatches}
 use Rattle.clap.specs.declared.parser.matches.Found.{Found}
 use Rattle.clap.proofs.WalkLemmas.{first_value-rows, one_text-rows, find_row}
 use Rattle.acd_log.specs.declared.ending.Ending.TheVariants.{Plain}
-use Rattle.acd_program.specs.CommandLine.{HasApp, HasNone, HasRule, IsNumber, IsTaskWith, IsText, acd, has_option, is_given, required}
+use Rattle.acd_program.specs.CommandLine.{HasApp, HasNone, HasRule, IsNumber, IsTaskWith, IsText, IsUntaken, acd, has_option, is_given, required}
+use Rattle.acd_program.specs.Statuses.{IsDone, IsHelp}
 use Rattle.acd_program.specs.declared.asked.Task.{Task}
 use Rattle.acd_program.specs.declared.asked.Task.TheVariants.{AuditWhole, Read}
 use Rattle.acd_program.specs.declared.desk.Work.TheVariants as kind
@@ -84,6 +89,24 @@ acd_is_simple = refl
 -- the matches are those of the words
 pub matches_are : (a : App) (words : List Text) (m : ArgMatches) → a ≡ acd → HasMatchesOf a words m → subcommand_rows_of m ≡ subcommand_of acd words
 matches_are a words m is matches = (subst (λ (x : App). HasMatchesOf x words m) is matches acd_is_simple).1
+
+-- of words that are taken a parse fails for want of memory alone, so neither help nor the version is told
+memory_is_no_help : (kind : ErrorKind) → kind ≡ OutOfMemory → IsHelp kind → ⊥
+memory_is_no_help kind memory (inl help) = absurd (cc (sym memory ∙ help))
+memory_is_no_help kind memory (inr version) = absurd (cc (sym memory ∙ version))
+
+pub never_taken : {A : Type 0} (r : Result A Error) (e : Error) (a : App) (words : List Text) → IsErrAnd r (λ (x : Error). x ≡ e) → (takes a words ≡ true → kind_of e ≡ OutOfMemory) → a ≡ acd
+    → IfErr r (λ (x : Error). IsHelp (kind_of x) → IsUntaken words)
+never_taken {A} r e a words failed passes is =
+    let p = err_from_is_err_and r failed in
+    subst (λ (x : Result A Error). IfErr x (λ (y : Error). IsHelp (kind_of y) → IsUntaken words)) (sym (p.1 ∙ ap Err p.2))
+    (λ help taken. memory_is_no_help (kind_of e) (passes (subst (λ (x : App). takes x words ≡ true) (sym is) taken)) help)
+
+-- a status of at most 2 without a fault is 0
+pub done_without_task : (status : ℕ) → status ≤ 2 → IsDone status → status ≡ 0
+done_without_task status known (inl none) = none
+done_without_task status known (inr (inl three)) = absurd (omega (arith, known, three))
+done_without_task status known (inr (inr five)) = absurd (omega (arith, known, five))
 
 -- ---- options
 

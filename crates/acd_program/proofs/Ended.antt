@@ -22,11 +22,10 @@ use Rattle.acd_desk.proofs.Sessions.{session_ran}
 use Rattle.acd_io.specs.Sent.{Breaks}
 use Rattle.acd_lines.specs.Lines.{LinesAnswered, FirstRequests, RequestsAnswered, Streams}
 use Rattle.acd_lines.proofs.Weaker.{requests_so}
-use Rattle.acd_program.specs.Desks.{in_database}
 use Rattle.acd_program.specs.Ended.{OnlyReads, IsBegunPlan, IsBegun, StoppedOver, WorkStopped, PrintedOf, IsShut, WorkEnded}
 use Rattle.acd_program.specs.Found.{IsFindingOf}
-use Rattle.acd_program.specs.LinesOver.{in_turn, NoneServed, LinesTold, LinesIn}
-use Rattle.acd_program.specs.Over.{IsSession, OverConnection, Unserved}
+use Rattle.acd_program.specs.LinesOver.{NoneServed}
+use Rattle.acd_program.specs.Over.{IsSession, LeavesFiled, OverConnection, Unserved}
 use Rattle.acd_program.specs.Sessions.{SessionTold, DatabaseEnded}
 use Rattle.acd_program.specs.Taking.{IsOf, IsTaken}
 use Rattle.acd_program.specs.Work.{WorkDone}
@@ -35,8 +34,9 @@ use Rattle.acd_program.specs.declared.desk.Work.{Work}
 use Rattle.acd_program.specs.declared.desk.Work.TheVariants.{Import, Tell, Audit}
 use Rattle.acd_program.specs.declared.desk.Done.{Done}
 use Rattle.acd_program.proofs.InFiles.{over_makes}
-use Rattle.acd_program.proofs.LinesOver.{over_made}
+use Rattle.acd_program.proofs.Called.{called, leaves_filed, session_called}
 use Rattle.acd_program.proofs.Over.{session_of, over_connection}
+use Rattle.acd_program.proofs.Seen.{seen_made}
 use Rattle.acd_program.proofs.Taking.{unserved_asked, unserved_makes}
 
 pub err_always : {A F : Type 0} (r : Result A F) (P : Type 0) → P → OnErr r P
@@ -58,6 +58,13 @@ begun_of (Import requests) old mid new before behind of h =
 begun_of (Tell telling) old mid new before behind of h = h
 begun_of (Audit counts ending) old mid new before behind of h = h
 
+-- as of the database that was left
+begun_left : (Sound : Type 0) (new : BookState) → (new.is_sound → Sound) → (work : Work) (old : BookState) (before behind : Option (List ℕ)) → IsBegun work before behind old new → IsBegun work before behind old (called new Sound)
+begun_left Sound new so (Import requests) old before behind h =
+    requests_so (FirstRequests requests.now) (IsSession old new) (IsSession old (called new Sound)) (Breaks before behind) (λ l ts s. session_called Sound new so IsFault old l ts s) h
+begun_left Sound new so (Tell telling) old before behind h = h
+begun_left Sound new so (Audit counts ending) old before behind h = h
+
 -- ---- over a connection
 
 -- the work over the book that was taken of the database
@@ -68,7 +75,8 @@ stopped_in r work makes s t mid noted failures before behind settles taken h =
     let new : BookState = followed noted (book_state t failures) in
     on_err_weaker r (λ stopped. elim stopped [
       | inl none ↦ inl (unserved_asked makes s t mid noted failures settles taken none.0, none.1)
-      | inr begun ↦ inr (over_connection (IsBegun work before behind) (IsBegun work before behind) makes s t mid noted failures (λ old of is. begun_of work old mid new before behind of is) taken begun)
+      | inr begun ↦ inr (over_connection (IsBegun work before behind) (IsBegun work before behind) makes s t mid noted failures (λ old of is. begun_of work old mid new before behind of is)
+          (λ old is. begun_left (LeavesFiled t) new (leaves_filed t noted failures) work old before behind is) taken begun)
     ]) h
 
 module _ {D : Type 0} {g : Ghosts D} where
@@ -111,14 +119,11 @@ module _ {D : Type 0} {g : Ghosts D} where
 -- ---- lines over a database, where it was known whether it was new
 
 module _ {S : Type 0} (store : Stores S) (is_new makes ends : Bool) (io : Streams) (s : State) (r : Result (Unit {0}) Fault) (conn : Held S) (may : is_new ≡ true → makes ≡ true) where
-  none_made : (T : _) → NoneServed store T is_new ends io s r conn → NoneServed store T makes ends io s r conn
-  none_made T none = record { why = none.why; told = none.told; unserved = unserved_makes is_new makes s (state store conn) may none.unserved; untouched = none.untouched }
-
-  lines_made : (T : _) → LinesIn store T is_new ends io s r conn → LinesIn store T makes ends io s r conn
-  lines_made T (inl none) = inl (none_made T none)
-  lines_made T (inr some) = inr (over_made store is_new makes (LinesTold (in_database store) T ends io r) s conn may some)
+  none_made : NoneServed store is_new io s r conn → NoneServed store makes io s r conn
+  none_made none = record { why = none.why; told = none.told; unserved = unserved_makes is_new makes s (state store conn) may none.unserved; untouched = none.untouched }
 
   pub ended_made : (reads : Bool) → DatabaseEnded store is_new reads ends io s r conn → DatabaseEnded store makes reads ends io s r conn
-  ended_made true h = lines_made (in_turn true (in_database store)) h
-  ended_made false (inl none) = inl (none_made (in_turn false (in_database store)) none)
+  ended_made true (inl none) = inl (none_made none)
+  ended_made true (inr some) = inr (seen_made store _ is_new makes s conn may some)
+  ended_made false (inl none) = inl (none_made none)
   ended_made false (inr some) = inr (over_makes (SessionTold ends io r) is_new makes s (state store conn) may some)

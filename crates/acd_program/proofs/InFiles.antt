@@ -10,8 +10,7 @@ use Rattle.acd_program.specs.Over.{OverConnection}
 pub over_so : (P Q : BookState → BookState → Type 0) (makes : Bool) (s t : State) → ((old new : BookState) → P old new → Q old new) → OverConnection P makes s t → OverConnection Q makes s t
 over_so P Q makes s t follows h = (
   h.0,
-  h.1,
-  elim h.2 [
+  elim h.1 [
     | inl had ↦ inl (follows _ _ had)
     | inr made ↦ inr (made.0, made.1, follows _ _ made.2)
   ],
@@ -19,11 +18,11 @@ over_so P Q makes s t follows h = (
 
 -- what is so whatever the book is
 pub over_fact : (P : BookState → BookState → Type 0) (F : Type 0) (makes : Bool) (s t : State) → ((old new : BookState) → P old new → F) → OverConnection P makes s t → F
-over_fact P F makes s t follows h = elim h.2 [ inl had ↦ follows _ _ had | inr made ↦ follows _ _ made.2 ]
+over_fact P F makes s t follows h = elim h.1 [ inl had ↦ follows _ _ had | inr made ↦ follows _ _ made.2 ]
 
 -- a new book is made only where one may be
 pub over_makes : (P : BookState → BookState → Type 0) (is_new makes : Bool) (s t : State) → (is_new ≡ true → makes ≡ true) → OverConnection P is_new s t → OverConnection P makes s t
-over_makes P is_new makes s t may h = (h.0, h.1, elim h.2 [ inl had ↦ inl had | inr made ↦ inr (may made.0, made.1, made.2) ])
+over_makes P is_new makes s t may h = (h.0, elim h.1 [ inl had ↦ inl had | inr made ↦ inr (may made.0, made.1, made.2) ])
 
 pub appends_nothing : (a b c : Option (List ℕ)) (text : List ℕ) → Appends a b text → Appends b c [] → Appends a c text
 appends_nothing a b c text first second = subst (λ (x : List ℕ). Appends a c x) (append-nil text) (Appends-trans a b c text [] first second)

@@ -3,22 +3,25 @@ use Rattle.std.proofs.Common.{◌≡◌, inl, inr, ℕ, Bool, true, false, List,
 use Rattle.std.specs.Io.KnownBytes.{Appends}
 use Rattle.sqlite_disk.specs.declared.Disk.{Ghosts}
 use Rattle.acd_book.specs.Content.{Content}
+use Rattle.acd_book.specs.State.{unfailing}
 use Rattle.acd_desk.specs.declared.desk.Desk.{Desk}
-use Rattle.acd_desk.specs.Standing.{standing}
-use Rattle.acd_terms.proofs.Results.{ok_err}
+use Rattle.acd_desk.specs.Standing.{Standing, standing}
+use Rattle.acd_terms.proofs.Results.{ok_err, same_error}
 use Rattle.acd_lines.specs.Laws.{RequestsRun}
 use Rattle.acd_lines.specs.Answers.{Answers}
 use Rattle.acd_lines.specs.Input.{line_of}
 use Rattle.acd_io.specs.Sent.{Begins}
-use Rattle.acd_lines.specs.Lines.{LinesAnswered, AllLines, FirstLines, ArrivalsAnswered, RunInTurn, Streams, streams}
+use Rattle.acd_lines.specs.Lines.{LinesAnswered, AllLines, FirstLines, ArrivalsAnswered, RunInTurn, Streams, streams, LinesDone}
 use Rattle.acd_lines.specs.Parts.{InTurn}
 use Rattle.acd_lines.specs.declared.fault.LinesFault.{LinesFault}
 use Rattle.acd_lines.proofs.Weaker.{answered_so}
 use Rattle.acd_program.specs.Answered.{in_memory, IsNewDesk, AnsweredFromNothing}
 use Rattle.acd_program.specs.Desks.{OverNewDesk}
-use Rattle.acd_program.specs.LinesOver.{Whole, LinesInMemory, in_turn}
+use Rattle.acd_program.specs.LinesOver.{Whole, LinesInMemory, NewAnswered, in_turn}
+use Rattle.acd_program.specs.Seen.{Seen, seen}
 use Rattle.acd_program.specs.Sessions.{LinesAreFromNothing, MemoryEnded}
 use Rattle.acd_program.specs.Tasks.{MemoryAnswered, FileAnswered, InputAnswered}
+use Rattle.acd_program.proofs.Seen.{new_view, new_views, done_seen, whole_seen, seen_new}
 use Rattle.acd_program.proofs.Answering.{in_memory_quiet, lines_from_nothing, answers_none}
 
 -- what ended the work, and what closing its file met
@@ -46,7 +49,7 @@ lines_are_from_nothing remaining contents runs reader writer (Ok u) (inr some) =
 lines_are_from_nothing remaining contents runs reader writer (Err why) (inr some) =
     from_nothing runs (FirstLines (remaining reader.0)) (Begins (contents writer.0) (contents writer.1)) some.first some.final some.opened some.did.begun
 
-memory_whole : (T : Desk Content → Desk Content → List (List ℕ) → List (List ℕ) → Type 0) (io : Streams) (r : Result (Unit {0}) LinesFault) → LinesInMemory T io r → OnOk r (OverNewDesk (Whole in_memory T false io))
+memory_whole : (T : Desk Content → Desk Content → List (List ℕ) → List (List ℕ) → Type 0) (io : Streams) (r : Result (Unit {0}) LinesFault) → LinesInMemory T io r → OnOk r (OverNewDesk (Whole (standing in_memory) T false io))
 memory_whole T io (Err why) h = tt
 memory_whole T io (Ok u) (inl none) = absurd (ok_err none.0)
 memory_whole T io (Ok u) (inr some) = record {
@@ -56,28 +59,34 @@ memory_whole T io (Ok u) (inr some) = record {
   did = record { answered = some.did.all (λ asked. absurd (true≢false (sym asked))); well = λ asked. absurd (true≢false (sym asked)) };
 }
 
-pub memory_lines : (reads is_so : Bool) (io : Streams) (r : Result (Unit {0}) LinesFault) → reads ≡ is_so → LinesInMemory (in_turn is_so in_memory) io r → OnOk r (OverNewDesk (Whole in_memory (in_turn reads in_memory) false io))
+pub memory_lines : (reads is_so : Bool) (io : Streams) (r : Result (Unit {0}) LinesFault) → reads ≡ is_so → LinesInMemory (in_turn is_so (standing in_memory)) io r → OnOk r (NewAnswered reads io)
 memory_lines reads is_so io r is h =
-    subst (λ (b : Bool). OnOk r (OverNewDesk (Whole in_memory (in_turn b in_memory) false io))) (sym is) (memory_whole (in_turn is_so in_memory) io r h)
+    subst (λ (b : Bool). OnOk r (NewAnswered b io)) (sym is) (memory_whole (in_turn is_so (standing in_memory)) io r h)
 
 -- behind a fault
 memory_told : {R W : Type 0} (remaining : R → Option (List ℕ)) (contents : W → Option (List ℕ)) → LinesAreFromNothing remaining contents → (reads : Bool) (reader : R × R) (writer : W × W) (r : Result (Unit {0}) LinesFault)
-    → LinesInMemory (in_turn reads in_memory) (streams remaining contents reader writer) r → IfErr r (MemoryEnded reads (streams remaining contents reader writer))
+    → LinesInMemory (in_turn reads (standing in_memory)) (streams remaining contents reader writer) r → IfErr r (MemoryEnded reads (streams remaining contents reader writer))
 memory_told remaining contents law reads reader writer (Ok u) h = tt
-memory_told remaining contents law true reader writer (Err why) h = h
+memory_told remaining contents law true reader writer (Err why) (inl none) = inl (same_error none.0, none.1)
+memory_told remaining contents law true reader writer (Err why) (inr some) =
+    inr (seen_new (λ (d e : Desk Content). LinesDone (standing in_memory) (in_turn true (standing in_memory)) false (streams remaining contents reader writer) d e (Err why))
+    (λ (stands : Seen Content → Standing) (d e : Seen Content). LinesDone stands (in_turn true stands) false (streams remaining contents reader writer) d e (Err why))
+    (λ d e h. (done_seen (standing in_memory) (seen unfailing) new_view _ new_views d e tt false (streams remaining contents reader writer) (Err why) h).1) some)
 memory_told remaining contents law false reader writer (Err why) h = law reader writer (Err why) h
 
 pub memory_ended : {R W : Type 0} (remaining : R → Option (List ℕ)) (contents : W → Option (List ℕ)) → LinesAreFromNothing remaining contents → (reads is_so : Bool) (reader : R × R) (writer : W × W) (r : Result (Unit {0}) LinesFault) → reads ≡ is_so
-    → LinesInMemory (in_turn is_so in_memory) (streams remaining contents reader writer) r → IfErr r (MemoryEnded reads (streams remaining contents reader writer))
+    → LinesInMemory (in_turn is_so (standing in_memory)) (streams remaining contents reader writer) r → IfErr r (MemoryEnded reads (streams remaining contents reader writer))
 memory_ended remaining contents law reads is_so reader writer r is h =
     subst (λ (b : Bool). IfErr r (MemoryEnded b (streams remaining contents reader writer))) (sym is) (memory_told remaining contents law is_so reader writer r h)
 
-memory_answered : RequestsRun in_memory → (reads : Bool) (io : Streams) → OverNewDesk (Whole in_memory (in_turn reads in_memory) false io) → MemoryAnswered reads io
-memory_answered runs true io h = h
+memory_answered : RequestsRun in_memory → (reads : Bool) (io : Streams) → NewAnswered reads io → MemoryAnswered reads io
+memory_answered runs true io h =
+    seen_new (Whole (standing in_memory) (in_turn true (standing in_memory)) false io) (λ (stands : Seen Content → Standing). Whole stands (in_turn true stands) false io)
+    (λ d e h. whole_seen (standing in_memory) (seen unfailing) new_view _ new_views d e tt false io h) h
 memory_answered runs false io h = from_nothing runs (AllLines io.had) (Appends io.before io.behind) h.first h.final h.opened h.did.answered
 
 module _ {Name D : Type 0} (disk : Ghosts D) (IsFresh : Bool → D → Type 0) (named : Option Name) (reads ends : Bool) (io : Streams) where
-  pub memory_input : RequestsRun in_memory → named ≡ None → OverNewDesk (Whole in_memory (in_turn reads in_memory) false io) → InputAnswered disk IsFresh named reads ends io 0
+  pub memory_input : RequestsRun in_memory → named ≡ None → NewAnswered reads io → InputAnswered disk IsFresh named reads ends io 0
   memory_input runs is h = subst (λ (n : Option Name). InputAnswered disk IsFresh n reads ends io 0) (sym is) (memory_answered runs reads io h, refl)
 
   pub file_input : (file : Name) → named ≡ Some file → FileAnswered disk IsFresh reads ends io → InputAnswered disk IsFresh named reads ends io 0

@@ -1,6 +1,8 @@
 pub mod Answering
 pub mod Over
 pub mod Taking
+pub mod Called
+pub mod Seen
 pub mod Asking
 pub mod Works
 pub mod InFiles

@@ -11,25 +11,26 @@ use Rattle.acd_book.specs.State.{BookState}
 use Rattle.acd_sqlbook.specs.View.{BookView, book_of}
 use Rattle.acd_desk.specs.declared.desk.Desk.{Desk}
 use Rattle.acd_desk.specs.Opening.{Opened}
-use Rattle.acd_desk.specs.Standing.{standing}
+use Rattle.acd_desk.specs.Ran.{IsFault}
+use Rattle.acd_desk.specs.Standing.{Standing, standing}
 use Rattle.acd_io.specs.Sent.{Begins}
 use Rattle.acd_terms.proofs.Results.{ok_err, same_error}
-use Rattle.acd_lines.specs.Answers.{Answers}
-use Rattle.acd_lines.specs.Input.{line_of}
 use Rattle.acd_lines.specs.Laws.{RequestsRun}
 use Rattle.acd_lines.specs.Lines.{LinesAnswered, AllLines, FirstLines, RunInTurn, Streams, streams, LinesDone}
-use Rattle.acd_lines.specs.Parts.{InTurn}
 use Rattle.acd_lines.specs.declared.fault.LinesFault.{LinesFault}
-use Rattle.acd_lines.proofs.Weaker.{answered_so}
+use Rattle.acd_lines.proofs.Weaker.{answered_so, arrivals_so}
 use Rattle.acd_program.specs.Faults.{lines_fault, open_fault, told_by}
-use Rattle.acd_program.specs.Desks.{OverDesk, OverDatabase, in_database}
-use Rattle.acd_program.specs.LinesOver.{Whole, LinesTold, LinesOver, LinesIn, DatabaseAnswered}
-use Rattle.acd_program.specs.Over.{AnswersOver, OverConnection, Unserved}
+use Rattle.acd_program.specs.Desks.{OverDesk, in_database}
+use Rattle.acd_program.specs.LinesOver.{in_turn, Whole, LinesTold, LinesOver, LinesIn, DatabaseAnswered}
+use Rattle.acd_program.specs.Over.{IsSession, IsSessionTo, IsFailedSession, AnswersOver, LeavesFiled, OverConnection, Unserved}
+use Rattle.acd_program.specs.Seen.{Seen, seen, InDatabase, left_of}
 use Rattle.acd_program.specs.Sessions.{SessionTold, DatabaseEnded, LinesAreSessions}
 use Rattle.acd_program.specs.Taking.{IsOf, IsTaken}
 use Rattle.acd_program.specs.declared.fault.Fault.{Fault}
 use Rattle.acd_program.proofs.Over.{lines_over, lines_well, lines_failed, lines_since, well_lines_since, failed_lines_since, over_connection}
+use Rattle.acd_program.proofs.Called.{called, leaves_filed, session_called}
 use Rattle.acd_program.proofs.InFiles.{over_makes}
+use Rattle.acd_program.proofs.Seen.{view, views, IsKept, told_seen, seen_in, seen_made, seen_so}
 use Rattle.acd_program.proofs.Taking.{unserved_refused}
 
 -- ---- what is told
@@ -40,19 +41,19 @@ told_whole u v true true h is = absurd (ok_err h)
 told_whole u v true false h is = refl
 told_whole u v false b h is = absurd (true≢false (sym is))
 
-module _ {B : Type 0} (says : book.Ghosts B) (T : Desk B → Desk B → List (List ℕ) → List (List ℕ) → Type 0) (ends : Bool) (io : Streams) where
+module _ {D : Type 0} (stands : D → Standing) (T : D → D → List (List ℕ) → List (List ℕ) → Type 0) (ends : Bool) (io : Streams) where
   -- a fault of lines is the command's
-  pub told_fault : (r : Result (Unit {0}) Fault) (why : LinesFault) (d e : Desk B) → IsErrAnd r (λ (y : Fault). y ≡ lines_fault why) → LinesDone (standing says) T ends io d e (Err why) → LinesTold says T ends io r d e
+  pub told_fault : (r : Result (Unit {0}) Fault) (why : LinesFault) (d e : D) → IsErrAnd r (λ (y : Fault). y ≡ lines_fault why) → LinesDone stands T ends io d e (Err why) → LinesTold stands T ends io r d e
   told_fault r why d e is h = let p = err_from_is_err_and r is in record { ended = Err why; lines = h; told = p.1 ∙ ap Err p.2 }
 
   -- without a fault the whole input was answered
-  whole_by : (u : Unit {0}) (d e : Desk B) (ended : Result (Unit {0}) LinesFault) → ◌≡◌ {A = Result (Unit {0}) Fault} (Ok u) (told_by ended (ends && (standing says e).failed)) → LinesDone (standing says) T ends io d e ended → Whole says T ends io d e
+  whole_by : (u : Unit {0}) (d e : D) (ended : Result (Unit {0}) LinesFault) → ◌≡◌ {A = Result (Unit {0}) Fault} (Ok u) (told_by ended (ends && (stands e).failed)) → LinesDone stands T ends io d e ended → Whole stands T ends io d e
   whole_by u d e (Err why) told h = absurd (ok_err told)
   whole_by u d e (Ok v) told h =
-      let well : ends ≡ true → (standing says e).failed ≡ false = told_whole u v ends (standing says e).failed told in
+      let well : ends ≡ true → (stands e).failed ≡ false = told_whole u v ends (stands e).failed told in
       record { answered = h.all well; well = well }
 
-  whole_told : (u : Unit {0}) (d e : Desk B) → LinesTold says T ends io (Ok u) d e → Whole says T ends io d e
+  whole_told : (u : Unit {0}) (d e : D) → LinesTold stands T ends io (Ok u) d e → Whole stands T ends io d e
   whole_told u d e h = whole_by u d e h.ended h.told h.lines
 
 -- ---- over a database
@@ -71,27 +72,20 @@ module _ {S : Type 0} (store : Ghosts S) where
     })
     lines_in s taken last r conn settles of back (inr some) = inr (record { taken = taken; last = last; of_old = of; over = some; back = back })
 
-    -- without a fault the whole input was answered
-    pub whole_in : (s : State) (r : Result (Unit {0}) Fault) (conn : Held S) → LinesIn store T makes ends io s r conn → OnOk r (OverDatabase store makes (Whole (in_database store) T ends io) s conn)
-    whole_in s (Err why) conn h = tt
-    whole_in s (Ok u) conn (inl none) = absurd (ok_err none.told)
-    whole_in s (Ok u) conn (inr some) = record {
-      taken = some.taken;
-      last = some.last;
-      of_old = some.of_old;
-      over = record { first = some.over.first; final = some.over.final; opened = some.over.opened; did = whole_told (in_database store) T ends io u some.over.first some.over.final some.over.did; back = some.over.back };
-      back = some.back;
-    }
+  -- reads among them, as the desk is seen
+  pub seen_lines : (makes ends : Bool) (io : Streams) (s : State) (r : Result (Unit {0}) Fault) (conn : Held S) → LinesIn store (in_turn true (standing (in_database store))) makes ends io s r conn → DatabaseEnded store makes true ends io s r conn
+  seen_lines makes ends io s r conn (inl none) = inl none
+  seen_lines makes ends io s r conn (inr some) =
+      inr (seen_in store (LinesTold (standing (in_database store)) (in_turn true (standing (in_database store))) ends io r) (λ (stands : Seen (InDatabase S) → Standing). LinesTold stands (in_turn true stands) ends io r)
+      (λ began d e k h. told_seen (standing (in_database store)) (seen (left_of store began)) (view store) (IsKept store began) (views store began) d e k ends io r h) makes s conn some)
 
-  -- that a new one may be made was known
-  pub over_made : (is_new makes : Bool) (Did : Desk (BookView S) → Desk (BookView S) → Type 0) (s : State) (conn : Held S) → (is_new ≡ true → makes ≡ true) → OverDatabase store is_new Did s conn → OverDatabase store makes Did s conn
-  over_made is_new makes Did s conn may h = record {
-    taken = h.taken;
-    last = h.last;
-    of_old = elim h.of_old [ inl had ↦ inl had | inr made ↦ inr (may made.0, made.1, made.2) ];
-    over = h.over;
-    back = h.back;
-  }
+  -- without a fault the whole input was answered
+  pub whole_in : (makes ends : Bool) (io : Streams) (s : State) (r : Result (Unit {0}) Fault) (conn : Held S) → DatabaseEnded store makes true ends io s r conn → OnOk r (DatabaseAnswered store makes true ends io s conn)
+  whole_in makes ends io s (Err why) conn h = tt
+  whole_in makes ends io s (Ok u) conn (inl none) = absurd (ok_err none.told)
+  whole_in makes ends io s (Ok u) conn (inr some) =
+      seen_so store (λ (stands : Seen (InDatabase S) → Standing). LinesTold stands (in_turn true stands) ends io (Ok u)) (λ (stands : Seen (InDatabase S) → Standing). Whole stands (in_turn true stands) ends io)
+      (λ stands d e h. whole_told stands (in_turn true stands) ends io u d e h) makes s conn some
 
 -- ---- requests alone
 
@@ -101,6 +95,21 @@ told_since ends io (Ok u) old mid new of h = well_lines_since (AllLines io.had) 
 told_since ends io (Err fault) old mid new of (inl h) = inl (record { why = h.why; told = h.told; session = lines_since (FirstLines io.had) (Begins io.before io.behind) old mid new of h.session })
 told_since ends io (Err fault) old mid new of (inr h) = inr (record { told = h.told; asked = h.asked; session = failed_lines_since (FirstLines io.had) (Appends io.before io.behind) old mid new of h.session })
 
+-- and as one of the database that it left
+told_left : (Sound : Type 0) (new : BookState) → (new.is_sound → Sound) → (ends : Bool) (io : Streams) (r : Result (Unit {0}) Fault) (old : BookState) → SessionTold ends io r old new → SessionTold ends io r old (called new Sound)
+told_left Sound new so ends io (Ok u) old h =
+    arrivals_so (AllLines io.had) (IsSessionTo ends old new) (IsSessionTo ends old (called new Sound)) (Appends io.before io.behind) (λ l ts s. (session_called Sound new so IsFault old l ts s.0, s.1)) h
+told_left Sound new so ends io (Err fault) old (inl h) = inl (record {
+  why = h.why;
+  told = h.told;
+  session = arrivals_so (FirstLines io.had) (IsSession old new) (IsSession old (called new Sound)) (Begins io.before io.behind) (λ l ts s. session_called Sound new so IsFault old l ts s) h.session;
+})
+told_left Sound new so ends io (Err fault) old (inr h) = inr (record {
+  told = h.told;
+  asked = h.asked;
+  session = arrivals_so (FirstLines io.had) (IsFailedSession old new) (IsFailedSession old (called new Sound)) (Appends io.before io.behind) (λ l ts s. (session_called Sound new so IsFault old l ts s.0, s.1)) h.session;
+})
+
 both_asked : (a b : Bool) → (a && b) ≡ true → (a ≡ true) × (b ≡ true)
 both_asked true true h = (refl, refl)
 both_asked true false h = absurd (true≢false (sym h))
@@ -108,7 +117,7 @@ both_asked false b h = absurd (true≢false (sym h))
 
 module _ {B : Type 0} (says : book.Ghosts B) (runs : RequestsRun says) (ends : Bool) (io : Streams) where
   abbrev Asks : Desk B → Desk B → List (List ℕ) → List (List ℕ) → Type 0
-  Asks = InTurn line_of (Answers (standing says))
+  Asks = in_turn false (standing says)
 
   ran : (P : List (List ℕ) → Type 0) (W : List ℕ → Type 0) (d e : Desk B) → LinesAnswered P (Asks d e) W → LinesAnswered P (RunInTurn says d e) W
   ran P W d e h = answered_so P (Asks d e) (RunInTurn says d e) W (runs d e) h
@@ -134,7 +143,7 @@ module _ {B : Type 0} (says : book.Ghosts B) (runs : RequestsRun says) (ends : B
   })
   session_of_lines (Err fault) (Ok v) false old d e is told o h = absurd (ok_err (sym told))
 
-  session_of_desk : (r : Result (Unit {0}) Fault) (old : BookState) (last : B) → OverDesk says (LinesTold says Asks ends io r) old last → SessionTold ends io r old (says.state last)
+  session_of_desk : (r : Result (Unit {0}) Fault) (old : BookState) (last : B) → OverDesk says (LinesTold (standing says) Asks ends io r) old last → SessionTold ends io r old (says.state last)
   session_of_desk r old last h =
       subst (λ (b : B). SessionTold ends io r old (says.state b)) (sym h.back)
       (session_of_lines r h.did.ended (ends && (standing says h.final).failed) old h.first h.final refl h.did.told h.opened h.did.lines)
@@ -145,12 +154,13 @@ lines_are_sessions {S} store remaining contents runs makes ends reader writer r 
     let io : Streams = streams remaining contents reader writer in
     let new : BookState = book_of store h.last in
     subst (λ (x : Held S). OverConnection (SessionTold ends io r) makes s (state store x)) (sym h.back)
-    (over_connection (SessionTold ends io r) (SessionTold ends io r) makes s (state store h.last.conn) (book_of store h.taken) h.last.noted h.last.failures (λ old of told. told_since ends io r old (book_of store h.taken) new of told) h.of_old
+    (over_connection (SessionTold ends io r) (SessionTold ends io r) makes s (state store h.last.conn) (book_of store h.taken) h.last.noted h.last.failures (λ old of told. told_since ends io r old (book_of store h.taken) new of told)
+    (λ old told. told_left (LeavesFiled (state store h.last.conn)) new (leaves_filed (state store h.last.conn) h.last.noted h.last.failures) ends io r old told) h.of_old
     (session_of_desk (in_database store) runs ends io r (book_of store h.taken) h.last h.over))
 
 -- without a fault they are the whole session
 pub session_in : {S R W : Type 0} (store : Ghosts S) (remaining : R → Option (List ℕ)) (contents : W → Option (List ℕ)) → LinesAreSessions store remaining contents → (makes ends : Bool) (reader : R × R) (writer : W × W) (given : Held S) (r : Result (Unit {0}) Fault) (conn : Held S)
-    → LinesIn store (InTurn line_of (Answers (standing (in_database store)))) makes ends (streams remaining contents reader writer) (state store given) r conn
+    → LinesIn store (in_turn false (standing (in_database store))) makes ends (streams remaining contents reader writer) (state store given) r conn
     → OnOk r (DatabaseAnswered store makes false ends (streams remaining contents reader writer) (state store given) conn)
 session_in store remaining contents law makes ends reader writer given (Err why) conn h = tt
 session_in store remaining contents law makes ends reader writer given (Ok u) conn (inl none) = absurd (ok_err none.told)
@@ -158,7 +168,7 @@ session_in store remaining contents law makes ends reader writer given (Ok u) co
 
 -- or its beginning
 pub ended_in : {S R W : Type 0} (store : Ghosts S) (remaining : R → Option (List ℕ)) (contents : W → Option (List ℕ)) → LinesAreSessions store remaining contents → (makes ends : Bool) (reader : R × R) (writer : W × W) (given : Held S) (r : Result (Unit {0}) Fault) (conn : Held S)
-    → LinesIn store (InTurn line_of (Answers (standing (in_database store)))) makes ends (streams remaining contents reader writer) (state store given) r conn
+    → LinesIn store (in_turn false (standing (in_database store))) makes ends (streams remaining contents reader writer) (state store given) r conn
     → DatabaseEnded store makes false ends (streams remaining contents reader writer) (state store given) r conn
 ended_in store remaining contents law makes ends reader writer given r conn (inl none) = inl none
 ended_in store remaining contents law makes ends reader writer given r conn (inr some) = inr (law makes ends reader writer r given conn some)
@@ -166,4 +176,4 @@ ended_in store remaining contents law makes ends reader writer given r conn (inr
 -- that a new book may be made was known
 pub answered_made : {S : Type 0} (store : Ghosts S) (is_new makes reads ends : Bool) (io : Streams) (s : State) (conn : Held S) → (is_new ≡ true → makes ≡ true) → DatabaseAnswered store is_new reads ends io s conn → DatabaseAnswered store makes reads ends io s conn
 answered_made store is_new makes false ends io s conn may h = over_makes (λ (before behind : BookState). AnswersOver ends before io.had io.before io.behind behind) is_new makes s (state store conn) may h
-answered_made store is_new makes true ends io s conn may h = over_made store is_new makes _ s conn may h
+answered_made store is_new makes true ends io s conn may h = seen_made store _ is_new makes s conn may h

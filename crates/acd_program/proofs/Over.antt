@@ -22,7 +22,7 @@ use Rattle.acd_desk.specs.Leads.{Leads}
 use Rattle.acd_desk.proofs.Sessions.{session_ran}
 use Rattle.acd_lines.specs.Lines.{LinesAnswered, ArrivalsAnswered}
 use Rattle.acd_lines.proofs.Weaker.{arrivals_so}
-use Rattle.acd_program.specs.Over.{IsSession, IsSessionTo, IsFailedSession, OverConnection}
+use Rattle.acd_program.specs.Over.{IsSession, IsSessionTo, IsFailedSession, OverConnection, left}
 use Rattle.acd_program.specs.Taking.{IsOf, IsTaken}
 
 -- lines over a desk of the book
@@ -83,12 +83,12 @@ failed_lines_since P W old mid new of h = arrivals_so P (IsFailedSession mid new
 
 -- whatever carries over to what a book came of is said of the database
 pub over_connection : (P Q : BookState → BookState → Type 0) (makes : Bool) (s t : State) (mid : BookState) (noted : Notes) (failures : ℕ)
-    → ((old : BookState) → IsOf old mid → P mid (followed noted (book_state t failures)) → Q old (followed noted (book_state t failures))) → IsTaken makes s mid → P mid (followed noted (book_state t failures)) → OverConnection Q makes s t
-over_connection P Q makes s t mid noted failures carries taken h = (
+    → ((old : BookState) → IsOf old mid → P mid (followed noted (book_state t failures)) → Q old (followed noted (book_state t failures)))
+    → ((old : BookState) → Q old (followed noted (book_state t failures)) → Q old (left t failures)) → IsTaken makes s mid → P mid (followed noted (book_state t failures)) → OverConnection Q makes s t
+over_connection P Q makes s t mid noted failures carries leaves taken h = (
   failures,
-  noted,
   elim taken [
-    | inl had ↦ inl (carries _ had h)
-    | inr made ↦ inr (made.0, made.1, carries _ made.2 h)
+    | inl had ↦ inl (leaves _ (carries _ had h))
+    | inr made ↦ inr (made.0, made.1, leaves _ (carries _ made.2 h))
   ],
 )

@@ -4,22 +4,20 @@ use Rattle.std.proofs.KnownBytes.{Appends-nil}
 use Rattle.std.specs.Io.KnownBytes.{Appends}
 use Rattle.sqlite.specs.State.{State}
 use Rattle.sqlite.specs.Held.{Held, state}
-use Rattle.sqlite.specs.Files.{over_files}
 use Rattle.sqlite_disk.specs.declared.Disk as disk
 use Rattle.sqlite_trees.specs.Tree.{Trees}
 use Rattle.sqlite_trees.specs.declared.store.Store.{Ghosts}
-use Rattle.acd_book.specs.declared.book.Book as book
 use Rattle.acd_sqlbook.specs.View.{BookView, book_of}
-use Rattle.acd_desk.specs.declared.desk.Desk.{Desk}
 use Rattle.acd_desk.specs.Standing.{Standing, standing}
 use Rattle.acd_io.specs.Sent.{Begins, WasSent}
 use Rattle.acd_io.proofs.Sends.{begins_so}
 use Rattle.acd_lines.specs.Lines.{Streams}
 use Rattle.acd_http.specs.Listening.{ServedAll, ServedUntilFailed, ServedFor, outcome_lines}
 use Rattle.acd_terms.proofs.Results.{ok_err}
-use Rattle.acd_program.specs.Desks.{OverDatabase, in_database}
+use Rattle.acd_program.specs.Desks.{in_database}
 use Rattle.acd_program.specs.Faults.{open_fault, told_by}
 use Rattle.acd_program.specs.Over.{Unserved}
+use Rattle.acd_program.specs.Seen.{Seen, seen, InDatabase, left_of, SeenIn}
 use Rattle.acd_program.specs.Taking.{IsTaken}
 use Rattle.acd_program.specs.Statuses.{TellsConnections}
 use Rattle.acd_program.specs.Serving.{Served, listening_line, ends_failed, ListenTold, ServeTold, ServeOver, ServeIn}
@@ -27,7 +25,7 @@ use Rattle.acd_program.specs.declared.fault.Fault.{Fault}
 use Rattle.acd_program.specs.declared.asked.Task.{Task}
 use Rattle.acd_program.specs.declared.asked.Task.TheVariants as task
 use Rattle.acd_program.specs.Tasks.{ServedIn, TaskDone}
-use Rattle.acd_program.proofs.LinesOver.{over_made}
+use Rattle.acd_program.proofs.Seen.{view, views, IsKept, serve_seen, seen_in, seen_made, seen_so}
 use Rattle.acd_program.proofs.Taking.{unserved_refused, unserved_makes}
 
 -- what was written whole is a beginning of itself
@@ -60,16 +58,16 @@ well_for u None true told is = absurd (ok_err told)
 well_for u (Some many) true told is = absurd (cc is)
 
 module _ (span : Option ℕ) (a b : Option (List ℕ)) (port : ℕ) (before behind : Option (List ℕ)) where
-  module _ {B : Type 0} (says : book.Ghosts B) where
+  module _ {D : Type 0} (stands : D → Standing) where
     -- connections are waited for once the whole line is written
-    pub serve_answered : (r : Result (Unit {0}) Fault) (d e : Desk B) → Appends before behind (listening_line port) → ListenTold span a b says r d e → ServeTold span a b port before behind says r d e
+    pub serve_answered : (r : Result (Unit {0}) Fault) (d e : D) → Appends before behind (listening_line port) → ListenTold span a b stands r d e → ServeTold span a b port before behind stands r d e
     serve_answered r d e line (inl none) = inl (none, begins_whole before behind (listening_line port) line)
     serve_answered r d e line (inr some) = inr (some, line)
 
     -- without a fault they were served as was asked for
-    serves_told : (u : Unit {0}) (d e : Desk B) → ServeTold span a b port before behind says (Ok u) d e → Served says span a b d e
+    serves_told : (u : Unit {0}) (d e : D) → ServeTold span a b port before behind stands (Ok u) d e → Served stands span a b d e
     serves_told u d e (inl none) = absurd (ok_err none.0.ended)
-    serves_told u d e (inr some) = record { served = some.0.served; well = well_for u span (standing says e).failed some.0.ended }
+    serves_told u d e (inr some) = record { served = some.0.served; well = well_for u span (stands e).failed some.0.ended }
 
   module _ {S : Type 0} (store : Ghosts S) (s : State) (r : Result (Unit {0}) Fault) (conn : Held S) where
     -- over the book that was taken of the database
@@ -83,35 +81,30 @@ module _ (span : Option ℕ) (a b : Option (List ℕ)) (port : ℕ) (before behi
       quiet = none.quiet;
       unsaid = none.unsaid;
     })
-    serve_in makes taken last settles of back (inr some) = inr (record { taken = taken; last = last; of_old = of; over = some; back = back })
+    serve_in makes taken last settles of back (inr some) =
+        inr (seen_in store (ServeTold span a b port before behind (standing (in_database store)) r) (λ (stands : Seen (InDatabase S) → Standing). ServeTold span a b port before behind stands r)
+        (λ began d e k h. serve_seen (standing (in_database store)) (seen (left_of store began)) (view store) (IsKept store began) (views store began) d e k span a b port before behind r h) makes s conn (record { taken = taken; last = last; of_old = of; over = some; back = back }))
 
     -- where it was known whether a new book may be made
     pub serve_made : (is_new makes : Bool) → (is_new ≡ true → makes ≡ true) → ServeIn span a b port before behind store is_new s r conn → ServeIn span a b port before behind store makes s r conn
     serve_made is_new makes may (inl none) =
         inl (record { why = none.why; ended = none.ended; unserved = unserved_makes is_new makes s (state store conn) may none.unserved; quiet = none.quiet; unsaid = none.unsaid })
-    serve_made is_new makes may (inr some) = inr (over_made store is_new makes (ServeTold span a b port before behind (in_database store) r) s conn may some)
+    serve_made is_new makes may (inr some) = inr (seen_made store _ is_new makes s conn may some)
 
   -- without a fault they were served as was asked for
   pub serves_in : {S : Type 0} (store : Ghosts S) (s : State) (r : Result (Unit {0}) Fault) (conn : Held S) (makes : Bool) → ServeIn span a b port before behind store makes s r conn
-      → OnOk r (OverDatabase store makes (Served (in_database store) span a b) s conn)
+      → OnOk r (SeenIn store (λ (stands : Seen (InDatabase S) → Standing). Served stands span a b) makes s conn)
   serves_in store s (Err e) conn makes h = tt
   serves_in store s (Ok u) conn makes (inl none) = absurd (ok_err none.ended)
-  serves_in store s (Ok u) conn makes (inr some) = record {
-    taken = some.taken;
-    last = some.last;
-    of_old = some.of_old;
-    over = record {
-      first = some.over.first;
-      final = some.over.final;
-      opened = some.over.opened;
-      did = serves_told (in_database store) u some.over.first some.over.final some.over.did;
-      back = some.over.back;
-    };
-    back = some.back;
-  }
+  serves_in {S} store s (Ok u) conn makes (inr some) =
+      seen_so store (λ (stands : Seen (InDatabase S) → Standing). ServeTold span a b port before behind stands (Ok u)) (λ (stands : Seen (InDatabase S) → Standing). Served stands span a b)
+      (λ stands d e h. serves_told stands u d e h) makes s conn some
 
 pub file_tells : {D : Type 0} {g : disk.Ghosts D} (IsFresh : Bool → D → Type 0) (span : Option ℕ) (a b : Option (List ℕ)) → ServedIn g IsFresh span a b → TellsConnections a b
-file_tells IsFresh span a b h = told_for (standing (in_database over_files)) span h.served.over.first h.served.over.final a b h.served.over.did.served
+file_tells IsFresh span a b h = elim h.served [
+  | inl had ↦ told_for _ span had.first had.final a b had.did.served
+  | inr made ↦ told_for _ span made.2.first made.2.final a b made.2.did.served
+]
 
 pub serve_task : {D : Type 0} (g : disk.Ghosts D) (IsFresh : Bool → D → Type 0) (asked : Task) (io : Streams) (a b : Option (List ℕ)) (file port : _) (connections : Option ℕ) → asked ≡ task.Serve file port connections → ServedIn g IsFresh connections a b
     → TaskDone g IsFresh asked io a b 0

@@ -11,21 +11,22 @@ use Rattle.sqlite_trees.specs.Tree.{Trees}
 use Rattle.acd_book.specs.Content.{Content}
 use Rattle.acd_book.specs.Order.{IsOrdered}
 use Rattle.acd_sql_columns.proofs.Decoded.{decoded}
+use Rattle.acd_sql_schema.proofs.Contents.{filed_in}
 use Rattle.acd_desk.specs.declared.open_fault.OpenFault.{OpenFault}
 use Rattle.acd_desk.specs.Opening.{Refused}
-use Rattle.acd_program.specs.Answered.{nothing}
 use Rattle.acd_sql_columns.specs.Schema.{no_schema}
 use Rattle.acd_sqlbook.specs.declared.notes.Notes.{Notes}
-use Rattle.acd_sqlbook.specs.Noting.{IsBlank, SoundWith, followed}
+use Rattle.acd_sqlbook.specs.Noting.{IsBlank, followed}
 use Rattle.acd_sqlbook.specs.State.{book_state, IsNewBook}
 use Rattle.acd_sqlbook.specs.View.{BookView, book_of}
 use Rattle.sqlite.specs.Held.{state}
 use Rattle.sqlite_trees.specs.declared.store.Store.{Ghosts}
 use Rattle.acd_sqlbook.proofs.Followed.{blank_of}
 use Rattle.acd_program.specs.Ended.{OnlyAsked}
-use Rattle.acd_program.specs.Over.{held, unmade, Unserved}
+use Rattle.acd_program.specs.Over.{held, unmade, StandsFor, Unserved}
 use Rattle.acd_program.specs.Taking.{IsOf, IsTaken}
 use Rattle.acd_program.proofs.Asking.{only_refused}
+use Rattle.acd_program.proofs.Called.{leaves_filed}
 
 pub of_held : (s t : State) (noted : Notes) (failures : ℕ) → (HasCleanDisk t → IsAdopted s.now (book_state s 0) (book_state t failures)) → IsBlank noted → failures ≡ 0 → (HasCleanDisk t → HasCleanDisk s)
     → IsOf (held s) (followed noted (book_state t failures))
@@ -33,6 +34,7 @@ of_held s t noted failures adopted none counted clean = record {
   step = record { clean = clean; sound = λ here filed. ((adopted here).sound filed, λ up. blank_of noted none _); quiet = λ none. counted; counts = omega arith };
   content = λ here filed. (adopted here).content filed;
   stops = λ here filed. (adopted here).stops filed;
+  keeps = λ here filed. (adopted here).keeps filed;
   opened = λ here filed. (adopted here).was_open;
   live = λ here filed. (adopted here).live;
   ordered = λ here filed. (adopted here).ordered filed;
@@ -44,6 +46,7 @@ of_unmade s t noted failures made none counted clean = record {
   step = record { clean = clean; sound = λ here _. ((made here).sound, λ up. blank_of noted none _); quiet = λ none. counted; counts = omega arith };
   content = λ here _. (made here).content;
   stops = λ here _. (made here).only;
+  keeps = λ here _ c is. subst (book_state t failures).stops (sym is) (made here).stop;
   opened = λ here _. tt;
   live = λ here _. (made here).live;
   ordered = λ here _. subst IsOrdered (sym (made here).content) (record { kept = tt; events = tt });
@@ -61,9 +64,13 @@ made_taken (Err e) stand makes s asked empty h = tt
 
 -- ---- where no desk is made
 
+-- the tables of a content stand for it
+stands_for : (db : Trees) (c : Content) → Encodes db c → StandsFor db c
+stands_for db c stored = (filed_in db c stored, decoded db c stored)
+
 -- what a database that was not taken may leave
 pub unserved_held : (makes : Bool) (s t : State) → (HasCleanDisk t → MayMigrate s t) → Unserved makes s t
-unserved_held makes s t may = λ clean filed db left. elim (may clean db left) [ inl was ↦ inl was | inr second ↦ inr (inl (second.content filed)) ]
+unserved_held makes s t may = λ clean filed db left. elim (may clean db left) [ inl was ↦ inl was | inr second ↦ inr (inl (stands_for db _ (second.content filed))) ]
 
 pub none_adopted : {A E : Type 0} (r : Result A E) (behind : E → State) (makes : Bool) (s : State) → IfErr r (λ (e : E). HasCleanDisk (behind e) → MayMigrate s (behind e)) → IfErr r (λ (e : E). Unserved makes s (behind e))
 none_adopted (Ok b) behind makes s h = tt
@@ -71,16 +78,12 @@ none_adopted (Err e) behind makes s h = unserved_held makes s (behind e) h
 
 -- what tables that were not made to their end may leave
 pub unserved_unmade : (makes : Bool) (s t : State) → makes ≡ true → s.now.schema ≡ no_schema → (HasCleanDisk t → MayMake s t greatest_limits) → Unserved makes s t
-unserved_unmade makes s t asked empty may = λ clean filed db left. elim (may clean db left) [ inl was ↦ inl was | inr made ↦ inr (inr (asked, empty, made)) ]
+unserved_unmade makes s t asked empty may = λ clean filed db left. elim (may clean db left) [ inl was ↦ inl was | inr made ↦ inr (inr (asked, empty, stands_for db _ made)) ]
 
 pub none_made : {A E : Type 0} (r : Result A E) (behind : E → State) (makes : Bool) (s : State) → makes ≡ true → s.now.schema ≡ no_schema → IfErr r (λ (e : E). HasCleanDisk (behind e) → MayMake s (behind e) greatest_limits)
     → IfErr r (λ (e : E). Unserved makes s (behind e))
 none_made (Ok b) behind makes s asked empty h = tt
 none_made (Err e) behind makes s asked empty h = unserved_unmade makes s (behind e) asked empty h
-
--- what a sound book may leave are tables of its contents
-left_as : (t : State) (noted : Notes) (failures : ℕ) (db : Trees) (c : Content) → SoundWith noted (book_state t failures) → t.may_leave db → content_of db ≡ c → Encodes db c
-left_as t noted failures db c sound left is = let own = sound.0.left db left in subst (Encodes db) (sym (decoded db own.0 own.1) ∙ is) own.1
 
 -- what a book may leave of which a desk was only asked, or that makes none
 pub unserved_asked : (makes : Bool) (s t : State) (mid : BookState) (noted : Notes) (failures : ℕ) → ((db : Trees) → IsTrue s.is_open → s.may_leave db → db ≡ s.committed.trees) → IsTaken makes s mid → OnlyAsked mid (followed noted (book_state t failures)) → Unserved makes s t
@@ -89,13 +92,13 @@ unserved_asked makes s t mid noted failures settles (inl had) asked = λ clean f
     let sound = had.step.sound here filed in
     let before = had.stops here filed (content_of db) (asked.stops clean sound (content_of db) (db, left, refl)) in
     let same : content_of db ≡ content_of s.committed.trees = before.2 ∙ ap content_of (settles before.0 (had.opened here filed) before.1) in
-    inr (inl (left_as t noted failures db (content_of s.committed.trees) (asked.sound clean sound) left same))
+    inr (inl (leaves_filed t noted failures (asked.sound clean sound) db left, same))
 unserved_asked makes s t mid noted failures settles (inr made) asked = λ clean filed db left.
     let here = asked.clean clean in
     let new = made.2 in
     let sound = new.step.sound here tt in
     let same = new.stops here tt (content_of db) (asked.stops clean sound (content_of db) (db, left, refl)) in
-    inr (inr (made.0, made.1, left_as t noted failures db nothing (asked.sound clean sound) left same))
+    inr (inr (made.0, made.1, (leaves_filed t noted failures (asked.sound clean sound) db left, same)))
 
 pub unserved_refused : (makes : Bool) (s t : State) (mid : BookState) (noted : Notes) (failures : ℕ) (why : OpenFault) → ((db : Trees) → IsTrue s.is_open → s.may_leave db → db ≡ s.committed.trees) → IsTaken makes s mid → Refused mid why (followed noted (book_state t failures)) → Unserved makes s t
 unserved_refused makes s t mid noted failures why settles of refused = unserved_asked makes s t mid noted failures settles of (only_refused mid (followed noted (book_state t failures)) why refused)

@@ -29,10 +29,11 @@ use Rattle.acd_program.specs.declared.desk.Done.{Done}
 use Rattle.acd_program.specs.declared.desk.Done.TheVariants as left
 use Rattle.acd_program.specs.Found.{IsFindingOf}
 use Rattle.acd_program.specs.Work.{ImportsOver, IsFindingIfOrdered, IsTextOf, AuditsOver, WorkDone, telling_text}
-use Rattle.acd_program.specs.Over.{IsSession, OverConnection}
+use Rattle.acd_program.specs.Over.{IsSession, LeavesFiled, OverConnection}
 use Rattle.acd_program.specs.Taking.{IsOf, IsTaken}
 use Rattle.acd_program.proofs.Over.{session_of, over_connection}
 use Rattle.acd_program.proofs.Asking.{asked_of, asked_in_order}
+use Rattle.acd_program.proofs.Called.{called, leaves_filed, session_called, asked_called}
 
 pub imports_over : (old : BookState) (d e : Standing) (requests : List Request) (before behind : Option (List ℕ)) → Opened old d
     → LinesAnswered (AllRequests requests) (RequestsAnswered (λ (l : List Arrival) (ts : List Taken). Ran d l ts e)) (Appends before behind) → ImportsOver requests old before behind e.book
@@ -55,6 +56,16 @@ work_of (Import requests) old mid new before behind done of h = (imports_of old 
 work_of (Tell telling) old mid new before behind done of h = (record { asked = asked_of old mid new _ (IsTextOf telling) of h.0.asked; status = h.0.status }, h.1)
 work_of (Audit counts ending) old mid new before behind done of h = (audits_of counts ending old mid new done of h.0, h.1)
 
+-- as the database that was left
+work_left : (Sound : Type 0) (new : BookState) → (new.is_sound → Sound) → (work : Work) (old : BookState) (before behind : Option (List ℕ)) (done : Done) → WorkDone IsFindingOf work old before behind done new
+    → WorkDone IsFindingOf work old before behind done (called new Sound)
+work_left Sound new so (Import requests) old before behind done h =
+    (requests_so (AllRequests requests.now) (IsSession old new) (IsSession old (called new Sound)) (Appends before behind) (λ l ts s. session_called Sound new so IsFault old l ts s) h.0, h.1)
+work_left Sound new so (Tell telling) old before behind done h = (record { asked = asked_called Sound new so old _ (IsTextOf telling) h.0.asked; status = h.0.status }, h.1)
+work_left Sound new so (Audit counts ending) old before behind left.Nothing h = h
+work_left Sound new so (Audit counts ending) old before behind (left.Told text) h = h
+work_left Sound new so (Audit counts ending) old before behind (left.Audited found told) h = ((h.0.0, asked_called Sound new so old found IsFindingOf h.0.1, h.0.2), h.1)
+
 -- ---- over a book
 
 -- and all events, which stand in order
@@ -70,4 +81,5 @@ pub database_done : {E : Type 0} (r : Result Done E) (work : Work) (makes : Bool
 database_done (Err e) work makes s t mid noted failures before behind taken h = tt
 database_done (Ok d) work makes s t mid noted failures before behind taken h =
     over_connection (λ (old new : BookState). WorkDone IsFindingIfOrdered work old before behind d new) (λ (old new : BookState). WorkDone IsFindingOf work old before behind d new) makes s t mid noted failures
-    (λ old of done. work_of work old mid (followed noted (book_state t failures)) before behind d of done) taken h
+    (λ old of done. work_of work old mid (followed noted (book_state t failures)) before behind d of done)
+    (λ old done. work_left (LeavesFiled t) (followed noted (book_state t failures)) (leaves_filed t noted failures) work old before behind d done) taken h

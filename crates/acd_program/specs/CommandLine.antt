@@ -1,11 +1,11 @@
 -- The commands with their options, and the task that the words of a command line name.
-use Rattle.std.specs.Prelude.{◌≡◌, ℕ, ◌∷◌, [], Bool, true, false, List, Option, Some, None, is_some, find, codes, option_map}
+use Rattle.std.specs.Prelude.{◌≡◌, ◌≢◌, ℕ, ◌∷◌, [], Bool, true, false, List, Option, Some, None, is_some, find, codes, option_map}
 use Rattle.std.specs.Option.{option_map_or}
 use Rattle.std.specs.Str.{bytes_eq}
 use Rattle.std.specs.Str.Parse.{IsNumeral, digits_value, without_leading_plus}
 use Rattle.std.specs.Borrow.{Bor}
 use Rattle.clap.specs.Simple.{new_shape}
-use Rattle.clap.specs.Words.{App, Row, Rule, Shape, Text, app_of, first_of, new_rule, one_of, rule_of, subcommand_of}
+use Rattle.clap.specs.Words.{App, Row, Rule, Shape, Text, app_of, first_of, new_rule, one_of, rule_of, subcommand_of, takes}
 use Rattle.clap.specs.declared.builder.Arg.{Arg}
 use Rattle.clap.specs.declared.builder.Command.{Command}
 use Rattle.clap.specs.declared.builder.Command.TheViews.{out-Command as fields_of}
@@ -141,3 +141,7 @@ IsTaskIn (Some matches) task = IsTaskWith matches.0 matches.1 task
 -- the words, of which the first is the program's name, name the task
 abbrev pub IsTaskOf : List Text → Task → Type 0
 IsTaskOf words = IsTaskIn (subcommand_of acd words)
+
+-- the words aren't a command line that is taken
+abbrev pub IsUntaken : List Text → Type 0
+IsUntaken words = takes acd words ≢ true

@@ -9,6 +9,7 @@ pub mod InFiles
 pub mod Behind
 pub mod Files
 pub mod Desks
+pub mod Seen
 pub mod Serving
 pub mod LinesOver
 pub mod Sessions

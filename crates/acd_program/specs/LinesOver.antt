@@ -11,37 +11,43 @@ use Rattle.acd_sqlbook.specs.View.{BookView}
 use Rattle.acd_desk.specs.declared.desk.Desk.{Desk}
 use Rattle.acd_desk.specs.declared.open_fault.OpenFault.{OpenFault}
 use Rattle.acd_desk.specs.Opening.{Refused}
-use Rattle.acd_desk.specs.Standing.{standing}
+use Rattle.acd_desk.specs.Standing.{Standing, standing}
 use Rattle.acd_lines.specs.Answers.{Answers}
-use Rattle.acd_lines.specs.Input.{line_of}
+use Rattle.acd_lines.specs.Input.{asked, line_of}
 use Rattle.acd_lines.specs.Lines.{LinesAnswered, AllLines, Streams, Untouched, LinesDone}
-use Rattle.acd_lines.specs.Parts as parts
+use Rattle.acd_lines.specs.Parts.{InTurn}
 use Rattle.acd_lines.specs.declared.fault.LinesFault.{LinesFault}
 use Rattle.acd_lines.specs.declared.fault.LinesFault.TheVariants.{NoMemory}
-use Rattle.acd_http.specs.ReadingLines.{ReadInTurn}
+use Rattle.acd_http.specs.ReadingLines.{reading_line_of, ReadingAnswers}
 use Rattle.acd_program.specs.Answered.{in_memory}
 use Rattle.acd_program.specs.Desks.{OverDesk, OverNewDesk, OverDatabase, in_database}
 use Rattle.acd_program.specs.Faults.{open_fault, told_by}
 use Rattle.acd_program.specs.Over.{AnswersOver, OverConnection, Unserved}
+use Rattle.acd_program.specs.Seen.{Seen, InDatabase, SeenIn}
 use Rattle.acd_program.specs.declared.fault.Fault.{Fault}
 
 -- how the lines of a command are answered: requests alone or, where it `reads`, these and the reads among them
-abbrev pub in_turn : {B : Type 0} → Bool → book.Ghosts B → Desk B → Desk B → List (List ℕ) → List (List ℕ) → Type 0
-in_turn true says = ReadInTurn says
-in_turn false says = parts.InTurn line_of (Answers (standing says))
+abbrev pub in_turn : {D : Type 0} → Bool → (D → Standing) → D → D → List (List ℕ) → List (List ℕ) → Type 0
+in_turn true stands = InTurn reading_line_of (ReadingAnswers stands)
+in_turn false stands = InTurn line_of (Answers stands)
 
-module _ {B : Type 0} (says : book.Ghosts B) (InTurn : Desk B → Desk B → List (List ℕ) → List (List ℕ) → Type 0) (ends : Bool) (io : Streams) where
+-- each line is answered in turn: one without a moment, one that is too long, and any other by its moment and its text
+abbrev pub each_by : {D L : Type 0} → L → L → (ℕ → List ℕ → L) → (D → L → List ℕ → D → Type 0) → D → D → List (List ℕ) → List (List ℕ) → Type 0
+each_by unmarked long read Answers = InTurn (asked unmarked long read) Answers
+
+module _ {D : Type 0} (stands : D → Standing) (AnsweredInTurn : D → D → List (List ℕ) → List (List ℕ) → Type 0) (ends : Bool) (io : Streams) where
   -- the whole input was answered, by a desk that hasn't failed where that was to end it
-  pub record Whole (d e : Desk B) : Type 0 where
-    pub answered : LinesAnswered (AllLines io.had) (InTurn d e) (Appends io.before io.behind)
-    pub well : ends ≡ true → (standing says e).failed ≡ false
+  pub record Whole (d e : D) : Type 0 where
+    pub answered : LinesAnswered (AllLines io.had) (AnsweredInTurn d e) (Appends io.before io.behind)
+    pub well : ends ≡ true → (stands e).failed ≡ false
 
   -- lines were answered, and the command is told how that ended
-  pub record LinesTold (result : Result (Unit {0}) Fault) (d e : Desk B) : Type 0 where
+  pub record LinesTold (result : Result (Unit {0}) Fault) (d e : D) : Type 0 where
     pub ended : Result (Unit {0}) LinesFault
-    pub lines : LinesDone (standing says) InTurn ends io d e ended
-    pub told : result ≡ told_by ended (ends && (standing says e).failed)
+    pub lines : LinesDone stands AnsweredInTurn ends io d e ended
+    pub told : result ≡ told_by ended (ends && (stands e).failed)
 
+module _ {B : Type 0} (says : book.Ghosts B) (AnsweredInTurn : Desk B → Desk B → List (List ℕ) → List (List ℕ) → Type 0) (ends : Bool) (io : Streams) where
   -- the book made no desk, and nothing was read or written
   pub record NoDesk (old : BookState) (result : Result (Unit {0}) Fault) (last : B) : Type 0 where
     pub why : OpenFault
@@ -51,9 +57,9 @@ module _ {B : Type 0} (says : book.Ghosts B) (InTurn : Desk B → Desk B → Lis
 
   -- lines over the book
   abbrev pub LinesOver : BookState → Result (Unit {0}) Fault → B → Type 0
-  LinesOver old result last = NoDesk old result last ⊎ OverDesk says (LinesTold result) old last
+  LinesOver old result last = NoDesk old result last ⊎ OverDesk says (LinesTold (standing says) AnsweredInTurn ends io result) old last
 
-module _ {S : Type 0} (store : Ghosts S) (InTurn : Desk (BookView S) → Desk (BookView S) → List (List ℕ) → List (List ℕ) → Type 0) (makes ends : Bool) (io : Streams) where
+module _ {S : Type 0} (store : Ghosts S) (makes : Bool) (io : Streams) where
   -- there was no desk: nothing was read or written, and a crash leaves what it left before, or a new book
   pub record NoneServed (old : State) (result : Result (Unit {0}) Fault) (new : Held S) : Type 0 where
     pub why : Fault
@@ -61,16 +67,21 @@ module _ {S : Type 0} (store : Ghosts S) (InTurn : Desk (BookView S) → Desk (B
     pub unserved : Unserved makes old (state store new)
     pub untouched : Untouched io
 
-  -- lines over the book of the database
-  abbrev pub LinesIn : State → Result (Unit {0}) Fault → Held S → Type 0
-  LinesIn old result new = NoneServed old result new ⊎ OverDatabase store makes (LinesTold (in_database store) InTurn ends io result) old new
+-- lines over the book of the database
+abbrev pub LinesIn : {S : Type 0} → (store : Ghosts S) → (Desk (BookView S) → Desk (BookView S) → List (List ℕ) → List (List ℕ) → Type 0) → Bool → Bool → Streams → State → Result (Unit {0}) Fault → Held S → Type 0
+LinesIn store AnsweredInTurn makes ends io old result new =
+    NoneServed store makes io old result new ⊎ OverDatabase store makes (LinesTold (standing (in_database store)) AnsweredInTurn ends io result) old new
 
 -- the whole input was answered over the book of the database: where lines are requests alone, by a session; else each by the desk that the lines before it left
 abbrev pub DatabaseAnswered : {S : Type 0} → Ghosts S → Bool → Bool → Bool → Streams → State → Held S → Type 0
 DatabaseAnswered store makes false ends io old new = OverConnection (λ (before behind : BookState). AnswersOver ends before io.had io.before io.behind behind) makes old (state store new)
-DatabaseAnswered store makes true ends io old new = OverDatabase store makes (Whole (in_database store) (ReadInTurn (in_database store)) ends io) old new
+DatabaseAnswered {S} store makes true ends io old new = SeenIn store (λ (stands : Seen (InDatabase S) → Standing). Whole stands (in_turn true stands) ends io) makes old new
 
-module _ (InTurn : Desk Content → Desk Content → List (List ℕ) → List (List ℕ) → Type 0) (io : Streams) where
+module _ (AnsweredInTurn : Desk Content → Desk Content → List (List ℕ) → List (List ℕ) → Type 0) (io : Streams) where
   -- lines over a new desk in memory, for which there may be no room
   abbrev pub LinesInMemory : Result (Unit {0}) LinesFault → Type 0
-  LinesInMemory result = ((result ≡ Err NoMemory) × Untouched io) ⊎ OverNewDesk (λ (d e : Desk Content). LinesDone (standing in_memory) InTurn false io d e result)
+  LinesInMemory result = ((result ≡ Err NoMemory) × Untouched io) ⊎ OverNewDesk (λ (d e : Desk Content). LinesDone (standing in_memory) AnsweredInTurn false io d e result)
+
+-- the whole input was answered over a new desk in memory
+abbrev pub NewAnswered : Bool → Streams → Type 0
+NewAnswered reads io = OverNewDesk (Whole (standing in_memory) (in_turn reads (standing in_memory)) false io)

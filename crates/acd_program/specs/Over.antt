@@ -5,14 +5,12 @@ use Rattle.std.specs.Io.KnownBytes.{Appends}
 use Rattle.sqlite_trees.specs.Tree.{Trees}
 use Rattle.sqlite.specs.State.{State, HasCleanDisk}
 use Rattle.acd_terms.specs.declared.command.Arrival.{Arrival}
+use Rattle.acd_book.specs.Content.{Content}
 use Rattle.acd_book.specs.State.{BookState}
-use Rattle.acd_sql_columns.specs.AnyRows.{IsFiled}
-use Rattle.acd_sql_columns.specs.Content.{Encodes}
+use Rattle.acd_sql_columns.specs.AnyRows.{IsFiled, IsFiledAs}
+use Rattle.acd_sql_columns.specs.declared.tables.Version.TheVariants as version
 use Rattle.acd_sql_columns.specs.InTables.{content_of}
 use Rattle.acd_sql_columns.specs.Schema.{no_schema}
-use Rattle.acd_sqlbook.specs.declared.notes.Notes.{Notes}
-use Rattle.acd_sqlbook.specs.Noting.{followed}
-use Rattle.acd_sqlbook.specs.State.{book_state}
 use Rattle.acd_desk.specs.declared.taken.Taken.{Taken}
 use Rattle.acd_desk.specs.declared.taken.Taken.TheVariants.{StoreFault}
 use Rattle.acd_desk.specs.Ran.{IsFault}
@@ -53,15 +51,24 @@ held s = record {
 abbrev pub unmade : State → BookState
 unmade s = record { content = nothing; stops = λ c. c ≡ nothing; is_sound = ⊤; is_clean = HasCleanDisk s; is_open = ⊤; failures = 0 }
 
+-- the rows of version 2's tables are filed, and stand for this
+abbrev pub StandsFor : Trees → Content → Type 0
+StandsFor db c = IsFiledAs version.Second db × (content_of db ≡ c)
+
+-- whatever a crash may leave is filed
+abbrev pub LeavesFiled : State → Type 0
+LeavesFiled s = (db : Trees) → s.may_leave db → IsFiledAs version.Second db
+
+-- a database as the book that a desk left in it, whose store has failed so often
+abbrev pub left : State → ℕ → BookState
+left s failures = record (held s) { is_sound = LeavesFiled s; failures = failures }
+
 -- No desk was made: a crash leaves a database that it left before, or version 2 of the content that was held or, where the database had no tables and a book was to be made,
 -- a new one with nothing in it.
 abbrev pub Unserved : Bool → State → State → Type 0
-Unserved makes old new = HasCleanDisk new → IsFiled old.now → (db : Trees) → new.may_leave db → old.may_leave db ⊎ Encodes db (content_of old.committed.trees) ⊎ ((makes ≡ true) × (old.now.schema ≡ no_schema) × Encodes db nothing)
+Unserved makes old new =
+    HasCleanDisk new → IsFiled old.now → (db : Trees) → new.may_leave db → old.may_leave db ⊎ StandsFor db (content_of old.committed.trees) ⊎ ((makes ≡ true) × (old.now.schema ≡ no_schema) × StandsFor db nothing)
 
--- what is said of the book that the database held or, where it had no tables and one was to be made, of the new one; behind it the book has counted so many failures, and noted this
--- of its events
+-- what is said of the book that the database held or, where it had no tables and one was to be made, of the new one
 abbrev pub OverConnection : (BookState → BookState → Type 0) → Bool → State → State → Type 0
-OverConnection P makes old new =
-    (failures : ℕ) × (noted : Notes)
-    × (P (held old) (followed noted (book_state new failures))
-    ⊎ ((makes ≡ true) × (old.now.schema ≡ no_schema) × P (unmade old) (followed noted (book_state new failures))))
+OverConnection P makes old new = (failures : ℕ) × (P (held old) (left new failures) ⊎ ((makes ≡ true) × (old.now.schema ≡ no_schema) × P (unmade old) (left new failures)))

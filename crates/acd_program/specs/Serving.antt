@@ -6,22 +6,22 @@ use Rattle.sqlite.specs.Held.{Held, state}
 use Rattle.sqlite_trees.specs.declared.store.Store.{Ghosts as Stores}
 use Rattle.acd_book.specs.declared.book.Book.{Ghosts}
 use Rattle.acd_book.specs.State.{BookState}
-use Rattle.acd_desk.specs.declared.desk.Desk.{Desk}
 use Rattle.acd_desk.specs.declared.open_fault.OpenFault.{OpenFault}
 use Rattle.acd_desk.specs.Opening.{Refused}
-use Rattle.acd_desk.specs.Standing.{standing}
+use Rattle.acd_desk.specs.Standing.{Standing, standing}
 use Rattle.acd_io.specs.Sent.{Begins}
 use Rattle.acd_http.specs.Listening.{ServedFor}
-use Rattle.acd_program.specs.Desks.{OverDesk, OverDatabase, in_database}
+use Rattle.acd_program.specs.Desks.{OverDesk}
 use Rattle.acd_program.specs.Faults.{open_fault, told_by}
 use Rattle.acd_program.specs.Over.{Unserved}
+use Rattle.acd_program.specs.Seen.{Seen, InDatabase, SeenIn}
 use Rattle.acd_program.specs.declared.fault.Fault.{Fault}
 
 -- connections were served, one after another, so many or until the desk had failed; the lines of their faults were written, or a beginning of them
-pub record Served {B : Type 0} (says : Ghosts B) (span : Option ℕ) (before behind : Option (List ℕ)) (d e : Desk B) : Type 0 where
-  pub served : ServedFor (standing says) span d e (Begins before behind)
+pub record Served {D : Type 0} (stands : D → Standing) (span : Option ℕ) (before behind : Option (List ℕ)) (d e : D) : Type 0 where
+  pub served : ServedFor stands span d e (Begins before behind)
   -- an endless service doesn't end so where its store has failed
-  pub well : span ≡ None → (standing says e).failed ≡ false
+  pub well : span ≡ None → (stands e).failed ≡ false
 
 -- the line that tells where connections are waited for
 abbrev pub listening_line : ℕ → List ℕ
@@ -34,32 +34,32 @@ ends_failed None failed = failed
 
 -- `mute` was written of the faults of connections before, and `told` is behind
 module _ (span : Option ℕ) (mute told : Option (List ℕ)) where
-  module _ {B : Type 0} (says : Ghosts B) where
+  module _ {D : Type 0} (stands : D → Standing) where
     -- nothing was asked of the desk
-    pub record Unasked (result : Result (Unit {0}) Fault) (d e : Desk B) : Type 0 where
+    pub record Unasked (result : Result (Unit {0}) Fault) (d e : D) : Type 0 where
       pub why : Fault
       pub ended : result ≡ Err why
       pub same : e ≡ d
       pub quiet : told ≡ mute
 
     -- so many connections were answered, or until the desk had failed
-    pub record Answered (result : Result (Unit {0}) Fault) (d e : Desk B) : Type 0 where
-      pub served : ServedFor (standing says) span d e (Begins mute told)
-      pub ended : result ≡ told_by (Ok tt) (ends_failed span (standing says e).failed)
+    pub record Answered (result : Result (Unit {0}) Fault) (d e : D) : Type 0 where
+      pub served : ServedFor stands span d e (Begins mute told)
+      pub ended : result ≡ told_by (Ok tt) (ends_failed span (stands e).failed)
 
     -- what answering connections left, and the command is told how it ended
-    abbrev pub ListenTold : Result (Unit {0}) Fault → Desk B → Desk B → Type 0
+    abbrev pub ListenTold : Result (Unit {0}) Fault → D → D → Type 0
     ListenTold result d e = Unasked result d e ⊎ Answered result d e
 
   -- `before` was written on the output before, and `behind` is behind
   module _ (port : ℕ) (before behind : Option (List ℕ)) where
-    module _ {B : Type 0} (says : Ghosts B) where
-      -- connections are answered only behind the whole line
-      abbrev pub ServeTold : Result (Unit {0}) Fault → Desk B → Desk B → Type 0
-      ServeTold result d e =
-          (Unasked says result d e × Begins before behind (listening_line port))
-          ⊎ (Answered says result d e × Appends before behind (listening_line port))
+    -- connections are answered only behind the whole line
+    abbrev pub ServeTold : {D : Type 0} → (D → Standing) → Result (Unit {0}) Fault → D → D → Type 0
+    ServeTold stands result d e =
+        (Unasked stands result d e × Begins before behind (listening_line port))
+        ⊎ (Answered stands result d e × Appends before behind (listening_line port))
 
+    module _ {B : Type 0} (says : Ghosts B) where
       -- the book made no desk, and nothing was written
       pub record NoDesk (old : BookState) (result : Result (Unit {0}) Fault) (last : B) : Type 0 where
         pub why : OpenFault
@@ -70,7 +70,7 @@ module _ (span : Option ℕ) (mute told : Option (List ℕ)) where
 
       -- serving over the book
       abbrev pub ServeOver : BookState → Result (Unit {0}) Fault → B → Type 0
-      ServeOver old result last = NoDesk old result last ⊎ OverDesk says (ServeTold result) old last
+      ServeOver old result last = NoDesk old result last ⊎ OverDesk says (ServeTold (standing says) result) old last
 
     -- there was no desk: nothing was written, and a crash leaves what it left before, or a new book
     pub record NoneServed {S : Type 0} (store : Stores S) (makes : Bool) (old : State) (result : Result (Unit {0}) Fault) (new : Held S) : Type 0 where
@@ -82,5 +82,5 @@ module _ (span : Option ℕ) (mute told : Option (List ℕ)) where
 
     -- serving over the book of the database
     abbrev pub ServeIn : {S : Type 0} → Stores S → Bool → State → Result (Unit {0}) Fault → Held S → Type 0
-    ServeIn store makes old result new =
-        NoneServed store makes old result new ⊎ OverDatabase store makes (ServeTold (in_database store) result) old new
+    ServeIn {S} store makes old result new =
+        NoneServed store makes old result new ⊎ SeenIn store (λ (stands : Seen (InDatabase S) → Standing). ServeTold stands result) makes old new

@@ -4,20 +4,19 @@ use Rattle.std.specs.Io.KnownBytes.{Appends}
 use Rattle.sqlite.specs.State.{State}
 use Rattle.sqlite.specs.Held.{Held, state}
 use Rattle.sqlite_trees.specs.declared.store.Store.{Ghosts}
+use Rattle.acd_book.specs.Content.{Content}
 use Rattle.acd_book.specs.State.{BookState}
 use Rattle.acd_io.specs.Sent.{Begins}
-use Rattle.acd_lines.specs.Answers.{Answers}
-use Rattle.acd_lines.specs.Input.{line_of}
-use Rattle.acd_lines.specs.Lines.{LinesAnswered, FirstLines, ArrivalsAnswered, Streams, streams}
-use Rattle.acd_lines.specs.Parts.{InTurn}
+use Rattle.acd_lines.specs.Lines.{LinesAnswered, FirstLines, ArrivalsAnswered, Streams, streams, Untouched, LinesDone}
 use Rattle.acd_lines.specs.declared.fault.LinesFault.{LinesFault}
-use Rattle.acd_desk.specs.Standing.{standing}
+use Rattle.acd_lines.specs.declared.fault.LinesFault.TheVariants.{NoMemory}
+use Rattle.acd_desk.specs.Standing.{Standing, standing}
 use Rattle.acd_program.specs.Answered.{in_memory, AnsweredFromNothing, AnswersAll}
 use Rattle.acd_program.specs.Faults.{lines_fault}
 use Rattle.acd_program.specs.Desks.{OverDatabase, in_database}
-use Rattle.acd_http.specs.ReadingLines.{ReadInTurn}
-use Rattle.acd_program.specs.LinesOver.{in_turn, LinesTold, LinesIn, LinesInMemory, NoneServed}
+use Rattle.acd_program.specs.LinesOver.{in_turn, LinesTold, LinesInMemory, NoneServed}
 use Rattle.acd_program.specs.Over.{IsSession, IsFailedSession, AnswersOver, OverConnection}
+use Rattle.acd_program.specs.Seen.{Seen, SeenNew, InDatabase, SeenIn}
 use Rattle.acd_program.specs.declared.fault.Fault.{Fault}
 use Rattle.acd_program.specs.declared.fault.Fault.TheVariants.{Store}
 
@@ -41,14 +40,14 @@ module _ (ends : Bool) (io : Streams) where
 -- over any reader and any writer
 abbrev pub LinesAreSessions : {S R W : Type 0} → Ghosts S → (R → Option (List ℕ)) → (W → Option (List ℕ)) → Type 0
 LinesAreSessions {S} {R} {W} store remaining contents = (makes ends : Bool) (reader : R × R) (writer : W × W) (result : Result (Unit {0}) Fault) (old new : Held S)
-    → OverDatabase store makes (LinesTold (in_database store) (InTurn line_of (Answers (standing (in_database store)))) ends (streams remaining contents reader writer) result) (state store old) new
+    → OverDatabase store makes (LinesTold (standing (in_database store)) (in_turn false (standing (in_database store))) ends (streams remaining contents reader writer) result) (state store old) new
     → OverConnection (SessionTold ends (streams remaining contents reader writer) result) makes (state store old) (state store new)
 
 -- how lines over the database ended: where they are requests alone, by a session, whole or begun; else each of them by the desk that the lines before it left
 abbrev pub DatabaseEnded : {S : Type 0} → Ghosts S → Bool → Bool → Bool → Streams → State → Result (Unit {0}) Fault → Held S → Type 0
-DatabaseEnded store makes false ends io old result new =
-    NoneServed store (in_turn false (in_database store)) makes ends io old result new ⊎ OverConnection (SessionTold ends io result) makes old (state store new)
-DatabaseEnded store makes true ends io old result new = LinesIn store (ReadInTurn (in_database store)) makes ends io old result new
+DatabaseEnded store makes false ends io old result new = NoneServed store makes io old result new ⊎ OverConnection (SessionTold ends io result) makes old (state store new)
+DatabaseEnded {S} store makes true ends io old result new =
+    NoneServed store makes io old result new ⊎ SeenIn store (λ (stands : Seen (InDatabase S) → Standing). LinesTold stands (in_turn true stands) ends io result) makes old new
 
 -- ---- in memory
 
@@ -59,10 +58,10 @@ AnswersTold io (Err why) = LinesAnswered (FirstLines io.had) (ArrivalsAnswered A
 
 abbrev pub LinesAreFromNothing : {R W : Type 0} → (R → Option (List ℕ)) → (W → Option (List ℕ)) → Type 0
 LinesAreFromNothing {R} {W} remaining contents = (reader : R × R) (writer : W × W) (result : Result (Unit {0}) LinesFault)
-    → LinesInMemory (InTurn line_of (Answers (standing in_memory))) (streams remaining contents reader writer) result
+    → LinesInMemory (in_turn false (standing in_memory)) (streams remaining contents reader writer) result
     → AnswersTold (streams remaining contents reader writer) result
 
 -- how lines over a new desk in memory ended by a fault: where they are requests alone, as the abstract desk answers a beginning of them; else each by the desk that the lines before it left
 abbrev pub MemoryEnded : Bool → Streams → LinesFault → Type 0
 MemoryEnded false io why = AnswersTold io (Err why)
-MemoryEnded true io why = LinesInMemory (ReadInTurn in_memory) io (Err why)
+MemoryEnded true io why = ((why ≡ NoMemory) × Untouched io) ⊎ SeenNew (λ (stands : Seen Content → Standing) (d e : Seen Content). LinesDone stands (in_turn true stands) false io d e (Err why))

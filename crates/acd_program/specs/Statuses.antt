@@ -1,5 +1,7 @@
 -- Exit statuses, and what goes with them.
 use Rattle.std.specs.Prelude.{◌≡◌, ◌⊎◌, ℕ, List, Option}
+use Rattle.clap.specs.declared.error.kind.ErrorKind.{ErrorKind}
+use Rattle.clap.specs.declared.error.kind.ErrorKind.TheVariants.{DisplayHelp, DisplayVersion}
 use Rattle.acd_io.specs.Sent.{Begins}
 use Rattle.acd_log.specs.declared.ending.Ending.{Ending}
 use Rattle.acd_log.specs.declared.ending.Ending.TheVariants as log
@@ -8,6 +10,10 @@ use Rattle.acd_program.specs.declared.auditing.Finding.TheVariants.{Sound, Count
 use Rattle.acd_program.specs.declared.fault.Fault.{Fault}
 use Rattle.acd_program.specs.declared.fault.Fault.TheVariants.{CannotOpen, OpenElsewhere, WrongVersion, BadRow, BadRows, NoMemory, Store, Plan, Read, Write, CannotListen}
 use Rattle.acd_http.specs.Listening.{Outcome, outcome_lines}
+
+-- help or the version was asked for
+abbrev pub IsHelp : ErrorKind → Type 0
+IsHelp kind = (kind ≡ DisplayHelp) ⊎ (kind ≡ DisplayVersion)
 
 -- no fault: success, the difference that an audit told, or that a sound desk's log ends early
 abbrev pub IsDone : ℕ → Type 0

@@ -12,6 +12,7 @@ pub record IsOf (old new : BookState) : Type 0 where
   pub step : BookStep ⊥ old new
   pub content : new.is_clean → old.is_sound → new.content ≡ old.content
   pub stops : new.is_clean → old.is_sound → Within new.stops old.stops
+  pub keeps : new.is_clean → old.is_sound → Within old.stops new.stops
   pub opened : new.is_clean → old.is_sound → old.is_open
   pub live : new.is_clean → old.is_sound → new.is_open
   pub ordered : new.is_clean → old.is_sound → IsOrdered new.content

@@ -6,19 +6,20 @@ use Rattle.sqlite_store.specs.declared.store.FileStore.{FileStore}
 use Rattle.sqlite.specs.Held.{Held}
 use Rattle.sqlite.specs.Files.{over_files, file_state}
 use Rattle.acd_terms.specs.declared.command.Request.{Request}
+use Rattle.acd_book.specs.Content.{Content}
 use Rattle.acd_book.specs.State.{BookState}
 use Rattle.acd_reports.specs.Plan.{plan_requests}
 use Rattle.acd_lines.specs.Lines.{Streams}
 use Rattle.acd_log.specs.declared.ending.Ending.{Ending}
 use Rattle.acd_log.specs.declared.ending.Ending.TheVariants.{Plain}
 use Rattle.acd_log.specs.Ending.{IsEndingOf}
-use Rattle.acd_http.specs.ReadingLines.{ReadInTurn}
 use Rattle.clap.specs.Words.{Text}
 use Rattle.acd_program.specs.Behind.{IsFindingIn, BehindArchive}
 use Rattle.acd_program.specs.CommandLine.{IsTaskOf}
-use Rattle.acd_program.specs.Answered.{AnswersAll, in_memory}
-use Rattle.acd_program.specs.Desks.{OverNewDesk, OverDatabase, in_database}
-use Rattle.acd_program.specs.LinesOver.{DatabaseAnswered, Whole}
+use Rattle.acd_program.specs.Answered.{AnswersAll}
+use Rattle.acd_desk.specs.Standing.{Standing}
+use Rattle.acd_program.specs.LinesOver.{in_turn, DatabaseAnswered, Whole}
+use Rattle.acd_program.specs.Seen.{Seen, SeenNew, InDatabase, SeenIn}
 use Rattle.acd_program.specs.Found.{IsFindingOf, HasCount, finding_line}
 use Rattle.acd_program.specs.Statuses.{finding_status}
 use Rattle.acd_program.specs.Work.{WasAsked, IsTextOf, ImportsOver}
@@ -34,7 +35,7 @@ use Rattle.acd_program.specs.declared.asked.Task.TheVariants.{Lines, Serve, Impo
 -- the lines before it left
 abbrev pub MemoryAnswered : Bool → Streams → Type 0
 MemoryAnswered false io = AnswersAll io.had io.before io.behind
-MemoryAnswered true io = OverNewDesk (Whole in_memory (ReadInTurn in_memory) false io)
+MemoryAnswered true io = SeenNew (λ (stands : Seen Content → Standing). Whole stands (in_turn true stands) false io)
 
 -- some log ends so
 abbrev pub IsSomeEnding : Ending → Type 0
@@ -64,7 +65,7 @@ module _ {D : Type 0} (disk : Ghosts D) (IsFresh : Bool → D → Type 0) where
     pub conn : OfFiles
     pub last : OfFiles
     pub opened : IsOpenedFrom disk IsFresh conn
-    pub served : OverDatabase over_files true (Served (in_database over_files) span before behind) (file_state conn) last
+    pub served : SeenIn over_files (λ (stands : Seen (InDatabase (FileStore D disk)) → Standing). Served stands span before behind) true (file_state conn) last
     pub closed : IsLaidIn last
 
   -- so one was, and each line of the input was answered over it

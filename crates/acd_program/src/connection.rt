@@ -6,14 +6,10 @@ ghost use Rattle.sqlite.specs.State.{HasCleanDisk};
 ghost use Rattle.acd_terms.specs.Limits.{greatest_limits};
 ghost use Rattle.acd_sql_schema.specs.SettingUp.{MayMake};
 ghost use Rattle.acd_sqlbook.specs.View.{book_of};
-ghost use Rattle.acd_http.specs.ReadingLines.{ReadInTurn};
-ghost use Rattle.acd_lines.specs.Input.{asked};
 ghost use Rattle.acd_lines.specs.Lines.{streams};
-ghost use Rattle.acd_lines.specs.Parts.{InTurn};
 ghost use Rattle.acd_program.specs.Faults.{unmade_fault};
-ghost use Rattle.acd_program.specs.Desks.{in_database};
 ghost use Rattle.acd_program.specs.Ended.{IsOfDesk};
-ghost use Rattle.acd_program.specs.LinesOver.{DatabaseAnswered, LinesIn};
+ghost use Rattle.acd_program.specs.LinesOver.{each_by, DatabaseAnswered, LinesIn};
 ghost use Rattle.acd_program.specs.Over.{Unserved, unmade};
 ghost use Rattle.acd_program.specs.Sessions.{DatabaseEnded};
 ghost use Rattle.acd_program.specs.Taking.{IsOf, IsTaken};
@@ -110,7 +106,7 @@ pub fn lines_over_connection<'a, S: Alter, A: Answering<SqlBook<S>>, R: Read, W:
     writer: &mut W,
 ) -> (Result<(), Fault<'a>>, Connection<S>)
     requires { conn.in_transaction ≡ false }
-    ensures done { LinesIn S.Store (InTurn (asked A.unmarked A.long A.read) A.answers) makes ends
+    ensures done { LinesIn S.Store (each_by A.unmarked A.long A.read A.answers) makes ends
         (streams R.remaining W.contents (reader.old, reader.new) (writer.old, writer.new))
         (state S.Store conn) result.0 result.1 }
     ensures known { IfErr result.0 IsOfDesk }
@@ -137,7 +133,7 @@ fn with_reads<'a, S: Alter, R: Read, W: Write>(
     ensures done { OnOk result.0 (DatabaseAnswered S.Store makes true ends
         (streams R.remaining W.contents (reader.old, reader.new) (writer.old, writer.new))
         (state S.Store conn) result.1) }
-    ensures told { LinesIn S.Store (ReadInTurn (in_database S.Store)) makes ends
+    ensures told { DatabaseEnded S.Store makes true ends
         (streams R.remaining W.contents (reader.old, reader.new) (writer.old, writer.new))
         (state S.Store conn) result.0 result.1 }
     ensures known { IfErr result.0 IsOfDesk }

@@ -2,11 +2,9 @@
 
 ghost use Rattle.std.specs.Prelude.{IfOk};
 ghost use Rattle.acd_desk.specs.Ran.{standing};
-ghost use Rattle.acd_lines.specs.Input.{asked};
 ghost use Rattle.acd_lines.specs.Lines.{streams};
-ghost use Rattle.acd_lines.specs.Parts.{InTurn};
 ghost use Rattle.acd_program.specs.Answered.{in_memory, IsNewDesk};
-ghost use Rattle.acd_program.specs.LinesOver.{LinesInMemory};
+ghost use Rattle.acd_program.specs.LinesOver.{each_by, LinesInMemory};
 
 use acd_book::MemoryBook;
 use acd_desk::{Desk, OpenFault};
@@ -37,7 +35,7 @@ pub fn lines_over_memory<A: Answering<MemoryBook>, R: Read, W: Write>(
     reader: &mut R,
     writer: &mut W,
 ) -> Result<(), LinesFault>
-    ensures { LinesInMemory (InTurn (asked A.unmarked A.long A.read) A.answers)
+    ensures { LinesInMemory (each_by A.unmarked A.long A.read A.answers)
         (streams R.remaining W.contents (reader.old, reader.new) (writer.old, writer.new))
         result }
 {

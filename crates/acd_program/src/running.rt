@@ -3,12 +3,12 @@
 ghost use Rattle.std.specs.Prelude.{◌≡◌, ◌≤◌, ◌⊎◌, false, map, Ok, Err, IfOk, IfErr, OnOk, OnErr};
 ghost use Rattle.sqlite_std_file.specs.File.{IsFresh};
 ghost use Rattle.acd_lines.specs.Lines.{streams};
-ghost use Rattle.acd_program.specs.Answered.{in_memory};
-ghost use Rattle.acd_program.specs.Desks.{OverNewDesk};
+ghost use Rattle.clap.specs.Words.{kind_of};
+ghost use Rattle.acd_program.specs.CommandLine.{IsUntaken};
 ghost use Rattle.acd_program.specs.Ended.{IsOfDesk, IsOfOpening, PrintedOf, WorkEnded};
-ghost use Rattle.acd_program.specs.LinesOver.{in_turn, Whole};
+ghost use Rattle.acd_program.specs.LinesOver.{NewAnswered};
 ghost use Rattle.acd_program.specs.Sessions.{MemoryEnded};
-ghost use Rattle.acd_program.specs.Statuses.{IsDone, fault_status, TellsConnections};
+ghost use Rattle.acd_program.specs.Statuses.{IsDone, IsHelp, fault_status, TellsConnections};
 ghost use Rattle.acd_program.specs.Work.{IsPrinted};
 ghost use Rattle.acd_program.specs.InFiles.{WorkedOver};
 ghost use Rattle.acd_program.specs.Tasks.{WorkedIn, FileAnswered, InputAnswered, ImportedIn, ServedIn, WholeAudit, IsToldEnding, AuditedWith, TaskDone, NamedTaskDone};
@@ -133,8 +133,8 @@ fn lines_in_memory<R: Read, W: Write>(
     reader: &mut R,
     writer: &mut W,
 ) -> Result<(), LinesFault>
-    ensures answered { OnOk result (OverNewDesk (Whole in_memory (in_turn reads in_memory) false
-        (streams R.remaining W.contents (reader.old, reader.new) (writer.old, writer.new)))) }
+    ensures answered { OnOk result (NewAnswered reads
+        (streams R.remaining W.contents (reader.old, reader.new) (writer.old, writer.new))) }
     ensures ended { IfErr result (MemoryEnded reads
         (streams R.remaining W.contents (reader.old, reader.new) (writer.old, writer.new))) }
 {
@@ -369,6 +369,7 @@ fn fail<E: Write>(fault: Fault<'_>, errors: &mut E) -> u8
 // Tells the text of a command line that asks for no task, which may be the help that was asked for.
 fn tell<W: Write, E: Write>(alloc: Global, error: &Error, writer: &mut W, errors: &mut E) -> u8
     ensures success { result ≡ 0 → errors.new ≡ errors.old }
+    ensures help { result ≡ 0 → IsHelp (kind_of error.now) }
     ensures refused { result ≡ 2 → writer.new ≡ writer.old }
     ensures known { result ≤ 2 }
 {
@@ -410,7 +411,8 @@ pub fn program<S: AsStr, R: Read, W: Write, E: Write>(
     ensures known { result ≤ 5 }
     // such a status is that of the task which the words name, done so, or help was asked for, and nothing was read
     ensures done { IsDone result
-        → ((result ≡ 0) × (reader.new ≡ reader.old) × (errors.new ≡ errors.old))
+        → ((result ≡ 0) × IsUntaken (map S.text words.now) × (reader.new ≡ reader.old)
+        × (errors.new ≡ errors.old))
         ⊎ NamedTaskDone ⟦<FileFrom<Unknown> as Disk>⟧ IsFresh (map S.text words.now)
         (streams R.remaining W.contents (reader.old, reader.new) (writer.old, writer.new))
         (E.contents errors.old) (E.contents errors.new) result }

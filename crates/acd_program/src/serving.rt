@@ -3,8 +3,9 @@
 ghost use Rattle.std.specs.Prelude.{◌≡◌, false, IfErr, OnOk, Some, None};
 ghost use Rattle.sqlite.specs.Held.{state};
 ghost use Rattle.acd_io.specs.Sent.{WasSent};
-ghost use Rattle.acd_program.specs.Desks.{OverDatabase, in_database};
+ghost use Rattle.acd_desk.specs.Standing.{standing};
 ghost use Rattle.acd_program.specs.Ended.{IsOfDesk};
+ghost use Rattle.acd_program.specs.Seen.{SeenIn};
 ghost use Rattle.acd_program.specs.Serving.{Served, listening_line, ListenTold, ServeTold, ServeOver, ServeIn};
 
 use crate::connection::book_over;
@@ -47,7 +48,7 @@ fn answer_some<'a, B: Book, E: Write>(
     errors: &mut E,
 ) -> Result<(), Fault<'a>>
     ensures told { ListenTold (Some connections) (E.contents errors.old) (E.contents errors.new)
-        B.Book result desk.old desk.new }
+        (standing B.Book) result desk.old desk.new }
     ensures known { IfErr result IsOfDesk }
 {
     match serve_on(
@@ -72,7 +73,7 @@ fn answer_until_failed<'a, B: Book, E: Write>(
     errors: &mut E,
 ) -> Result<(), Fault<'a>>
     ensures told { ListenTold None (E.contents errors.old) (E.contents errors.new)
-        B.Book result desk.old desk.new }
+        (standing B.Book) result desk.old desk.new }
     ensures known { IfErr result IsOfDesk }
 {
     match serve_until_failed(rt, rt.alloc(), listener, desk, errors) {
@@ -90,7 +91,7 @@ fn answer<'a, B: Book, E: Write>(
     errors: &mut E,
 ) -> Result<(), Fault<'a>>
     ensures told { ListenTold connections (E.contents errors.old) (E.contents errors.new)
-        B.Book result desk.old desk.new }
+        (standing B.Book) result desk.old desk.new }
     ensures known { IfErr result IsOfDesk }
 {
     match connections {
@@ -108,7 +109,8 @@ fn serve_desk<'a, B: Book, W: Write, E: Write>(
     errors: &mut E,
 ) -> Result<(), Fault<'a>>
     ensures told { ServeTold connections (E.contents errors.old) (E.contents errors.new)
-        port (W.contents writer.old) (W.contents writer.new) B.Book result desk.old desk.new }
+        port (W.contents writer.old) (W.contents writer.new) (standing B.Book) result desk.old
+        desk.new }
     ensures known { IfErr result IsOfDesk }
 {
     let listener = listen(rt, port)?;
@@ -151,8 +153,8 @@ pub(crate) fn serve<'a, S: Alter, W: Write, E: Write>(
     requires { conn.in_transaction ≡ false }
     ensures idle { result.1.in_transaction ≡ false }
     ensures served { OnOk result.0
-        (OverDatabase S.Store makes (Served (in_database S.Store) connections
-        (E.contents errors.old) (E.contents errors.new)) (state S.Store conn) result.1) }
+        (SeenIn S.Store (λ stands. Served stands connections (E.contents errors.old)
+        (E.contents errors.new)) makes (state S.Store conn) result.1) }
     // whatever ended it
     ensures told { ServeIn connections (E.contents errors.old) (E.contents errors.new)
         port (W.contents writer.old) (W.contents writer.new) S.Store makes (state S.Store conn)

@@ -2,11 +2,9 @@
 
 ghost use Rattle.std.specs.Prelude.{◌≡◌, ◌&&◌, false, Ok, OnOk};
 ghost use Rattle.acd_desk.specs.Standing.{standing};
-ghost use Rattle.acd_lines.specs.Input.{asked};
 ghost use Rattle.acd_lines.specs.Lines.{streams};
-ghost use Rattle.acd_lines.specs.Parts.{InTurn};
 ghost use Rattle.acd_program.specs.Faults.{told_by};
-ghost use Rattle.acd_program.specs.LinesOver.{LinesTold, LinesOver};
+ghost use Rattle.acd_program.specs.LinesOver.{each_by, LinesTold, LinesOver};
 
 use crate::fault::Fault;
 use acd_book::Book;
@@ -45,7 +43,7 @@ fn answer<'a, B: Book, A: Answering<B>, R: Read, W: Write>(
     reader: &mut R,
     writer: &mut W,
 ) -> Result<(), Fault<'a>>
-    ensures { LinesTold B.Book (InTurn (asked A.unmarked A.long A.read) A.answers) ends
+    ensures { LinesTold (standing B.Book) (each_by A.unmarked A.long A.read A.answers) ends
         (streams R.remaining W.contents (reader.old, reader.new) (writer.old, writer.new))
         result desk.old desk.new }
 {
@@ -63,7 +61,7 @@ pub fn lines_over_book<'a, B: Book, A: Answering<B>, R: Read, W: Write>(
     reader: &mut R,
     writer: &mut W,
 ) -> (Result<(), Fault<'a>>, B)
-    ensures { LinesOver B.Book (InTurn (asked A.unmarked A.long A.read) A.answers) ends
+    ensures { LinesOver B.Book (each_by A.unmarked A.long A.read A.answers) ends
         (streams R.remaining W.contents (reader.old, reader.new) (writer.old, writer.new))
         (B.state book) result.0 result.1 }
 {

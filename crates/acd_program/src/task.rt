@@ -1,8 +1,9 @@
 //! How a command line is read.
 
-ghost use Rattle.std.specs.Prelude.{◌≡◌, [], false, codes, map, IsTrue, IfOk, IfSome};
-ghost use Rattle.clap.specs.Words.{App, app_of, found_of, rows_of, subcommand_rows_of, with_subcommand};
-ghost use Rattle.acd_program.specs.CommandLine.{HasApp, HasRule, IsTaskWith, IsTaskIn, IsSpan, IsTaskOf, acd, connections_rule, command_of, export_shape, file_rule, flag_rule, import_shape, is_given, lines_shape, number_rule, option_rule, report_shape, audit_shape, serve_shape};
+ghost use Rattle.std.specs.Prelude.{◌≡◌, [], false, codes, map, IsTrue, IfOk, IfErr, IfSome};
+ghost use Rattle.clap.specs.Words.{App, app_of, kind_of, found_of, rows_of, subcommand_rows_of, with_subcommand};
+ghost use Rattle.acd_program.specs.CommandLine.{HasApp, HasRule, IsTaskWith, IsTaskIn, IsSpan, IsTaskOf, IsUntaken, acd, connections_rule, command_of, export_shape, file_rule, flag_rule, import_shape, is_given, lines_shape, number_rule, option_rule, report_shape, audit_shape, serve_shape};
+ghost use Rattle.acd_program.specs.Statuses.{IsHelp};
 
 use crate::asked::Task;
 use crate::desk::{Telling, Work};
@@ -362,8 +363,10 @@ fn chosen<'a, S: AsStr>(
     commands: &mut Command<'a>,
     words: &'a [S],
 ) -> Result<Option<Task<'a>>, Error>
-    ensures { app_of commands.old ≡ acd
+    ensures task { app_of commands.old ≡ acd
         → IfOk result (λ task. IfSome task (IsTaskOf (map S.text words.entry.now))) }
+    ensures untaken { app_of commands.old ≡ acd
+        → IfErr result (λ e. IsHelp (kind_of e) → IsUntaken (map S.text words.entry.now)) }
 {
     let matches = commands.try_get_matches_from_mut(words)?;
     Ok(task_in(&matches))
@@ -372,7 +375,10 @@ fn chosen<'a, S: AsStr>(
 /// What the words ask for; the first is the program's name. The other outcome is a text to print, which may be
 /// the help that was asked for.
 pub(crate) fn parse<'a, S: AsStr>(alloc: Global, words: &'a [S]) -> Result<Task<'a>, Error>
-    ensures { IfOk result (IsTaskOf (map S.text words.entry.now)) }
+    ensures task { IfOk result (IsTaskOf (map S.text words.entry.now)) }
+    // help and the version are told only of words that ask for no task
+    ensures untaken { IfErr result
+        (λ e. IsHelp (kind_of e) → IsUntaken (map S.text words.entry.now)) }
 {
     let mut commands = all_commands(alloc)?;
     match chosen(&mut commands, words)? {

@@ -1,6 +1,12 @@
-use Rattle.std.proofs.Common.{inr}
+use Rattle.std.proofs.Common.{inl, inr, refl}
+use Rattle.acd_program.proofs.CommandLines.{done_without_task}
 use Rattle.acd_program.proofs.running.program.Goals as goal
+
+pub returns-in-Err-clause-done : goal.returns-in-Err-clause-done
+returns-in-Err-clause-done g c = λ done.
+    let none = done_without_task c.tell.result c.tell.ensures.known done in
+    inl (none, c.in-Err.ensures.untaken (c.tell.ensures.help none), refl, c.tell.ensures.success none)
 
 pub returns-in-Err-execute-clause-ended : goal.returns-in-Err-execute-clause-ended
 returns-in-Err-execute-clause-ended g c = λ at.
-    inr (c.in-Ok.task, c.in-Ok.ensures, g.E.Write.contents c.execute.new.errors, c.in-Err-execute.fault, c.in-Err-execute.ensures.ended, c.fail-status.ensures.status)
+    inr (c.in-Ok.task, c.in-Ok.ensures.task, g.E.Write.contents c.execute.new.errors, c.in-Err-execute.fault, c.in-Err-execute.ensures.ended, c.fail-status.ensures.status)

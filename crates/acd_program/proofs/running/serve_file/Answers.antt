@@ -3,7 +3,7 @@ use Rattle.sqlite_std_file.specs.File.{IsFresh}
 use Rattle.sqlite.specs.Files.{over_files, file_state}
 use Rattle.acd_program.specs.TasksEnded.{ServiceLeft}
 use Rattle.acd_program.proofs.Inputs.{both_so}
-use Rattle.acd_program.proofs.LinesOver.{over_made}
+use Rattle.acd_program.proofs.Seen.{seen_made}
 use Rattle.acd_program.proofs.Served.{serve_made}
 use Rattle.acd_program.proofs.TasksEnded.{ends_by, ended_over, service_left, ends_late}
 use Rattle.acd_program.proofs.Tasks.{err_from}
@@ -16,7 +16,7 @@ returns-clause-served g c =
       conn = c.in_ok-conn.conn;
       last = c.serve-conn.result.1;
       opened = c.in_ok-conn.ensures.opened;
-      served = over_made over_files c.in_ok-conn.is_new true _ (file_state c.in_ok-conn.conn) c.serve-conn.result.1 c.in_ok-conn.ensures.makes served;
+      served = seen_made over_files _ c.in_ok-conn.is_new true (file_state c.in_ok-conn.conn) c.serve-conn.result.1 c.in_ok-conn.ensures.makes served;
       closed = closed;
     })
 

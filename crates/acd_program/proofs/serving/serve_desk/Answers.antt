@@ -1,4 +1,5 @@
 use Rattle.std.proofs.Common.{rules, inl, refl}
+use Rattle.acd_desk.specs.Standing.{standing}
 use Rattle.acd_io.proofs.Sends.{begins_so}
 use Rattle.acd_program.specs.Serving.{listening_line}
 use Rattle.acd_program.proofs.Served.{begins_none, serve_answered}
@@ -19,4 +20,4 @@ returns-in_err-say-clause-told g c = inl (
 pub returns-clause-told : goal.returns-clause-told
 returns-clause-told g c =
     serve_answered c.args.connections (g.E.Write.contents c.args.errors.now) (g.E.Write.contents c.answer.new.errors) c.args.port (g.W.Write.contents c.args.writer.now) (g.W.Write.contents c.say.new.writer)
-    g.B.Book c.answer.result c.args.desk.now c.answer.new.desk c.in_ok-say.ensures.said c.answer.ensures.told
+    (standing g.B.Book) c.answer.result c.args.desk.now c.answer.new.desk c.in_ok-say.ensures.said c.answer.ensures.told
