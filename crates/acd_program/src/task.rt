@@ -15,7 +15,7 @@ use std::alloc::{AllocError, Global};
 use std::convert::AsStr;
 
 /// What `acd --version` tells behind the program's name: the version, and the toolchain that proved it.
-const VERSION: &str = "1.12 (rattle-kit-13f)";
+const VERSION: &str = "1.13 (rattle-kit-13f)";
 
 const FILE: &str = "file";
 
