@@ -108,6 +108,9 @@ done_without_task status known (inl none) = none
 done_without_task status known (inr (inl three)) = absurd (omega (arith, known, three))
 done_without_task status known (inr (inr five)) = absurd (omega (arith, known, five))
 
+pub no_fourth : (status : ℕ) → status ≤ 2 → status ≡ 4 → ⊥
+no_fourth status known four = omega (arith, known, four)
+
 -- ---- options
 
 pub value_read : (f : Found) (id : Text) (value : Option Text) → value ≡ first_value f id → first_of id (rows_of f) ≡ value

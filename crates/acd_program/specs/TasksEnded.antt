@@ -8,7 +8,7 @@ use Rattle.acd_lines.specs.Lines.{Streams, Untouched}
 use Rattle.acd_lines.specs.declared.fault.LinesFault.{LinesFault}
 use Rattle.acd_log.specs.declared.ending.Ending.{Ending}
 use Rattle.clap.specs.Words.{Text}
-use Rattle.acd_program.specs.CommandLine.{IsTaskOf}
+use Rattle.acd_program.specs.CommandLine.{IsTaskOf, IsUntaken}
 use Rattle.acd_io.specs.Sent.{Begins}
 use Rattle.acd_book.specs.State.{BookState}
 use Rattle.acd_program.specs.Behind.{IsFindingIn, BehindArchive}
@@ -111,6 +111,10 @@ module _ {D : Type 0} (disk : Ghosts D) (IsFresh : Bool → D → Type 0) where
   abbrev pub NamedTaskEnded : List Text → Streams → Option (List ℕ) → ℕ → Type 0
   NamedTaskEnded words io mute status = (task : Task) × IsTaskOf words task × (told : Option (List ℕ)) × (fault : Fault) × TaskEnded task io mute told fault × (status ≡ fault_status fault)
 
-  -- a status of a fault is that of the task that the words name, which was ended so, or nothing was done, and nothing read
+  -- no task was done: nothing was read, and nothing written, unless help was asked for
+  abbrev pub IsNoTask : List Text → Streams → Type 0
+  IsNoTask words io = io.unread × (io.unwritten ⊎ IsUntaken words)
+
+  -- the status of a fault is that of the task that the words name, which was ended so; of one that came before there was a task, it is 1
   abbrev pub FaultTold : List Text → Streams → Option (List ℕ) → ℕ → Type 0
-  FaultTold words io mute status = (status ≡ 1) ⊎ (status ≡ 4) → io.unread ⊎ NamedTaskEnded words io mute status
+  FaultTold words io mute status = ((status ≡ 4) → NamedTaskEnded words io mute status) × ((status ≡ 1) → IsNoTask words io ⊎ NamedTaskEnded words io mute status)

@@ -371,6 +371,7 @@ fn tell<W: Write, E: Write>(alloc: Global, error: &Error, writer: &mut W, errors
     ensures success { result ≡ 0 → errors.new ≡ errors.old }
     ensures help { result ≡ 0 → IsHelp (kind_of error.now) }
     ensures refused { result ≡ 2 → writer.new ≡ writer.old }
+    ensures mute { result ≡ 1 → (writer.new ≡ writer.old) ⊎ IsHelp (kind_of error.now) }
     ensures known { result ≤ 2 }
 {
     if error.kind() == ErrorKind::OutOfMemory {
@@ -416,7 +417,7 @@ pub fn program<S: AsStr, R: Read, W: Write, E: Write>(
         ⊎ NamedTaskDone ⟦<FileFrom<Unknown> as Disk>⟧ IsFresh (map S.text words.now)
         (streams R.remaining W.contents (reader.old, reader.new) (writer.old, writer.new))
         (E.contents errors.old) (E.contents errors.new) result }
-    // a fault ended the task that they name, or nothing was done, and nothing was read
+    // a fault ended the task that they name; or it came before there was one, and nothing was read or written but help
     ensures ended { FaultTold ⟦<FileFrom<Unknown> as Disk>⟧ IsFresh (map S.text words.now)
         (streams R.remaining W.contents (reader.old, reader.new) (writer.old, writer.new))
         (E.contents errors.old) result }
