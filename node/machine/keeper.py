@@ -77,26 +77,31 @@ class Keeper:
 
     def look_after(self):
         """Tells the place, and forgets what all have. Where etcd is full the one isn't taken and the other is, so a fault of the first comes last."""
-        reached, fault = self.bridge.durable_place(), None
+        reached, own, fault = self.bridge.durable_place(), None, None
         self.told_at, self.told_count = self.clock(), reached.count
         try:
             self.log.begin(reached.place)                  # a folder that is too old for the log isn't to be waited for
-            self.log.tell_place(self.name, reached.place)
+            own = reached.place
+            self.log.tell_place(self.name, own)
         except Forgotten:
             return                                         # the bridge finds it too, and ends
         except OSError as told:
             fault = told
         if self.machines:
-            self.forget(self.log.places())
+            self.forget(own, self.log.places())
         if fault:
             self.told_at = None                            # again with the next look: others can forget nothing before
             raise fault
 
-    def forget(self, places):
+    def forget(self, own, places):
+        """Forgets what all have that are waited for. Its own place this machine knows where etcd couldn't take it: so one that comes back to a full etcd makes it room."""
         self.count_silence(places)
         waited = [machine for machine in self.machines if machine == self.name or not self.is_gone(machine)]
         if all(machine in places for machine in waited):
-            least = min(places[machine].place for machine in waited)
+            told = {machine: places[machine].place for machine in waited}
+            if own is not None and len(waited) > 1:        # where all others seem gone, they may be as silent as this one, and lack what it has
+                told[self.name] = own
+            least = min(told.values())
             if least:
                 self.log.compact(self.log.end_of(least))
 

@@ -21,6 +21,14 @@ class Forgotten(Exception):
     """The log doesn't have what comes behind this machine's place."""
 
 
+class Compacted(OSError):
+    """A member's word that its log begins behind where a watch was to. Whether entries are gone by that, it doesn't say."""
+
+    def __init__(self, revision):
+        super().__init__(f"it was compacted up to {revision} just now")
+        self.revision = revision
+
+
 class Refused(OSError):
     """A member's own word that it doesn't do this."""
 
@@ -62,7 +70,7 @@ def events(line, place, version):
     if result is None:
         raise OSError(f"a member told no result: {line[:200]}")
     if int(result.get("compact_revision", 0)):
-        raise Forgotten(f"the log begins behind {result['compact_revision']}: copy the folder of another machine")
+        raise Compacted(int(result["compact_revision"]))
     if result.get("canceled"):
         raise OSError(f"a member ended the watch: {result.get('cancel_reason')}")
     for event in result.get("events", []):
@@ -160,17 +168,35 @@ class Log:
             raise Forgotten(f"the log ends at {last}, before this machine's place {place}: it isn't the log that this folder was fed from")
         if kvs and int(kvs[0]["mod_revision"]) == place:   # nothing came since, so it may be compacted up to its end
             return last + 1, int(kvs[0]["version"])
-        if place == 0:
-            return 1, 0
+        known = place or 1                                 # etcd's own first one, where nothing was put yet
+        kvs = self.entry_up_to(known)
+        if kvs is None:                                    # compacted to behind it: up to places, it may be, that the machines told while nobody called
+            known = self.compacted_behind(known)
+            kvs = self.entry_up_to(known)
+            if kvs is None:
+                raise Compacted(known)                     # and further since
+            if not kvs or int(kvs[0]["mod_revision"]) != place:
+                raise Forgotten(f"the log begins behind this machine's place {place}: copy the folder of another machine")
+        if kvs and int(kvs[0]["mod_revision"]) != place:
+            raise Forgotten(f"the log has no entry at this machine's place {place}: it isn't the log that this folder was fed from")
+        return known + 1, int(kvs[0]["version"]) if kvs else 0
+
+    def entry_up_to(self, revision):
+        """The record of the last entry up to a revision, if any, in a list; None where the log no longer knows that revision."""
         try:
-            kvs = self.call("/v3/kv/range", {"key": text(self.line), "revision": str(place)}).get("kvs", [])
+            return self.call("/v3/kv/range", {"key": text(self.line), "revision": str(revision)}).get("kvs", [])
         except Refused as fault:
             if fault.code != NO_SUCH_REVISION:
                 raise
-            raise Forgotten(f"the log begins behind this machine's place {place}: copy the folder of another machine") from None
-        if kvs and int(kvs[0]["mod_revision"]) != place:
-            raise Forgotten(f"the log has no entry at this machine's place {place}: it isn't the log that this folder was fed from")
-        return place + 1, int(kvs[0]["version"]) if kvs else 0
+            return None
+
+    def compacted_behind(self, revision):
+        """Up to where a log is compacted that no longer knows this revision. Only a watch is told it."""
+        try:
+            next(self.watched(self.ends[self.at % len(self.ends)], revision, revision, 0), None)
+        except Compacted as told:
+            return told.revision
+        raise OSError(f"a member doesn't say up to where it is compacted, which no longer knows {revision}")
 
     def watched(self, end, start, place, version):
         """What one member tells of the entries from a revision on, until it breaks off."""
@@ -238,10 +264,10 @@ class Log:
         last, kvs = self.last()
         return last if kvs and int(kvs[0]["mod_revision"]) == place else place
 
-    def compact(self, place, at_once=False):
-        """Lets the log forget what lies before a place, and waits until it has where that is to be at once. One that had forgotten it already is no fault."""
+    def compact(self, place):
+        """Lets the log forget what lies before a place; the members give that free by and by. One that had forgotten it already is no fault."""
         try:
-            self.call("/v3/kv/compaction", {"revision": str(place), "physical": at_once})
+            self.call("/v3/kv/compaction", {"revision": str(place)})
         except Refused as fault:
             if fault.code != NO_SUCH_REVISION:
                 raise

@@ -72,12 +72,13 @@ NO_LEADER = 503, 14, "etcdserver: no leader"
 
 class Member:
     """One member, on a port of its own. `lag` is how many of the last changes its watches don't know yet, `late` for how long it keeps an answer back; `twice` puts each
-    put twice, and tells each event twice; `shuffled` tells the later of two events first; `broken` ends a watch within a line; `away` has no leader; `garbage` tells no JSON."""
+    put twice, and tells each event twice; `shuffled` tells the later of two events first; `broken` ends a watch within a line; `away` has no leader; `garbage` tells no JSON.
+    `leaves` is what it has in use when it is asked so for the first time, the second and so on."""
 
     def __init__(self, store, port=0):
         self.store, self.lag, self.late, self.size, self.used, self.quota = store, 0, 0, 1000, 500, 2 * 2 ** 30
         self.twice = self.shuffled = self.broken = self.away = self.garbage = False
-        self.asked, self.ended = [], False
+        self.asked, self.ended, self.leaves = [], False, []
         self.server = ThreadingHTTPServer(("127.0.0.1", port), Handler)
         self.server.daemon_threads, self.server.member = True, self
         self.end = f"127.0.0.1:{self.server.server_address[1]}"
@@ -122,6 +123,7 @@ class Member:
         return {}
 
     def status(self, body):
+        self.used = self.leaves.pop(0) if self.leaves else self.used
         return {"version": "3.4.23", "dbSize": str(self.size), "dbSizeInUse": str(self.used)}
 
     def alarm(self, body):

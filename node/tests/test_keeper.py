@@ -147,10 +147,21 @@ class Keeping(Bench):
         self.at(m1=20, m2=30, m3=10)
         self.look("m1", "m2", "m3")
         self.store.full = True
+        self.at(m3=15)
+        self.look("m3")                                    # it can't tell that, and knows it
+        self.assertEqual((self.store.compacted, self.told()["m3"]), (15, 10))
         self.at(m3=40)
-        self.look("m3")                                    # it can't tell that
-        self.assertEqual((self.store.compacted, self.told()["m3"]), (10, 10))
+        self.look("m1", "m2", "m3", after=1)
+        self.assertEqual((self.store.compacted, self.told()["m3"]), (20, 10))
         self.assertIn("space exceeded", self.said.getvalue())
+
+    def test_a_folder_that_may_be_of_another_log_forgets_nothing(self):
+        self.at(m1=20, m2=30, m3=10)
+        self.look("m1", "m2", "m3")
+        self.at(m3=40)
+        with mock.patch.object(self.keepers["m3"].log, "begin", side_effect=OSError("no leader")):
+            self.look("m3")
+        self.assertEqual((self.store.compacted, self.told()["m3"]), (10, 10))
 
     def test_a_place_that_wasnt_taken_is_told_again_soon(self):
         self.at(m1=5)

@@ -5,11 +5,12 @@ import threading
 import time
 import unittest
 from pathlib import Path
+from unittest import mock
 
 sys.path.insert(0, str(Path(__file__).resolve().parent))
 
 from bench import LINE, Bench, token  # noqa: E402
-from machine.log import QUOTA, Forgotten, Refused, events  # noqa: E402
+from machine.log import QUOTA, Compacted, Forgotten, Refused, events  # noqa: E402
 
 
 def told(many, log, place=0):
@@ -118,6 +119,62 @@ class Following(Bench):
         self.entries(1, 3)
         self.assertEqual(self.store.compacted, 12)
         self.assertEqual(log.end_of(3), 3)
+        self.assertEqual((log.begin(3), told(1, log, 3)), ((13, 2), [3]))  # of a machine that was away meanwhile
+
+    def test_compacted_up_to_behind_an_entry_that_a_machine_lacks(self):
+        self.member()
+        self.entries(3)
+        self.store.put(LINE + b"/place/m1", b"4")
+        log = self.log()
+        log.compact(5)
+        self.entries(1, 4)
+        for place in (0, 2, 3):
+            with self.assertRaisesRegex(Forgotten, "begins behind this machine's place"):
+                log.begin(place)
+        self.assertEqual(log.begin(4), (6, 3))
+        self.store.delete(LINE)
+        log.compact(7)
+        with self.assertRaises(Forgotten):                 # of the deletion, which counts as one
+            log.begin(6)
+
+    def test_compacted_again_while_it_asks(self):
+        self.member()
+        self.entries(1)
+        for _ in range(3):
+            self.store.put(LINE + b"/place/m1", b"2")
+        log = self.log()
+        log.compact(5)
+        self.entries(1, 2)
+        with mock.patch.object(log, "compacted_behind", return_value=4), self.assertRaises(Compacted):
+            log.begin(2)
+        self.assertEqual(log.begin(2), (6, 1))
+
+    def test_an_entry_that_comes_between_two_watches(self):
+        """Behind a silence the node looks anew where to begin: what came just then is fed all the same, though places were forgotten behind its own."""
+        self.member()
+        self.entries(2)
+        self.store.put(LINE + b"/place/m1", b"3")
+        log = self.log()
+        log.compact(log.end_of(3))
+        with mock.patch("machine.log.time.sleep", side_effect=lambda _: self.entries(1, 3)):
+            self.assertEqual(told(1, log, 3), [3])
+
+    def test_places_that_are_forgotten_before_a_watch_begins(self):
+        self.member()
+        self.entries(2)
+        log, begin = self.log(), self.log().begin
+
+        def begin_late(place):
+            found = begin(place)
+            for _ in range(3 if self.store.compacted == 0 else 0):
+                self.store.put(LINE + b"/place/m1", b"3")
+            log.compact(log.end_of(place))
+            return found
+
+        threading.Timer(0.5, self.entries, (1, 3)).start()
+        with mock.patch.object(log, "begin", begin_late):
+            self.assertEqual(told(1, log, 3), [3])
+        self.assertIn("compacted up to 6 just now", self.said.getvalue())
 
     def test_nothing_is_missed_behind_a_compaction_up_to_the_end(self):
         self.member()
@@ -151,7 +208,7 @@ class Following(Bench):
         for line in [b'{"result":{"created":true}}', b'{"error":{"grpc_code":14}}\n', b'{"result":{"canceled":true}}\n']:
             with self.assertRaises(OSError):
                 list(events(line, 0, 0))
-        with self.assertRaises(Forgotten):
+        with self.assertRaises(Compacted):
             list(events(b'{"result":{"canceled":true,"compact_revision":"9"}}\n', 0, 0))
         with self.assertRaises(ValueError):                # no fault of a line: it ends the process
             list(events(b"{garbage\n", 0, 0))

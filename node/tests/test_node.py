@@ -101,7 +101,7 @@ class Processes(Bench):
         self.store.compacted = 5
         process = self.start()
         self.assertEqual(process.wait(30), 2)
-        self.assertIn("the log begins behind 5: copy the folder of another machine", process.stderr.read())
+        self.assertIn("the log begins behind this machine's place 0: copy the folder of another machine", process.stderr.read())
         self.store.compacted = 0
         process = self.start()
         self.serves(process)

@@ -2,6 +2,7 @@
 import sys
 import unittest
 from pathlib import Path
+from unittest import mock
 
 sys.path.insert(0, str(Path(__file__).resolve().parent))
 
@@ -12,6 +13,13 @@ MACHINES = ["m1", "m2", "m3"]
 
 
 class Upkeep(Bench):
+    def setUp(self):
+        super().setUp()
+        for name, value in (("PAUSE", 0.01), ("LEAST", 9)):
+            patch = mock.patch.object(upkeep, name, value)
+            patch.start()
+            self.addCleanup(patch.stop)
+
     def once(self):
         return upkeep.once(self.log(), MACHINES, self.journal)
 
@@ -45,6 +53,26 @@ class Upkeep(Bench):
         for member in self.members:
             member.used = 100                              # behind the compaction
         self.assertEqual((self.once(), self.store.full, self.store.compacted, self.tidied()), (0, False, 7, [1, 1, 1]))
+
+    def test_what_is_given_free_by_and_by_is_waited_for(self):
+        for leaves in ([900, 908, 900, 800, 400, 100], [900, 500, 100]):
+            self.member(quota=1000, size=1000, leaves=leaves)
+        self.store.full = True
+        self.assertEqual((self.once(), self.store.full, self.tidied()), (0, False, [1, 1]))
+        self.assertEqual([member.size for member in self.members], [100, 100])
+
+    def test_what_is_never_given_free_is_waited_for_so_long(self):
+        self.member(quota=100000, size=100000, leaves=list(range(90000, 10, -10)))
+        self.store.full = True
+        with mock.patch.object(upkeep, "LONGEST", 0.1):
+            self.assertEqual((self.once(), self.store.full), (0, False))
+        self.assertGreater(len(self.members[0].leaves), 8000)
+
+    def test_what_comes_and_goes_isnt_waited_for(self):
+        self.member(quota=1000, size=1000, leaves=[100, 105, 100, 95, 100, 105])
+        self.store.full = True
+        self.assertEqual((self.once(), self.store.full), (0, False))
+        self.assertEqual(len(self.members[0].leaves), 2)   # of one look, another, and those before and behind defragmenting
 
     def test_a_full_one_that_is_full_of_what_is_needed(self):
         self.member(quota=1000, size=1000, used=985)

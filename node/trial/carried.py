@@ -6,7 +6,7 @@ import tempfile
 import time
 from pathlib import Path
 
-from trial.machines import HERE, LINE, Machines
+from trial.machines import HERE, LINE, Machines, run
 
 OPERATING = HERE.parent / "tools/operating"
 DAY = 86400
@@ -65,8 +65,7 @@ def carry_over(machines, program):
     for n in (1, 2, 3):
         machines.kill_node(n)
     for n in (1, 2, 3):
-        words = [OPERATING / "acd-carry", "--file", machines.folder / f"m{n}/desk.db", "--desk", program]
-        done = subprocess.run(list(map(str, words)), stdout=subprocess.PIPE, stderr=subprocess.STDOUT, text=True)
+        done = run([OPERATING / "acd-carry", "--file", machines.folder / f"m{n}/desk.db", "--desk", program], stderr=subprocess.STDOUT, text=True)
         machines.see(f"machine {n} is carried over", done.returncode == 0, done.stdout)
         said.append(done.stdout.replace(f"/m{n}/", "/"))
     machines.see("all are cut at one stamp", said == said[:1] * 3 and " is the last request that " in said[0], said)
@@ -77,7 +76,7 @@ def carry_over(machines, program):
 
 
 def told_by(program, command, file):
-    return subprocess.run([program, command, "--file", file], stdout=subprocess.PIPE, stderr=subprocess.STDOUT).stdout
+    return run([program, command, "--file", file], stderr=subprocess.STDOUT).stdout
 
 
 def look(machines, program, told, log):
@@ -86,7 +85,7 @@ def look(machines, program, told, log):
         machines.kill_node(n)
     with tempfile.TemporaryDirectory() as room:
         whole, first = Path(room) / "desk.db", {}
-        answers = subprocess.run([program, "lines", "--file", whole], input=b"".join(line + b"\n" for line in log), stdout=subprocess.PIPE).stdout.splitlines()
+        answers = run([program, "lines", "--file", whole], input=b"".join(line + b"\n" for line in log)).stdout.splitlines()
         for line, answer in zip(log, answers):
             first.setdefault(line.partition(b" ")[2], answer)
         other = [it for it in told if first.get(it.body.encode()) != b"%d " % it.status + it.reply]
@@ -95,7 +94,7 @@ def look(machines, program, told, log):
     for folder in [machines.folder / f"m{n}" for n in (1, 2, 3)]:
         file = folder / "desk.db"
         words = [OPERATING / "acd-export", "--file", file, "--archive", next(folder.glob("desk.db-2*-*")), "--desk", program]
-        joined = subprocess.run(list(map(str, words)), stdout=subprocess.PIPE, stderr=subprocess.STDOUT)
+        joined = run(words, stderr=subprocess.STDOUT)
         machines.see(f"archive and file of {folder.name} have all events", (joined.returncode, joined.stdout) == (0, events), joined.stdout[-200:])
         machines.see(f"the file of {folder.name} alone has fewer", told_by(program, "export", file).count(b"\n") < events.count(b"\n"))
         machines.see(f"the report of {folder.name}", told_by(program, "report", file) == report)

@@ -6,7 +6,7 @@ import ssl
 import subprocess
 import time
 
-from trial.machines import HERE, is_entry
+from trial.machines import HERE, is_entry, run, wait_until
 
 TOKEN = b"00000000000000000000000000000bad"
 TICK = b'{"requester":"vandal","invoke":1,"service":"tick"}'
@@ -24,8 +24,8 @@ def vandal(machines, end):
     """Puts each bad entry, and each odd one, while others ask; deletes the line in between."""
     for number, entry in enumerate(BAD + ODD + BAD):
         words = ["del", "desk/line"] if number % 20 == 10 else ["put", "desk/line", *([] if entry else [""])]
-        while not machines.etcdctl(*words, told=entry):    # what leads may just have been killed
-            time.sleep(0.2)
+        if not wait_until(lambda: machines.etcdctl(*words, told=entry), step=0.2):  # what leads may just have been killed
+            return machines.see("etcdctl puts what is no entry", False, entry)
         time.sleep(0 if end.is_set() else 0.2)
 
 
@@ -99,7 +99,7 @@ def requests(machines):
 
 def own_addresses():
     """This machine's addresses that aren't loopback."""
-    told = subprocess.run(["hostname", "-I"], stdout=subprocess.PIPE, text=True).stdout.split()
+    told = run(["hostname", "-I"], text=True).stdout.split()
     return [address for address in told if ":" not in address]
 
 

@@ -17,6 +17,8 @@ LINE = base64.b64encode(b"desk/line").decode()
 NAMES = "m1,m2,m3"
 # An entry, as docs/OPERATING.md says: written anew here, so that a node that reads it otherwise is found.
 ENTRY = re.compile(rb"[0-9a-fA-F]{32} ([0-9]{1,10} [^\r\n]{1,4096})", re.DOTALL)
+# Seconds: until a request has its answer, and what waits for the machines ends; and for a program that ends by itself.
+PATIENCE, LONGEST = 120, 600
 # A request that was answered: when it was first sent, how long it took, and how often it was sent.
 Told = namedtuple("Told", "body status reply start seconds tries machine")
 
@@ -26,12 +28,29 @@ def is_entry(entry):
     return bool(found) and not found.group(1).split(b" ", 1)[1].startswith((b"GET", b"HEAD"))
 
 
+def run(words, **more):
+    """A program that ends by itself, and in time."""
+    return subprocess.run(list(map(str, words)), stdout=subprocess.PIPE, timeout=LONGEST, **more)
+
+
+def wait_until(so, seconds=PATIENCE, step=1.0):
+    """Whether it became so in time."""
+    end = time.time() + seconds
+    while not (found := so()) and time.time() < end:
+        time.sleep(step)
+    return bool(found)
+
+
 def free_ports(many):
     sockets = [socket.create_server(("127.0.0.1", 0)) for _ in range(many)]
     ports = [taken.getsockname()[1] for taken in sockets]
     for taken in sockets:
         taken.close()
     return ports
+
+
+class NoAnswer(Exception):
+    """A request that had only 503 for so long that what comes behind it means nothing."""
 
 
 class Count:
@@ -66,7 +85,7 @@ class Machines:
         for words in [[*key, "/CN=desks", "-x509", "-days", "2", "-keyout", self.folder / "ca.key", "-out", self.folder / "ca.crt"],
                       [*key, "/CN=desk", "-keyout", self.folder / "m.key", "-out", self.folder / "m.csr"],
                       ["x509", "-req", "-in", self.folder / "m.csr", "-CA", *ca, "-CAcreateserial", "-days", "2", "-extfile", self.folder / "names", "-out", self.folder / "m.crt"]]:
-            subprocess.run(["openssl", *map(str, words)], check=True, stdout=subprocess.DEVNULL, stderr=subprocess.DEVNULL)
+            run(["openssl", *words], check=True, stderr=subprocess.DEVNULL)
         context = ssl.create_default_context(cafile=self.folder / "ca.crt")
         context.load_cert_chain(self.folder / "m.crt", self.folder / "m.key")
         return context
@@ -126,8 +145,7 @@ class Machines:
 
     def upkeep(self):
         """What the timer does, done now: its status and its lines."""
-        words = [HERE / "node", "--upkeep", "now", "--name", "m1", "--machines", NAMES, *self.etcd_options()]
-        done = subprocess.run(list(map(str, words)), stdout=subprocess.PIPE, stderr=subprocess.STDOUT, text=True, timeout=120)
+        done = run([HERE / "node", "--upkeep", "now", "--name", "m1", "--machines", NAMES, *self.etcd_options()], stderr=subprocess.STDOUT, text=True)
         return done.returncode, done.stdout
 
     def said(self, n):
@@ -136,6 +154,14 @@ class Machines:
     def kill_node(self, n):
         os.killpg(self.nodes[n].pid, signal.SIGKILL)
         self.nodes[n].wait()
+
+    def restart_nodes(self, names):
+        """All of them, with the machines' names or without: then none shortens the log."""
+        for n in (1, 2, 3):
+            self.kill_node(n)
+        self.names = names
+        for n in (1, 2, 3):
+            self.start_node(n)
 
     def ends_with(self, n, status):
         """Whether the node ends of itself with this status."""
@@ -183,7 +209,7 @@ class Machines:
         """Whether etcdctl did it; what it is told on its standard input is the value."""
         ends = [f"https://{end}" if self.context else end for end in self.ends.split(",")]
         files = [f"--cacert={self.folder}/ca.crt", f"--cert={self.folder}/m.crt", f"--key={self.folder}/m.key"] if self.context else []
-        done = subprocess.run(["etcdctl", f"--endpoints={','.join(ends)}", *files, *words], input=told, stdout=subprocess.PIPE, stderr=subprocess.STDOUT, env={**os.environ, "ETCDCTL_API": "3"})
+        done = run(["etcdctl", f"--endpoints={','.join(ends)}", *files, *words], input=told, stderr=subprocess.STDOUT, env={**os.environ, "ETCDCTL_API": "3"})
         return done.returncode == 0
 
     def everything(self, begin=1):
@@ -210,16 +236,15 @@ class Machines:
     def places(self):
         return [(self.folder / f"m{n}/at").read_text().split() if (self.folder / f"m{n}/at").exists() else None for n in (1, 2, 3)]
 
-    def wait_until_equal(self, seconds=60):
-        end = time.time() + seconds
-        while time.time() < end:
-            told = self.places()
-            if told[0] and told[0] == told[1] == told[2]:
-                time.sleep(1)
-                if told == self.places():
-                    return True
-            time.sleep(0.3)
+    def are_equal(self):
+        told = self.places()
+        if told[0] and told[0] == told[1] == told[2]:
+            time.sleep(1)
+            return told == self.places()
         return False
+
+    def wait_until_equal(self, seconds=PATIENCE):
+        return wait_until(self.are_equal, seconds, 0.3)
 
     def ask_until_answered(self, body, chance, told, machines=(1, 2, 3)):
         start, tries = time.time(), 0
@@ -230,6 +255,9 @@ class Machines:
             if status != 503:
                 told.append(Told(body, status, reply, start, time.time() - start, tries, machine))
                 return
+            if time.time() > start + PATIENCE:
+                self.see(f"a request has its answer within {PATIENCE} s", False, body.strip())
+                raise NoAnswer(body.strip())
             time.sleep(0.05)
 
     def arrive(self, requester, caller, many, chance, machines=(1, 2, 3)):
@@ -241,8 +269,8 @@ class Machines:
     def copy_folder(self, to, source):
         """As docs/OPERATING.md has it: the machine that is copied from is stopped until the other one has started."""
         self.kill_node(source)
-        subprocess.run(["rm", "-rf", self.folder / f"m{to}"], check=True)
-        subprocess.run(["cp", "-a", self.folder / f"m{source}", self.folder / f"m{to}"], check=True)
+        run(["rm", "-rf", self.folder / f"m{to}"], check=True)
+        run(["cp", "-a", self.folder / f"m{source}", self.folder / f"m{to}"], check=True)
         self.start_node(to)
         time.sleep(3)
         self.start_node(source)
