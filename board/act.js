@@ -1,88 +1,76 @@
-// What a lead asks for, of the own groups alone: an agent's state, a call's end or another place for it, a group's priority. Each behind a question; the gate and the desk say whether it may be.
+// What a lead asks for, of the own groups alone, each behind a question; gate and desk say whether it may be.
 import {byId, make, put, withNumber} from './draw.js';
 import {post, requesterOf, sleep} from './net.js';
 import {named, refusal, word} from './words.js';
 
 const AGAIN = 1000, TRIES = 6, TOLD = 8000;
-const STATES = {ready: 'ready', notReady: 'notReady', loggedOff: 'null'};
 
-export class Lead {
-  /** @type {Set<string>} */ groups = new Set();
-  requester = '';
-  invoke = 0;
+/** @type {LeadOf} */
+export const lead = {
+  groups: new Set(), requester: '', invoke: 0,
 
-  /** @param {Who} who what the gate says of the login */
-  begin({login = '', role, groups = []}) {
+  begin({login, role, groups = []}) {
     if (role !== 'lead') return;
     this.groups = new Set(groups);
     this.requester = requesterOf(login);
-  }
+  },
 
-  acts() { return this.groups.size > 0; }
+  leads({state, groups}) { return state !== 'null' && groups.some(group => this.groups.has(group)); },
 
-  /** @param {{state:AgentState, groups:string[]}} agent */
-  leads({state, groups}) { return state !== 'null' && groups.some(group => this.groups.has(group)); }
+  // A call is moved where it waits, and ended where an agent has it.
+  may({group, state}) { return group !== null && this.groups.has(group) && ['queued', 'alerting', 'connected', 'hold'].includes(state); },
 
-  // Whether a call may be moved, where it waits, or ended, where an agent has it.
-  /** @param {CallLine} line */
-  may({group, state}) { return group !== null && this.groups.has(group) && ['queued', 'alerting', 'connected', 'hold'].includes(state); }
-
-  /** @param {State} state @param {string} agent */
   async ofAgent(state, agent) {
-    const who = named(state.agent(agent).name || agent), states = Object.entries(STATES).map(([requested, is]) => [requested, word(`doing.${is}`)]), requested = await ask(word('act.state', {who}), states);
-    if (requested) await this.send('setAgentState', {agent, requested}, word('act.done.state', {who, state: Object.fromEntries(states)[requested]}));
-  }
+    const who = named(state.agent(agent).name || agent), requested = await ask(word('act.state', {who}), ['ready', 'notReady', 'loggedOff'].map(one => [one, word(`agent.${one}`)]));
+    if (requested) await this.send('setAgentState', {agent, requested}, word(`agent.${requested}`), who);
+  },
 
-  /** @param {State} state @param {CallLine} line */
   async ofCall(state, {number: call, device, state: is}) {
-    const text = String(call);
+    const who = word('agents.call', {call: `${call}`});
     if (is !== 'queued') {
-      if (await ask(word('act.end.sure', {call: text})) !== null) await this.send('clearConnection', {call, device}, word('act.done.end', {call: text}));
+      if (await ask(word('act.end.sure', {who})) !== null) await this.send('clearConnection', {call, device}, word('act.end'), who);
       return;
     }
     const groups = [...this.groups].flatMap(id => { const group = state.groups.get(id); return group && id !== device ? [[id, withNumber(group)]] : []; });
     const stations = [...state.agents.values()].flatMap(agent => agent.station && this.leads(agent) ? [[agent.station, withNumber({id: agent.station, name: agent.name || agent.id})]] : []);
-    const to = await ask(word('act.move.sure', {call: text}), [...groups, ...stations]);
-    if (to) await this.send('deflectCall', {call, device, to}, word('act.done.move', {call: text, to}));
-  }
+    const to = await ask(word('act.move.sure', {who}), [...groups, ...stations]);
+    if (to) await this.send('deflectCall', {call, device, to}, word('act.move'), who, to);
+  },
 
-  /** @param {State} state @param {string} device */
   async ofGroup(state, device) {
-    const {name, priority: has} = state.group(device), group = named(name || device), priority = await ask(word('act.priority.sure', {group}), [...'0123456789'].map(one => [one, one]), String(has));
-    if (priority) await this.send('setGroupPriority', {device, priority: Number(priority)}, word('act.done.priority', {group, priority}));
-  }
+    const {name, priority: has} = state.group(device), group = named(name || device), priority = await ask(word('act.priority.sure', {group}), [...'0123456789'].map(one => [one, one]), `${has}`);
+    if (priority) await this.send('setGroupPriority', {device, priority: Number(priority)}, word('head.priority'), group, priority);
+  },
 
   // The same bytes until there is an answer, so that it acts once.
-  /** @param {string} service @param {Record<string, unknown>} members @param {string} done */
-  async send(service, members, done) {
+  async send(service, members, what, who, to = '') {
     const body = JSON.stringify({requester: this.requester, invoke: ++this.invoke, service, ...members});
     tell('…');
     for (let tried = 0; tried < TRIES; tried++) {
       const reply = await post(body);
-      if (reply) return tell(reply.status === 200 ? `✓ ${done}` : `■ ${refusal(reply.status, reply.text)}`);
+      if (reply) return tell(reply.status === 200 ? `✓ ${word(to ? 'agent.moved' : 'agent.button', {what, who, to})}` : `■ ${refusal(reply.status, reply.text)}`);
       await sleep(AGAIN);
     }
     tell(`■ ${word('act.unknown')}`);
-  }
-}
+  },
+};
 
 let clearing = 0;
-/** @param {string} text */
-function tell(text) {
+function tell(text = '') {
   put('act-told', text);
   clearTimeout(clearing);
   clearing = setTimeout(put, TOLD, 'act-told');
 }
 
-// Asks whether it is meant, and of several things which; null where it isn't.
-/** @param {string} question @param {string[][]} [choices] @param {string} [chosen] @returns {Promise<string|null>} */
-function ask(question, choices = [], chosen = choices[0]?.[0]) {
+// Asks whether it is meant, and which; null where it isn't.
+/** @type {Asks} */
+const ask = (question, choices = [], chosen = choices[0]?.[0]) => {
   const dialog = byId('act'), options = choices.map(([value, text]) => make('option', {value}, text));
-  put(dialog.firstElementChild, make('p', {}, question), make('label', {hidden: !choices.length}, make('span', {}, word('act.to')), ' ', make('select', {}, ...options)),
-    make('menu', {}, make('button', {value: 'yes', class: 'main'}, word('act.yes')), make('button', {value: ''}, word('act.no'))));
+  put(dialog.firstElementChild, make('p', question), make('label', {hidden: !choices.length}, make('span', word('act.to')), ' ', make('select', ...options)),
+    make('menu', make('button.main', {value: 'yes'}, word('act.yes')), make('button', {value: ''}, word('act.no'))));
   const select = dialog.querySelector('select');
   select.value = chosen;
   dialog.returnValue = '';
   dialog.showModal();
   return new Promise(done => { dialog.onclose = () => done(dialog.returnValue ? select.value : null); });
-}
+};

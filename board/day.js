@@ -1,4 +1,4 @@
-// The figures of a day, by steps of a quarter of an hour, and of each agent, counted from event reports. No document, no network.
+// The figures of a day, by quarters of an hour, and of each agent, counted from events. No document, no network.
 import {kept} from './state.js';
 
 export const STEP = 900;
@@ -11,25 +11,24 @@ export class Day {
   last = 0;
   moment = 0;
   all = newLine();
-  /** @type {Map<string,Line>} */ groups = new Map();
-  /** @type {Map<string,Agents>} */ agents = new Map();
-  /** @type {Map<number,number>} */ queued = new Map();
-  // stations whose next event of an agent is behind an answered call of a group, or behind an offer that wasn't taken
-  /** @type {Map<string,string>} */ answers = new Map();
+  /** @type {Map<string, Line>} */ groups = new Map();
+  /** @type {Map<string, Agents>} */ agents = new Map();
+  // since when calls wait
+  /** @type {Map<number, number>} */ queued = new Map();
+  // stations whose agent's next event is behind an answered call of a group, or an offer that wasn't taken
+  /** @type {Map<string, string>} */ answers = new Map();
   /** @type {Set<string>} */ missed = new Set();
   // where the call that is being cleared had connections
   /** @type {Set<string>} */ cleared = new Set();
 
-  // It begins at a moment; of what was before, it takes since when calls wait. A call of a group is answered in time within `limit` seconds; the own groups are counted together.
-  /** @param {number} begin @param {(group:string) => number} limit @param {(group:string) => boolean} own */
-  constructor(begin, limit = () => 20, own = () => true) {
+  // A call is answered in time within the `limit` of its group; the own groups are counted together.
+  constructor(begin = 0, limit = (group = '') => 20, own = (group = '') => true) {
     this.begin = begin;
     this.limit = limit;
     this.own = own;
   }
 
-  /** @param {string} group */
-  line(group) { return kept(this.groups, group, newLine); }
+  line(group = '') { return kept(this.groups, group, newLine); }
 
   /** @param {Report} report */
   apply(report) {
@@ -41,28 +40,28 @@ export class Day {
   }
 
   /** @param {CallReport} report */
-  changeCall(report) {
-    switch (report.event) {
+  changeCall({event, moment, call, device, group, cause, waited = 0}) {
+    switch (event) {
       case 'queued':
-        if (report.cause !== 'noAnswer') this.count(report.device, report.moment, {entered: 1});
-        return this.balance(report.device, report.moment, 1);
+        if (cause !== 'noAnswer') this.count(device, moment, {entered: 1});
+        return this.balance(device, moment, 1);
       case 'diverted':
-        if (report.group === report.device) this.balance(report.device, report.moment, -1);
-        if (report.group && report.cause === 'deflected') this.count(report.group, report.moment, {moved: 1});
-        if (report.cause === 'noAnswer') this.missed.add(report.device);
+        if (group === device) this.balance(device, moment, -1);
+        if (group && cause === 'deflected') this.count(group, moment, {moved: 1});
+        if (cause === 'noAnswer') this.missed.add(device);
         return;
       case 'established':
-        if (!report.group) return;
-        this.answers.set(report.device, report.group);
-        return this.count(report.group, report.moment, {answered: 1, waited: report.waited, within: Number((report.waited ?? 0) <= this.limit(report.group)), longest: report.waited});
+        if (!group) return;
+        this.answers.set(device, group);
+        return this.count(group, moment, {answered: 1, waited, within: Number(waited <= this.limit(group)), longest: waited});
       case 'connectionCleared':
-        this.cleared.add(report.device);
+        this.cleared.add(device);
         return;
       case 'callCleared':
-        if (report.group) {
-          // one that is older than what was read of the time before waits longer than any limit
-          this.count(report.group, report.moment, {abandoned: 1, late: Number(report.moment - (this.queued.get(report.call) ?? -Infinity) > this.limit(report.group))});
-          if (this.cleared.has(report.group)) this.balance(report.group, report.moment, -1);
+        if (group) {
+          // one from before what was read waits longer than any limit
+          this.count(group, moment, {abandoned: 1, late: Number(moment - (this.queued.get(call) ?? -Infinity) > this.limit(group))});
+          if (this.cleared.has(group)) this.balance(group, moment, -1);
         }
         this.cleared.clear();
     }
@@ -72,7 +71,7 @@ export class Day {
   changeAgent({agent: id, device, event, moment}) {
     const agent = kept(this.agents, id, () => ({calls: 0, missed: 0, spent: {}, doing: '', since: moment, groups: new Set(), group: '', handled: 0}));
     agent.spent[agent.doing] = (agent.spent[agent.doing] ?? 0) + moment - agent.since;
-    // what is done for a call ends with after-call work, where that is right behind it
+    // after-call work right behind a call belongs to it
     if (agent.group && !(agent.doing === 'agentBusy' && event === 'agentWorkingAfterCall')) {
       this.count(agent.group, moment, {handled: 1, handling: moment - agent.handled});
       agent.group = '';
@@ -89,42 +88,33 @@ export class Day {
     agent.handled = moment;
   }
 
-  // What an agent did in the day, from the first of its events on: seconds by the event that began it.
-  /** @param {string} id @param {number} now */
-  agent(id, now) {
-    const agent = this.agents.get(id);
-    const spent = (/** @type {string} */ event) => agent ? (agent.spent[event] ?? 0) + (agent.doing === event ? Math.max(0, now - agent.since) : 0) : 0;
-    return {
-      calls: agent?.calls ?? 0, missed: agent?.missed ?? 0, groups: agent?.groups ?? new Set(),
-      talk: spent('agentBusy'), work: spent('agentWorkingAfterCall'), ready: spent('agentReady'), notReady: spent('agentNotReady') + spent('agentLoggedOn'),
-    };
+  // In seconds, from the agent's first event of the day on.
+  agent(id = '', now = 0) {
+    const {calls = 0, missed = 0, spent = {}, doing = '', since = now} = this.agents.get(id) ?? {}, of = (event = '') => (spent[event] ?? 0) + (doing === event ? Math.max(0, now - since) : 0);
+    return {calls, missed, talk: of('agentBusy'), afterCall: of('agentWorkingAfterCall'), ready: of('agentReady'), notReady: of('agentNotReady') + of('agentLoggedOn')};
   }
 
-  /** @param {string} group */
-  lines(group) { return this.own(group) ? [this.line(group), this.all] : [this.line(group)]; }
+  /** @param {Agent} agent */
+  servedBy({id, groups}) { return groups.length ? groups : [...this.agents.get(id)?.groups ?? []]; }
 
-  /** @param {string} group @param {number} moment @param {Partial<Sums>} figures what they grow by; `longest` is the greatest */
-  count(group, moment, figures) {
-    for (const line of this.lines(group)) {
-      add(line.sum, figures);
-      add(stepOf(line, moment), figures);
-    }
+  lines(group = '') { return this.own(group) ? [this.line(group), this.all] : [this.line(group)]; }
+
+  /** @param {Partial<Sums>} figures */
+  count(group = '', moment = 0, figures) {
+    for (const line of this.lines(group)) for (const sums of [line.sum, stepOf(line, moment)]) add(sums, figures);
   }
 
-  /** @param {string} group @param {number} moment @param {1|-1} change */
-  balance(group, moment, change) {
+  balance(group = '', moment = 0, change = 1) {
     for (const line of this.lines(group)) {
       const step = stepOf(line, moment);
-      line.balance += change;
-      step.end = line.balance;
-      step.top = Math.max(step.top, line.balance);
+      step.end = line.balance += change;
+      step.top = Math.max(step.top, step.end);
     }
   }
 
-  // The steps of the day one after the other, with the most calls that waited at once in each.
-  /** @param {Line} line @param {number} waiting how many wait in it at present @param {number} now */
-  steps(line, waiting, now) {
-    // the first step that has anything
+  // All steps up to now, where so many wait, with the most that waited at once in each.
+  /** @param {Line} line */
+  steps(line, waiting = 0, now = 0) {
     const earliest = Math.min(Math.floor(this.moment / STEP), ...this.all.steps.keys()), base = waiting - line.balance, found = [];
     let before = base;
     for (let number = Math.max(Math.floor(this.begin / STEP), earliest); number <= Math.floor(now / STEP); number++) {
@@ -136,13 +126,12 @@ export class Day {
   }
 }
 
-/** @param {number} balance */
-const emptyStep = balance => ({...noSums(), top: balance, end: balance});
+const emptyStep = (balance = 0) => ({...noSums(), top: balance, end: balance});
 
-/** @param {Line} line @param {number} moment */
-const stepOf = (line, moment) => kept(line.steps, Math.floor(moment / STEP), () => emptyStep(line.balance));
+/** @param {Line} line */
+const stepOf = (line, moment = 0) => kept(line.steps, Math.floor(moment / STEP), () => emptyStep(line.balance));
 
-/** @param {Sums} sums @param {Partial<Sums>} more @param {string[]} [names] */
+/** @param {Sums} sums @param {Partial<Sums>} more */
 function add(sums, more, names = Object.keys(more)) {
   for (const name of /** @type {(keyof Sums)[]} */ (names)) sums[name] = name === 'longest' ? Math.max(sums.longest, more.longest ?? 0) : sums[name] + (more[name] ?? 0);
 }
@@ -154,29 +143,17 @@ export function sumOf(steps) {
   return sum;
 }
 
-/** @param {number} part @param {number} whole */
-const share = (part, whole) => whole ? part / whole : null;
+const share = (part = 0, whole = 0) => whole ? part / whole : null;
 
-// The service level: calls answered in time, of all that were answered, and those whose callers gave up later than that. Null where there is none.
-/** @param {Sums} sum @param {boolean} [answered] of the answered alone */
-export const level = (sum, answered) => share(sum.within, answered ? sum.answered : sum.answered + sum.late);
+// The service level: answered in time, of the answered and those abandoned later, or of the answered alone.
+export const level = ({within, answered, late} = noSums(), alone = false) => share(within, alone ? answered : answered + late);
 
-// The share of callers who gave up, of those who were answered or gave up.
-/** @type {OfSums} */
-export const abandonment = sum => share(sum.abandoned, sum.answered + sum.abandoned);
+export const abandonment = ({abandoned, answered} = noSums()) => share(abandoned, answered + abandoned);
+export const averageWait = ({waited, answered} = noSums()) => share(waited, answered);
+export const averageHandling = ({handling, handled} = noSums()) => share(handling, handled);
 
-// The average wait of the answered calls: the speed of answer.
-/** @type {OfSums} */
-export const averageWait = sum => share(sum.waited, sum.answered);
-
-// The average time for a call: talk, hold, and the after-call work right behind it.
-/** @type {OfSums} */
-export const averageHandling = sum => share(sum.handling, sum.handled);
-
-// How much of the time in which agents were there for callers they worked: talk, hold and after-call work, of these and ready.
-/** @param {{talk:number, work:number, ready:number}[]} agents */
-export function occupancy(agents) {
-  let busy = 0, ready = 0;
-  for (const agent of agents) { busy += agent.talk + agent.work; ready += agent.ready; }
-  return share(busy, busy + ready);
+// Talk, hold and after-call work, of these and ready.
+export function occupancy(agents = [{talk: 0, afterCall: 0, ready: 0}]) {
+  const busy = agents.reduce((sum, {talk, afterCall}) => sum + talk + afterCall, 0);
+  return share(busy, agents.reduce((sum, {ready}) => sum + ready, busy));
 }

@@ -1,5 +1,5 @@
 // Makes of the page what is described, and writes only what has changed.
-import {clock, CLOSES, isWord, named, number, OPENS, plain, timeOfDay, word, zoneOf} from './words.js';
+import {clock, CLOSES, named, number, OPENS, percent, plain, SIGN, timeOfDay, word} from './words.js';
 
 // milliseconds: what is older than that is grey
 const GREY = 10000, SVG = 'http://www.w3.org/2000/svg', ISOLATED = new RegExp(`(${OPENS}[^${CLOSES}]*${CLOSES})`);
@@ -9,17 +9,20 @@ export const AS_IT_IS = Symbol('as it is');
 // what an element was given and what it says, since it is quicker to remember than to ask for
 const GIVEN = Symbol('given'), SAYS = Symbol('says');
 
-/** @param {string} id @returns {any} */
-export function byId(id) { return document.getElementById(id); }
+/** @param {any} place @returns {any} */
+export const byId = place => typeof place === 'string' ? document.getElementById(place) : place;
 
-// An element as it should be: a `data-key` tells it from its neighbours, wherever it stands.
-/** @param {string} tag @param {Attributes} [attributes] @param {Part[]} parts */
-export const make = (tag, attributes = {}, ...parts) => ({tag, attributes, parts});
+// An element as it should be: tag and class, attributes, if any, and parts. A `data-key` tells it from its neighbours.
+/** @param {Attributes|Part} [one] @param {Part[]} more @returns {Made} */
+export function make(kind = '', one, ...more) {
+  const first = /** @type {any} */ (one), given = typeof first === 'object' && !first.tag, attributes = given ? first : {}, parts = given ? more : [first, ...more], dot = kind.indexOf('.');
+  return dot < 0 ? {tag: kind, attributes, parts} : {tag: kind.slice(0, dot), attributes: {class: kind.slice(dot + 1), ...attributes}, parts};
+}
 
-// Gives an element attributes, without a value where it is true; takes away what is false or nothing. A function is what is done at an event.
-/** @param {Place} place @param {Attributes} attributes */
-export function set(place, attributes) {
-  const element = typeof place === 'string' ? byId(place) : place, given = element[GIVEN] ??= {};
+// Gives attributes, and takes away what is false or nothing. A function is what is done at an event.
+/** @type {Sets} */
+export const set = (place, attributes) => {
+  const element = byId(place), given = element[GIVEN] ??= {};
   for (const [name, value] of Object.entries(attributes)) {
     if (name in given && given[name] === value) continue;
     given[name] = value;
@@ -27,12 +30,12 @@ export function set(place, attributes) {
     else if (value === false || value === undefined) element.removeAttribute(name);
     else element.setAttribute(name, value === true ? '' : value);
   }
-}
+};
 
-// Writes what is in an element: texts, where names that are isolated become <bdi>, numbers, and elements; what is false or nothing is left out.
-/** @param {Place} place @param {Part[]} parts */
-export function put(place, ...parts) {
-  const element = typeof place === 'string' ? byId(place) : place, one = parts.length === 1 ? parts[0] : undefined;
+// Writes what is in an element; what is false or nothing is left out.
+/** @type {Puts} */
+export const put = (place, ...parts) => {
+  const element = byId(place), one = parts.length === 1 ? parts[0] : undefined;
   if (one === AS_IT_IS || (one !== undefined && one === element[SAYS])) return;
   element[SAYS] = one;
   const wanted = parts.flatMap(part => typeof part === 'number' ? number(part) : typeof part === 'string' ? texts(part, element) : part ? /** @type {Made} */ (part) : []);
@@ -41,7 +44,7 @@ export function put(place, ...parts) {
   let there = element.firstChild;
   for (const part of wanted) {
     const isText = typeof part === 'string', fits = isText ? there instanceof Text : !keys.size && there?.localName === part.tag;
-    const node = !isText && had.get(part.attributes['data-key']) || (fits ? there : isText ? new Text() : created(part.tag, element));
+    const node = !isText && had.get(part.attributes['data-key']) || (fits ? there : isText ? new Text() : document.createElementNS(part.tag === 'svg' ? SVG : element.namespaceURI, part.tag));
     if (node === there) there = there.nextSibling; else element.insertBefore(node, there);
     if (!isText) {
       set(node, part.attributes);
@@ -49,65 +52,60 @@ export function put(place, ...parts) {
     } else if (node.data !== part) node.data = part;
   }
   while (element.childNodes.length > wanted.length) element.lastChild.remove();
-}
+};
 
-/** @param {string} tag @param {Element} within */
-const created = (tag, within) => document.createElementNS(tag === 'svg' ? SVG : within.namespaceURI, tag);
+// Names that are isolated become <bdi>; an option can only have a text.
+/** @param {Element} within */
+const texts = (text = '', within) => !text.includes(OPENS) || within.localName === 'option' ? text || [] :
+  text.split(ISOLATED).filter(Boolean).map(part => part.startsWith(OPENS) ? make('bdi', plain(part)) : part);
 
-// A text and its names; an option can only have a text.
-/** @param {string} text @param {Element} within */
-const texts = (text, within) => !text.includes(OPENS) || within.localName === 'option' ? text || [] :
-  text.split(ISOLATED).filter(Boolean).map(part => part.startsWith(OPENS) ? make('bdi', {}, plain(part)) : part);
-
-// How what is seen stands to the desk. What changes each second is beside what a screen reader is told.
-/** @param {string} kind @param {number} known when the desk was known last, in milliseconds; 0 where it never was @param {string} why @param {number} moment of the server's clock @param {string} [reading] how much of the day has been read */
-export function drawStatus(kind, known, why, moment, reading) {
-  const age = Date.now() - known, isLive = kind === 'live';
-  set('status', {'data-kind': kind});
-  put('status-text', kind === 'lost' ? word(known ? 'status.old' : 'status.none', {why}) : word(`status.${isLive && reading ? 'counting' : kind}`));
-  put('status-age', known && ['late', 'lost'].includes(kind) ? word('status.age', {clock: clock(age / 1000)}) : isLive && reading);
+// How old what is seen is: `known` at which millisecond. What changes each second is beside what a screen reader is told.
+export function drawStatus(kind = '', known = 0, why = '', moment = 0, reading = '') {
+  const age = Date.now() - known, isLive = kind === 'live', means = isLive ? 'calm' : kind === 'lost' ? 'bad' : 'long', told = kind === 'lost' ? word(known ? 'status.old' : 'status.none', {why}) : word(`status.${isLive && reading ? 'counting' : kind}`);
+  const more = known && ['late', 'lost'].includes(kind) ? word('status.age', {clock: clock(age / 1000)}) : isLive && reading;
+  set('status', {'data-kind': kind, 'data-severity': means});
+  put('status', make('span', {'aria-hidden': 'true'}, `${SIGN[means]} `), make('span', {id: 'status-text', role: 'status'}, told), ' ', make('span', {id: 'status-age'}, more));
   set(document.body, {'data-old': known > 0 && !isLive && age > GREY});
-  put('clock', `${timeOfDay(moment)} ${zoneOf(moment)}`);
+  put('clock', timeOfDay(moment, 'long'));
+  return `${told} ${more || ''}`;
 }
 
-/** @param {{id:string, name:string}} one */
-export const withNumber = ({id, name}) => name && name !== id ? `${named(name)} (${id})` : id;
+export const withNumber = ({id = '', name = ''}) => name && name !== id ? `${named(name)} (${id})` : id;
 
-// In which time calls are to be answered.
-/** @param {Settings} settings */
-export const within = settings => Object.keys(settings).some(name => name.startsWith('limit.')) ? word('tile.limits') : word('tile.limit', {n: settings.limit});
+// Seconds, shares and what else is of the `day` are known once that has been counted.
+/** @type {CellOf} */
+const textOf = ({text, seconds, share, severity, day}, line) => {
+  const figure = seconds ?? share;
+  if ((figure || day) && !line.counted) return '…';
+  if (!figure) return text?.(line) ?? '';
+  const is = share && severity?.(line);
+  return (is === 'long' || is === 'bad' ? `${SIGN[is]} ` : '') + (seconds ? clock : percent)(figure(line));
+};
 
-/** @param {Column} column */
-const kindOf = ({kind, wide, least}) => [kind, wide && 'wide', least && 'least'].filter(Boolean).join(' ');
+// What a file has in its place: there seconds are whole, and a share has four digits.
+/** @type {CellOf} */
+const filed = (column, line) => {
+  const {file, seconds, share} = column, parts = share ? 1e4 : 1, figure = seconds ?? share;
+  const value = file ? file(line) : !figure ? textOf(column, line) : line.counted ? figure(line) : null;
+  return typeof value !== 'number' ? plain(value ?? '') : figure ? Math.round(parts * value) / parts : value;
+};
 
-/** @param {Column} column @param {any} line */
-const textOf = ({head, text}, line) => text ? text(line) : line[head];
-
-/** @param {Column[]} columns @param {any[]} lines */
-const rows = (columns, lines) => [
-  make('thead', {}, make('tr', {}, ...columns.map(column => {
-    const {head, about = isWord(`about.${head}`)} = column;
-    return make('th', {scope: 'col', class: kindOf(column), title: about && word(`about.${head}`)}, word(`head.${head}`));
-  }))),
-  make('tbody', {}, ...lines.map(line => make('tr', {'data-key': line.key, 'data-severity': line.severity ?? ''}, ...columns.map((column, place) => {
-    const text = textOf(column, line);
-    return make(place ? 'td' : 'th', {scope: !place && 'row', class: kindOf(column), 'data-severity': column.severity?.(line)},
-      column.press && text ? make('button', {'data-press': column.press}, text) : text);
-  })))),
-];
-
-// A table with a row for each line, known by its key; a cell may be a button, and main.js does what it is pressed for. As a file it has numbers where a column says so.
-/** @param {string} id @param {Column[]} columns */
-export function table(id, columns) {
+// A table with a row for each line; main.js does what its buttons are pressed for.
+/** @param {(Column|string)[]} told */
+export function table(id = '', told) {
   /** @type {any[]} */ let lines = [];
-  const filed = columns.filter(column => !column.press || column.file);
-  /** @param {Column} column @param {any} line */
-  const value = (column, line) => {
-    const found = column.file ? column.file(line) ?? '' : textOf(column, line);
-    return typeof found === 'number' ? found : plain(found);
-  };
+  const columns = told.map(/** @returns {Column} */ one => {
+    const column = typeof one === 'string' ? {head: one} : one, [head, ...kinds] = column.head.split(' '), of = (/** @type {any} */ line) => line[head];
+    return {text: of, ...column, head, kind: kinds.join(' '), day: kinds.includes('day'), ...kinds.includes('seconds') && {seconds: of}};
+  }), inFile = columns.filter(({kind}) => !kind?.includes('lead'));
   return {
-    draw: (/** @type {any[]} */ now) => put(id, ...rows(columns, lines = now)),
-    file: () => [filed.map(({head}) => word(`head.${head}`)), ...lines.map(line => filed.map(column => value(column, line)))],
+    draw(now = lines) {
+      lines = now;
+      put(id, make('thead', make('tr', ...columns.map(({head, kind}) => make('th', {scope: 'col', class: kind}, word(`head.${head}`))))), make('tbody', ...lines.map(line => make('tr', {'data-key': line.key, 'data-severity': line.severity ?? ''}, ...columns.map((column, place) => {
+        const {kind, press, severity} = column, text = textOf(column, line);
+        return make(place ? 'td' : 'th', {scope: !place && 'row', class: kind, 'data-severity': severity?.(line)}, press && text ? make('button', {'data-press': press}, text) : text);
+      })))));
+    },
+    file: () => [inFile.map(({head}) => word(`head.${head}`)), ...lines.map(line => inFile.map(column => filed(column, line)))],
   };
 }

@@ -1,33 +1,21 @@
-// Follows a desk: a snapshot to begin with, then each second the events behind it; goes on by itself after a loss, and begins anew where another file is in its place.
-import * as net from './net.js';
-import {refusal, word} from './words.js';
+// Follows a desk: a snapshot, then each second the events behind it; goes on after a loss, and begins anew over another file.
+import {pause} from './net.js';
+import {ask} from './session.js';
 
-// RENEW: after so many milliseconds a snapshot is read anew, for what no event tells
+// milliseconds: a snapshot is RENEWed for what no event tells
 const EVERY = 1000, RENEW = 30000, FULL = 1000, SEVERAL = 6;
-
-// A request of a desk. The server's clock less this one's, in milliseconds, is told on the way.
-/** @param {string} path @param {(offset:number) => void} [clock] */
-export async function ask(path, clock) {
-  const {status, date, received, text} = await net.ask(path).catch(({message}) => { throw new Error(word(`lost.${message}`)); });
-  if (date) clock?.(date + 500 - received);
-  if (status !== 200) throw Object.assign(new Error(refusal(status, text)), {status});
-  return JSON.parse(text);
-}
 
 export class Feed {
   last = 0;
   begun = false;
   renewed = 0;
-  // the last event as it was read: another one in its place is another desk's
+  // the last event: another one in its place is another desk's
   seen = '';
   losses = 0;
   wake = () => {};
 
   /** @param {Follower} owner */
   constructor(owner) { this.owner = owner; }
-
-  /** @param {string} path */
-  get(path) { return ask(path, this.owner.clock); }
 
   async run() {
     for (;;) try {
@@ -38,15 +26,14 @@ export class Feed {
         this.owner.tell({kind: 'live'});
       }
       if (!more) await this.wait(this.begun ? EVERY : 0);
-    } catch (error) {
-      const {status, message} = /** @type {any} */ (error);
+    } catch ({status, message}) {
       this.owner.tell({kind: 'lost', status, why: message});
-      await this.wait(net.pause(this.losses++));
+      await this.wait(pause(this.losses++));
     }
   }
 
   async takeSnapshot() {
-    const snapshot = /** @type {Snapshot} */ (await this.get('/snapshot'));
+    const snapshot = await ask('/snapshot');
     if (this.begun && snapshot.last < this.last) return this.forget();
     if (!this.begun) this.last = snapshot.last;
     this.begun = true;
@@ -62,11 +49,11 @@ export class Feed {
     return true;
   }
 
-  // The events behind the last one, and that one again. True where there may be more.
+  // The last event again, and those behind it; says whether there may be more.
   async poll() {
-    const {events, last} = /** @type {Page} */ (await this.get(`/history?after=${Math.max(0, this.last - 1)}`));
+    const {events, last} = await ask(`/history?after=${Math.max(0, this.last - 1)}`);
     if (this.last > 0) {
-      // over a file that was carried over it may be that the last event isn't there any more
+      // a file that was carried over may lack it
       const again = events[0]?.number === this.last ? JSON.stringify(events.shift()) : '';
       if (last < this.last || (this.seen && again !== this.seen) || (events.length && events[0].number > this.last + 1)) return this.forget();
       this.seen = again;
@@ -77,15 +64,10 @@ export class Feed {
       this.seen = JSON.stringify(latest);
       this.owner.take(events);
     }
-    // of agents who logged on in several groups a read tells which
-    for (const agent of [...this.owner.unknown()]) {
-      try { this.owner.learn(await this.get(`/agents/${agent}`)); } catch (error) { if (/** @type {any} */ (error).status !== 404) throw error; }
-    }
     return last > this.last;
   }
 
-  /** @param {number} milliseconds */
-  wait(milliseconds) {
+  wait(milliseconds = 0) {
     return new Promise(done => {
       setTimeout(done, milliseconds);
       this.wake = () => done(undefined);   // a page that comes to the front asks at once
@@ -93,39 +75,33 @@ export class Feed {
   }
 }
 
-// The number of the last event before a moment, looked for at several places at once; where the file hasn't those before it, that before the first one there.
-/** @param {number} last @param {number} moment */
-export async function lastBefore(last, moment) {
+// The last event before a moment; or that before the first, which isn't whole: a file that was carried over lacks it.
+export async function lastBefore(last = 0, moment = 0) {
   let low = 0, high = last;
   while (low < high) {
     const places = new Set(Array.from({length: SEVERAL}, (_, part) => low + Math.floor((high - low) * part / SEVERAL)));
     const pages = await Promise.all([...places].map(async after => ({after, .../** @type {Page} */ (await ask(`/events?after=${after}`))})));
     for (const {after, events} of pages) {
       const first = events.findIndex(event => event.moment >= moment);
-      if (first > 0) return events[first - 1].number;
-      if (first === 0 && events[0].number > after + 1) return events[0].number - 1;
+      if (first > 0) return {last: events[first - 1].number, isWhole: true};
+      if (first === 0 && events[0].number > after + 1) return {last: events[0].number - 1, isWhole: false};
       if (first === 0 || !events.length) { high = after; break; }
       low = events[events.length - 1].number;
     }
   }
-  return low;
+  return {last: low, isWhole: true};
 }
 
-// Whether the event is there, and with it all behind it: over a file that was carried over those before its first one aren't. Before the first of all is nothing.
-/** @param {number} number */
-export const has = async number => number === 0 || (await ask(`/events?after=${number - 1}`)).events[0]?.number === number;
-
-// All events behind one, in their order and a page at a time, several pages being asked for at once; up to the last that there is by then.
-/** @param {number} after @param {number} last @param {(events:Report[]) => boolean} take says whether to go on */
-export async function history(after, last, take) {
+// All events behind one, a page at a time; several pages are asked for at once.
+/** @param {(events:Report[]) => boolean} take says whether to go on */
+export async function history(after = 0, last = 0, take) {
   /** @type {Promise<Page>[]} */ const asked = [];
-  let next = after;
   const more = () => {
-    if (next >= last) return;
-    const page = ask(`/history?after=${next}`);
+    if (after >= last) return;
+    const page = ask(`/history?after=${after}`);
     page.catch(() => {});   // told where it is awaited
     asked.push(page);
-    next += FULL;
+    after += FULL;
   };
   for (let stream = 0; stream < SEVERAL; stream++) more();
   for (let page = asked.shift(); page; page = asked.shift()) {

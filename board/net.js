@@ -1,35 +1,33 @@
-// Requests over HTTP that are given up where no answer comes. No document, so that a worker asks by it too.
+// Requests that are given up where no answer comes. No document, so that a worker asks by it too.
 
 const PATIENCE = 10000, LONGEST = 5000;
-// an address may have a name and password in it, and what is asked for relative to that is refused
+// relative to an address with a password in it a question is refused
 export const base = location.origin;
 
-/** @param {number} milliseconds */
-export const sleep = milliseconds => new Promise(done => setTimeout(done, milliseconds));
+export const sleep = (milliseconds = 0) => new Promise(done => setTimeout(done, milliseconds));
 
-/** For how many milliseconds to wait behind so many losses: longer each time, and not all pages alike.
- * @param {number} losses */
-export const pause = losses => Math.min(LONGEST, 1000 * 2 ** losses) * (0.75 + Math.random() / 2);
+// How long to wait behind so many losses: not all pages alike.
+export const pause = (losses = 0) => Math.min(LONGEST, 1000 * 2 ** losses) * (0.75 + Math.random() / 2);
 
-/** A reply with its text, and the server's time and this one's of it; an error `silent` where none came in time, `server` where nobody is there.
- * @param {string} path @param {RequestInit} [how] @param {number} [patience] in milliseconds @param {AbortController} [giving] by which somebody else gives it up */
-export async function ask(path, how, patience = PATIENCE, giving = new AbortController()) {
+// the server's clock less this one's, in milliseconds: it tells whole seconds, between question and reply
+export let ahead = 0;
+
+// A reply; an error `silent` where none came in time, `server` where nobody is there.
+/** @param {RequestInit} [how] */
+export async function ask(path = '', how, patience = PATIENCE, giving = new AbortController()) {
   const timer = setTimeout(() => giving.abort(), patience);
   try {
-    const reply = await fetch(base + path, {cache: 'no-store', ...how, signal: giving.signal}), received = Date.now();
-    return {status: reply.status, date: Date.parse(reply.headers.get('date') ?? ''), received, text: await reply.text()};
+    const sent = Date.now(), reply = await fetch(base + path, {cache: 'no-store', ...how, signal: giving.signal}), date = Date.parse(reply.headers.get('date') ?? '');
+    if (date) ahead = Math.min(Math.max(ahead, date - Date.now()), date + 1000 - sent);
+    return {status: reply.status, text: await reply.text()};
   } catch { throw new Error(giving.signal.aborted ? 'silent' : 'server'); } finally { clearTimeout(timer); }
 }
 
-/** The reply to a request of the desk, or nothing where it says no more than that none came: the proxy's, or that memory or the store failed.
- * @param {string} body */
-export async function post(body) {
-  try {
-    const reply = await ask('/csta', {method: 'POST', body, headers: {'content-type': 'application/json'}});
-    return [429, 500, 502, 503, 504].includes(reply.status) ? null : reply;
-  } catch { return null; }
+// The desk's reply; nothing where that says as little: the proxy's, or that memory or the store failed.
+export async function post(body = '') {
+  const reply = await ask('/csta', {method: 'POST', body, headers: {'content-type': 'application/json'}}).catch(() => null);
+  return reply && [429, 500, 502, 503, 504].includes(reply.status) ? null : reply;
 }
 
-/** A requester that no other page has: with another's, a count from 1 would get kept replies and do nothing.
- * @param {string} login */
-export const requesterOf = login => `${login}-${crypto.randomUUID().replaceAll('-', '').slice(-16)}`;
+// No other page has it: a count from 1 would get kept replies.
+export const requesterOf = (login = '') => `${login}-${crypto.randomUUID().replaceAll('-', '').slice(-16)}`;

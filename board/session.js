@@ -1,35 +1,42 @@
-// Who is logged in, and the session of a browser: that it is used, and that it ends.
+// What desk and gate answer to who is logged in, and the session of a browser.
 import {set} from './draw.js';
-import {ask} from './feed.js';
-import {base, sleep} from './net.js';
+import * as net from './net.js';
+import {refusal, word} from './words.js';
 
 const USED_EVERY = 60000, AGAIN = 5000;
+let ends = false;
 
-// The page of log-in, which comes back to where one was.
-export const logIn = () => location.assign(`${base}/board/login/?next=${location.pathname}${location.search}${location.hash}`);
+export async function ask(path = '') {
+  const {status, text} = await net.ask(path).catch(({message}) => { throw new Error(word(`lost.${message}`)); });
+  if (status !== 200) throw Object.assign(new Error(refusal(status, text)), {status});
+  return JSON.parse(text);
+}
+
+// It comes back to where one was; what is refused while a session ends doesn't lead there.
+export const logIn = () => ends || location.assign(`${net.base}/board/login/?next=${location.pathname}${location.search}${location.hash}`);
 
 export async function logOut() {
-  await fetch(`${base}/logout`, {method: 'POST'});
-  location.replace(`${base}/board/login/`);
+  ends = true;
+  try {
+    await fetch(`${net.base}/logout`, {method: 'POST'});
+    location.replace(`${net.base}/board/login/`);
+  } catch { ends = false; }
 }
 
-// What the gate says of the login; nothing where there is no gate. A session is used by a click or a key, and has a button that ends it.
-/** @param {() => void} leave what the button does @param {(why:string) => void} [late] @returns {Promise<Who>} */
-export async function openSession(leave, late) {
-  /** @type {Who|undefined} */ let who;
-  while (!who) try { who = /** @type {Who} */ (await ask('/session')); } catch (error) {
-    const {status, message} = /** @type {any} */ (error);
+// What the gate says of the login; nothing without a gate. Clicks and keys use a session; a button ends it.
+/** @type {OpenSession} */
+export const openSession = async (leave, late) => {
+  let who, used = 0;
+  while (!who) try { who = await ask('/session'); } catch ({status, message}) {
     if ([401, 403, 404].includes(status)) return {};
     late?.(message);
-    await sleep(AGAIN);
+    await net.sleep(AGAIN);
   }
-  if (!who.begun) return who;
-  let used = 0;
-  for (const kind of ['pointerdown', 'keydown']) addEventListener(kind, () => {
+  if (who.begun) for (const kind of ['pointerdown', 'keydown']) addEventListener(kind, () => {
     if (Date.now() - used < USED_EVERY) return;
     used = Date.now();
-    fetch(`${base}/session`, {method: 'POST'}).catch(() => { used = 0; });
+    fetch(`${net.base}/session`, {method: 'POST'}).catch(() => { used = 0; });
   }, {capture: true, passive: true});
-  set('log-off', {hidden: false, onclick: leave});
+  set('log-off', {hidden: !who.begun, onclick: leave});
   return who;
-}
+};

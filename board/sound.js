@@ -1,18 +1,17 @@
-// What makes something noticed behind other windows: two tones, and a notification of the browser.
+// What is noticed behind other windows: two tones, and a notification.
 
 // seconds and hertz
 const TONES = [[0, 660], [0.3, 880]], LASTS = 0.22, LOUD = 0.3;
 /** @type {AudioContext|undefined} */ let audio;
 
-/** A browser lets no page sound before somebody clicked there or pressed a key.
- * @param {() => boolean} isWanted */
-export function soundWhere(isWanted) {
+// A browser lets no page sound before somebody clicked there or pressed a key.
+export function soundWhere(isWanted = () => true) {
   const wake = () => {
     if (isWanted()) audio ??= new AudioContext();
     audio?.resume();
   };
   for (const kind of ['pointerdown', 'keydown']) addEventListener(kind, wake, {passive: true});
-  if (/** @type {any} */ (navigator).userActivation?.hasBeenActive) wake();
+  if (navigator.userActivation?.hasBeenActive) wake();
 }
 
 export const isHeard = () => audio?.state === 'running';
@@ -29,8 +28,7 @@ export function tone() {
   }
 }
 
-/** Tells of it where somebody let this page do so.
- * @param {string} title @param {NotificationOptions} how */
-export function notify(title, how) {
+/** @param {NotificationOptions} how */
+export function notify(title = '', how) {
   try { if (Notification.permission === 'granted') return new Notification(title, how); } catch { /* a browser that lets no page do so */ }
 }

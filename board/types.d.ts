@@ -7,35 +7,33 @@ export type Figures = {entered: number, answered: number, abandoned: number, mov
 // what the desk answers
 
 export type Snapshot = {agents: AgentText[], calls: CallText[], groups: GroupText[], last: number, moment: number, stations: StationText[]};
-type AgentText = {agent: string, device?: string, group?: string, groups?: string[], name: string, pending?: string, since: number, stamp: number, state: AgentState};
+/** one group, or several */
+export type Served = {group?: string, groups?: string[]};
+export type AgentText = Served & {agent: string, device?: string, name: string, pending?: string, since: number, stamp: number, state: AgentState};
 type ConnectionText = {device: string, group?: string, state: ConnectionState, offered?: number, place?: number, queued?: number};
 type CallText = {call: number, called: string, caller: string, connections: ConnectionText[], since: number};
 type GroupText = Figures & {device: string, kind: 'group', name: string, priority?: number, ring: number, wrap: number};
 type StationText = {agent?: string, connections: {call: number, state: ConnectionState}[], device: string, kind: 'station'};
 
-type OfCall = {number: number, moment: number, device: string, call: number};
-type OfAgent = {number: number, moment: number, device: string, agent: string};
-export type Queued = OfCall & {event: 'queued', cause: 'newCall' | 'deflected' | 'transferred' | 'noAnswer'};
-export type CallReport = Queued
-  | OfCall & {event: 'serviceInitiated' | 'held' | 'retrieved' | 'failed' | 'connectionCleared'}
-  | OfCall & {event: 'originated' | 'transferred', to: string}
-  | OfCall & {event: 'delivered', cause: 'newCall' | 'distributed' | 'deflected' | 'transferred', group?: string}
-  | OfCall & {event: 'diverted', to: string, cause: 'distributed' | 'deflected' | 'noAnswer', group?: string}
-  | OfCall & {event: 'established', group?: string, waited?: number}
-  | {number: number, moment: number, call: number, event: 'callCleared', group?: string};
-export type AgentReport = OfAgent & {event: 'agentLoggedOn', group?: string}
-  | OfAgent & {event: 'agentLoggedOff' | 'agentNotReady' | 'agentReady' | 'agentBusy' | 'agentWorkingAfterCall'};
+/** what is left out of an event of a call: `callCleared` has no device */
+export type CallReport = {number: number, moment: number, call: number, device: string, group?: string, waited?: number,
+  event: 'serviceInitiated' | 'originated' | 'queued' | 'delivered' | 'diverted' | 'established' | 'held' | 'retrieved' | 'transferred' | 'failed' | 'connectionCleared' | 'callCleared',
+  cause?: 'newCall' | 'distributed' | 'deflected' | 'transferred' | 'noAnswer'};
+export type AgentReport = {number: number, moment: number, agent: string, device: string, group?: string,
+  event: 'agentLoggedOn' | 'agentLoggedOff' | 'agentNotReady' | 'agentReady' | 'agentBusy' | 'agentWorkingAfterCall'};
 export type Report = CallReport | AgentReport;
 export type Page = {events: Report[], last: number};
 
 // the state
 
-export type Group = {id: string, name: string, ring: number, wrap: number, priority: number, figures: Figures, waiting: Set<Call>, ringing: Set<Call>};
-/** rank: of the ready agents of a group the least is next */
-export type Agent = {id: string, name: string, state: AgentState, since: number, rank: number, station: string | null, groups: string[], pending: string | null};
+export type Group = {id: string, name: string, ring: number, wrap: number, priority: number, waiting: Set<Call>, ringing: Set<Call>};
+/** what an agent does, since when, and for which group */
+export type DoingAt = (agent: {state: AgentState, since: number}, here: {state: ConnectionState, since: number, group?: string | null}[]) => {doing: Doing, since: number, group: string | null};
+/** does: as it was drawn last; rank: of the ready agents of a group the least is next */
+export type Agent = {id: string, name: string, state: AgentState, does: Doing, since: number, rank: number, station: string | null, groups: string[], pending: string | null};
 export type Connection = {device: string, state: ConnectionState, group: string | null, since: number};
-/** rank: of the calls of a queue the least is first; ended: the report that began to clear it */
-export type Call = {number: number, caller: string, called: string, since: number, rank: number, queued: number, connections: Map<string, Connection>, ended: number};
+/** rank: of the calls of a queue the least is first; ended: the report that began to clear it; asked: that its caller was asked for */
+export type Call = {number: number, caller: string, since: number, rank: number, queued: number, connections: Map<string, Connection>, ended: number, asked?: boolean};
 export type Station = {id: string, agent: string | null, calls: Set<number>};
 
 // the day
@@ -43,10 +41,11 @@ export type Station = {id: string, agent: string | null, calls: Set<number>};
 export type Sums = Figures & {within: number, late: number, longest: number, handled: number, handling: number};
 /** top and end: how many more wait than at the day's begin, at most and in the end */
 export type Step = Sums & {top: number, end: number};
+/** a step where it is shown; beside: the same one of another day */
+export type Quarter = Sums & {at: number, peak: number, running?: boolean, beside: Sums | null};
 export type Line = {steps: Map<number, Step>, sum: Sums, balance: number};
 /** spent: seconds by the event that began it; doing: the last event; group: of the call that is handled, since `handled` */
 export type Agents = {calls: number, missed: number, spent: Record<string, number>, doing: string, since: number, groups: Set<string>, group: string, handled: number};
-export type AgentDay = {calls: number, missed: number, talk: number, work: number, ready: number, notReady: number, groups: Set<string>};
 
 // what is reckoned of them
 
@@ -55,24 +54,28 @@ export type Severity = 'none' | 'calm' | 'long' | 'bad';
 export type Limits = {limit: number, goal: number, lost: number, long: number, bad: number};
 export type Share = {level: number | null, levelSeverity: Severity, lost: number | null, lostSeverity: Severity};
 /** wait: of the call that waits longest, since `queued`; next: the agent who gets the next call; level: the share answered in time; lost: the share that gave up */
-export type GroupLine = Sums & Share & {id: string, name: string, priority: number, waiting: number, ringing: number, queued: number | null, wait: number | null, severity: Severity,
+export type GroupLine = Sums & Share & {id: string, name: string, priority: number, waiting: number, ringing: number, queued: number, wait: number | null, severity: Severity,
   counts: Record<Doing, number>, loggedOn: number, next: Agent | null, limits: Limits};
-export type Kind = 'wait' | 'level' | 'lost' | 'nobody' | 'ticks' | 'clock';
-/** since: where the figures tell it, else when it was first seen; values: for its words */
-export type Alarm = {key: string, kind: Kind, group: string | null, since: number | null, values: Record<string, string | number>};
+/** since: where the figures tell it, or 0 */
+export type Alarm = {key: string, kind: string, since: number, values: () => Values};
+/** since: when it began, as far as is known; last: when it was there for the last time, in milliseconds; seen: whether somebody said so in this browser */
+export type Known = {since: number, last: number, seen: boolean};
+/** what a word has values for */
+export type Values = Record<string, string | number>;
 /** a call, with its busiest connection */
 export type CallLine = {number: number, state: ConnectionState | 'none', since: number, group: string | null, device: string, caller: string, begun: number, rank: number};
-/** head: the word at the top, which may have one that says more (about); text: what stands in a line's cell, else the line's member of that name; file: what a file has in its place; press: what the button is called that it is; wide and least: left out on a small screen */
-export type Column = {head: string, about?: false, text?: (line: any) => string | number, file?: (line: any) => string | number | null, severity?: (line: any) => string, press?: string,
-  kind?: 'words' | 'state' | 'name' | 'mid' | 'name mid' | 'filed', wide?: boolean, least?: boolean};
-/** look: first, second or third, by which the style tells them apart, with colour and without */
-export type Series = {name: string, look: string, bar?: (step: any) => number, line?: (step: any) => number | null};
+/** of a line */
+export type Cell = (line: any) => string | number;
+export type Figure = (line: any) => number | null;
+/** head: the word at the top, and behind it classes: wide and least are left out on a small screen, and day is known once the day has been counted; text: what stands in a line's cell, else the line's member of that name, or a figure of seconds or a share; file: what a file has in its place; press: what the button is called that it is */
+export type Column = {head: string, kind?: string, day?: boolean, text?: Cell, seconds?: Figure, share?: Figure, file?: (line: any) => string | number | null, severity?: (line: any) => string, press?: string};
+/** look: first, second or third, by which the style tells them apart, with colour and without; a bar, or a line */
+export type Series = {name: string, look: string, value: Figure, isLine?: boolean};
 
 // who follows a desk: how it goes, a snapshot to begin with, what happens then, and the agents that have to be asked for
 
-export type Course = {kind: 'begins' | 'live' | 'anew'} | {kind: 'lost', why: string, status?: number};
-export type Follower = {tell: (course: Course) => void, begin: (snapshot: Snapshot) => void, take: (events: Report[]) => void,
-  unknown: () => Iterable<string>, learn: (agent: any) => void, clock: (offset: number) => void};
+export type Course = {kind: 'begins' | 'live' | 'anew'} | {kind: 'lost', why: string, status: number};
+export type Follower = {tell: (course: Course) => void, begin: (snapshot: Snapshot) => void, take: (events: Report[]) => void};
 
 // what a page is made of
 
@@ -81,13 +84,57 @@ export type Attributes = Record<string, string | number | boolean | undefined | 
 export type Made = {tag: string, attributes: Attributes, parts: Part[]};
 /** what is in an element; of an element as it is, a symbol */
 export type Part = Made | string | number | boolean | undefined | symbol;
-/** an element, or its id */
-export type Place = any;
+/** of an element, or its id */
+export type Sets = (place: any, attributes: Attributes) => void;
+export type Puts = (place: any, ...parts: Part[]) => void;
+
+/** of an event */
+export type Sentence = {moment: number, number: string, words: string};
+
+// functions
+
+export type Order<T> = (one: T, other: T) => number;
+export type Concerns = (state: import('./state.js').State, report: any, own: (group: string) => boolean) => boolean | undefined;
+export type Signed = (area: string, signs: Record<string, string>) => Record<string, {sign: string, words: string}>;
+
+/** what a map has for a key, or gets */
+export type Keeps = <K, V>(map: Map<K, V>, key: K, made: () => V & {}) => V;
+export type Search = <T>(lines: T[], find: string, texts: (line: T) => string[]) => T[];
+/** of a share that misses its goal by so many percent, of which so many are bad */
+export type Judge = (share: number | null, missed: number, far: number) => Severity;
+export type CellOf = (column: Column, line: any) => string | number;
+export type Tile = (head: string, value: string | number, note?: string | false, severity?: string, formula?: string) => Part;
+/** a figure as bars, or as a line */
+export type Charted = (head: string, look: string, value: Figure, isLine?: boolean) => Series;
+/** by the key of its row, and the call in it */
+export type Pressed = (key: string, line: CallLine | undefined, button: HTMLElement) => void;
+/** leave: what the button does; late: that nobody answers yet, and why */
+export type OpenSession = (leave: () => void, late?: (why: string) => void) => Promise<Who>;
+
+/** head: of a share of that name, and what it means */
+export type Judged = (head: string, name: 'level' | 'lost') => Column;
+/** and, where there is one, the first of another day */
+export type Besides = (first: Series, ...more: Series[]) => Series[];
+export type Shows = (one: Series, step: Quarter) => number | null;
+/** then: of which day the line beside is */
+export type Charts = (steps: Quarter[], then: string | undefined, settings: Settings) => Part[];
+/** times: what is shown of a value; top: the greatest value; goal: a line across */
+export type Chart = (steps: Quarter[], title: string, series: Series[], times?: number, top?: number, goal?: number) => Part;
+export type SettingsOf = (said: Iterable<[string, string]>, before?: Settings) => Settings;
+/** goesOn: whether more is wanted behind what was counted; end: of the day */
+export type Reads = (day: import('./day.js').Day, goesOn: (counted: Report[]) => boolean, end?: number) => Promise<void>;
+export type Labelled = (setting: string[], attributes?: Attributes) => Part;
+export type Asks = (question: string, choices?: string[][], chosen?: string) => Promise<string | null>;
+
+// who leads groups
+export type LeadOf = {groups: Set<string>, requester: string, invoke: number, begin(who: Who): void, leads(agent: Agent): boolean, may(line: CallLine): boolean,
+  ofAgent(state: import('./state.js').State, agent: string): Promise<void>, ofCall(state: import('./state.js').State, line: CallLine): Promise<void>,
+  ofGroup(state: import('./state.js').State, group: string): Promise<void>, send(service: string, members: object, what: string, who: string, to?: string): Promise<void>};
 
 // what a view draws
 /** what all is reckoned from */
-export type Looked = {state: import('./state.js').State, day: import('./day.js').Day, settings: import('./settings.js').Settings, now: number};
+export type Looked = {state: import('./state.js').State, day: import('./day.js').Day, now: number};
 /** counted: whether the day's events have been read; all: the own groups together; lines: one for each; past: another day, so many days before; learn: reads who calls; empty: says why nothing is shown; filter: sets filters, and shows a view; redraw: draws all anew */
-export type Drawn = Looked & {counted: boolean, recent: Report[], lines: GroupLine[],
-  all: ReturnType<typeof import('./reckon.js').totals>, past: (back: number) => import('./day.js').Day | undefined, learn: (calls: number[]) => void, empty: (text: string) => void, lead: import('./act.js').Lead,
+export type Drawn = Looked & {settings: Settings, counted: boolean, recent: Report[], lines: GroupLine[],
+  all: ReturnType<typeof import('./reckon.js').totals>, past: (back: number) => import('./day.js').Day | undefined, learn: (calls: number[]) => void, empty: (text: string) => void, lead: LeadOf,
   filter: (wanted: Record<string, string>, view?: string) => void, redraw: () => void};

@@ -1,225 +1,435 @@
-// What is said in words, in one table of areas, in English. Other languages have a table of the same keys in words/, de.js say; what it lacks is said in English.
-//   word('alarms.rest', {n: 3})   "and 3 more alarms": of a value with forms `n` chooses one. {n} stands for a value: a number is written by Intl, a text as it is
-//   <b data-word="view.wall"></b> translate() writes it; data-label is for an aria-label, data-title for a title
-import {office} from './office.js';
+// What is said in words, in English. Other languages have an object of the same areas and keys in words/, de.js say; what that lacks is in English.
+//   word('alarms.rest', {n: 3})   "and 3 more alarms": of a word with forms `n` chooses one. {n} stands for a value: a number is written by Intl
+//   <b data-word="view.wall"></b> translate() writes it; data-label is for an aria-label
+import {ask} from './net.js';
 
-/** @typedef {string|Partial<Record<Intl.LDMLPluralRule, string>> & {other:string}} Said */
-/** @typedef {Record<string, Said|Record<string, Said>>} Words */
+const ENGLISH = keyed(`
+skip: To the figures
+sound: Click here once, so that it may sound: no browser lets a page sound before.
+views: Views
+settings: Settings
+log.off: Log off here
+totals: Own groups together
+fault.office: board.json of the office can't be used: {what}
+[title]
+usual: Help line
+lost: no desk
+alarms.one: {n} alarm
+alarms.other: {n} alarms
+[view]
+wall: Wall
+queues: Queues
+agents: Agents
+calls: Calls
+day: Day
+events: Events
+[doing]
+ready: ready
+ringing: ringing
+busy: on a call
+hold: call on hold
+own: own call
+workingAfterCall: after-call work
+notReady: not ready
+null: logged off
+[pending]
+ready: ready after this call
+notReady: a break after this call
+workingAfterCall: after-call work after this call
+loggedOff: logs off after this call
+[waits]
+none: empty
+calm: waiting
+long: long
+bad: too long
+[connection]
+queued: waiting
+alerting: ringing
+hold: on hold
+fail: busy signal
+connected: talking
+initiated: dials
+none: is made
+[status]
+begins: Reading the desk
+anew: Another desk is here: reading it
+live: Live
+counting: Live, reading the day
+late: Late
+old: What you see is old: {why}
+none: No desk: {why}
+age: {clock} old
+[lost]
+server: the server cannot be reached
+silent: no answer
+status: the answer was {status}
+[error]
+# what the desk, its gate or its proxy means by the name of an error
+unknownDevice: no such number is planned
+unknownCall: the call has ended
+unknownConnection: the call is no longer here
+wrongConnectionState: the call is in another state by now
+wrongAgentState: the agent is in another state by now
+notStation: that number is no station
+destinationBusy: that station is busy
+sameDevice: the call is there already
+stationTaken: another agent is logged on there
+stationBusy: the station has another call
+tooManyCalls: the desk has as many calls as it can
+deskFull: the desk is full
+noMemory: the desk wants memory
+storeFault: the desk has stopped (storeFault)
+forbidden: this login may not do that
+unauthorized: nobody is logged in
+tooManyRequests: it was asked too often
+badGateway: the desk does not run
+gatewayTimeout: the desk does not answer
+unknownAgent: no such agent is planned
+[csv]
+save: CSV
+[agents]
+one: Agent {id}
+day: What each did today
+none: No agent is as you look for.
+nobody: Nobody is logged on.
+at: {id} at {station}
+call: call {call}
+[empty]
+plan: No group is planned yet.
+groups: None of the groups in this address is planned.
+[set]
+title: Title
+groups: Own groups
+limit: Service level: answered within, s
+goal: Its goal, %
+level: Of which calls
+level.: answered + abandoned later
+level.answered: answered alone
+lost: Goal of abandonment, %
+long: A wait is long from, s
+bad: Too long from, s
+notReady: Not ready is long from, s
+since: The day begins at
+lang: Language
+lang.: as the office says
+theme: Colours
+lang.en: English
+lang.de: Deutsch
+theme.: as the system
+theme.dark: dark
+theme.light: light
+tone: A tone for alarms
+notify: A notification for alarms
+wrong: This can't be used
+order: Too long has to be more than long
+about: They stand in the address: keep it as a bookmark. A group's own limit is ?long.100=30 there.
+group: Group
+group.: all
+find: Find
+sort: Order
+sort.: by number
+sort.name: by name
+sort.state: by state
+sort.time: longest first
+beside: Beside it
+beside.: nothing
+beside.1: yesterday
+beside.7: a week before
+[filter]
+hold: Hold still
+states: States
+[head]
+group: Group
+state: State
+waiting: Waiting
+longest: Longest
+ringing: Ringing
+ready: Ready
+loggedOn: Logged on
+next: Next
+afterCall: After-call work
+notReady: Not ready
+inTime: In time
+entered: Entered
+answered: Answered
+abandoned: Abandoned
+lost: Lost, %
+moved: Moved
+average: Speed of answer
+handling: Handling time
+priority: Priority
+act: Act
+onCalls: On calls
+call: Call
+for: For
+at: At
+caller: Caller
+whole: In all
+time: Time
+number: Number
+event: Event
+longestWait: Longest wait
+peak: Most waiting
+day: Day
+calls: Calls
+agent: Agent
+talk: Talk
+missed: Missed
+[tile]
+ringing: and {n} ringing
+ready: Agents ready
+loggedOn: of {n} logged on
+level: In time: {limit}
+of: of {what}
+limit: within {n} s
+limits: within the group's limit
+goal: goal {goal}
+occupancy: Occupancy
+[wall]
+rest.one: and {n} more group with {waiting} waiting
+rest.other: and {n} more groups with {waiting} waiting
+[calls]
+rest: and {n} more
+none: No calls.
+[day]
+table: As a table
+today: Today
+until: {day} until {time}
+[chart]
+calls: Calls in a quarter of an hour
+level: In time, {limit}, in percent of {what}
+wait: Wait of the answered calls, in minutes
+peak: Most calls waiting at once
+[alarms]
+title: Alarms
+seen: Seen
+since: since {time}, {clock}
+rest.one: and {n} more alarm
+rest.other: and {n} more alarms
+fewer: fewer
+all: All seen
+[alarm]
+wait: {group}: a caller waits too long
+level: {group}: only {share} in time, the goal is {goal}
+lost: {group}: {share} gave up, the goal is {goal}
+nobody.one: {group}: {n} caller waits, and nobody is logged on
+nobody.other: {group}: {n} callers wait, and nobody is logged on
+clock: The desk's time is {clock} ahead of the clock
+ticks: Calls ring on without an end, or after-call work: call the administrator (acd-tick is down)
+[detail]
+clock: until the clock has come there no ring and no after-call work ends by itself
+ticks: {who} for {clock}, the group gives {given}
+[event]
+agentLoggedOn: {who} logs on at {device} for {group}
+several: several groups
+agentLoggedOff: {who} logs off
+agentReady: {who} is ready
+agentNotReady: {who} is not ready
+agentWorkingAfterCall: {who} is in after-call work
+queued.newCall: Call {call} waits in {who}
+queued.deflected: Call {call} waits in {who}, sent there
+queued.transferred: Call {call} waits in {who}, transferred
+queued.noAnswer: Call {call} waits in {who} again: it was not taken
+delivered: Call {call} rings at {who}
+delivered.group: Call {call} rings at {who} for {group}
+diverted.deflected: Call {call} is sent on from {who} to {to}
+established: {who} answers call {call}
+established.waited: {who} answers call {call} after {clock}
+held: {who} puts call {call} on hold
+retrieved: {who} takes call {call} back
+transferred: {who} transfers call {call} to {to}
+failed: Call {call} finds {who} busy
+callCleared: Call {call} ends
+callCleared.group: Call {call} ends: the caller gave up in {group}
+serviceInitiated: {who} dials
+originated: {who} calls {to}
+[act]
+yes: Do it
+no: Leave it
+state: Change the state of {who}?
+move: Move
+move.sure: Send {who}, which waits, somewhere else?
+to: To
+end: End
+end.sure: End {who}? The caller is cut off.
+priority.sure: Change the priority of {group}?
+unknown: No answer came: look whether it was done.
+# the agent's page
+[agent]
+state: Your state
+change: Change your state
+at: at {station}
+ready: Ready
+notReady: Not ready
+workingAfterCall: After-call work
+loggedOff: Log off
+loggedOn: Log on
+readyIn: ready in {clock}
+readySoon: ready in a moment
+notPlanned: No such agent is planned
+station: Station
+groups: Groups, one to eight
+logOnAt: Log on at {station}
+again.logOn: Log on as last time: at {station}, {groups}
+leaves: You are logged off here as soon as the desk has logged you off.
+calls: Calls at your station
+noCall: No call.
+dial: Number or name
+makeCall: Call
+to: To: number or name
+answerCall: Answer
+rejectCall: Not now
+phoneOffHook: Pick up
+holdCall: Hold
+retrieveCall: Retrieve
+singleStepTransfer: Transfer
+deflectCall: Pass on
+clearConnection: Hang up
+button: {what}: {who}
+moved: {what}: {who}, to {to}
+byYou: your own
+direct: to you
+hasWaited: has waited {clock}
+ringsFor: rings for another {clock}
+rings: {what} rings
+sayWhere: {what}: say to whom
+nobody: {what}: nobody and nothing here is called {who}
+away: {what}: {who} is not logged on
+which: Which one?
+empty: Nobody is logged on at {station}.
+allTheSame: {what} all the same
+no: No
+missed: You did not answer {who}, {group} (it rang {clock}, until {time}){so}.
+missed.so: , so you are not ready
+somebody: a caller
+read: Read
+again: {what}: no answer yet, it is sent again
+kept: {what}: you asked for this at {time}, and no answer came.
+kept.send: Ask again
+kept.drop: Forget it
+dropped: {what}: an older page asked for this. It is not sent again: see whether it was done.
+tone: Calls ring here
+notify: Tell me of calls behind other windows
+queues: Your groups
+day: Your day
+day.calls.one: {n} call answered
+day.calls.other: {n} calls answered
+day.average: talk {clock} on average
+day.missed.one: {n} offer not taken
+day.missed.other: {n} offers not taken
+noGate: This page asks the gate, and there is none here
+who: Who is logged in? {why}
+noNumber: The login {login} has no agent of its own.
+board: The board
+looks: The login {login} looks at agent {number} here, and asks for nothing.
+[login]
+title: Log in
+name: Name
+password: Password
+wrong: Name or password is wrong.
+nothing: This name may do nothing here: ask the office.
+wait: Too many wrong passwords: wait a minute.
+fault: The server cannot be asked: try again.
+`);
 
-/** @type {Words} */
-export const ENGLISH = {
-  title: {usual: 'Help line', lost: 'no desk', alarms: {one: '{n} alarm', other: '{n} alarms'}},
-  skip: 'To the figures', views: 'Views', settings: 'Settings',
-  view: {wall: 'Wall', queues: 'Queues', agents: 'Agents', calls: 'Calls', day: 'Day', events: 'Events'},
-  doing: {ready: 'ready', ringing: 'ringing', busy: 'on a call', hold: 'call on hold', own: 'own call', workingAfterCall: 'after-call work', notReady: 'not ready', null: 'logged off'},
-  pending: {ready: 'ready after this call', notReady: 'a break after this call', workingAfterCall: 'after-call work after this call', loggedOff: 'logs off after this call'},
-  waits: {none: 'empty', calm: 'waiting', long: 'long', bad: 'too long'},
-  connection: {queued: 'waiting', alerting: 'ringing', hold: 'on hold', fail: 'busy signal', connected: 'talking', initiated: 'dials', none: 'is made'},
-  status: {
-    begins: 'Reading the desk', anew: 'Another desk is here: reading it', live: 'Live', counting: 'Live, reading the day', late: 'Late', old: 'What you see is old: {why}',
-    none: 'No desk: {why}', age: '{clock} old',
-  },
-  lost: {server: 'the server cannot be reached', silent: 'no answer', status: 'the answer was {status}'},
-  // what the desk, its gate or its proxy means by the name of an error
-  error: {
-    unknownDevice: 'no such number is planned', unknownCall: 'the call has ended', unknownConnection: 'the call is no longer here',
-    wrongConnectionState: 'the call is in another state by now', wrongAgentState: 'the agent is in another state by now', notStation: 'that number is no station',
-    destinationBusy: 'that station is busy', sameDevice: 'the call is there already', stationTaken: 'another agent is logged on there', stationBusy: 'the station has another call',
-    tooManyCalls: 'the desk has as many calls as it can', malformed: 'the desk could not read the request', invokeReused: 'the number of the request was used before',
-    deskFull: 'the desk is full', noMemory: 'the desk wants memory', storeFault: 'the desk has stopped (storeFault)', forbidden: 'this login may not do that',
-    unauthorized: 'nobody is logged in', tooManyRequests: 'it was asked too often', badGateway: 'the desk does not run', gatewayTimeout: 'the desk does not answer',
-    unknownAgent: 'no such agent is planned',
-  },
-  csv: {save: 'CSV', about: 'the table of this view as a file for a spreadsheet'},
-  'log.off': 'Log off here', totals: 'Own groups together',
-  unit: {s: 's', percent: '%'},
-  agents: {one: 'Agent {id}', day: 'What each did today', none: 'No agent is as you look for.', nobody: 'Nobody is logged on.', at: '{id} at {station}', call: 'call {call}'},
-  'band.old': 'What you see is {clock} old', 'fault.office': "board.json of the office can't be used: {what}",
-  empty: {plan: 'No group is planned yet.', groups: 'None of the groups in this address is planned.'},
-  set: {
-    title: 'Title', groups: 'Own groups', limit: 'Service level: answered within', goal: 'Its goal', level: 'Of which calls', 'level.': 'answered, and abandoned later',
-    'level.answered': 'answered alone', lost: 'Goal of abandonment', long: 'A wait is long from', bad: 'Too long from', notReady: 'Not ready is long from', since: 'The day begins at',
-    lang: 'Language', 'lang.': 'as the office says', theme: 'Colours', 'lang.en': 'English', 'lang.de': 'Deutsch', 'theme.': 'as the system', 'theme.dark': 'dark',
-    'theme.light': 'light', tone: 'A tone for alarms', notify: 'A notification for alarms', wrong: "This can't be used", order: 'Too long has to be more than long',
-    about: "They stand in the address: keep it as a bookmark. A group's own limit is ?long.100=30 there.",
-    group: 'Group', 'group.': 'all', find: 'Find', sort: 'Order', 'sort.': 'by number', 'sort.name': 'by name', 'sort.state': 'by state', 'sort.time': 'longest first',
-    beside: 'Beside it', 'beside.': 'nothing', 'beside.1': 'yesterday', 'beside.7': 'a week before',
-  },
-  filter: {hold: 'Hold still', states: 'States'},
-  head: {
-    group: 'Group', state: 'State', waiting: 'Waiting', longest: 'Longest', ringing: 'Ringing', ready: 'Ready', loggedOn: 'Logged on', next: 'Next', talking: 'Talking',
-    afterCall: 'After-call work', notReady: 'Not ready', inTime: 'In time', entered: 'Entered', answered: 'Answered', abandoned: 'Abandoned', lost: 'Lost, %', moved: 'Moved',
-    average: 'Speed of answer', handling: 'Handling time', priority: 'Priority', act: 'Act', onCalls: 'On calls', call: 'Call', for: 'For', at: 'At', caller: 'Caller', whole: 'In all',
-    time: 'Time', number: 'Number', event: 'Event', from: 'From', longestWait: 'Longest wait', peak: 'Most waiting', 'then.answered': 'Answered then', 'then.inTime': 'In time then',
-    day: 'Day', calls: 'Calls', agent: 'Agent', talk: 'Talk', missed: 'Missed',
-  },
-  about: {
-    ready: 'agents who are ready, of those who are logged on', next: 'the agent who gets the next call',
-    inTime: 'share of the calls that were answered in time, as the service level counts it', abandoned: 'callers who gave up before an answer',
-    lost: 'abandoned, of answered and abandoned', moved: 'sent on to another number before an answer', average: 'average wait of the answered calls',
-    handling: 'average of talk, hold, and the after-call work right behind it', occupancy: 'talk, hold and after-call work, of these and ready', priority: '9 is served first',
-    calls: 'answered calls of groups', talk: 'with hold', missed: "offers that the agent didn't take",
-    'level.all': 'answered {limit}, of all that were answered, and of those abandoned later than that', 'level.answered': "answered {limit}, of the answered; who gave up isn't counted",
-  },
-  tile: {
-    ringing: 'and {n} ringing', ready: 'Agents ready', loggedOn: 'of {n} logged on', level: 'In time: {limit}', limit: 'within {n} s', limits: "within the group's limit",
-    goal: 'goal {goal}', since: 'since {time}', occupancy: 'Occupancy', hold: '{n} on hold',
-  },
-  formula: {all: 'of answered + abandoned later', answered: 'of answered alone'},
-  wall: {
-    title: 'Groups, those that wait longest first', rest: {one: 'and {n} more group with {waiting} waiting', other: 'and {n} more groups with {waiting} waiting'},
-    longest: ', the longest for {clock}',
-  },
-  calls: {title: 'Live calls', more: 'Show more', rest: 'and {n} more', none: 'No calls.'},
-  day: {title: 'The day', table: 'As a table', today: 'Today', until: '{day} until {time}'},
-  chart: {
-    about: '{title}; the table below has the numbers', calls: 'Calls in a quarter of an hour', level: 'In time, {limit}, in percent of answered and abandoned later',
-    'level.answered': 'In time, {limit}, in percent of answered', wait: 'Wait of the answered calls, in minutes', peak: 'Most calls waiting at once',
-  },
-  alarms: {
-    title: 'Alarms', seen: 'Seen', since: 'since {time}, {clock}', rest: {one: 'and {n} more alarm', other: 'and {n} more alarms'}, fewer: 'fewer', all: 'All seen',
-    mute: 'Click anywhere, so that this browser lets the tone be heard.',
-  },
-  alarm: {
-    wait: '{group}: a caller waits too long', level: '{group}: only {share} in time, the goal is {goal}', lost: '{group}: {share} gave up, the goal is {goal}',
-    nobody: {one: '{group}: {n} caller waits, and nobody is logged on', other: '{group}: {n} callers wait, and nobody is logged on'},
-    clock: "The desk's time is {clock} ahead of the clock", rings: 'Calls ring on without an end: call the administrator (acd-tick is down)',
-    works: 'After-call work goes on without an end: call the administrator (acd-tick is down)',
-  },
-  detail: {
-    clock: 'until the clock has come there no ring and no after-call work ends by itself', rings: 'at {who} for {clock}, its group gives {given}',
-    works: '{who} for {clock}, the group gives {given}',
-  },
-  event: {
-    agentLoggedOn: '{who} logs on at {device} for {group}', 'agentLoggedOn.several': '{who} logs on at {device} for several groups', agentLoggedOff: '{who} logs off',
-    agentReady: '{who} is ready', agentNotReady: '{who} is not ready', agentWorkingAfterCall: '{who} is in after-call work', 'queued.newCall': 'Call {call} waits in {who}',
-    'queued.deflected': 'Call {call} waits in {who}, sent there', 'queued.transferred': 'Call {call} waits in {who}, transferred',
-    'queued.noAnswer': 'Call {call} waits in {who} again: it was not taken', delivered: 'Call {call} rings at {who}', 'delivered.group': 'Call {call} rings at {who} for {group}',
-    'diverted.deflected': 'Call {call} is sent on from {who} to {to}', established: '{who} answers call {call}', 'established.waited': '{who} answers call {call} after {clock}',
-    held: '{who} puts call {call} on hold', retrieved: '{who} takes call {call} back', transferred: '{who} transfers call {call} to {to}', failed: 'Call {call} finds {who} busy',
-    callCleared: 'Call {call} ends', 'callCleared.group': 'Call {call} ends: the caller gave up in {group}', serviceInitiated: '{who} dials', originated: '{who} calls {to}',
-  },
-  act: {
-    yes: 'Do it', no: 'Leave it', agent: 'Change the state of {who}', state: 'Change the state of {who}?', move: 'Move', 'move.sure': 'Send the waiting call {call} somewhere else?',
-    to: 'To', end: 'End', 'end.sure': 'End call {call}? The caller is cut off.', 'priority.sure': 'Change the priority of {group}?', 'done.state': '{who} is asked to be {state}',
-    'done.end': 'Call {call} is ended', 'done.move': 'Call {call} is sent to {to}', 'done.priority': '{group} has priority {priority}',
-    unknown: 'No answer came: look whether it was done.',
-  },
-  // the agent's page
-  agent: {
-    state: 'Your state', change: 'Change your state', at: 'at {station}', ready: 'Ready', notReady: 'Not ready', workingAfterCall: 'After-call work',
-    loggedOff: 'Log off', loggedOn: 'Log on', readyIn: 'ready in {clock}', readySoon: 'ready in a moment', notPlanned: 'No such agent is planned', station: 'Station',
-    'station.form': '1 to 15 digits', groups: 'Groups, one to eight', chooseGroups: 'Log on: choose one to eight groups', logOnAt: 'Log on at {station}',
-    'again.logOn': 'Log on as last time: at {station}, {groups}', leaves: 'You are logged off here as soon as the desk has logged you off.', calls: 'Calls at your station',
-    noCall: 'No call.', dial: 'Number or name', makeCall: 'Call', to: 'To: number or name', answerCall: 'Answer', rejectCall: 'Not now',
-    'rejectCall.about': 'The call goes back to its place in the queue, and you are not ready', phoneOffHook: 'Pick up', holdCall: 'Hold', retrieveCall: 'Retrieve',
-    singleStepTransfer: 'Transfer', deflectCall: 'Pass on', clearConnection: 'Hang up', button: '{what}: {who}', moved: '{what}: {who}, to {to}', byYou: 'your own', direct: 'to you',
-    call: 'call {number}', hasWaited: 'has waited {clock}', ringsFor: 'rings for another {clock}', rings: '{what} rings', sayWhere: '{what}: say to whom',
-    nobody: '{what}: nobody and nothing here is called {who}', away: '{what}: {who} is not logged on', which: 'Which one?', empty: 'Nobody is logged on at {station}.',
-    allTheSame: '{what} all the same', no: 'No', missed: 'You did not answer {who}, {group} (it rang {clock}, until {time}).',
-    'missed.off': 'You did not answer {who}, {group} (it rang {clock}, until {time}), so you are not ready.', somebody: 'a caller', read: 'Read',
-    again: '{what}: no answer yet, it is sent again', kept: '{what}: you asked for this at {time}, and no answer came.', 'kept.send': 'Ask again', 'kept.drop': 'Forget it',
-    dropped: '{what}: an older page asked for this. It is not sent again: see whether it was done.',
-    ticks: 'Calls ring on and after-call work lasts, since nothing ends them. Call the administrator (acd-tick is down).',
-    sound: 'Click here once, so that calls may ring: a browser lets no page sound before that.', tone: 'Calls ring here', notify: 'Tell me of calls behind other windows',
-    queues: 'Your groups', of: '{n} of {all}', day: 'Your day', 'day.calls': {one: '{n} call answered', other: '{n} calls answered'}, 'day.average': 'talk {clock} on average',
-    'day.missed': {one: '{n} offer not taken', other: '{n} offers not taken'}, noGate: 'This page asks the gate, and there is none here', who: 'Who is logged in? {why}',
-    noNumber: 'The login {login} has no agent of its own.', board: 'The board', looks: 'The login {login} looks at agent {number} here, and asks for nothing.',
-  },
-  login: {
-    title: 'Log in', name: 'Name', password: 'Password', wrong: 'Name or password is wrong.', nothing: 'This name may do nothing here: ask the office.',
-    wait: 'Too many wrong passwords: wait a minute.', fault: 'The server cannot be asked: try again.', away: 'The server cannot be reached: try again.',
-  },
-};
-
-const asked = new URLSearchParams(location.search).get('lang') ?? '';
-// The language of the page: `en`, or that of a table that is there.
-export let language = /^[a-z]{2,3}$/.test(asked) ? asked : office.language ?? 'en';
-/** @type {Record<string, Said>} */ const table = {};
-/** @param {Words} words */
-function take(words) {
-  for (const [area, said] of Object.entries(words)) {
-    if (typeof said === 'string' || 'other' in said) table[area] = /** @type {Said} */ (said);
-    else for (const [name, one] of Object.entries(said)) table[`${area}.${name}`] = one;
-  }
+/** @returns {Record<string, string>} */
+function keyed(text = '') {
+  let area = '';
+  return Object.fromEntries(text.split('\n').flatMap(line => {
+    const [, into, name, said] = /^\[(.*)\]$|^(.*?): (.*)$/.exec(line) ?? [];
+    if (into) area = `${into}.`;
+    return name ? [[area + name, said]] : [];
+  }));
 }
-take(ENGLISH);
-if (language !== 'en') try { take((await import(`./words/${language}.js`)).default); } catch { language = 'en'; }
-// Britain's English has 24 hours
-const locale = language === 'en' ? 'en-GB' : language, dates = (/** @type {Intl.DateTimeFormatOptions} */ how) => new Intl.DateTimeFormat(locale, {timeZone: office.zone, ...how});
+
+/** @returns {string[][]} */
+const flat = (said = {}, area = '') => Object.entries(said).flatMap(([name, one]) => typeof one === 'string' ? [[area + name, one]] : flat(one, `${area}${name}.`));
+
+// What the office says of its pages: /etc/acd/board.json. What is left out, or can't be used, is as desk and address say; `fault` tells what can't: the file, or a member.
+const PATIENCE = 3000, LONGEST = 80;
+
+/** @returns {Record<string, string>} */
+const texts = (said = {}) => Object.fromEntries(Object.entries(said ?? {}).flatMap(([name, value]) => ['string', 'number'].includes(typeof value) ? [[name, String(value).slice(0, LONGEST)]] : []));
+
+function officeOf(text = '') {
+  let said, fault = '';
+  try { said = JSON.parse(text); } catch { /* a fault, as any other that is no object */ }
+  if (said?.constructor !== Object) [said, fault] = [{}, 'board.json'];
+  const own = texts(said), {names, limits} = said, drop = (name = '') => { delete own[name]; fault = name; };
+  if (!/^[a-z]{2,3}$/.test(own.language ?? 'en')) drop('language');
+  try { new Intl.DateTimeFormat('en', {timeZone: own.zone}); } catch { drop('zone'); }
+  return {office: {title: own.title, language: own.language, zone: own.zone, limits: texts(limits), names: {groups: texts(names?.groups), agents: texts(names?.agents), stations: texts(names?.stations)}}, fault};
+}
+
+const told = await ask('/board/board.json', {cache: 'no-cache'}, PATIENCE).catch(() => null);
+export const {office, fault} = officeOf(told?.status === 200 ? told.text : '{}');
+
+export const query = new URLSearchParams(location.search);
+const asked = query.get('lang') ?? '';
+export let language = /^[a-z]{2,3}$/.test(asked) ? asked : office.language ?? 'en';
+let own = ENGLISH;
+if (language !== 'en') try { own = Object.fromEntries(flat((await import(`./words/${language}.js`)).default)); } catch { language = 'en'; }
 document.documentElement.lang = language;
-
+// Britain's English has 24 hours
+const locale = language === 'en' ? 'en-GB' : language, dates = (how = {}) => new Intl.DateTimeFormat(locale, {timeZone: office.zone, ...how});
 const plural = new Intl.PluralRules(locale), figures = new Intl.NumberFormat(locale), shares = new Intl.NumberFormat(locale, {style: 'percent'});
-const hours = dates({hour: '2-digit', minute: '2-digit'}), times = dates({timeStyle: 'medium'}), days = dates({weekday: 'short', day: 'numeric', month: 'short'}), zones = dates({timeZoneName: 'short'});
+const times = {short: dates({timeStyle: 'short'}), medium: dates({timeStyle: 'medium'}), long: dates({timeStyle: 'long'})}, days = dates({weekday: 'short', day: 'numeric', month: 'short'});
 
-/** @param {string} key @param {Record<string, string|number>} [values] */
-export function word(key, values = {}) {
-  const said = table[key] ?? key, text = typeof said === 'string' ? said : said[plural.select(Number(values.n))] ?? said.other;
+/** @param {string|number} [n] */
+const saidIn = (table = own, key = '', n) => table[key] ?? table[`${key}.${plural.select(Number(n))}`] ?? table[`${key}.other`];
+
+/** @param {Values} [values] */
+export function word(key = '', values = {}) {
+  const text = saidIn(own, key, values.n) ?? saidIn(ENGLISH, key, values.n) ?? key;
   return text.replace(/\{(\w+)\}/g, (all, name) => { const value = values[name] ?? all; return typeof value === 'number' ? number(value) : value; });
 }
 
-/** @param {string} key */
-export const isWord = key => key in table;
+export const isWord = (key = '') => saidIn(ENGLISH, key) !== undefined;
 
-// Unicode's isolates: what is between them has a direction of its own
 export const [OPENS, CLOSES] = ['\u2068', '\u2069'];
-// A name of the desk or the office, isolated, so that one from right to left moves nothing beside it. put() makes it <bdi>; attributes and options keep the signs.
-/** @type {Texts} */
-export const named = text => OPENS + text.replace(/[\u202a-\u202e\u2066-\u2069]/g, '') + CLOSES;
-// A text without these signs.
-/** @type {Texts} */
-export const plain = text => text.replaceAll(OPENS, '').replaceAll(CLOSES, '');
+// A name between Unicode's isolates: one from right to left moves nothing beside it. put() makes it <bdi>.
+export const named = (text = '') => OPENS + text.replace(/[\u202a-\u202e\u2066-\u2069]/g, '') + CLOSES;
+export const plain = (text = '') => text.replace(/[\u2068\u2069]/g, '');
 
 export function translate() {
-  for (const element of /** @type {Iterable<HTMLElement>} */ (document.querySelectorAll('[data-word], [data-label], [data-title]'))) {
-    const {word: text, label, title} = element.dataset;
+  /** @type {NodeListOf<HTMLElement>} */ const all = document.querySelectorAll('[data-word], [data-label]');
+  for (const element of all) {
+    const {word: text, label} = element.dataset;
     if (text) element.textContent = word(text);
     if (label) element.ariaLabel = word(label);
-    if (title) element.title = word(title);
   }
 }
 
-/** @type {Numbers} */
-export const number = value => figures.format(value);
+export const number = (value = 0) => figures.format(value);
 
 /** @param {number|null} share */
 export const percent = share => share === null ? '–' : shares.format(share);
 
-// Seconds as 0:07, 12:34 or 1:02:03.
+// seconds as 0:07, 12:34 or 1:02:03
 /** @param {number|null} seconds */
 export const clock = seconds => {
   if (seconds === null) return '–';
-  const whole = Math.max(0, Math.floor(seconds)), hour = Math.floor(whole / 3600), minute = String(Math.floor(whole / 60) % 60), second = String(whole % 60).padStart(2, '0');
+  const whole = Math.max(0, Math.floor(seconds)), hour = Math.floor(whole / 3600), minute = `${Math.floor(whole / 60) % 60}`, second = `${whole % 60}`.padStart(2, '0');
   return hour ? `${hour}:${minute.padStart(2, '0')}:${second}` : `${minute}:${second}`;
 };
 
-// A moment as a time of day, in the office's zone or the browser's.
-/** @param {number} moment @param {boolean} [short] without seconds */
-export const timeOfDay = (moment, short) => (short ? hours : times).format(moment * 1000);
+// `long` names the zone
+export const timeOfDay = (moment = 0, style = /** @type {keyof times} */ ('medium')) => times[style].format(moment * 1000);
 
-// A moment's day, as `Sat 28 Nov`.
-/** @type {Numbers} */
-export const dayOf = moment => days.format(moment * 1000);
+export const dayOf = (moment = 0) => days.format(moment * 1000);
 
-// The name of the zone at a moment, as `CET`.
-/** @type {Numbers} */
-export const zoneOf = moment => zones.formatToParts(moment * 1000).find(part => part.type === 'timeZoneName')?.value ?? '';
-
-/** @param {string} area @param {Record<string, string>} signs @returns {Record<any, {sign:string, words:string}>} */
+/** @type {Signed} */
 const signed = (area, signs) => Object.fromEntries(Object.entries(signs).map(([name, sign]) => [name, {sign, words: word(`${area}.${name}`)}]));
-// What an agent does, and what a call does at a device: a sign, and words.
 export const DOING = signed('doing', {ready: '●', ringing: '◆', busy: '▶', hold: '‖', own: '▷', workingAfterCall: '✎', notReady: '■', null: '○'});
 export const CONNECTION = signed('connection', {queued: '●', alerting: '◆', hold: '‖', fail: '×', connected: '▶', initiated: '○', none: '○'});
 
-/** @type {Record<Severity, string>} */
+/** @type {Record<string, string>} */
 export const SIGN = {none: '○', calm: '●', long: '▲', bad: '■'};
-/** @param {{severity:Severity}} line */
-export const waits = ({severity}) => `${SIGN[severity]} ${word(`waits.${severity}`)}`;
+export const waits = ({severity = 'none'}) => `${SIGN[severity]} ${word(`waits.${severity}`)}`;
 
-/** @param {number} status @param {string} text the reply's body */
-export function refusal(status, text) {
+export function refusal(status = 0, text = '') {
   try {
     const {name} = JSON.parse(text).error;
-    return isWord(`error.${name}`) ? word(`error.${name}`) : String(name);
-  } catch { return word('lost.status', {status: String(status)}); }
+    return isWord(`error.${name}`) ? word(`error.${name}`) : `${name}`;
+  } catch { return word('lost.status', {status: `${status}`}); }
 }

@@ -1,63 +1,53 @@
-// An agent's own page: what the agent is and may do now, the calls at the station, what rings, and the day.
+// An agent's own page.
 import {byId, drawStatus, make, put, set, table, withNumber} from '../draw.js';
-import {office} from '../office.js';
 import {logIn, logOut, openSession} from '../session.js';
 import {isHeard, soundWhere, tone} from '../sound.js';
-import {clock, DOING, named, plain, refusal, timeOfDay, translate, word} from '../words.js';
-import {drawCalls, joined, say} from './calls.js';
-import * as logOn from './log-on.js';
+import {order} from '../state.js';
+import {clock, DOING, named, office, plain, query, refusal, timeOfDay, translate, word} from '../words.js';
+import {beat, drawCalls, joined, ring, say} from './calls.js';
 import {doing, isFree, isOverdue, meant, placesOf, sideOf, STATES, states, wrapLeft} from './mine.js';
 import {Requests} from './requests.js';
-import {beat, ring} from './ring.js';
 
-// milliseconds: until what is seen is late, what was done goes, what was refused goes, a click is no second one
-const OLD = 6000, FLEETING = 5000, REFUSED = 30000, SECOND = 400;
+// milliseconds until what is seen is late, what was done or refused goes, a click is no second one
+const OLD = 6000, FLEETING = 5000, REFUSED = 30000, SECOND = 400, MOST_GROUPS = 8, form = byId('log-on');
 
-let id = new URLSearchParams(location.search).get('agent') ?? '', acts = false, leaves = false, begun = false;
-/** @type {Who} */ let who = {};
-/** @type {Mine|null} */ let mine = null;
+let id = query.get('agent') ?? '', acts = false, leaves = false, begun = false, isFilled = false, free = [''], served = [''];
+/** @type {Mine} */ let mine;
 /** @type {Lost|null} */ let lost = null;
-/** @type {Names} */ let names = {agents: [], groups: [], number: 0, stations: []};
-/** @type {Places} */ let places = {places: [], away: []};
+/** @type {Names} */ let names;
+/** @type {Places} */ let places;
 /** @type {Requests} */ let requests;
-// the server's clock less this one's, when the desk was last known, and when something was clicked, in milliseconds
-let offset = 0, known = 0, clicked = 0, fades = 0;
+/** @type {Who} */ let who = {};
+// milliseconds: the server's clock less this one's, when the desk was last known, when something was clicked
+let ahead = 0, known = 0, clicked = 0, fades = 0;
 
 const age = () => Date.now() - known;
-const isLive = () => mine !== null && mine.live && !lost && age() < OLD;
+const isLive = () => mine?.live && !lost && age() < OLD;
 // the desk's clock; it stands still where nobody knows what goes on
-const now = () => (Math.min(Date.now(), known + OLD) + offset) / 1000;
+const now = () => (Math.min(Date.now(), known + OLD) + ahead) / 1000;
 
-/** @type {Namer} */
-const groupName = device => named(office.names.groups[device] ?? names.groups.find(group => group.device === device)?.name ?? device);
-/** @param {Goal} goal */
-const placeName = ({to, name}) => withNumber({id: to, name});
-/** @type {Namer} */
-const callerName = device => placeName(places.places.find(({to}) => to === device) ?? {to: device, name: ''});
+const groupName = (device = '') => named(office.names.groups[device] ?? names.groups.find(group => group.device === device)?.name ?? device);
+const placeName = ({to = '', name = ''}) => withNumber({id: to, name});
+const callerName = (device = '') => placeName(places.places.find(({to}) => to === device) ?? {to: device});
 
-/** @type {Map<string, [string, Button[], Part?]>} */ const notices = new Map();
+/** @type {Map<string, Made>} */ const notices = new Map();
 
-const drawNotices = () => put('notices', ...[...notices].map(([key, [words, buttons, more]]) => make('p', {class: 'notice', 'data-key': key}, make('span', {}, words),
-  make('span', {}, ...buttons.map(([label, act]) => make('button', {onclick: () => { drop(key); act(); }}, label)), more))));
-
-// A sentence that stands until somebody clicks it away, or until it isn't so any more.
+// It stands until it is clicked away, or isn't so any more.
 /** @type {Notice} */
 const notice = (key, words, buttons = [], more) => {
-  notices.set(key, [words, buttons, more]);
-  drawNotices();
+  notices.set(key, make('p.notice', {'data-key': key}, make('span', words), make('span', ...buttons.map(([label, act]) => make('button', {onclick: () => { drop(key); act?.(); }}, label)), more)));
+  put('notices', ...notices.values());
 };
 
-/** @param {string} key */
-const drop = key => { if (notices.delete(key)) drawNotices(); };
+const drop = (key = '') => { if (notices.delete(key)) put('notices', ...notices.values()); };
 
-/** @param {string} words */
-const refuse = words => tell({kind: 'refused', words});
+const refuse = (words = '') => tell({kind: 'refused', words});
 
 /** @param {Told} told */
 function tell({kind, words, key, result}) {
-  if (kind === 'dropped') notice(`dropped ${words}`, say('dropped', {what: words}), [[say('read'), () => {}]]);
-  set('told', {'data-kind': kind});
-  put('told', `${{sent: '…', waits: '▲', done: '✓', refused: '■', dropped: '■'}[kind]} ${words}`);
+  if (kind === 'dropped') return notice(`dropped ${words}`, say('dropped', {what: words}), [[say('read')]]);
+  set('told', {'data-severity': kind === 'waits' ? 'long' : kind === 'refused' && 'bad'});
+  put('told', `${{sent: '…', waits: '▲', done: '✓', refused: '■'}[kind]} ${words}`);
   clearTimeout(fades);
   if (kind !== 'waits') fades = setTimeout(put, kind === 'refused' ? REFUSED : FLEETING, 'told');
   if (result?.pending && mine) mine.agent.pending = result.pending;   // which no event tells
@@ -65,7 +55,7 @@ function tell({kind, words, key, result}) {
   draw();
 }
 
-// What a click asks for; the second of two clicks is none.
+// The second of two clicks asks for nothing.
 /** @type {Send} */
 const send = (service, members, words, key) => {
   const before = clicked;
@@ -75,58 +65,52 @@ const send = (service, members, words, key) => {
   draw();
 };
 
-/** @param {string} requested @param {Record<string, unknown>} [more] */
-const ask = (requested, more) => send('setAgentState', {agent: id, requested, ...more}, more ? say('logOnAt', {station: `${more.device}`}) : say(requested), requested);
+/** @param {{device?:string}} [more] */
+const ask = (requested = '', more) => send('setAgentState', {agent: id, requested, ...more}, more ? say('logOnAt', {station: `${more.device}`}) : say(requested), requested);
 
 /** @type {Act} */
-function act(service, call, to) {
-  const one = mine?.calls.find(other => other.call === call), device = mine?.agent.device, side = mine && one && sideOf(mine, one), other = (one?.caller === device ? one?.called : one?.caller) ?? '';
-  const what = say(service), key = `${service} ${call}`;
+const act = (service, {call, key}, who, field) => {
+  const what = say(service), asked = `${service} ${call}`, members = {call, device: mine?.agent.device};
   // who says no to an offer knows why the state is another one
-  if (service === 'rejectCall') localStorage[`acd-missed-${id}`] = `${call} ${side?.since}`;
-  if (service !== 'singleStepTransfer' && service !== 'deflectCall') return send(service, {call, device}, say('button', {what, who: other}), key);
-  choose(to, what, true, place => send(service, {call, device, to: place.to}, say('moved', {what, who: other, to: placeName(place)}), key));
-}
+  if (service === 'rejectCall') localStorage[`acd-missed-${id}`] = key;
+  if (!/Transfer|deflect/.test(service)) return send(service, members, say('button', {what, who}), asked);
+  choose(field, what, true, place => send(service, {...members, to: place.to}, say('moved', {what, who, to: placeName(place)}), asked));
+};
 
-// The place that was typed; asks where it isn't one alone, and, if it is to, where nobody is logged on.
+// Takes what was typed; asks where it isn't one place, or nobody is logged on.
 /** @type {Choose} */
 const choose = (field, what, asks, take) => {
-  const found = meant(field.value, places, mine?.agent.device ?? ''), isEmpty = asks && found?.length === 1 && found[0].isEmpty, typed = field.value.trim();
+  const typed = field.value.trim(), found = meant(typed, places, mine?.agent.device), one = found?.length === 1 && found[0], isEmpty = asks && one && one.isEmpty;
   drop('ask');
   if (!found?.length) {
     refuse(say(found ? typed ? 'nobody' : 'sayWhere' : 'away', {what, who: named(typed)}));
     return field.focus();
   }
-  if (found.length === 1 && !isEmpty) return take(found[0]);
-  notice('ask', isEmpty ? say('empty', {station: placeName(found[0])}) : say('which', {what}),
-    [...found.map(place => /** @type {Button} */ ([isEmpty ? say('allTheSame', {what}) : placeName(place), () => take(place)])), [say('no'), () => {}]]);
+  if (one && !isEmpty) return take(one);
+  /** @type {Button[]} */ const buttons = found.map(place => [isEmpty ? say('allTheSame', {what}) : placeName(place), () => take(place)]);
+  notice('ask', one ? say('empty', {station: placeName(one)}) : say('which', {what}), [...buttons, [say('no')]]);
 };
 
-// What was asked for too long ago, or in another log-on: only somebody can say whether it is still wanted.
-/** @param {Kept} kept @param {(sends:boolean) => void} answer */
-function askAbout({body, words, at = 0}, answer) {
-  const {requested, call} = JSON.parse(body), {state, device} = mine?.agent ?? {};
+// Only somebody can say whether it is still wanted.
+/** @type {Asking['ask']} */
+const askAbout = ({body, words, at = 0}, answer) => {
+  const {requested, call} = JSON.parse(body), {state, device} = mine?.agent ?? {}, isThere = !call || mine?.calls.some(one => one.call === call);
   if (requested && (requested === state || requested === (device ? 'loggedOn' : 'loggedOff'))) return answer(false);
-  if (!call || mine?.calls.some(one => one.call === call)) {
-    return notice(`kept ${at} ${words}`, say('kept', {what: words, time: timeOfDay(at / 1000)}), [[say('kept.send'), () => answer(true)], [say('kept.drop'), () => answer(false)]]);
-  }
+  if (isThere) return notice(`kept ${at} ${words}`, say('kept', {what: words, time: timeOfDay(at / 1000)}), [[say('kept.send'), () => answer(true)], [say('kept.drop'), () => answer(false)]]);
   answer(false);
   refuse(`${words}: ${word('error.unknownCall')}`);
-}
+};
 
 /** @param {Heard} heard */
 function hear(heard) {
   if (heard.kind === 'beat') beat();
   if (heard.kind === 'lost') {
     lost = heard;
-    if (heard.status === 401 && who.begun) return logIn();
+    if (heard.status === 401) return logIn();
   }
   if (heard.kind === 'told') {
     lost = null;
-    mine = heard.mine;
-    // the server tells whole seconds: its clock is within one of them
-    const least = heard.date - heard.received;
-    offset = Math.min(Math.max(known ? offset : least + 500, least), least + 1000);
+    ({mine, ahead} = heard);
     if (mine.live) known = heard.received;
     if (mine.names) takeNames(mine.names);
     if (mine.live && acts && !begun) requests.takeUp();
@@ -135,106 +119,123 @@ function hear(heard) {
   draw();
 }
 
+// Offers the stations where nobody is, and the groups, or those of the login.
 /** @param {Names} told */
 function takeNames(told) {
   names = told;
   places = placesOf(names, office.names);
-  logOn.offer(names, who, id);
+  free = (who.stations ?? names.stations).filter(station => !names.agents.some(({device}) => device === station)).sort(order);
+  served = names.groups.map(({device}) => device).filter(device => who.groups?.includes(device) ?? true);
   put('destinations', ...places.places.map(({to, name}) => make('option', {value: to}, name || say('station'))));
+  put('stations', ...free.map(device => make('option', {value: device}, office.names.stations[device])));
+  put('groups', ...served.map(device => make('label', {'data-key': device}, make('input', {type: 'checkbox', value: device}), make('span', `${groupName(device)} (${device})`))));
+  if (isFilled) return;
+  isFilled = true;
+  form.elements.station.value = query.get('station') ?? lastLogOn()?.device ?? '';
+  for (const box of form.querySelectorAll('[type=checkbox]')) box.checked = (query.get('groups')?.split(',') ?? lastLogOn()?.groups ?? []).includes(box.value);
+}
+
+/** @returns {LastLogOn|null} */
+function lastLogOn() { try { return JSON.parse(localStorage[`acd-log-on-${id}`]); } catch { return null; } }
+
+/** @param {Partial<LastLogOn>} wanted */
+const logOn = ({device, groups = []}) => ask('loggedOn', {device, ...(groups.length === 1 ? {group: groups[0]} : {groups})});
+
+/** @param {Own} own */
+function drawLogOn({device, groups}, may = false) {
+  if (device && groups) localStorage[`acd-log-on-${id}`] = JSON.stringify({device, groups});
+  const last = lastLogOn(), fits = last && free.includes(last.device) && last.groups.every(group => served.includes(group));
+  set('log-on-button', {disabled: !may});
+  set('again', {disabled: !may, hidden: !fits, onclick: () => logOn(last ?? {})});
+  if (fits) put('again', say('again.logOn', {station: last.device, groups: last.groups.map(groupName).join(', ')}));
 }
 
 function draw() {
   const why = lost?.status ? refusal(lost.status, lost.text) : word(lost ? `lost.${lost.text}` : 'error.gatewayTimeout');
-  drawStatus(lost || (mine && !mine.live) ? 'lost' : !known ? 'begins' : age() > OLD ? 'late' : 'live', known, why, (Date.now() + offset) / 1000);
+  drawStatus(lost || (mine && !mine.live) ? 'lost' : !known ? 'begins' : age() > OLD ? 'late' : 'live', known, why, (Date.now() + ahead) / 1000);
   if (!mine) return;
-  const {agent, calls, groups} = mine, moment = now(), isLiving = isLive(), may = acts && isLiving ? states(mine) : new Set(), isOn = Boolean(agent.device);
-  const offer = isLiving ? offerOf(mine, moment) : undefined, {doing: does, since} = doing(mine), left = wrapLeft(mine, moment), {sign, words} = DOING[does];
-  put('name', withNumber({id, name: office.names.agents[id] ?? agent.name ?? ''}));
+  const {agent, calls, groups} = mine, {state, device, pending, name} = agent, moment = now(), isLiving = isLive(), may = acts && isLiving ? states(mine) : new Set();
+  const offer = isLiving ? offerOf(moment) : undefined, {doing: does, since} = doing(mine), left = wrapLeft(mine, moment), {sign, words} = DOING[does];
+  put('name', withNumber({id, name: office.names.agents[id] ?? name}));
   put('states', ...STATES.map(requested => make('button', {'data-requested': requested, disabled: !may.has(requested) || requests.out.has(requested), onclick: () => ask(requested)}, say(requested))));
-  for (const part of ['at-station', 'own-queues']) set(part, {hidden: !isOn});
-  set('states', {hidden: !isOn || !acts});
-  set('log-on', {hidden: agent.state !== 'null' || !acts});
-  set('dial', {hidden: !acts || !isLiving || !isFree(mine)});
-  logOn.draw(may.has('loggedOn') && !requests.out.has('loggedOn'), agent);
+  const hidden = {'at-station': !device, 'own-queues': !device, states: !device || !acts, 'log-on': state !== 'null' || !acts, dial: !acts || !isLiving || !isFree(mine), 'no-calls': calls.length > 0};
+  for (const [part, is] of Object.entries(hidden)) set(part, {hidden: is});
+  drawLogOn(agent, may.has('loggedOn') && !requests.out.has('loggedOn'));
   set('state', {'data-doing': does});
-  put('state', make('span', {'aria-hidden': 'true'}, sign), ' ', make('span', {}, agent.state ? words : say('notPlanned')), ' ', make('time', {}, isOn && clock(moment - since)));
-  put('pending', joined(left !== null && (left > 0 ? say('readyIn', {clock: clock(Math.ceil(left))}) : say('readySoon')), agent.pending && word(`pending.${agent.pending}`),
-    agent.device && say('at', {station: agent.device})));
+  put('state', make('span', {'aria-hidden': 'true'}, sign), ' ', make('span', state ? words : say('notPlanned')), ' ', make('time', device && clock(moment - since)));
+  put('pending', joined(left !== null && (left > 0 ? say('readyIn', {clock: clock(Math.ceil(left))}) : say('readySoon')), pending && word(`pending.${pending}`), device && say('at', {station: device})));
   set(document.body, {'data-rings': Boolean(offer)});
   ring(offer);
-  document.title = offer ? `◆ ${offer.title}` : `${isLiving ? sign : '▲'} ${agent.name ?? id}`;
+  document.title = offer ? `◆ ${offer.title}` : `${isLiving ? sign : '▲'} ${name ?? id}`;
   drawCalls({mine, now: moment, acts: acts && isLiving, off: requests.out, who: callerName, group: groupName, act});
-  set('no-calls', {hidden: calls.length > 0});
-  queues.draw(groups.map(queue => ({key: queue.device, queue, moment})));
-  drawDay(mine, moment);
-  tellOf(mine, moment);
-  if (leaves && isLiving && !isOn) end();
+  queues.draw(groups.map(group => ({...group, key: group.device, wait: group.calls.length ? moment - Math.min(...group.calls.map(({queued = moment}) => queued)) : null})));
+  drawDay(moment);
+  tellOf(moment);
+  if (leaves && isLiving && !device) end();
 }
 
-/** @type {AtMoment<Offer|undefined>} */
-const offerOf = (mine, moment) => {
+/** @returns {Offer|undefined} */
+function offerOf(moment = 0) {
   for (const call of mine.calls) {
     const side = sideOf(mine, call);
     if (side?.state === 'alerting') return {key: `${call.call} ${side.since}`, title: plain(`${call.caller ? callerName(call.caller) : '…'} ${side.group ? groupName(side.group) : ''}`).trim(),
       words: side.group && call.queued ? say('hasWaited', {clock: clock(moment - call.queued)}) : ''};
   }
-};
+}
 
 const queues = table('queues', [
-  {head: 'group', kind: 'words', text: ({queue}) => `${groupName(queue.device)} (${queue.device})`},
-  {head: 'waiting', text: ({queue}) => queue.calls.length},
-  {head: 'longest', text: ({queue, moment}) => queue.calls.length ? clock(moment - Math.min(.../** @type {OwnQueue} */ (queue).calls.map(({queued = moment}) => queued))) : '–'},
-  {head: 'ready', text: ({queue}) => say('of', {n: queue.ready, all: queue.loggedOn})},
+  {head: 'group words', text: ({device}) => `${groupName(device)} (${device})`},
+  {head: 'waiting', text: ({calls}) => calls.length},
+  {head: 'longest', text: ({wait}) => clock(wait)},
+  {head: 'ready', text: ({ready, loggedOn}) => `${ready} / ${loggedOn}`},
 ]);
 const lastCalls = table('day', [
-  {head: 'time', kind: 'words', text: ({moment}) => timeOfDay(moment, true)},
-  {head: 'caller', kind: 'words', text: ({caller}) => caller ? callerName(caller) : '–'},
-  {head: 'group', kind: 'words', text: ({group}) => group ? groupName(group) : say('direct')},
+  {head: 'time words', text: ({moment}) => timeOfDay(moment, 'short')},
+  {head: 'caller words', text: ({caller}) => caller ? callerName(caller) : '–'},
+  {head: 'group words', text: ({group}) => group ? groupName(group) : say('direct')},
   {head: 'talk', text: ({talked}) => clock(talked)},
 ]);
 
-/** @type {AtMoment<void>} */
-const drawDay = ({agent: {state, since = 0}, day}, moment) => {
+function drawDay(moment = 0) {
+  const {agent: {state, since = 0}, day} = mine;
   set('own-day', {hidden: !day});
   if (!day) return;
-  const talking = day.talking + (state === 'busy' ? Math.max(0, moment - Math.max(since, day.begins)) : 0);
-  put('day-sums', joined(say('day.calls', {n: day.answered}), day.answered && say('day.average', {clock: clock(talking / day.answered)}), day.missed && say('day.missed', {n: day.missed})));
-  set('day', {hidden: !day.calls.length});
-  lastCalls.draw(day.calls.map(call => ({...call, key: `${call.call} ${call.moment}`})).reverse());
-};
+  const {answered, missed, calls} = day, talking = day.talking + (state === 'busy' ? Math.max(0, moment - Math.max(since, day.begins)) : 0);
+  put('day-sums', joined(say('day.calls', {n: answered}), answered && say('day.average', {clock: clock(talking / answered)}), missed && say('day.missed', {n: missed})));
+  set('day', {hidden: !calls.length});
+  lastCalls.draw(calls.map(call => ({...call, key: `${call.call} ${call.moment}`})).reverse());
+}
 
-/** @type {AtMoment<void>} */
-const tellOf = ({agent, missed}, moment) => {
-  const place = `acd-missed-${id}`, isOff = agent.state === 'notReady', key = `${missed?.call} ${missed?.since}`;
+function tellOf(moment = 0) {
+  const {agent, missed} = mine, place = `acd-missed-${id}`, isOff = agent.state === 'notReady', key = `${missed?.call} ${missed?.since}`;
   if (missed && acts && localStorage[place] !== key) {
     const read = () => { localStorage[place] = key; };
-    /** @type {Button} */ const ready = [say('ready'), () => { ask('ready'); if (requests.out.has('ready')) read(); }];
-    notice('missed', say(isOff ? 'missed.off' : 'missed', {who: missed.caller ?? say('somebody'), group: groupName(missed.group ?? ''), clock: clock(missed.moment - missed.since), time: timeOfDay(missed.moment)}),
-      [...(isOff ? [ready] : []), [say('read'), read]]);
+    /** @type {Button[]} */ const ready = isOff ? [[say('ready'), () => { ask('ready'); if (requests.out.has('ready')) read(); }]] : [];
+    notice('missed', say('missed', {who: missed.caller ?? say('somebody'), group: groupName(missed.group), clock: clock(missed.moment - missed.since), time: timeOfDay(missed.moment), so: isOff ? say('missed.so') : ''}),
+      [...ready, [say('read'), read]]);
   } else drop('missed');
-  const is = {ticks: isLive() && mine && isOverdue(mine, moment), sound: acts && agent.device && byId('tone').checked && !isHeard(), leaves};
-  for (const [key, so] of Object.entries(is)) if (so) notice(key, say(key)); else drop(key);
-};
+  const is = {'alarm.ticks': isLive() && isOverdue(mine, moment), sound: acts && agent.device && byId('tone').checked && !isHeard(), 'agent.leaves': leaves};
+  for (const [key, so] of Object.entries(is)) if (so) notice(key, word(key)); else drop(key);
+}
 
 function end() {
-  const {begun} = who;
   leaves = false;
-  who.begun = 0;   // what is refused now leads to no log-in
-  logOut().catch(() => {
-    who.begun = begun;
-    refuse(`${word('log.off')}: ${word('lost.server')}`);
-  });
+  logOut();
 }
 
 function listen() {
-  const field = byId('tone'), offerNotices = () => set('notify', {hidden: !('Notification' in window) || Notification.permission !== 'default'});
-  logOn.askBy((device, groups) => ask('loggedOn', {device, ...(groups.length === 1 ? {group: groups[0]} : {groups})}), refuse);
-  set('dial', {onsubmit: event => {
+  const field = byId('tone'), called = byId('called'), offerNotices = () => set('notify', {hidden: !('Notification' in window) || Notification.permission !== 'default'});
+  set(form, {onsubmit: event => {
+    const groups = [...form.querySelectorAll('input:checked')].map(input => input.value);
     event.preventDefault();
-    const field = byId('called'), what = say('makeCall');
-    choose(field, what, false, place => {
+    if (groups.length && groups.length <= MOST_GROUPS) logOn({device: form.elements.station.value, groups}); else refuse(`${say('loggedOn')}: ${say('groups')}`);
+  }});
+  set('dial', {onsubmit: event => {
+    const what = say('makeCall');
+    event.preventDefault();
+    choose(called, what, false, place => {
       send('makeCall', {device: mine?.agent.device, called: place.to}, say('button', {what, who: placeName(place)}), 'makeCall');
-      field.value = '';
+      called.value = '';
     });
   }});
   field.checked = localStorage['acd-tone'] !== 'off';
@@ -247,7 +248,7 @@ function listen() {
   offerNotices();
 }
 
-// The session of an agent who is logged on ends behind the log-off, or at a second wish.
+// Who is logged on is logged off first; a second wish ends the session at once.
 function leave() {
   if (!acts || !mine?.agent.device || leaves) return end();
   ask('loggedOff');
@@ -255,14 +256,14 @@ function leave() {
   draw();
 }
 
-/** Whose page it is: the address says so, or the gate. A login that is no agent's only looks at another's. */
+// A login that is no agent's only looks at another's.
 async function begin() {
   translate();
   listen();
   who = await openSession(leave, why => tell({kind: 'waits', words: say('who', {why})}));
   id ||= who.agent ?? '';
   acts = who.agent === id || who.role === 'exchange';
-  const login = named(who.login ?? '');
+  const login = named(who.login);
   put('told');
   if (!who.login) return refuse(say('noGate'));
   if (who.why) return refuse(`${login}: ${who.why}`);

@@ -1,29 +1,27 @@
-// Asks the gate what is new of an agent's own. It is a worker, since a browser slows down the clock of a page that isn't seen.
-import {ask, pause, sleep} from '../net.js';
+// Asks the gate what is new of an agent's own. A worker, since a browser slows down the clock of a page that isn't seen.
+import {ahead, ask, pause, sleep} from '../net.js';
 
-// seconds: for which the gate may hold a question, so that a lost connection is seen soon; without an answer; between two beats, beyond which the machine slept
+// seconds: for which the gate holds a question, so that a loss is seen soon; without an answer; between two beats, unless the machine slept
 const HOLD = 4, PATIENCE = 9, SLEPT = 5;
 let after = 0, names = 0, losses = 0, beaten = Date.now(), giving = new AbortController();
 
 /** @param {Heard} heard */
 const tell = heard => postMessage(heard);
 
-/** @param {string} path */
-async function listen(path) {
+async function listen(path = '') {
   giving = new AbortController();
   try {
-    const {status, text, date, received} = await ask(`${path}&after=${after}&names=${names}&hold=${HOLD}`, {}, 1000 * PATIENCE, giving);
+    const {status, text} = await ask(`${path}&after=${after}&names=${names}&hold=${HOLD}`, {}, 1000 * PATIENCE, giving);
     if (status !== 200) return lose(status, text);
     const mine = JSON.parse(text);
     after = mine.number;
     names = mine.names?.number ?? names;
     losses = 0;
-    tell({kind: 'told', mine, date, received});
-  } catch (error) { return lose(0, /** @type {Error} */ (error).message); }
+    tell({kind: 'told', mine, ahead, received: Date.now()});
+  } catch ({message}) { return lose(0, message); }
 }
 
-/** @param {number} status @param {string} text */
-function lose(status, text) {
+function lose(status = 0, text = '') {
   tell({kind: 'lost', status, text});
   return sleep(pause(losses++));
 }

@@ -1,78 +1,65 @@
-// What an agent's own tells and allows: states, calls, where calls can go. No document, no network.
+// What an agent may do, and where calls can go. No document, no network.
 import {doingAt, GRACE} from '../state.js';
 
 const MOST = 8;
-
-// A call's connection at the own station.
-/** @type {OfCall<Side|undefined>} */
-export const sideOf = ({agent}, call) => call.connections.find(({device}) => device === agent.device);
-
-/** @type {OfMine<Side[]>} */
-const sides = mine => mine.calls.flatMap(call => sideOf(mine, call) ?? []);
-
-// Whether nothing goes on at the own station but what is held, or busy.
-/** @type {OfMine<boolean>} */
-export const isFree = mine => !sides(mine).some(({state}) => ['initiated', 'alerting', 'connected'].includes(state));
-
-/** @type {Requested[]} */
 export const STATES = ['ready', 'notReady', 'workingAfterCall', 'loggedOff'];
-// The states that an agent may ask for: each that isn't there or pending already.
-/** @type {OfMine<Set<Requested>>} */
-export const states = mine => {
-  const {state, pending} = mine.agent, now = sides(mine).some(({group}) => group) ? pending : state;
-  return new Set(!state ? [] : state === 'null' ? ['loggedOn'] : STATES.filter(one => one !== now));
-};
 
-// What may be asked for a call. One of a group that rings isn't hung up: that would throw the caller out.
-/** @type {OfCall<Set<Service>>} */
-export const services = (mine, call) => {
-  const here = sideOf(mine, call), state = here?.state;
-  if (!here || !state) return new Set();
-  // an external caller's side, which no event tells, is connected
-  const moves = call.connections.every(side => ['connected', 'hold'].includes(side.state)) ? ['singleStepTransfer'] : [], back = isFree(mine) ? ['retrieveCall'] : [];
-  const own = {alerting: ['answerCall', 'deflectCall'], initiated: ['phoneOffHook'], connected: ['holdCall', ...moves], hold: back, fail: [], queued: []}[state];
-  return new Set(/** @type {Service[]} */ ([...own, state === 'alerting' && here.group ? 'rejectCall' : 'clearConnection']));
-};
+const plain = (name = '') => name.normalize('NFKC').toLocaleLowerCase().trim();
 
-/** @type {OfMine<ReturnType<typeof doingAt>>} */
-export const doing = mine => doingAt({state: 'null', since: 0, ...mine.agent}, sides(mine));
+export const {sideOf, sides, isFree, states, services, doing, ringLeft, wrapLeft, isOverdue, placesOf, meant} = /** @type {Rules} */ ({
+  sideOf: ({agent}, call) => call.connections.find(({device}) => device === agent.device),
 
-// The seconds for which a call rings yet, or null where no tick ends it.
-/** @param {Mine} mine @param {Side} side @param {number} now */
-export function ringLeft({groups}, {state, group, since}, now) {
-  const ring = groups.find(({device}) => device === group)?.ring;
-  return ring && state === 'alerting' ? since + ring - now : null;
-}
+  sides: mine => mine.calls.flatMap(call => sideOf(mine, call) ?? []),
 
-// The same of after-call work; of several groups the one of the least number counts, which is told first.
-/** @type {AtMoment<number|null>} */
-export const wrapLeft = ({agent: {state, since = 0}, groups}, now) => {
-  const wrap = state === 'workingAfterCall' && groups[0]?.wrap;
-  return wrap ? since + wrap - now : null;
-};
+  // Whether nothing but what is held, or busy, goes on at the own station.
+  isFree: mine => !sides(mine).some(({state}) => ['initiated', 'alerting', 'connected'].includes(state)),
 
-// Whether a tick should have ended something.
-/** @type {AtMoment<boolean>} */
-export const isOverdue = (mine, now) => [wrapLeft(mine, now), ...sides(mine).map(side => ringLeft(mine, side, now))].some(left => left !== null && left < -GRACE);
+  // each that isn't there or pending already
+  states(mine) {
+    const {state, pending} = mine.agent, now = sides(mine).some(({group}) => group) ? pending : state;
+    return new Set(!state ? [] : state === 'null' ? ['loggedOn'] : STATES.filter(one => one !== now));
+  },
 
-// Each group, and each station with who is logged on there. The office's names go before the desk's.
-/** @type {PlacesOf} */
-export const placesOf = ({agents, groups, stations}, office) => {
-  const nameOf = (/** @type {Names['agents'][0]} */ {agent, name}) => office.agents[agent] ?? name, at = new Map(agents.map(agent => [agent.device, nameOf(agent)]));
-  return {
-    places: [...groups.map(({device, name}) => ({to: device, name: office.groups[device] ?? name})), ...stations.map(to => ({to, name: at.get(to) ?? office.stations[to] ?? '', isEmpty: !at.has(to)}))],
-    away: agents.filter(({device}) => !device).map(nameOf),
-  };
-};
+  // A group's call that rings isn't hung up: that would throw the caller out.
+  services(mine, call) {
+    const here = sideOf(mine, call);
+    if (!here) return new Set();
+    // an external caller's side, which no event tells, is connected
+    const moves = call.connections.every(({state}) => ['connected', 'hold'].includes(state)) ? ['singleStepTransfer'] : [], back = isFree(mine) ? ['retrieveCall'] : [];
+    const own = {alerting: ['answerCall', 'deflectCall'], initiated: ['phoneOffHook'], connected: ['holdCall', ...moves], hold: back, fail: [], queued: []}[here.state];
+    return new Set([...own, here.state === 'alerting' && here.group ? 'rejectCall' : 'clearConnection']);
+  },
 
-const plain = (/** @type {string} */ name) => name.normalize('NFKC').toLocaleLowerCase().trim();
+  doing: mine => doingAt({state: 'null', since: 0, ...mine.agent}, sides(mine)),
 
-// The places that a typed text means: a number, or a name, or else all that have it in their names. Null for somebody who isn't logged on.
-/** @param {string} typed @param {Places} known @param {string} own the own station @returns {Goal[]|null} */
-export function meant(typed, {places, away}, own) {
-  const text = plain(typed), has = (/** @type {string} */ name) => plain(name).includes(text), found = places.filter(({to, name}) => name && to !== own && has(name));
-  if (!text) return [];
-  if (/^\d{1,15}$/.test(text)) return [places.find(({to}) => to === text) ?? {to: text, name: ''}];
-  const whole = found.filter(({name}) => plain(name) === text);
-  return whole.length ? whole : found.length ? found.slice(0, MOST) : away.some(has) ? null : [];
-}
+  // For how long a call rings yet; null where no tick ends it.
+  ringLeft({groups}, {state, group, since}, now) {
+    const ring = groups.find(({device}) => device === group)?.ring;
+    return ring && state === 'alerting' ? since + ring - now : null;
+  },
+
+  // The same of after-call work; of several groups the one of the least number counts: it is told first.
+  wrapLeft({agent: {state, since = 0}, groups}, now) {
+    const wrap = state === 'workingAfterCall' && groups[0]?.wrap;
+    return wrap ? since + wrap - now : null;
+  },
+
+  isOverdue: (mine, now) => [wrapLeft(mine, now), ...sides(mine).map(side => ringLeft(mine, side, now))].some(left => left !== null && left < -GRACE),
+
+  placesOf({agents, groups, stations}, office) {
+    const people = agents.map(({agent, device, name}) => ({device, name: office.agents[agent] ?? name})), at = new Map(people.map(({device, name}) => [device, name]));
+    return {
+      places: [...groups.map(({device, name}) => ({to: device, name: office.groups[device] ?? name})), ...stations.map(to => ({to, name: at.get(to) ?? office.stations[to] ?? '', isEmpty: !at.has(to)}))],
+      away: people.flatMap(({device, name}) => device ? [] : name),
+    };
+  },
+
+  // What a typed text means: a number, a name, or all that have it in their names. Null for somebody who isn't logged on.
+  meant(typed, {places, away}, own) {
+    const text = plain(typed), has = (name = '') => plain(name).includes(text), found = places.filter(({to, name}) => name && to !== own && has(name));
+    if (!text) return [];
+    if (/^\d{1,15}$/.test(text)) return [places.find(({to}) => to === text) ?? {to: text, name: ''}];
+    const whole = found.filter(({name}) => plain(name) === text);
+    return whole.length ? whole : found.length ? found.slice(0, MOST) : away.some(has) ? null : [];
+  },
+});

@@ -1,35 +1,31 @@
-// Sends requests one after the other, each until it is answered. One that isn't is kept in the browser and sent again, the same bytes, so that it acts once: for a minute, in
-// the same log-on. Behind that it is asked about, since nobody may want any more what was clicked then.
+// Sends requests one after the other. One without an answer is kept in the browser and sent again, the same bytes, so that it acts once: for a minute, in the same log-on;
+// behind that it is asked about.
 import {pause, post, requesterOf, sleep} from '../net.js';
 import {refusal, word} from '../words.js';
 
-// milliseconds: of all tries, by which a clock may go back, until what was done is told, in which a click is a second one
-const FRESH = 60000, BACK = 5000, SETTLES = 300, TWICE = 3000;
-// what a second click is refused by, behind a first one that was granted
-const SECOND = ['wrongConnectionState', 'unknownConnection', 'unknownCall', 'wrongAgentState'];
+// milliseconds of all tries, by which a clock may go back, until what was done is seen
+const FRESH = 60000, BACK = 5000, SETTLES = 1000;
 
 export class Requests {
   invoke = 0;
   turn = Promise.resolve();
-  // what was clicked and has no answer, and when what was clicked was granted
+  // what was clicked and has no answer
   /** @type {Set<string>} */ out = new Set();
-  /** @type {Map<string, number>} */ granted = new Map();
 
-  /** @param {string} agent @param {string} login whom the gate knows by the requester @param {Asking} page */
-  constructor(agent, login, page) {
+  /** @param {Asking} page */
+  constructor(agent = '', login = '', page) {
     this.place = `acd-unanswered-${agent} `;
     this.page = page;
     this.requester = requesterOf(login);
   }
 
-  // What an earlier load of the page kept, in its order.
+  // what an earlier load of the page kept
   takeUp() {
     for (const place of Object.keys(localStorage).filter(place => place.startsWith(this.place)).sort()) {
       try { this.queue(place, JSON.parse(localStorage[place])); } catch { localStorage.removeItem(place); }
     }
   }
 
-  // Words say what is asked for, and key what was clicked: the same isn't asked for while it is out.
   /** @type {Send} */
   send = (service, members, words, key) => {
     if (!this.out.has(key)) this.keep(`${this.place}${Date.now()} ${this.requester} ${++this.invoke}`, {body: JSON.stringify({requester: this.requester, invoke: this.invoke, service, ...members}), words, key});
@@ -52,8 +48,8 @@ export class Requests {
   /** @param {Kept} one */
   isFresh({at = 0, logOn}) { return Date.now() - at < FRESH && at - Date.now() < BACK && logOn === this.page.logOn(); }
 
-  /** @param {string} place @param {Kept} one */
-  async deliver(place, one) {
+  /** @param {Kept} one */
+  async deliver(place = '', one) {
     for (let times = 0; this.isFresh(one); times++) {
       if (!times) this.page.tell({kind: 'sent', words: one.words});
       const reply = await post(one.body);
@@ -72,14 +68,10 @@ export class Requests {
     });
   }
 
-  /** @param {Kept} one @param {number} status @param {string} text */
-  answered({body, words, key = ''}, status, text) {
+  /** @param {Kept} one */
+  answered({body, words, key}, status = 0, text = '') {
     // a gate takes a login's own requesters alone
     if (status === 403 && !body.includes(this.requester)) return this.page.tell({kind: 'dropped', words});
-    if (status === 200) {
-      this.granted.set(key, Date.now());
-      return this.page.tell({kind: 'done', words, key, result: JSON.parse(text).result});
-    }
-    if (Date.now() - (this.granted.get(key) ?? 0) > TWICE || !SECOND.some(name => text.includes(`"${name}"`))) this.page.tell({kind: 'refused', key, words: `${words}: ${refusal(status, text)}`});
+    this.page.tell(status === 200 ? {kind: 'done', words, key, result: JSON.parse(text).result} : {kind: 'refused', key, words: `${words}: ${refusal(status, text)}`});
   }
 }

@@ -21,17 +21,15 @@ declare global {
   // what the worker tells: an answer, with the server's and this browser's time of it, or why there was none; and a beat each second
 
   type Lost = {kind: 'lost', status: number, text: string};
-  type Heard = {kind: 'told', mine: Mine, date: number, received: number} | Lost | {kind: 'beat'};
+  type Heard = {kind: 'told', mine: Mine, ahead: number, received: number} | Lost | {kind: 'beat'};
 
   // what is asked for
 
-  type Requested = 'loggedOn' | 'ready' | 'notReady' | 'workingAfterCall' | 'loggedOff';
-  type Service = 'answerCall' | 'rejectCall' | 'phoneOffHook' | 'holdCall' | 'retrieveCall' | 'singleStepTransfer' | 'deflectCall' | 'clearConnection';
   /** A request that has no answer yet: what it asks for in words, when it was asked for, and in which log-on; `key` tells what was clicked. */
   type Kept = {body: string, words: string, at?: number, logOn?: number | null, key?: string};
   type Told = {kind: 'sent' | 'waits' | 'done' | 'refused' | 'dropped', words: string, key?: string, result?: {pending?: string}};
   /** What the requests have to know of the page. */
-  type Asking = {isLive: () => boolean, logOn: () => number | null, tell: (told: Told) => void, ask: (kept: Kept, answer: (sends: boolean) => void) => void};
+  type Asking = {isLive: () => boolean | undefined, logOn: () => number | null, tell: (told: Told) => void, ask: (kept: Kept, answer: (sends: boolean) => void) => void};
 
   /** A place to which a call can go; isEmpty: a station at which nobody is logged on. */
   type Goal = {to: string, name: string, isEmpty?: boolean};
@@ -40,21 +38,24 @@ declare global {
 
   // functions of the page
 
-  type OfficeNames = import('../office.js').Office['names'];
-  type PlacesOf = (names: Names, office: OfficeNames) => Places;
-  type Namer = (device: string) => string;
-  type OfMine<T> = (mine: Mine) => T;
-  type OfCall<T> = (mine: Mine, call: OwnCall) => T;
-  type AtMoment<T> = (mine: Mine, now: number) => T;
+  type OfficeNames = typeof import('../words.js').office.names;
+  type Namer = (device?: string) => string;
+  type Rules = {
+    sideOf(mine: Mine, call: OwnCall): Side | undefined, sides(mine: Mine): Side[], isFree(mine: Mine): boolean, states(mine: Mine): Set<string>, services(mine: Mine, call: OwnCall): Set<string>,
+    doing(mine: Mine): ReturnType<DoingAt>, ringLeft(mine: Mine, side: Side, now: number): number | null, wrapLeft(mine: Mine, now: number): number | null, isOverdue(mine: Mine, now: number): boolean,
+    placesOf(names: Names, office: OfficeNames): Places, meant(typed: string, known: Places, own?: string): Goal[] | null,
+  };
   type Say = (key: string, values?: Record<string, string | number>) => string;
   type Send = (service: string, members: Record<string, unknown>, words: string, key: string) => void;
   type Notice = (key: string, words: string, buttons?: Button[], more?: Part) => void;
-  type Act = (service: Service, call: number, to: HTMLInputElement) => void;
+  type Act = (service: string, offer: {call: number, key: string}, who: string, to: HTMLInputElement) => void;
   type Choose = (field: HTMLInputElement, what: string, asks: boolean, take: (place: Goal) => void) => void;
-  type LogOn = (device: string, groups: string[]) => void;
+  type LastLogOn = {device: string, groups: string[]};
   type Keep = (place: string, one: Kept) => void;
   type Offer = {key: string, title: string, words: string};
   /** off: what was clicked and isn't answered */
   type DrawnCalls = {mine: Mine, now: number, acts: boolean, off: Set<string>, who: Namer, group: Namer, act: Act};
-  type Button = [string, () => void];
+  type Card = (drawn: DrawnCalls, call: OwnCall) => Part;
+  /** what it is called, and what it does beside taking the notice away */
+  type Button = [string, (() => void)?];
 }

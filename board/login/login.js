@@ -1,33 +1,31 @@
-// The page of log-in: it goes on to where one wanted to go, at once where there is a session already.
+// The page of log-in: it goes on to where one wanted to go, at once where there is a session.
+import {byId, put, set} from '../draw.js';
+import {ask, base} from '../net.js';
 import {translate, word} from '../words.js';
 
 /** @type {Record<number, string>} */
-const WORDS = {401: 'wrong', 403: 'nothing', 429: 'wait'};
-const query = location.search, wanted = query.startsWith('?next=') ? query.slice('?next='.length) : '/board/', base = location.origin;
-const next = (/^\/board\/[^\\]*$/.test(wanted) ? wanted : '/board/') + location.hash, form = /** @type {HTMLFormElement} */ (document.querySelector('form'));
+const WORDS = {401: 'wrong', 403: 'nothing', 429: 'wait'}, PATIENCE = 60000;
+const query = location.search, wanted = query.startsWith('?next=') ? query.slice('?next='.length) : '/board/', next = (/^\/board\/[^\\]*$/.test(wanted) ? wanted : '/board/') + location.hash;
 
-/** @param {string} key */
-function tell(key) { /** @type {HTMLElement} */ (document.querySelector('#told')).textContent = key && word(`login.${key}`); }
+const tell = (key = '') => put('told', key && word(`login.${key}`));
 
-/** @param {Response} reply Agents go to their own page, where they didn't say which. */
-async function goOn(reply) {
-  const {role} = await reply.json();
-  location.replace(base + (role === 'agent' && /^\/board\/(#|$)/.test(next) ? '/board/agent/' : next));
-}
+// Agents go to their own page, where they didn't say which.
+const goOn = (text = '') => location.replace(base + (JSON.parse(text).role === 'agent' && /^\/board\/(#|$)/.test(next) ? '/board/agent/' : next));
 
 translate();
 document.title = word('login.title');
 if (['?wrong', '?wait'].includes(query)) tell(query.slice(1));
-else fetch(`${base}/session`, {cache: 'no-store'}).then(reply => { if (reply.ok) return goOn(reply); }).catch(() => {});
+else ask('/session').then(({status, text}) => { if (status === 200) goOn(text); }).catch(() => {});
 
-form.addEventListener('submit', async event => {
-  const button = /** @type {HTMLButtonElement} */ (form.querySelector('button'));
+/** @param {any} event */
+async function logIn(event) {
   event.preventDefault();
-  button.disabled = true;
-  tell('');
+  set('log-in-button', {disabled: true});
+  tell();
   try {
-    const reply = await fetch(`${base}/login`, {method: 'POST', headers: {accept: 'application/json'}, body: new URLSearchParams(/** @type {any} */ (new FormData(form)))});
-    if (reply.ok) await goOn(reply); else tell(WORDS[reply.status] ?? 'fault');
+    const {status, text} = await ask('/login', {method: 'POST', headers: {accept: 'application/json'}, body: new URLSearchParams(/** @type {any} */ (new FormData(byId('log-in'))))}, PATIENCE);
+    if (status === 200) goOn(text); else tell(WORDS[status] ?? 'fault');
   } catch { tell('away'); }
-  button.disabled = false;
-});
+  set('log-in-button', {disabled: false});
+}
+set('log-in', {onsubmit: logIn});

@@ -1,17 +1,15 @@
-// The agents of the own groups as tiles, only those on the screen are written; and what each did today, as a table.
+// Agents as tiles, of which only those on the screen are written; and what each did today, as a table.
 import {AS_IT_IS, byId, make, put, set, table, withNumber} from '../draw.js';
-import {doing, noCounts, ownAgents, search} from '../reckon.js';
+import {noCounts, ownAgents, search} from '../reckon.js';
 import {order} from '../state.js';
 import {clock, DOING, named, word} from '../words.js';
-import {seconds} from './queues.js';
 
 const SORTED_EVERY = 5000, KINDS = /** @type {Doing[]} */ (Object.keys(DOING));
-let sorted = 0, how = '', redraw = () => {};
-/** @type {string[]} */ let places = [];
+let sorted = 0, how = '', redraw = () => {}, places = [''];
 
 // tiles on the screen, or near to it
 const seen = new Set(), watcher = new IntersectionObserver(entries => {
-  for (const {target, isIntersecting} of entries) { const {key} = /** @type {HTMLElement} */ (target).dataset; if (isIntersecting) seen.add(key); else seen.delete(key); }
+  for (const {target, isIntersecting} of entries) seen[isIntersecting ? 'add' : 'delete'](target.getAttribute('data-key'));
   redraw();
 }, {rootMargin: '200px'});
 
@@ -19,45 +17,37 @@ const seen = new Set(), watcher = new IntersectionObserver(entries => {
 const does = ({doing}) => `${DOING[doing].sign} ${DOING[doing].words}`;
 
 const days = table('agents-table', [
-  {head: 'agent', kind: 'name', text: withNumber, file: line => line.name},
-  {head: 'number', text: line => line.id, file: line => Number(line.id)},
-  {head: 'state', kind: 'words', text: does},
-  {head: 'calls', text: line => line.counted ? line.calls : '…'},
-  {head: 'talk', ...seconds(line => line.talk)},
-  {head: 'afterCall', ...seconds(line => line.work)},
-  {head: 'ready', about: false, ...seconds(line => line.ready)},
-  {head: 'notReady', ...seconds(line => line.notReady)},
-  {head: 'missed', text: line => line.counted ? line.missed : '…'},
+  {head: 'agent name', text: withNumber, file: line => line.name},
+  {head: 'number', text: line => line.id},
+  {head: 'state words', text: does},
+  'calls day',
+  'talk seconds', 'afterCall seconds', 'ready seconds', 'notReady seconds', 'missed day',
 ]);
 
 /** @param {Drawn} drawn */
 export function draw(drawn) {
   const {state, day, settings: {states, group, find, sort}, filter} = drawn, wanted = new Set(states.split(',').filter(Boolean)), counts = noCounts();
-  const among = search(people(drawn).filter(({id}) => {
-    const {groups} = state.agent(id), served = groups.length ? groups : [...day.agents.get(id)?.groups ?? []];
-    return !group || served.includes(group);
-  }), find, ({id, name}) => [id, name, state.agent(id).station ?? '']);
+  const among = search(people(drawn).filter(({id}) => !group || day.servedBy(state.agent(id)).includes(group)), find, ({id, name}) => [id, name, state.agent(id).station ?? '']);
   for (const one of among) counts[one.doing]++;
   const shown = arranged(among.filter(one => wanted.size ? wanted.has(one.doing) : one.doing !== 'null'), sort);
   redraw = drawn.redraw;
   put('agents-list', ...shown.map(one => tile(drawn, one)));
   for (const tile of byId('agents-list').children) watcher.observe(tile);
-  put('states', ...KINDS.map(doing => make('button', {'data-doing': doing, 'aria-pressed': String(wanted.has(doing)), onclick: () => filter({toggle: doing})}, `${does({doing})} ${counts[doing]}`)));
+  put('states', ...KINDS.map(doing => make('button', {'data-doing': doing, 'aria-pressed': `${wanted.has(doing)}`, onclick: () => filter({states: `${KINDS.filter(one => wanted.has(one) !== (one === doing))}`})}, `${does({doing})} ${counts[doing]}`)));
   drawn.empty(shown.length ? '' : word(find || wanted.size ? 'agents.none' : 'agents.nobody'));
   set('agents-details', {ontoggle: redraw});
-  if (byId('agents-details').open) days.draw(lines(drawn, shown));
+  if (byId('agents-details').open) drawDays(drawn, shown);
 }
 
 /** @param {Drawn} drawn */
-const people = drawn => ownAgents(drawn).map(agent => ({id: agent.id, name: agent.name, ...doing(drawn.state, agent)}));
-/** @typedef {ReturnType<typeof people>[0]} Shown */
+const people = drawn => ownAgents(drawn).map(agent => ({id: agent.id, name: agent.name, ...drawn.state.doing(agent)}));
 
-/** @param {Drawn} drawn @param {Shown[]} shown */
-const lines = ({day, now, counted}, shown) => shown.map(one => ({...one, ...day.agent(one.id, now), counted, key: one.id}));
+/** @param {Drawn} drawn */
+const drawDays = (drawn, shown = people(drawn)) => days.draw(shown.map(one => ({...one, ...drawn.day.agent(one.id, drawn.now), counted: drawn.counted, key: one.id})));
 
-// Agents in their order: where others are shown at once, by what they do each few seconds at most.
-/** @param {Shown[]} shown @param {string} sort */
-function arranged(shown, sort) {
+// Others are sorted at once, by what they do each few seconds at most.
+/** @param {Shown[]} shown */
+function arranged(shown, sort = '') {
   const all = new Map(shown.map(one => [one.id, one])), is = `${sort} ${[...all.keys()]}`;
   if (how !== is || Date.now() - sorted > SORTED_EVERY) {
     how = is;
@@ -73,18 +63,18 @@ function arranged(shown, sort) {
 /** @param {Drawn} drawn @param {Shown} shown */
 function tile({state, now, settings, lead}, {id, doing, group, since}) {
   if (!seen.has(id)) return make('li', {'data-key': id}, AS_IT_IS);
-  const groupName = (/** @type {string} */ id) => named(state.nameOf(id)), {name, station, groups, pending, ...agent} = state.agent(id), who = named(name || word('agents.one', {id}));
-  const isOff = doing === 'null', isLong = !isOff && doing !== 'ready' && now - since > settings[doing], calls = [...station && state.stations.get(station)?.calls || []].map(String);
-  const place = station ? [word('agents.at', {id, station}), ...groups.map(groupName)] : [id];
-  return make('li', {'data-key': id, 'data-doing': doing, 'data-long': isLong}, make('strong', {}, who), make('span', {class: 'sign', 'aria-hidden': 'true'}, DOING[doing].sign),
-    make('span', {class: 'words'}, DOING[doing].words + (group && groups.length > 1 ? `: ${groupName(group)}` : '')), make('time', {}, isOff ? '' : `${isLong ? '! ' : ''}${clock(now - since)}`),
-    make('small', {}, place.join(', ') + (pending ? `; ${word(`pending.${pending}`)}` : '')),
-    make('span', {class: 'calls'}, ...calls.map(call => make('button', {class: 'link', 'data-press': 'calls', 'data-call': call}, word('agents.call', {call})))),
-    make('button', {'data-press': 'state', hidden: !lead.leads({...agent, groups}), 'aria-label': word('act.agent', {who})}, '⋯'));
+  const groupName = (id = '') => named(state.nameOf(id)), agent = state.agent(id), {name, station, groups, pending} = agent, who = named(name || word('agents.one', {id})), {sign, words} = DOING[doing];
+  const isOff = doing === 'null', isLong = !isOff && doing !== 'ready' && now - since > settings[doing], calls = [...state.stations.get(station ?? '')?.calls ?? []].map(String);
+  const place = station ? [word('agents.at', {id, station}), ...groups.map(id => groupName(id))] : [id];
+  return make('li', {'data-key': id, 'data-doing': doing, 'data-long': isLong}, make('strong', who), make('span.sign', {'aria-hidden': 'true'}, sign),
+    make('span.words', words + (group && groups.length > 1 ? `: ${groupName(group)}` : '')), make('time', !isOff && `${isLong ? '! ' : ''}${clock(now - since)}`),
+    make('small', place.join(', ') + (pending ? `; ${word(`pending.${pending}`)}` : '')),
+    make('span.calls', ...calls.map(call => make('button.link', {'data-press': 'calls', 'data-call': call}, word('agents.call', {call})))),
+    make('button', {'data-press': 'state', hidden: !lead.leads(agent), 'aria-label': word('act.state', {who})}, '⋯'));
 }
 
 /** @param {Drawn} drawn */
 export function file(drawn) {
-  days.draw(lines(drawn, people(drawn)));
+  drawDays(drawn);
   return days.file();
 }

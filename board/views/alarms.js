@@ -1,38 +1,69 @@
-// The alarms as a list: what each is, since when, and whether it was seen here; and how they make themselves noticed.
+// What a supervisor has to know at once, as a list, and how it makes itself noticed.
 import {byId, make, put, set} from '../draw.js';
 import {isHeard, notify, tone} from '../sound.js';
+import {GRACE} from '../state.js';
 import {clock, isWord, named, percent, plain, timeOfDay, word} from '../words.js';
 
-/** since: when it began, as far as is known; last: when it was there for the last time, in milliseconds; seen: whether somebody said so in this browser
- * @typedef {{since:number, last:number, seen:boolean}} Known */
+// seconds that clocks may be apart; of fewer calls a share says nothing
+const APART = 60, LEAST = 10;
+
+// What should have ended by a tick.
+/** @param {State} state */
+function overdue(state, now = 0) {
+  const late = (who = '', since = 0, given = 0) => given > 0 && now - since > given + GRACE && {who: named(who), clock: clock(now - since), given: clock(given), since: since + given};
+  for (const {ring, ringing} of state.groups.values()) for (const call of ringing) for (const {state: is, device, since} of call.connections.values()) {
+    const found = is === 'alerting' && late(state.agentAt(device)?.name || device, since, ring);
+    if (found) return found;
+  }
+  for (const {id, name, state: is, groups, since} of state.agents.values()) {
+    const found = is === 'workingAfterCall' && late(name || id, since, state.groups.get(groups[0])?.wrap);
+    if (found) return found;
+  }
+}
+
+// The desk's time may be ahead of the server's clock: it stands still until that has come there.
+/** @param {Drawn} drawn */
+function alarms({state, lines, counted, now}, serverClock = 0) {
+  const ahead = state.moment - serverClock, over = ahead > APART ? undefined : overdue(state, now);
+  /** @type {Alarm[]} */ const found = [];
+  const add = (kind = '', id = '', values = () => ({}), since = 0) => found.push({kind, key: id ? `${kind}.${id}` : kind, since, values});
+  if (ahead > APART) add('clock', '', () => ({clock: clock(ahead)}));
+  if (over) add('ticks', '', () => over, over.since);
+  for (const {id, name, limits: {goal, lost: most, bad}, waiting, loggedOn, severity, queued, level, levelSeverity, lost, lostSeverity, answered, late, abandoned} of lines) {
+    const group = named(name);
+    if (waiting && !loggedOn) add('nobody', id, () => ({group, n: waiting}));
+    if (severity === 'bad') add('wait', id, () => ({group}), queued + bad);
+    if (counted && levelSeverity === 'bad' && answered + late >= LEAST) add('level', id, () => ({group, share: percent(level), goal: percent(goal / 100)}));
+    if (counted && lostSeverity === 'bad' && answered + abandoned >= LEAST) add('lost', id, () => ({group, share: percent(lost), goal: percent(most / 100)}));
+  }
+  return found;
+}
 
 const PLACE = 'acd-alarms', FORGOTTEN = 60000, NARROW = 1200, AGAIN = 30000, KEPT_EVERY = 5000, KINDS = ['clock', 'ticks', 'nobody', 'wait', 'level', 'lost'];
 /** @type {Record<string, Known>} */ let known = {};
 try { known = JSON.parse(localStorage[PLACE]) ?? {}; } catch { /* nothing was kept, or nothing may be */ }
-let sounded = 0, kept = 0, all = false;
-// when was looked for the last time: a page that sleeps, or whose desk is gone, doesn't know that an alarm is over
-let looked = Date.now();
+// when was looked last: a page that sleeps, or whose desk is gone, doesn't know that an alarm is over
+let sounded = 0, kept = 0, all = false, looked = Date.now();
 
-/** @param {State} state @param {Alarm} alarm @param {'alarm'|'detail'} part */
-function wordsOf(state, {kind, group, values}, part = 'alarm') {
-  const {seconds = 0, share = 0, goal = 0, n = 0, what, who, given = 0} = /** @type {any} */ (values), key = `${part}.${what ?? kind}`, name = group ? named(state.nameOf(group)) : '';
-  const at = who ? named((what === 'works' ? state.agents.get(who) : state.agentAt(who))?.name || who) : '';
-  return isWord(key) ? word(key, {group: name, n, clock: clock(seconds), share: percent(share), goal: percent(goal / 100), who: at, given: clock(given)}) : '';
-}
+const paper = matchMedia('print');
 
-// Shows them, and says how many nobody has seen.
-/** @param {Drawn} drawn @param {Alarm[]} found @param {boolean} onWall */
-export function draw({state, settings, now, redraw}, found, onWall) {
-  const moment = Date.now(), fresh = found.filter(alarm => isFresh(alarm, now, moment)), few = onWall || innerWidth < NARROW ? 1 : 2, unseen = found.filter(({key}) => !known[key].seen);
+/** @param {Alarm} alarm */
+const wordsOf = ({kind, values}) => word(`alarm.${kind}`, values());
+
+// Says how many nobody has seen. What has no room on the screen is printed.
+/** @param {Drawn} drawn */
+export function draw(drawn, serverClock = 0, onWall = false) {
+  const {settings, now, redraw} = drawn, found = alarms(drawn, serverClock), moment = Date.now(), fresh = found.filter(alarm => isFresh(alarm, now, moment)), unseen = found.filter(({key}) => !known[key].seen);
   for (const key of Object.keys(known)) if (looked - known[key].last > FORGOTTEN) delete known[key];
   looked = moment;
-  if (fresh.length || moment - kept > KEPT_EVERY) try { kept = moment; localStorage[PLACE] = JSON.stringify(known); } catch { /* it is known until the page is left */ }
-  const see = (/** @type {Known[]} */ those) => () => { for (const one of those) one.seen = true; kept = 0; redraw(); };
+  if (fresh.length || moment - kept > KEPT_EVERY) try { kept = moment; localStorage[PLACE] = JSON.stringify(known); } catch { /* known until the page is left */ }
+  const few = onWall || innerWidth < NARROW ? 1 : 2, see = (/** @type {Known[]} */ those) => () => { for (const one of those) one.seen = true; kept = 0; redraw(); };
   const sorted = [...found].sort((one, other) => Number(known[one.key].seen) - Number(known[other.key].seen) || KINDS.indexOf(one.kind) - KINDS.indexOf(other.kind));
-  put('alarm', ...sorted.slice(0, all ? Infinity : few).map(alarm => {
-    const {key} = alarm, {since, seen} = known[key], words = wordsOf(state, alarm);
-    return make('li', {'data-key': key, 'data-seen': seen}, make('b', {}, `${seen ? '□' : '■'} ${words}`), make('span', {class: 'detail'}, wordsOf(state, alarm, 'detail')),
-      make('span', {class: 'since'}, word('alarms.since', {time: timeOfDay(since, true), clock: clock(now - since)})),
+  paper.onchange = redraw;
+  put('alarm', ...sorted.slice(0, all || paper.matches ? Infinity : few).map(alarm => {
+    const {key, kind, values} = alarm, {since, seen} = known[key], words = wordsOf(alarm), detail = `detail.${kind}`;
+    return make('li', {'data-key': key, 'data-seen': seen}, make('b', `${seen ? '□' : '■'} ${words}`), make('span.detail', isWord(detail) && word(detail, values())),
+      make('span.since', word('alarms.since', {time: timeOfDay(since, 'short'), clock: clock(now - since)})),
       make('button', {hidden: seen, 'aria-label': `${word('alarms.seen')}: ${plain(words)}`, onclick: see([known[key]])}, word('alarms.seen')));
   }));
   set('alarms-rest', {hidden: found.length <= few, onclick: () => { all = !all; redraw(); }});
@@ -40,10 +71,8 @@ export function draw({state, settings, now, redraw}, found, onWall) {
   set('alarms-seen', {hidden: unseen.length < 2, onclick: see(Object.values(known))});
   set('alarms-mute', {hidden: !settings.tone || isHeard()});
   set('alarms', {hidden: !found.length});
-  if (fresh.length) {
-    put('alarm-told', fresh.map(alarm => wordsOf(state, alarm)).join('. '));
-    if (settings.notify) for (const alarm of fresh) notify(byId('title').textContent, {body: plain(wordsOf(state, alarm)), tag: alarm.key});
-  }
+  if (fresh.length) put('alarm-told', fresh.map(wordsOf).join('. '));
+  if (settings.notify) for (const alarm of fresh) notify(byId('title').textContent, {body: plain(wordsOf(alarm)), tag: alarm.key});
   if (settings.tone && unseen.length && (fresh.length || moment - sounded > AGAIN)) {
     sounded = moment;
     tone();
@@ -51,9 +80,9 @@ export function draw({state, settings, now, redraw}, found, onWall) {
   return unseen.length;
 }
 
-/** @param {Alarm} alarm @param {number} now @param {number} moment */
-function isFresh({key, since}, now, moment) {
+/** @param {Alarm} alarm */
+function isFresh({key, since}, now = 0, moment = 0) {
   const had = known[key], fresh = !had || looked - had.last > FORGOTTEN;
-  known[key] = fresh ? {since: since ?? now, last: moment, seen: false} : {...had, since: since ?? had.since, last: moment};
+  known[key] = fresh ? {since: since || now, last: moment, seen: false} : {...had, since: since || had.since, last: moment};
   return fresh;
 }

@@ -33,7 +33,8 @@ export async function alarms(see, browser, desk, address) {
   const {identifier} = await browser.command('Page.addScriptToEvaluateOnNewDocument', {source: NOTICED});
   await browser.open(`${address}?since=0&tone=1&notify=1#queues`);
   await live(browser);
-  await until(() => browser.run('return document.querySelectorAll("#alarm li").length === 3'), 5);
+  await until(async () => (await browser.run('return document.title')).startsWith('■ 5 alarms'), 10);
+  await onPaper(see, browser);
   await browser.click('#alarms-rest');
   await sleep(300);
   const found = await list(browser), keys = found.map(([key]) => key);
@@ -47,6 +48,16 @@ export async function alarms(see, browser, desk, address) {
   await seen(see, browser, address);
   await limits(see, browser, address);
   await browser.command('Page.removeScriptToEvaluateOnNewDocument', {identifier});
+}
+
+/** What has no room on the screen is printed. */
+async function onPaper(see, browser) {
+  const shown = () => browser.run('return [...document.querySelectorAll("#alarm li")].filter(one => one.checkVisibility()).length'), onScreen = await shown();
+  await browser.command('Emulation.setEmulatedMedia', {media: 'print'});
+  await until(async () => await shown() === 5, 3);
+  const printed = await shown();
+  await browser.command('Emulation.setEmulatedMedia', {media: ''});
+  see('all alarms are printed, of which the screen has two', onScreen === 2 && printed === 5, `${onScreen} ${printed}`);
 }
 
 /** A tone and a notification for what is new; a screen reader is told once, and not each second. */

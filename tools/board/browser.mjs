@@ -12,11 +12,11 @@ export const freePort = () => new Promise(done => {
   server.listen(0, '127.0.0.1', () => { const {port} = server.address(); server.close(() => done(port)); });
 });
 
-/** Why nobody can listen on this port of all addresses, or nothing. */
+/** Why nobody can listen on this port of the loopback address, or nothing. */
 export const portFault = port => new Promise(done => {
   const server = createServer();
   server.once('error', error => done(error.code === 'EADDRINUSE' ? 'is taken' : `isn't to be had (${error.code})`));
-  server.listen({port, host: '0.0.0.0', exclusive: true}, () => server.close(() => done('')));
+  server.listen({port, host: '127.0.0.1', exclusive: true}, () => server.close(() => done('')));
 });
 
 /** Asks until the answer is true; false where that took too long. */

@@ -48,7 +48,8 @@ export async function zones(see, browser, desk, front) {
       see(`${back} days before, in ${zone}`, String(shown[place]?.slice(1, 4)) === String(figures(of).slice(0, 3)) && of.entered > 50, `${shown[place]} and not ${figures(of)}`);
     }
     const clock = await browser.text('#clock'), told = new Intl.DateTimeFormat('en-GB', {timeZone: zone, timeZoneName: 'short', hour: '2-digit', minute: '2-digit'}).formatToParts();
-    see(`the clock of ${zone} names it`, clock.endsWith(told.find(part => part.type === 'timeZoneName').value), clock);
+    // one program's UTC is another's GMT
+    see(`the clock of ${zone} names it`, clock.replace(/GMT$/, 'UTC').endsWith(told.find(part => part.type === 'timeZoneName').value.replace(/^GMT$/, 'UTC')), clock);
   }
   await browser.command('Emulation.setTimezoneOverride', {timezoneId: ''});
   await onPhone(see, browser, desk, front, file);
@@ -85,8 +86,7 @@ export async function overMidnight(see, browser, front) {
   // an hour later by the page's clock, and by the server's
   await browser.run(`const real = Date.now, get = Headers.prototype.get;
     Headers.prototype.get = function (name) { return name === 'date' ? null : get.call(this, name); };
-    Date.now = () => real() + 3600000;
-    window.board.feed.owner.clock(0)`);
+    Date.now = () => real() + 3600000;`);
   await sleep(300);
   const after = await until(() => browser.run(`const {begin} = window.board.day(); return begin !== ${before} && begin`), 20);
   see('a new day begins at midnight', after === before + DAY, `${before} ${after}`);

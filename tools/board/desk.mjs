@@ -83,7 +83,7 @@ export class Desk {
   }
 }
 
-/** A gate and nginx before a desk, by the configuration of tools/operating/nginx.conf on other ports. */
+/** A gate and nginx before a desk, by the configuration of tools/operating/nginx.conf on other ports, and on the loopback address alone. */
 export class Front {
   static async start(folder, desk, roles, port) {
     const front = new Front(), [gate, site] = [await freePort(), port ?? await freePort()], file = join(folder, `front${site}`);
@@ -93,7 +93,7 @@ export class Front {
     execFileSync('openssl', ['req', '-x509', '-newkey', 'rsa:2048', '-nodes', '-subj', '/CN=desk', '-days', '2', '-keyout', `${file}/desk.key`, '-out', `${file}/desk.crt`], {stdio: 'ignore'});
     await writeFile(`${file}/roles`, roles.map(([login, ...role]) => `${login} ${role.join(' ')}\n`).join(''));
     await writeFile(`${file}/users`, roles.map(([login]) => `${login}:{SHA}5en6G6MezRroT3XKqkdPOmY/BfQ=\n`).join(''));
-    const places = {8080: desk.port, 8081: gate, 8443: site, '/etc/acd': file, '/usr/share/acd': `${file}/share`};
+    const places = {8080: desk.port, 8081: gate, 8443: `127.0.0.1:${site}`, '/etc/acd': file, '/usr/share/acd': `${file}/share`};
     const conf = (await readFile(join(TOP, 'tools/operating/nginx.conf'), 'utf8')).replace(new RegExp(Object.keys(places).join('|'), 'g'), named => places[named]);
     await writeFile(`${file}/nginx.conf`, `daemon off; user root; pid ${file}/pid; error_log ${file}/errors; worker_processes 1; events {}
 http { include /etc/nginx/mime.types; access_log off; ${['client_body', 'proxy', 'fastcgi', 'uwsgi', 'scgi'].map(kind => `${kind}_temp_path ${file};`).join(' ')} ${conf} }\n`);

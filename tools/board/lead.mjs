@@ -1,7 +1,9 @@
 // What a lead does by the board: buttons where the own groups are, each behind a question, and what the desk makes of it.
+import {join} from 'node:path';
 import {sleep, until} from './browser.mjs';
 import {live} from './page.mjs';
 import {Story} from './story.mjs';
+import {brackets, strange} from './words.mjs';
 
 /** Three groups with an agent each: one is ready, one talks, in the third a call waits. */
 export function office(now) {
@@ -13,8 +15,42 @@ export function office(now) {
   return story.lines;
 }
 
-export async function lead(see, browser, desk, front) {
+/** The rows with such a button, one click on it and perhaps a choice, and a double yes. */
+function hands(browser) {
   const visible = selector => browser.run('return [...document.querySelectorAll(arguments[0])].filter(one => one.checkVisibility()).map(one => one.closest("[data-key]").dataset.key)', selector);
+  const ask = async (view, selector, chosen) => {
+    await browser.run('location.hash = arguments[0]', view);
+    await until(async () => (await visible(selector)).length, 5);
+    await browser.click(selector);
+    await sleep(200);
+    if (chosen) await browser.run('document.querySelector("#act select").value = arguments[0]', chosen);
+  };
+  return {visible, ask, yes: () => browser.run('const button = document.querySelector("#act [value=yes]"); button.click(); button.click();')};
+}
+
+/** With a table whose values are their keys each word of the questions, and of what is told behind them, is in brackets, or comes from the desk. */
+async function questions(see, browser, desk, front) {
+  const {ask, yes} = hands(browser), names = (await desk.get('/snapshot')).groups.map(group => group.name).concat('Agent 1', 'Agent 2', 'Agent 3');
+  await brackets(join(front.file, 'share/board'));
+  await browser.fresh(front.page('lea', '/board/?lang=zz&since=0#agents'));
+  await live(browser);
+  for (const [view, selector, key] of [['agents', '#agents-list [data-key="3"] [data-press=state]', 'act.state'], ['calls', '#calls-table [data-key="2"] [data-press=call]', 'act.move.sure'],
+    ['calls', '#calls-table [data-key="1"] [data-press=call]', 'act.end.sure'], ['queues', '#queues-table [data-key="102"] [data-press=priority]', 'act.priority.sure']]) {
+    await ask(view, selector);
+    const {said, left} = await strange(browser, names);
+    see(`the question ${key}: all words are of the table`, ['act.yes', 'act.no', key].every(one => said.some(text => text.includes(`[${one}]`))) && !left.length, left.slice(0, 3).join('; ') || key);
+    await browser.press('\uE00C');
+    await sleep(200);
+  }
+  // what the agent is already, so that nothing changes
+  await ask('agents', '#agents-list [data-key="3"] [data-press=state]', 'notReady');
+  await yes();
+  see('and so is what is told behind it', await until(async () => await browser.text('#act-told') === '✓ [agent.button]', 5), await browser.text('#act-told'));
+}
+
+export async function lead(see, browser, desk, front) {
+  const {visible} = hands(browser);
+  await questions(see, browser, desk, front);
   const acts = {agents: '#agents-list [data-press=state]', calls: '#calls-table [data-press=call]', queues: '#queues-table [data-press=priority]'};
   const shown = async login => {
     const found = {};
@@ -28,14 +64,7 @@ export async function lead(see, browser, desk, front) {
   };
   see('a supervisor has no button', await shown('sup') === '{"agents":[],"calls":[],"queues":[]}', await shown('sup'));
   see('a lead has those of the own groups', await shown('lea') === '{"agents":["2","3"],"calls":["2","1"],"queues":["101","102"]}', await shown('lea'));
-  const ask = async (view, selector, chosen) => {
-    await browser.run('location.hash = arguments[0]', view);
-    await until(async () => (await visible(selector)).length, 5);
-    await browser.click(selector);
-    await sleep(200);
-    if (chosen) await browser.run('document.querySelector("#act select").value = arguments[0]', chosen);
-  };
-  const yes = () => browser.run('const button = document.querySelector("#act [value=yes]"); button.click(); button.click();'), agent = async id => (await desk.get(`/agents/${id}`)).state;
+  const {ask, yes} = hands(browser), agent = async id => (await desk.get(`/agents/${id}`)).state;
   await ask('agents', '#agents-list [data-key="3"] [data-press=state]', 'ready');
   await browser.press('\uE00C');
   await sleep(800);
@@ -57,7 +86,7 @@ export async function lead(see, browser, desk, front) {
   await yes();
   see('an agent is logged off', await until(async () => await agent('3') === 'null', 5), await agent('3'));
   const before = (await desk.get('/events?after=999999999999999')).last;
-  await browser.run(`import('./act.js').then(({Lead}) => { const one = new Lead(); one.begin({login: 'lea', role: 'lead', groups: ['100']}); one.send('setGroupPriority', {device: '100', priority: 3}, 'done'); })`);
+  await browser.run(`import('./act.js').then(({lead}) => { lead.begin({login: 'lea', role: 'lead', groups: ['100']}); lead.send('setGroupPriority', {device: '100', priority: 3}, 'Priority', 'Billing', '3'); })`);
   see('beyond the own groups it is refused', await until(async () => /■ .*may not/.test(await browser.text('#act-told')), 5) && (await desk.get('/snapshot')).groups.find(one => one.device === '100').priority !== 3, await browser.text('#act-told'));
   see('and does nothing', (await desk.get('/events?after=999999999999999')).last === before);
 }

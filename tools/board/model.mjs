@@ -36,9 +36,28 @@ export function toldByState(state, snapshot) {
     connections: sorted([...state.calls.values()].flatMap(call => [...call.connections.values()].filter(one => planned.has(one.device)).map(one => `${call.number} ${one.device} ${one.state} ${one.group ?? ''}`))),
     queues: groups.map(group => `${group.id}: ${queue(group).map(call => `${call.number} since ${call.queued}`)}`),
     ringing: groups.map(group => `${group.id}: ${[...group.ringing].map(call => call.number).sort((one, other) => one - other)}`),
-    figures: groups.map(({id, figures}) => `${id}: ${[figures.entered, figures.answered, figures.abandoned, figures.moved, figures.waited]}`),
+    figures: groups.map(({id, figures = NONE}) => `${id}: ${[figures.entered, figures.answered, figures.abandoned, figures.moved, figures.waited]}`),
   };
 }
+
+const NONE = {entered: 0, answered: 0, abandoned: 0, moved: 0, waited: 0};
+
+/** The page's state, and beside it the figures of groups: the page shows those of the day, and a snapshot has to lead on to them all the same. */
+const counting = State => class extends State {
+  constructor(snapshot, before) {
+    super(snapshot, before);
+    for (const {device, entered, answered, abandoned, moved, waited} of snapshot?.groups ?? []) this.group(device).figures = {entered, answered, abandoned, moved, waited};
+  }
+
+  changeCall(report) {
+    const {event, cause, device, group, waited = 0} = report, figures = id => this.group(id).figures ??= {...NONE};
+    if (event === 'queued' && cause !== 'noAnswer') figures(device).entered++;
+    if (event === 'diverted' && group && cause === 'deflected') figures(group).moved++;
+    if (event === 'established' && group) Object.assign(figures(group), {answered: figures(group).answered + 1, waited: figures(group).waited + waited});
+    if (event === 'callCleared' && group) figures(group).abandoned++;
+    super.changeCall(report);
+  }
+};
 
 /** How two of these differ, in words. */
 export function differences(has, wanted) {
@@ -58,7 +77,7 @@ function againstReads(turn, state, reads) {
     see(`ready in ${group}`, next(turn, state, group).map(agent => agent.id), ready);
   }
   for (const [device, waiting, ringing, entered, answered, abandoned, moved, average] of reads.report) {
-    const group = state.group(device), {figures} = group;
+    const group = state.group(device), {figures = NONE} = group;
     see(`report of ${device}`, [group.waiting.size, group.ringing.size, figures.entered, figures.answered, figures.abandoned, figures.moved, figures.answered ? String(Math.floor(figures.waited / figures.answered)) : '-'],
       [Number(waiting), Number(ringing), Number(entered), Number(answered), Number(abandoned), Number(moved), average]);
   }
@@ -100,8 +119,8 @@ export async function record(desk, parts) {
 const WATCHED = 5;
 
 /** Carries states on from the first event and from each snapshot; the number of comparisons and what differed. Until the first difference, where one is enough. */
-export function replay({State, turn, Day}, told, oneIsEnough = false) {
-  const wrong = [], states = [{from: 'the first event', begun: Infinity, state: new State()}], day = Day && new Day(0);
+export function replay({State: Page, turn, Day}, told, oneIsEnough = false) {
+  const State = counting(Page), wrong = [], states = [{from: 'the first event', begun: Infinity, state: new State()}], day = Day && new Day(0);
   let compared = 0;
   for (const [place, {snapshot, events, reads}] of told.entries()) {
     if (oneIsEnough && wrong.length) break;
@@ -118,10 +137,10 @@ export function replay({State, turn, Day}, told, oneIsEnough = false) {
     states.push({from: `snapshot ${place + 1}`, begun: place, state: new State(snapshot)});
     if (!day) continue;
     for (const event of events) day.apply(event);
-    for (const [device, , , entered, answered, abandoned, moved] of reads.report) {
+    for (const [device, , , entered, answered, abandoned, moved, average] of reads.report) {
       const {sum} = day.line(device);
       compared++;
-      if (String([sum.entered, sum.answered, sum.abandoned, sum.moved]) !== String([entered, answered, abandoned, moved])) wrong.push(`part ${place + 1}: the day of ${device} counts ${JSON.stringify(sum)}`);
+      if (String([sum.entered, sum.answered, sum.abandoned, sum.moved, sum.answered ? Math.floor(sum.waited / sum.answered) : '-']) !== String([entered, answered, abandoned, moved, average])) wrong.push(`part ${place + 1}: the day of ${device} counts ${JSON.stringify(sum)}`);
     }
   }
   if (day) wrong.push(...againstWalk(day, told));
@@ -145,42 +164,43 @@ function againstWalk(day, told) {
   return differences({peaks: has}, {peaks: wanted});
 }
 
-/** name, what stands in state.js, and what is written there in its place */
+/** name, what stands in state.js, or in another file, and what is written there in its place */
 const FAULTS = [
-  ['a call that comes back unanswered gets a new place', "if (report.cause !== 'noAnswer') {", 'if (report.cause) {'],
-  ['calls that were sent on are not counted', "if (report.group && report.cause === 'deflected') this.group(report.group).figures.moved++;", ''],
+  ['a call that comes back unanswered gets a new place', "if (cause !== 'noAnswer') Object", 'if (cause) Object'],
+  ['calls that were sent on are not counted', "if (group && cause === 'deflected') this.count(group, moment, {moved: 1});", '', 'day.js'],
   ['an agent who is busy counts as ready', "agentBusy: 'busy'", "agentBusy: 'ready'"],
-  ['who logs off stays at the station', "this.station(report.device).agent = null;\n      agent.station = null;", 'agent.station = null;'],
-  ['a held call stays connected', "case 'held': return this.become(call, report.device, 'hold', moment);", "case 'held': return;"],
-  ['a call that ended stays', 'this.calls.delete(call.number);', ''],
-  ['waits are not summed', 'this.group(report.group).figures.waited += report.waited ?? 0;', ''],
+  ['who logs off stays at the station', 'this.station(device).agent = null;', ''],
+  ['a held call stays connected', "case 'held': return this.become(call, device, 'hold', moment);", "case 'held': return;"],
+  ['a call that ended stays', 'this.calls.delete(id);', ''],
+  ['waits are not summed', 'answered: 1, waited,', 'answered: 1,', 'day.js'],
   ['a call that is offered still waits', 'group.waiting.delete(call);', ''],
   ['an event counts twice', 'if (report.number <= this.last) return;', ''],
   ['who is on an own call gets offers', "this.at(agent.station).every(connection => connection.state === 'fail')", 'true'],
   ['the places of a snapshot come behind those of events', 'const EARLIER = 2000000000;', 'const EARLIER = 0;'],
   ['ready agents stand in the order of their numbers', 'one.rank - other.rank || order(one.id, other.id)', 'order(one.id, other.id)'],
-  ['a transferred call stays at the station', "case 'transferred': return this.take(call, report.device);", "case 'transferred': return;"],
+  ['a transferred call stays at the station', "case 'diverted': case 'transferred':", "case 'diverted':"],
   ['the offers of a snapshot do not ring', "if (state === 'alerting' && group) this.group(group).ringing.add(call);", ''],
 ];
 
 /** The faults that no comparison sees. */
 export async function unseenFaults(board, folder, told) {
-  const text = await readFile(join(board, 'state.js'), 'utf8'), unseen = [];
+  const unseen = [], text = Object.fromEntries(await Promise.all(['state.js', 'day.js'].map(async name => [name, await readFile(join(board, name), 'utf8')])));
   await writeFile(join(folder, 'package.json'), '{"type":"module"}');
-  for (const [number, [name, right, wrong]] of FAULTS.entries()) {
-    if (text.split(right).length !== 2) throw new Error(`planted fault '${name}': its place is not in state.js`);
-    const file = join(folder, `fault${number}.js`);
-    await writeFile(file, text.replace(right, () => wrong));
+  await writeFile(join(folder, 'state.js'), text['state.js']);
+  for (const [number, [name, right, wrong, where = 'state.js']] of FAULTS.entries()) {
+    if (text[where].split(right).length !== 2) throw new Error(`planted fault '${name}': its place is not in ${where}`);
+    const file = join(folder, `fault${number}.js`), whole = await import(pathToFileURL(join(folder, 'state.js')));
+    await writeFile(file, text[where].replace(right, () => wrong));
     let seen = true;
-    try { seen = replay(await import(pathToFileURL(file)), told, true).wrong.length > 0; } catch { /* a fault that stops it is seen */ }
+    try { seen = replay({...whole, ...await import(pathToFileURL(file))}, told, true).wrong.length > 0; } catch { /* a fault that stops it is seen */ }
     if (!seen) unseen.push(name);
   }
   return {planted: FAULTS.length, unseen};
 }
 
 /** Snapshots that are taken while requests come in, each followed up to a later event and compared with the fold from the first. */
-export async function inLoad({State}, desk, lines, rounds) {
-  const whole = new State(), wrong = [];
+export async function inLoad({State: Page}, desk, lines, rounds) {
+  const State = counting(Page), whole = new State(), wrong = [];
   let posting = true, behind = 0;
   const load = (async () => { for (const line of lines) { if (!posting) return; await desk.post(line.slice(line.indexOf(' ') + 1)); } posting = false; })();
   const learn = async state => { for (const agent of [...state.unknown]) state.learn(await desk.get(`/agents/${agent}`)); };

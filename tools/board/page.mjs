@@ -118,7 +118,7 @@ export async function ownEvents(see, browser, desk, address, own) {
   await browser.fresh(`${address}?since=0&groups=${own}#events`);
   await live(browser);
   await sleep(1500);
-  const shown = (await browser.run('return [...document.querySelectorAll("#events-list .number")].map(one => Number(one.textContent))')).sort((one, other) => one - other), events = await desk.events(0), {agents, stations} = await desk.get('/snapshot');
+  const shown = (await browser.run('return [...document.querySelectorAll("#events-list li")].map(one => Number(one.dataset.key))')).sort((one, other) => one - other), events = await desk.events(0), {agents, stations} = await desk.get('/snapshot');
   const staff = new Set(agents.filter(one => (one.groups ?? [one.group]).some(group => own.includes(group))).map(one => one.agent)), seats = stations.filter(one => staff.has(one.agent)).map(one => one.device);
   const calls = new Set(events.filter(one => 'call' in one && [one.device, one.group, one.to].some(place => own.includes(place) || seats.includes(place))).map(one => one.call)), isOwn = one => calls.has(one.call) || staff.has(one.agent) || own.includes(one.group);
   const byNumber = new Map(events.map(one => [one.number, one])), strange = shown.map(number => byNumber.get(number)).filter(one => one && !isOwn(one));
@@ -301,8 +301,8 @@ export async function losses(see, browser, desk, other, address) {
   await desk.serve();
   const {last: others} = await desk.get('/events?after=999999999999999');
   see('another file in its place is read anew', Boolean(await until(async () => await status() === 'Live' && await browser.run(`return window.board.counted() && window.board.state().last === ${others}`), 20)), await status());
-  const report = reportLines(await desk.get('/reports/queues')), shown = await browser.run('return [...window.board.state().groups.values()].map(group => [group.id, group.figures.entered, window.board.day().line(group.id).sum.entered])');
-  see('its figures are its own', report.every(line => shown.some(one => String(one) === String([line[0], line[3], line[3]]))) && shown.length === report.length, `${shown[0]}, ${report[0]}`);
+  const report = reportLines(await desk.get('/reports/queues')), shown = await browser.run('return [...window.board.state().groups.values()].map(group => [group.id, window.board.day().line(group.id).sum.entered, window.board.day().line(group.id).sum.answered])');
+  see('its figures are its own', report.every(line => shown.some(one => String(one) === String([line[0], line[3], line[4]]))) && shown.length === report.length, `${shown[0]}, ${report[0]}`);
   await desk.stop();
   desk.file = file;
   await desk.serve();

@@ -103,7 +103,7 @@ class Trial {
     this.see('the state of the page', wrong.length === 0, wrong.slice(0, 5).join('\n'));
     const {planted, unseen} = await unseenFaults(join(TOP, 'board'), await mkdtemp(join(this.folder, 'faults')), told);
     this.see('each planted fault is seen', unseen.length === 0, unseen.join('; '));
-    console.log(`    ${told.length} snapshots of an office's day, carried on to its end: ${compared} comparisons, ${wrong.length} differ; ${planted} faults planted in state.js, ${unseen.length} unseen`);
+    console.log(`    ${told.length} snapshots of an office's day, carried on to its end: ${compared} comparisons, ${wrong.length} differ; ${planted} faults planted in state.js and day.js, ${unseen.length} unseen`);
   }
 
   async buttons() {

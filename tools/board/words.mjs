@@ -4,9 +4,28 @@ import {join} from 'node:path';
 import {sleep, until} from './browser.mjs';
 import {VIEWS} from './page.mjs';
 
+/** The English words, which are lines below their areas; several forms of one are an object. */
+function ofLines(text) {
+  const table = {};
+  let area = '';
+  for (const line of text.split('\n')) {
+    const [, into, name, said] = /^\[(.*)\]$|^(.*?): (.*)$/.exec(line) ?? [];
+    if (into) area = `${into}.`;
+    if (name) table[area + name] = said;
+  }
+  for (const key of Object.keys(table)) if (key.endsWith('.other')) {
+    const word = key.slice(0, -'.other'.length), forms = Object.keys(table).filter(one => one.startsWith(`${word}.`));
+    table[word] = Object.fromEntries(forms.map(one => [one.slice(word.length + 1), table[one]]));
+    for (const one of forms) delete table[one];
+  }
+  return table;
+}
+
 /** A table of words by their keys; the module itself wants a browser. */
 export async function tableOf(file) {
-  const [, text] = (await readFile(file, 'utf8')).match(/(?:ENGLISH =|export default) \{([^]*?)\n\};/), areas = Object.entries(new Function(`return {${text}}`)());
+  const whole = await readFile(file, 'utf8'), [, english] = whole.match(/ENGLISH = keyed\(`([^]*?)`\)/) ?? [];
+  if (english) return ofLines(english);
+  const [, text] = whole.match(/export default \{([^]*?)\n\};/), areas = Object.entries(new Function(`return {${text}}`)());
   return Object.fromEntries(areas.flatMap(([area, said]) => typeof said === 'string' || said.other ? [[area, said]] : Object.entries(said).map(([name, one]) => [`${area}.${name}`, one])));
 }
 
@@ -17,9 +36,21 @@ const SAID = `
   for (const element of document.querySelectorAll('*')) for (const name of ['title', 'aria-label', 'placeholder', 'alt']) if (element.hasAttribute(name)) said.push(element.getAttribute(name));
   return [document.title, ...said].filter(text => text.trim());`;
 
-export async function words(see, browser, board, page, names) {
+/** A language of whose words each is its key in brackets, which a board takes by lang=zz; the keys. */
+export async function brackets(board) {
   const keys = Object.keys(await tableOf(join(board, 'words.js')));
   await writeFile(join(board, 'words/zz.js'), `export default {${keys.map(key => `'${key}': '[${key}]'`)}};`);
+  return keys;
+}
+
+/** What a page says that is neither in brackets nor told by the desk. */
+export async function strange(browser, names) {
+  const said = await browser.run(SAID);
+  return {said, left: said.filter(text => /\p{L}/u.test(rest(text, names)))};
+}
+
+export async function words(see, browser, board, page, names) {
+  const keys = await brackets(board);
   // before this browser knows a password, which would lead it on
   await logIn(see, browser, new URL(page('')).origin);
   for (const view of VIEWS) {
@@ -27,7 +58,7 @@ export async function words(see, browser, board, page, names) {
     await until(() => browser.run('return window.board?.counted()'), 30);
     await browser.run('for (const details of document.querySelectorAll("details")) details.open = true');
     await sleep(1200);
-    const said = await browser.run(SAID), left = said.map(text => rest(text, names)).filter(text => /\p{L}/u.test(text));
+    const {said, left} = await strange(browser, names);
     see(`${view}: all words are of the table`, said.length > 60 && !left.length, left.slice(0, 4).join('; '));
   }
   const german = Object.keys(await tableOf(join(board, 'words/de.js')));
@@ -42,7 +73,7 @@ async function logIn(see, browser, address) {
   await browser.run(`for (const name of ['login', 'password']) document.querySelector('[name=' + name + ']').value = 'guess'`);
   await browser.click('button');
   await until(() => browser.text('#told'), 10);
-  const said = await browser.run(SAID), left = said.filter(text => /\p{L}/u.test(rest(text, [])));
+  const {said, left} = await strange(browser, []);
   see('the page of log-in: all words are of the table', said.includes('[login.wrong]') && !left.length, left.join('; ') || String(said));
 }
 

@@ -79,7 +79,7 @@ class Place:
                         "-keyout", here / "desk.key", "-out", here / "desk.crt"], stderr=subprocess.DEVNULL, check=True)
         (here / "share").mkdir()
         (here / "share/board").symlink_to(TOP / "board")
-        places = {"8080": self.desk_port, "8081": self.gate_port, "8443": self.port, "/etc/acd": here, "/usr/share/acd": here / "share"}
+        places = {"8080": self.desk_port, "8081": self.gate_port, "8443": f"127.0.0.1:{self.port}", "/etc/acd": here, "/usr/share/acd": here / "share"}
         text = re.sub("|".join(places), lambda named: str(places[named[0]]), (TOP / "tools/operating/nginx.conf").read_text())
         temporary = " ".join(f"{kind}_temp_path {here};" for kind in ("client_body", "proxy", "fastcgi", "uwsgi", "scgi"))
         (here / "nginx.conf").write_text(f"daemon off; user root; pid {here}/pid; error_log {here}/errors; worker_processes 1; worker_rlimit_nofile 16384;\n"

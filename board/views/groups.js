@@ -1,0 +1,113 @@
+// The own groups: together as a few large numbers, all that is known of each, and the wall.
+import {byId, make, put, set, table, withNumber} from '../draw.js';
+import {clock, named, percent, SIGN, waits, word} from '../words.js';
+import {averageHandling, averageWait} from '../day.js';
+import {order} from '../state.js';
+
+// rows of the wall grow to so many times the least
+const SORTED_EVERY = 5000, GROWS = 1.9;
+
+// A share of the day, and what it means.
+/** @type {Judged} */
+const judged = (head, name) => ({head, share: line => line[name], severity: line => line.counted ? line[`${name}Severity`] : ''});
+/** @type {(Column|string)[]} */
+const FIRST = [{head: 'state state', text: waits}, 'waiting', {head: 'longest', text: line => clock(line.wait), file: line => line.wait && Math.round(line.wait)}];
+/** @type {Column[]} */
+const [READY, ON_CALLS] = [
+  {head: 'ready', text: line => `${line.counts.ready} / ${line.loggedOn}`, file: line => line.counts.ready, severity: line => line.waiting && !line.loggedOn ? 'bad' : ''},
+  {head: 'onCalls wide', text: ({counts}) => counts.busy + counts.hold},
+];
+
+const rows = table('queues-table', [
+  {head: 'group name', press: 'agents', text: withNumber, file: line => line.name},
+  ...FIRST,
+  'ringing mid wide',
+  READY,
+  'loggedOn filed',
+  {head: 'next name mid wide', text: ({next}) => next ? named(next.name || next.id) : '–'},
+  ON_CALLS,
+  {head: 'afterCall wide', text: line => line.counts.workingAfterCall},
+  {head: 'notReady wide', text: line => line.counts.notReady},
+  judged('inTime least', 'level'),
+  'entered wide day', 'answered wide day', 'abandoned wide day',
+  judged('lost wide', 'lost'),
+  'moved wide day',
+  {head: 'average least', seconds: averageWait},
+  {head: 'handling wide', seconds: averageHandling},
+  'priority least',
+  {head: 'act words lead', press: 'priority'},
+]);
+
+/** @type {View} */
+export const queues = {
+  file: rows.file,
+  draw({lines, lead, counted}) { rows.draw(lines.map(line => ({...line, counted, key: line.id, act: lead.groups.has(line.id) && word('head.priority')}))); },
+};
+
+const wallRows = table('wall-table', [{head: 'group name', text: line => named(line.name)}, ...FIRST, READY, ON_CALLS, judged('inTime wide', 'level')]);
+let sorted = 0, shown = 0, place = 0, places = [''];
+
+// The groups whose callers wait longest, as many as fit.
+/** @type {View} */
+export const wall = {
+  file: wallRows.file,
+  draw({lines, counted}, anew) {
+    const late = anew || Date.now() - sorted > SORTED_EVERY || places.length !== lines.length;
+    if (late) {
+      sorted = Date.now();
+      places = [...lines].sort((one, other) => (other.wait ?? -1) - (one.wait ?? -1) || other.waiting - one.waiting || order(one.id, other.id)).map(({id}) => id);
+    }
+    const found = places.flatMap(key => lines.filter(({id}) => id === key).map(line => ({...line, counted, key})));
+    wallRows.draw(found);
+    const {top} = byId('wall-table').tBodies[0].getBoundingClientRect();
+    if (late || top !== place) fit(place = top);
+    const rest = found.slice(shown);
+    put('wall-rest', rest.length > 0 && word('wall.rest', {n: rest.length, waiting: rest.reduce((sum, {waiting}) => sum + waiting, 0)}));
+  },
+};
+
+// Shows what has room; few rows grow. A page that may be scrolled shows all.
+function fit(top = 0) {
+  const whole = byId('wall-table'), rows = [...whole.tBodies[0].rows], scrolls = getComputedStyle(document.body).overflowY !== 'hidden', room = innerHeight - top - 8;
+  const hide = () => rows.forEach((row, number) => set(row, {hidden: number >= shown}));
+  whole.style.removeProperty('--grow');
+  shown = rows.length;
+  hide();
+  const ends = rows.map(row => row.getBoundingClientRect().bottom - top), all = ends[shown - 1];
+  if (scrolls) return;
+  // a line below says what the others have
+  if (all > room) shown = Math.max(1, ends.filter(end => end <= room - 0.8 * ends[0]).length);
+  hide();
+  if (shown === rows.length) for (let grow = Math.min(GROWS, room / all), wide = 1; grow > 1; grow /= Math.max(wide, 1.05)) {
+    whole.style.setProperty('--grow', grow.toFixed(2));
+    wide = whole.offsetWidth / byId('totals').offsetWidth;
+    if (wide <= 1 && whole.getBoundingClientRect().bottom <= innerHeight) break;
+    whole.style.removeProperty('--grow');
+  }
+}
+
+/** @param {Settings} settings */
+export const levelOf = settings => ({limit: Object.keys(settings).some(name => name.startsWith('limit.')) ? word('tile.limits') : word('tile.limit', {n: settings.limit}), what: word(`set.level.${settings.level}`)});
+
+/** @param {Drawn} drawn */
+export function drawTotals({all, settings, counted}) {
+  const {counts, lost, levelSeverity, lostSeverity} = all, none = all.waiting && !counts.ready, values = levelOf(settings);
+  /** @type {Tile} */
+  const tile = (head, value, note = '', severity = 'none', formula = '') => make('div', {'data-severity': severity}, make('dt', word(head, values)), make('dd', make('b', value), make('small', note), make('small.formula', formula)));
+  /** @type {Tile} */
+  const day = (head, value, note, severity, formula) => tile(head, counted ? value : '…', note, counted ? severity : 'none', formula);
+  const judged = (severity = '', goal = 0, share = '') => counted && (severity === 'none' ? '' : `${SIGN[severity]} `) + share + word('tile.goal', {goal: percent(goal / 100)});
+  put('tiles',
+    tile('head.waiting', all.waiting, all.ringing > 0 && word('tile.ringing', {n: all.ringing})),
+    tile('head.longestWait', clock(all.wait), all.wait !== null && waits(all), all.severity),
+    tile('tile.ready', counts.ready, `${none ? '▲ ' : ''}${word('tile.loggedOn', {n: all.loggedOn})}`, none ? 'long' : 'none'),
+    day('tile.level', percent(all.level), judged(levelSeverity, settings.goal), levelSeverity, word('tile.of', values)),
+    day('head.abandoned', all.abandoned, lost !== null && judged(lostSeverity, settings.lost, `${percent(lost)}, `), lostSeverity),
+    day('head.answered', all.answered),
+    day('head.average', clock(averageWait(all))),
+    day('head.handling', clock(averageHandling(all))),
+    day('tile.occupancy', percent(all.occupancy)),
+    tile('head.onCalls', counts.busy + counts.hold),
+    tile('head.afterCall', counts.workingAfterCall),
+    tile('head.notReady', counts.notReady));
+}
