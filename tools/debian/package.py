@@ -198,7 +198,8 @@ def debian_changelog(versions, moment, package="acd"):
 
 
 def checked_program(options, version):
-    """The program, with the kit that its version names and the checksum of its sources."""
+    """The program, with the toolchain that proved it, its logic, and the checksum of its sources. The version that the program says names a kit of
+    that logic, not always the one that built it here (docs/DECISIONS.md)."""
     program = options.program.resolve()
     if not program.is_file():
         fail(f"there is no program {options.program}")
@@ -208,13 +209,13 @@ def checked_program(options, version):
         if checked.returncode:
             fail(f"{program.parent.name}/SHA256SUMS isn't that of its files")
     source = sources.read_text().split()[0] if sources.exists() else "unknown (a trial)"
-    kit_name = (sources if sources.exists() else TOP / "release/SOURCES").read_text().splitlines()[1].split()[0]
+    toolchain = (sources if sources.exists() else TOP / "release/SOURCES").read_text().splitlines()[1]
     if options.unchecked_version:
-        return program, kit_name, source
+        return program, toolchain, source
     says = subprocess.run([str(program), "--version"], stdout=subprocess.PIPE, text=True).stdout.strip()
-    if says != f"acd {version} ({kit_name})":
-        fail(f"CHANGELOG.md begins with version {version}, its toolchain is {kit_name}, and the program says '{says}'")
-    return program, kit_name, source
+    if not re.fullmatch(rf"acd {re.escape(version)} \(rattle-kit-\w+\)", says):
+        fail(f"CHANGELOG.md begins with version {version}, and the program says '{says}'")
+    return program, toolchain, source
 
 
 def library_packages(program, folder):
@@ -253,7 +254,7 @@ def lay_out(root, options, moment):
     """Fills the folder with what the package has; the folder DEBIAN has its control files."""
     versions = changes()
     version, date, _ = versions[0]
-    program, kit_name, source = checked_program(options, version)
+    program, toolchain, source = checked_program(options, version)
     differences = differences_from_help(program, OPERATING / "acd.1", OPERATING / "acd.bash",
                                         {"--version"} if options.unchecked_version else frozenset())
     differences += differences_of_plan(OPERATING / "acd-plan", OPERATING / "acd-plan.1", OPERATING / "acd.bash")
@@ -291,7 +292,7 @@ def lay_out(root, options, moment):
         put(f"usr/share/acd/node/machine/{file.name}", file.read_bytes())
     for example in (OPERATING / "nginx.conf", OPERATING / "node.env", OPERATING / "follow.env"):
         put(f"{doc}examples/{example.name}", example.read_bytes())
-    put(doc + "README.Debian", (DEBIAN / "README.Debian").read_text() + f"  {kit_name}\n  sources {source}\n")
+    put(doc + "README.Debian", (DEBIAN / "README.Debian").read_text() + f"  {toolchain}\n  sources {source}\n")
     put(doc + "changelog.gz", packed(debian_changelog(versions, moment)))
     put(doc + "copyright", copyright_text(version, linked_notices(program)))
 
@@ -301,7 +302,7 @@ def lay_out(root, options, moment):
     put("DEBIAN/control", f"Package: acd\nVersion: {version}\nArchitecture: amd64\nMaintainer: {MAINTAINER}\nInstalled-Size: {size}\n"
                           f"Depends: {', '.join(filter(None, [libraries, 'adduser, python3, python3-bcrypt, python3-passlib']))}\n"
                           f"Recommends: nftables\nSuggests: nginx, etcd-server, etcd-client\nSection: net\nPriority: optional\n"
-                          f"Description: {DESCRIPTION} Built by {kit_name} from the sources of checksum\n {source}.\n")
+                          f"Description: {DESCRIPTION} Built by {toolchain} from the sources of checksum\n {source}.\n")
     put("DEBIAN/md5sums", sums)
     put("DEBIAN/conffiles", "/etc/acd/acd.env\n/etc/acd/roles\n")
     for script in ("postinst", "prerm", "postrm"):
