@@ -14,7 +14,7 @@ none_changed b = record { same = λ clean sound opened. (opened, refl); stops = 
 pub step_so : {F G : Type 0} {a b : BookState} → BookStep F a b → (F → G) → BookStep G a b
 step_so s so = record { clean = s.clean; sound = s.sound; quiet = λ none. s.quiet (λ failed. none (so failed)); counts = s.counts }
 
--- one behind another
+-- one after another
 module _ {F G : Type 0} {a b d : BookState} (one : BookStep F a b) (two : BookStep G b d) where
   pub step_then : {H : Type 0} → (F → H) → (G → H) → BookStep H a d
   step_then first second =

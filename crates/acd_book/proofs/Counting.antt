@@ -1,4 +1,4 @@
--- How many monitors the lists of devices count, and which monitors are noted.
+-- The number of monitors that the devices' lists count, and the monitors that are indexed.
 use Rattle.std.proofs.Common.{◌≡◌, ℕ, ◌+◌, ◌-◌, ◌≤◌, ◌==◌, Bool, true, false, cond, List, [], ◌∷◌, ◌++◌, map, Option, None, Some, ◌⊎◌, inl, inr, refl, ap, sym, subst, ◌∙◌, eqb-true, add-zero, arith}
 use Rattle.std.specs.Prelude.{IfSome, IfOk, OnOk, Result, Ok, Err, is_ok, option_map, unwrap_or}
 use Rattle.std.specs.HashMap.{HashMap, get_by, values, PutsEntry}
@@ -14,7 +14,7 @@ use Rattle.acd_model.specs.declared.moves.Change.{Change}
 use Rattle.acd_model.specs.declared.moves.Change.TheVariants.{PutMonitor, RemoveMonitor}
 use Rattle.acd_lemmas.proofs.Keyed.{eqb_self, eqb_swap}
 use Rattle.acd_book.specs.declared.watched.Watched.{Watched}
-use Rattle.acd_book.specs.Watched.{noted_at, is_one, watching, counted, fewer, is_none_left, IsMore, CountsAt, IsUpTo, KeepsWatched, said_of, or_before, IsNotedAs, said_last, NotesChanges}
+use Rattle.acd_book.specs.Watched.{recorded_at, is_one, watching, counted, fewer, is_none_left, IsMore, CountsAt, IsUpTo, KeepsWatched, said_of, or_before, IsRecordedAs, said_last, RecordsChanges}
 
 -- which device each monitor watches
 abbrev pub Monitors : Type 0
@@ -28,7 +28,7 @@ none_here d e other = ap (λ (b : Bool). cond b 1 0) (eqb_swap d e ∙ other)
 
 -- ---- how many watch a device
 
--- a monitor was taken out
+-- a monitor was removed
 pub one_less : (m gone d : ℕ) (old new : Monitors) → Some gone ≡ get_by (λ (k : ℕ). m == k) old → IsPermutation (remove_entry (λ (k : ℕ). m == k) old.entries) new.entries
     → sum_by (is_one d) (values new) + is_one d gone ≡ sum_by (is_one d) (values old)
 one_less m gone d old new is same =
@@ -57,7 +57,7 @@ ok_so (Err x) e h = absurd (cc (e))
 
 -- ---- what the lists count
 
--- the list of the last monitor goes
+-- the device's list is removed with its last monitor
 pub last_goes : (o m : Option ℕ) → m ≡ option_map (λ (n : ℕ). n - 1) o → is_none_left m ≡ true → fewer o ≡ None
 last_goes None m e z = refl
 last_goes (Some n) m e z = ap (λ (b : Bool). cond b None (Some (n - 1))) (sym (ap is_none_left e) ∙ z)
@@ -96,21 +96,21 @@ module _ (old mid new : Watched) (lists : mid.lists ≡ old.lists) (kept : Keeps
   before : (d : ℕ) → counted mid d ≡ counted old d
   before d = ap (λ ls. option_map (λ l. l.monitors) (get_by (λ (k : ℕ). d == k) ls)) lists
 
-  behind : (d : ℕ) → new.devices ≡ mid.devices → watching d new ≡ watching d mid
-  behind d same = ap (λ (m : Monitors). sum_by (is_one d) (values m)) same
+  same_watching : (d : ℕ) → new.devices ≡ mid.devices → watching d new ≡ watching d mid
+  same_watching d same = ap (λ (m : Monitors). sum_by (is_one d) (values m)) same
 
-  -- a monitor of the device was taken out, and then its list counts one less
+  -- a monitor of the device was removed, and then its list counts one less
   pub less_kept : (gone : ℕ) → ((d : ℕ) → watching d mid + is_one d gone ≡ watching d old) → CountsAt gone (λ (o n : Option ℕ). n ≡ fewer o) mid new → KeepsWatched new
   less_kept gone less counts d =
       (elim (gone == d) as (λ (b : Bool). (gone == d) ≡ b → IfSome (counted new d) (IsUpTo (watching d new))) [
         | true ↦ λ same.
             let here : gone ≡ d = eqb-true gone d same in
             let one : counted new d ≡ fewer (counted old d) = subst (λ (k : ℕ). counted new k ≡ fewer (counted mid k)) here counts.one ∙ ap fewer (before d) in
-            same_counted (fewer (counted old d)) (counted new d) (watching d mid) (watching d new) one (sym (behind d counts.devices))
+            same_counted (fewer (counted old d)) (counted new d) (watching d mid) (watching d new) one (sym (same_watching d counts.devices))
             (fewer_counted (counted old d) (watching d old) (watching d mid) (ap (λ (n : ℕ). watching d mid + n) (sym (one_here d gone same)) ∙ less d) (kept d))
         | false ↦ λ other.
             same_counted (counted old d) (counted new d) (watching d old) (watching d new) (counts.others d other ∙ before d)
-            (sym (less d) ∙ ap (λ (n : ℕ). watching d mid + n) (none_here d gone other) ∙ add-zero (watching d mid) ∙ sym (behind d counts.devices)) (kept d)
+            (sym (less d) ∙ ap (λ (n : ℕ). watching d mid + n) (none_here d gone other) ∙ add-zero (watching d mid) ∙ sym (same_watching d counts.devices)) (kept d)
       ]) refl
 
   -- one was put in, and then its list counts one more
@@ -121,10 +121,10 @@ module _ (old mid new : Watched) (lists : mid.lists ≡ old.lists) (kept : Keeps
             let here : come ≡ d = eqb-true come d same in
             let one : IsMore (counted old d) (counted new d) = subst (λ (o : Option ℕ). IsMore o (counted new d)) (before d) (subst (λ (k : ℕ). IsMore (counted mid k) (counted new k)) here counts.one) in
             more_counted (counted old d) (counted new d) (watching d old) (watching d new)
-            (behind d counts.devices ∙ more d ∙ ap (λ (n : ℕ). watching d old + n) (one_here d come same)) one (kept d)
+            (same_watching d counts.devices ∙ more d ∙ ap (λ (n : ℕ). watching d old + n) (one_here d come same)) one (kept d)
         | false ↦ λ other.
             same_counted (counted old d) (counted new d) (watching d old) (watching d new) (counts.others d other ∙ before d)
-            (sym (behind d counts.devices ∙ more d ∙ ap (λ (n : ℕ). watching d old + n) (none_here d come other) ∙ add-zero (watching d old))) (kept d)
+            (sym (same_watching d counts.devices ∙ more d ∙ ap (λ (n : ℕ). watching d old + n) (none_here d come other) ∙ add-zero (watching d old))) (kept d)
       ]) refl
 
 -- a list may go, and else counts what it counted
@@ -144,49 +144,49 @@ rest_counted device old new one others d =
       | false ↦ λ other. inl (others d other)
     ]) refl
 
--- ---- which monitors are noted
+-- ---- the monitors that are indexed
 
 -- something was said of one monitor
-pub said_one : (n : ℕ) (said : Option ℕ) (old new : Watched) → (noted_at new n ≡ said) ⊎ (noted_at new n ≡ None) → ((q : ℕ) → (n == q) ≡ false → noted_at new q ≡ noted_at old q)
-    → (q : ℕ) → IsNotedAs (or_before (cond (q == n) (Some said) None) None) (noted_at old q) (noted_at new q)
+pub said_one : (n : ℕ) (said : Option ℕ) (old new : Watched) → (recorded_at new n ≡ said) ⊎ (recorded_at new n ≡ None) → ((q : ℕ) → (n == q) ≡ false → recorded_at new q ≡ recorded_at old q)
+    → (q : ℕ) → IsRecordedAs (or_before (cond (q == n) (Some said) None) None) (recorded_at old q) (recorded_at new q)
 said_one n said old new one others q =
-    (elim (q == n) as (λ (b : Bool). (q == n) ≡ b → IsNotedAs (or_before (cond b (Some said) None) None) (noted_at old q) (noted_at new q)) [
-      | true ↦ λ same. subst (λ (k : ℕ). (noted_at new k ≡ said) ⊎ (noted_at new k ≡ None)) (sym (eqb-true q n same)) one
+    (elim (q == n) as (λ (b : Bool). (q == n) ≡ b → IsRecordedAs (or_before (cond b (Some said) None) None) (recorded_at old q) (recorded_at new q)) [
+      | true ↦ λ same. subst (λ (k : ℕ). (recorded_at new k ≡ said) ⊎ (recorded_at new k ≡ None)) (sym (eqb-true q n same)) one
       | false ↦ λ other. others q (eqb_swap n q ∙ other)
     ]) refl
 
--- behind a stop the monitor isn't noted
-pub unnoted : (n : ℕ) (old new : Watched) → NotesChanges (RemoveMonitor n ∷ []) old new → noted_at new n ≡ None
-unnoted n old new notes = by (subst (λ (b : Bool). IsNotedAs (or_before (cond b (Some None) None) None) (noted_at old n) (noted_at new n)) (eqb_self n) (notes n))
+-- after a stop the monitor isn't indexed
+pub unrecorded : (n : ℕ) (old new : Watched) → RecordsChanges (RemoveMonitor n ∷ []) old new → recorded_at new n ≡ None
+unrecorded n old new records = by (subst (λ (b : Bool). IsRecordedAs (or_before (cond b (Some None) None) None) (recorded_at old n) (recorded_at new n)) (eqb_self n) (records n))
   where
-    by : (noted_at new n ≡ None) ⊎ (noted_at new n ≡ None) → noted_at new n ≡ None
+    by : (recorded_at new n ≡ None) ⊎ (recorded_at new n ≡ None) → recorded_at new n ≡ None
     by (inl h) = h
     by (inr h) = h
 
 -- and each other one is as before
-pub noted_still : (n q : ℕ) (old new : Watched) → NotesChanges (RemoveMonitor n ∷ []) old new → (n == q) ≡ false → noted_at new q ≡ noted_at old q
-noted_still n q old new notes other = subst (λ (b : Bool). IsNotedAs (or_before (cond b (Some None) None) None) (noted_at old q) (noted_at new q)) (eqb_swap q n ∙ other) (notes q)
+pub recorded_still : (n q : ℕ) (old new : Watched) → RecordsChanges (RemoveMonitor n ∷ []) old new → (n == q) ≡ false → recorded_at new q ≡ recorded_at old q
+recorded_still n q old new records other = subst (λ (b : Bool). IsRecordedAs (or_before (cond b (Some None) None) None) (recorded_at old q) (recorded_at new q)) (eqb_swap q n ∙ other) (records q)
 
 said_push : (before : Option (Option ℕ)) (xs : List Change) (c : Change) (m : ℕ) → said_last before (xs ++ c ∷ []) m ≡ or_before (said_of m c) (said_last before xs m)
 said_push before [] c m = refl
 said_push before (x ∷ xs) c m = said_push (or_before (said_of m x) before) xs c m
 
-noted_twice : (s t : Option (Option ℕ)) (a b d : Option ℕ) → IsNotedAs t a b → IsNotedAs (or_before s None) b d → IsNotedAs (or_before s t) a d
-noted_twice None t a b d first next = subst (λ (o : Option ℕ). IsNotedAs t a o) (sym next) first
-noted_twice (Some said) t a b d first next = next
+recorded_twice : (s t : Option (Option ℕ)) (a b d : Option ℕ) → IsRecordedAs t a b → IsRecordedAs (or_before s None) b d → IsRecordedAs (or_before s t) a d
+recorded_twice None t a b d first next = subst (λ (o : Option ℕ). IsRecordedAs t a o) (sym next) first
+recorded_twice (Some said) t a b d first next = next
 
 -- one more change
-pub noted_on : (xs : List Change) (c : Change) (old mid new : Watched) → NotesChanges xs old mid → NotesChanges (c ∷ []) mid new → NotesChanges (xs ++ c ∷ []) old new
-noted_on xs c old mid new first next m =
-    subst (λ (s : Option (Option ℕ)). IsNotedAs s (noted_at old m) (noted_at new m)) (sym (said_push None xs c m))
-    (noted_twice (said_of m c) (said_last None xs m) (noted_at old m) (noted_at mid m) (noted_at new m) (first m) (next m))
+pub recorded_on : (xs : List Change) (c : Change) (old mid new : Watched) → RecordsChanges xs old mid → RecordsChanges (c ∷ []) mid new → RecordsChanges (xs ++ c ∷ []) old new
+recorded_on xs c old mid new first next m =
+    subst (λ (s : Option (Option ℕ)). IsRecordedAs s (recorded_at old m) (recorded_at new m)) (sym (said_push None xs c m))
+    (recorded_twice (said_of m c) (said_last None xs m) (recorded_at old m) (recorded_at mid m) (recorded_at new m) (first m) (next m))
 
--- the same of monitors that were started one after the other, where none was noted before
-pub started_on : (xs : List MonitorRecord) (r : MonitorRecord) (mid new : Watched) → ((m : ℕ) → IsNotedAs (said_last None (map PutMonitor xs) m) None (noted_at mid m)) → NotesChanges (PutMonitor r ∷ []) mid new
-    → (m : ℕ) → IsNotedAs (said_last None (map PutMonitor (xs ++ r ∷ [])) m) None (noted_at new m)
+-- the same for monitors that were started one after the other, none of which was indexed before
+pub started_on : (xs : List MonitorRecord) (r : MonitorRecord) (mid new : Watched) → ((m : ℕ) → IsRecordedAs (said_last None (map PutMonitor xs) m) None (recorded_at mid m)) → RecordsChanges (PutMonitor r ∷ []) mid new
+    → (m : ℕ) → IsRecordedAs (said_last None (map PutMonitor (xs ++ r ∷ [])) m) None (recorded_at new m)
 started_on xs r mid new first next m =
-    subst (λ (s : Option (Option ℕ)). IsNotedAs s None (noted_at new m)) (sym (ap (λ (l : List Change). said_last None l m) (mapped xs r) ∙ said_push None (map PutMonitor xs) (PutMonitor r) m))
-    (noted_twice (said_of m (PutMonitor r)) (said_last None (map PutMonitor xs) m) None (noted_at mid m) (noted_at new m) (first m) (next m))
+    subst (λ (s : Option (Option ℕ)). IsRecordedAs s None (recorded_at new m)) (sym (ap (λ (l : List Change). said_last None l m) (mapped xs r) ∙ said_push None (map PutMonitor xs) (PutMonitor r) m))
+    (recorded_twice (said_of m (PutMonitor r)) (said_last None (map PutMonitor xs) m) None (recorded_at mid m) (recorded_at new m) (first m) (next m))
   where
     mapped : (xs : List MonitorRecord) (r : MonitorRecord) → map PutMonitor (xs ++ r ∷ []) ≡ map PutMonitor xs ++ PutMonitor r ∷ []
     mapped [] r = refl

@@ -15,12 +15,12 @@ key_same p q r h =
     let parts = and_parts (bytes_eq r.requester p) (r.invoke == q) h in
     (same_text r.requester p (sym parts.0), eqb-true r.invoke q parts.1)
 
-own_text : (t : List ℕ) → bytes_eq t t ≡ true
-own_text [] = refl
-own_text (x ∷ t) = ap (λ (b : Bool). b && bytes_eq t t) (eq-eqb x x refl) ∙ own_text t
+text_itself : (t : List ℕ) → bytes_eq t t ≡ true
+text_itself [] = refl
+text_itself (x ∷ t) = ap (λ (b : Bool). b && bytes_eq t t) (eq-eqb x x refl) ∙ text_itself t
 
-pub key_own : (r : Request) → is_key r.requester r.invoke r ≡ true
-key_own r = and_from (bytes_eq r.requester r.requester) (r.invoke == r.invoke) (own_text r.requester) (eq-eqb r.invoke r.invoke refl)
+pub key_itself : (r : Request) → is_key r.requester r.invoke r ≡ true
+key_itself r = and_from (bytes_eq r.requester r.requester) (r.invoke == r.invoke) (text_itself r.requester) (eq-eqb r.invoke r.invoke refl)
 
 abbrev pub key : List ℕ → ℕ → Key
 key p q = record { requester = p; invoke = q }
@@ -32,9 +32,9 @@ same_is a b h =
     let parts = and_parts (bytes_eq a.requester b.requester) (a.invoke == b.invoke) h in
     ap₂ (λ (p : List ℕ) (q : ℕ). record { requester = p; invoke = q }) (same_text a.requester b.requester (sym parts.0)) (eqb-true a.invoke b.invoke parts.1)
 
-pub own_same : (a : Key) → same_key a a ≡ true
+pub same_itself : (a : Key) → same_key a a ≡ true
 unfolding same_key
-own_same a = and_from (bytes_eq a.requester a.requester) (a.invoke == a.invoke) (own_text a.requester) (eq-eqb a.invoke a.invoke refl)
+same_itself a = and_from (bytes_eq a.requester a.requester) (a.invoke == a.invoke) (text_itself a.requester) (eq-eqb a.invoke a.invoke refl)
 
 -- the two tests of a key agree
 agree : (p q : Bool) → (p ≡ true → q ≡ true) → (q ≡ true → p ≡ true) → p ≡ q
@@ -44,6 +44,6 @@ agree false false h g = refl
 
 pub same_kept : (x : Kept) (k : Key) → same_key (key_of x) k ≡ is_kept_under k x
 same_kept x k = agree (same_key (key_of x) k) (is_kept_under k x)
-    (λ h. subst (λ (k : Key). is_kept_under k x ≡ true) (same_is (key_of x) k h) (key_own x.request))
+    (λ h. subst (λ (k : Key). is_kept_under k x ≡ true) (same_is (key_of x) k h) (key_itself x.request))
     (λ h. let parts = key_same k.requester k.invoke x.request h in
-    subst (λ (k : Key). same_key (key_of x) k ≡ true) (ap₂ (λ (p : List ℕ) (q : ℕ). record { requester = p; invoke = q }) parts.0 parts.1) (own_same (key_of x)))
+    subst (λ (k : Key). same_key (key_of x) k ≡ true) (ap₂ (λ (p : List ℕ) (q : ℕ). record { requester = p; invoke = q }) parts.0 parts.1) (same_itself (key_of x)))

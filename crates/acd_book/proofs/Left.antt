@@ -4,7 +4,7 @@ use Rattle.std.proofs.lemmas.Bool.{le-ltb}
 use Rattle.std.proofs.lemmas.List.Elements.{filter-append}
 use Rattle.acd_terms.specs.Lists.{Every}
 use Rattle.acd_terms.specs.declared.event.Event.{Event}
-use Rattle.acd_book.specs.Content.{events_behind}
+use Rattle.acd_book.specs.Content.{events_after}
 use Rattle.acd_book.specs.Memory.{number_of}
 use Rattle.acd_book.specs.Order.{Rises}
 
@@ -23,9 +23,9 @@ past_filter last (e ∷ events) low =
     ap (λ (b : Bool). cond b (e ∷ filter (λ (x : Event). nat_lt last x.number) events) (filter (λ (x : Event). nat_lt last x.number) events)) (le-ltb last e.number low.0)
     ∙ past_filter last events low.1
 
--- what a book tells above the last of these events is what is left
-pub left_behind : (last n : ℕ) (past left : List Event) → Every (λ (e : Event). e.number ≤ last) past → Rises number_of last left → events_behind (past ++ left) last n ≡ take n left
-left_behind last n past left low up =
+-- a book reads above the last of these events exactly the events that are left
+pub left_after : (last n : ℕ) (past left : List Event) → Every (λ (e : Event). e.number ≤ last) past → Rises number_of last left → events_after (past ++ left) last n ≡ take n left
+left_after last n past left low up =
     let p : Event → Bool = λ (e : Event). nat_lt last e.number in
     ap (take n) (filter-append p past left ∙ ap₂ (λ (a b : List Event). a ++ b) (past_filter last past low) (above_filter last last left (omega arith) up))
 

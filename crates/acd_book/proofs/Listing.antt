@@ -14,7 +14,7 @@ use Rattle.acd_terms.specs.Columns.{columns_of}
 use Rattle.acd_terms.specs.Lists.{Every}
 use Rattle.acd_terms.specs.declared.event.Event.{Event}
 use Rattle.acd_model.specs.Scans.{has}
-use Rattle.acd_book.specs.Content.{is_at, is_told}
+use Rattle.acd_book.specs.Content.{is_at, is_at_after}
 use Rattle.acd_book.specs.Memory.{number_of}
 use Rattle.acd_book.specs.Watched.{IsListed}
 use Rattle.acd_book.specs.declared.numbers.Numbers.{Numbers}
@@ -41,11 +41,11 @@ listed_but before after m n d w is others here there h q =
       | false ↦ λ other. subst (λ (o : Option Numbers). IfSome o (IsListed after q)) (sym (others q other)) (IfSome_then (list_at q m) (h q) (λ l listed. there q l other listed))
     ]) refl
 
--- no event stands above a number that none exceeds
-pub none_above : (d n : ℕ) (events : List Event) → Every (λ (e : Event). e.number ≤ n) events → filter (is_told (Some d) n) events ≡ []
+-- no event has a number above one that none exceeds
+pub none_above : (d n : ℕ) (events : List Event) → Every (λ (e : Event). e.number ≤ n) events → filter (is_at_after (Some d) n) events ≡ []
 none_above d n [] low = refl
 none_above d n (e ∷ events) low =
-    ap (λ (c : Bool). cond c (e ∷ filter (is_told (Some d) n) events) (filter (is_told (Some d) n) events)) (rest (is_at (Some d) e) (le-ltb n e.number low.0))
+    ap (λ (c : Bool). cond c (e ∷ filter (is_at_after (Some d) n) events) (filter (is_at_after (Some d) n) events)) (rest (is_at (Some d) e) (le-ltb n e.number low.0))
     ∙ none_above d n events low.1
   where
     rest : (b : Bool) {c : Bool} → c ≡ false → (b && c) ≡ false
@@ -53,11 +53,11 @@ none_above d n (e ∷ events) low =
     rest false h = refl
 
 -- an event at another device
-pub told_elsewhere : (d q above : ℕ) (e : Event) (events : List Event) → (columns_of e.report).device ≡ Some d → (d == q) ≡ false
-    → filter (is_told (Some q) above) (events ++ e ∷ []) ≡ filter (is_told (Some q) above) events ++ []
-told_elsewhere d q above e events at other =
-    filter-append (is_told (Some q) above) events (e ∷ [])
-    ∙ ap (λ (c : Bool). filter (is_told (Some q) above) events ++ cond (c && nat_lt above e.number) (e ∷ []) []) (ap (λ (o : Option ℕ). has o q) at ∙ other)
+pub filter_elsewhere : (d q above : ℕ) (e : Event) (events : List Event) → (columns_of e.report).device ≡ Some d → (d == q) ≡ false
+    → filter (is_at_after (Some q) above) (events ++ e ∷ []) ≡ filter (is_at_after (Some q) above) events ++ []
+filter_elsewhere d q above e events at other =
+    filter-append (is_at_after (Some q) above) events (e ∷ [])
+    ∙ ap (λ (c : Bool). filter (is_at_after (Some q) above) events ++ cond (c && nat_lt above e.number) (e ∷ []) []) (ap (λ (o : Option ℕ). has o q) at ∙ other)
 
 map-append : {T S : Type 0} (f : T → S) (xs ys : List T) → map f (xs ++ ys) ≡ map f xs ++ map f ys
 map-append f [] ys = refl
@@ -65,24 +65,24 @@ map-append f (x ∷ xs) ys = ap (λ (l : List _). f x ∷ l) (map-append f xs ys
 
 pub listed_elsewhere : (d q : ℕ) (l : Numbers) (e : Event) (events : List Event) → (columns_of e.report).device ≡ Some d → (d == q) ≡ false → IsListed events q l → IsListed (events ++ e ∷ []) q l
 listed_elsewhere d q l e events at other listed =
-    listed ∙ sym (ap (map number_of) (told_elsewhere d q l.above e events at other ∙ append-nil (filter (is_told (Some q) l.above) events)))
+    listed ∙ sym (ap (map number_of) (filter_elsewhere d q l.above e events at other ∙ append-nil (filter (is_at_after (Some q) l.above) events)))
 
-one_told : (c : Bool) (e : Event) → cond c (e.number ∷ []) [] ≡ map number_of (cond c (e ∷ []) [])
-one_told true e = refl
-one_told false e = refl
+one_number : (c : Bool) (e : Event) → cond c (e.number ∷ []) [] ≡ map number_of (cond c (e ∷ []) [])
+one_number true e = refl
+one_number false e = refl
 
 -- an event at the device
 pub listed_here : (d : ℕ) (old new : Numbers) (e : Event) (events : List Event) → (columns_of e.report).device ≡ Some d → new.above ≡ old.above
     → new.numbers.items ≡ old.numbers.items ++ filter (nat_lt old.above) (e.number ∷ []) → IsListed events d old → IsListed (events ++ e ∷ []) d new
 listed_here d old new e events at same added listed =
-    let told : filter (is_told (Some d) old.above) (e ∷ []) ≡ cond (nat_lt old.above e.number) (e ∷ []) []
+    let one : filter (is_at_after (Some d) old.above) (e ∷ []) ≡ cond (nat_lt old.above e.number) (e ∷ []) []
     = ap (λ (c : Bool). cond (c && nat_lt old.above e.number) (e ∷ []) []) (ap (λ (o : Option ℕ). has o d) at ∙ eqb_self d) in
-    subst (λ (n : ℕ). new.numbers.items ≡ map number_of (filter (is_told (Some d) n) (events ++ e ∷ []))) (sym same)
+    subst (λ (n : ℕ). new.numbers.items ≡ map number_of (filter (is_at_after (Some d) n) (events ++ e ∷ []))) (sym same)
     (added
     ∙ ap (λ (l : List ℕ). l ++ cond (nat_lt old.above e.number) (e.number ∷ []) []) listed
-    ∙ ap (λ (l : List ℕ). map number_of (filter (is_told (Some d) old.above) events) ++ l) (one_told (nat_lt old.above e.number) e)
-    ∙ sym (map-append number_of (filter (is_told (Some d) old.above) events) (cond (nat_lt old.above e.number) (e ∷ []) []))
-    ∙ ap (map number_of) (ap (λ (l : List Event). filter (is_told (Some d) old.above) events ++ l) (sym told) ∙ sym (filter-append (is_told (Some d) old.above) events (e ∷ []))))
+    ∙ ap (λ (l : List ℕ). map number_of (filter (is_at_after (Some d) old.above) events) ++ l) (one_number (nat_lt old.above e.number) e)
+    ∙ sym (map-append number_of (filter (is_at_after (Some d) old.above) events) (cond (nat_lt old.above e.number) (e ∷ []) []))
+    ∙ ap (map number_of) (ap (λ (l : List Event). filter (is_at_after (Some d) old.above) events ++ l) (sym one) ∙ sym (filter-append (is_at_after (Some d) old.above) events (e ∷ []))))
 
 -- an event more before those above a number
 above_more : (low high : ℕ) (e : Event) (events more : List Event) (a b c : Bool) → nat_lt low e.number ≡ b → nat_lt high e.number ≡ c → (c ≡ true → b ≡ true)
@@ -95,10 +95,10 @@ above_more low high e events more true false true p q h rest = absurd (true≢fa
 above_more low high e events more true false false p q h rest = rest
 
 -- the numbers above a higher one
-numbers_above : (d low high : ℕ) (events : List Event) → low ≤ high → filter (nat_lt high) (map number_of (filter (is_told (Some d) low) events)) ≡ map number_of (filter (is_told (Some d) high) events)
+numbers_above : (d low high : ℕ) (events : List Event) → low ≤ high → filter (nat_lt high) (map number_of (filter (is_at_after (Some d) low) events)) ≡ map number_of (filter (is_at_after (Some d) high) events)
 numbers_above d low high [] h = refl
 numbers_above d low high (e ∷ events) h =
-    above_more low high e (filter (is_told (Some d) low) events) (filter (is_told (Some d) high) events) (is_at (Some d) e) (nat_lt low e.number) (nat_lt high e.number) refl refl (still_below low high e.number h)
+    above_more low high e (filter (is_at_after (Some d) low) events) (filter (is_at_after (Some d) high) events) (is_at (Some d) e) (nat_lt low e.number) (nat_lt high e.number) refl refl (still_below low high e.number h)
     (numbers_above d low high events h)
 
 take-map : {T S : Type 0} (f : T → S) (n : ℕ) (xs : List T) → take n (map f xs) ≡ map f (take n xs)
@@ -108,13 +108,13 @@ take-map f (suc n) (x ∷ xs) = ap (λ (l : List _). f x ∷ l) (take-map f n xs
 
 -- a page of a list
 pub page_listed : (d n limit : ℕ) (l : Numbers) (events : List Event) → l.above ≤ n → IsListed events d l
-    → take limit (filter (nat_lt n) l.numbers.items) ≡ map number_of (take limit (filter (is_told (Some d) n) events))
+    → take limit (filter (nat_lt n) l.numbers.items) ≡ map number_of (take limit (filter (is_at_after (Some d) n) events))
 page_listed d n limit l events within listed =
     ap (λ (xs : List ℕ). take limit (filter (nat_lt n) xs)) listed
     ∙ ap (take limit) (numbers_above d l.above n events within)
-    ∙ take-map number_of limit (filter (is_told (Some d) n) events)
+    ∙ take-map number_of limit (filter (is_at_after (Some d) n) events)
 
--- ---- what stands behind a place of a list in order
+-- ---- the records after a place of an ordered list
 
 none_pass : (p : ℕ → Bool) (xs : List ℕ) → All (λ (x : ℕ). p x ≡ false) xs → filter p xs ≡ []
 none_pass p [] none = refl
@@ -127,13 +127,13 @@ all_pass p (x ∷ xs) all = rw (All-head (λ (x : ℕ). p x ≡ true) x xs all) 
 below : (a n : ℕ) → leb a n ≡ true → nat_lt n a ≡ false
 below a n h = grind (arith, nat_tests)
 
-behind : (a n : ℕ) → leb a n ≡ false → nat_lt n a ≡ true
-behind a n h = grind (arith, nat_tests)
+is_above : (a n : ℕ) → leb a n ≡ false → nat_lt n a ≡ true
+is_above a n h = grind (arith, nat_tests)
 
 pub above_is : (xs : List ℕ) (n i : ℕ) → i ≤ length xs → IsPartitionPoint (λ (y : ℕ). leb y n ≡ true) (λ (y : ℕ). leb y n ≡ false) xs i → drop i xs ≡ filter (nat_lt n) xs
 above_is xs n i within point =
     let front = none_pass (nat_lt n) (take i xs) (λ j d lt. let below_i : j < i = omega (arith, length-take-le i xs within) in rw get_or-take (below _ n (point.0 j d (omega arith) below_i))) in
-    let back = all_pass (nat_lt n) (drop i xs) (λ j d lt. rw get_or-drop (behind _ n (point.1 (i + j) d (omega arith) (omega (arith, length-drop i xs))))) in
+    let back = all_pass (nat_lt n) (drop i xs) (λ j d lt. rw get_or-drop (is_above _ n (point.1 (i + j) d (omega arith) (omega (arith, length-drop i xs))))) in
     sym (ap (filter (nat_lt n)) (sym (take-append-drop i xs)) ∙ filter-append (nat_lt n) (take i xs) (drop i xs) ∙ ap (λ (l : List ℕ). l ++ filter (nat_lt n) (drop i xs)) front ∙ back)
 
 -- the first so many, if there are so many

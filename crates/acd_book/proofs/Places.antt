@@ -1,4 +1,4 @@
--- Where the first record of a key stands, and the map of those places.
+-- The place of the first record of a key, and the map of those places.
 use Rattle.std.proofs.Common.{arith, ◌≡◌, ℕ, ◌+◌, ◌-◌, ◌≤◌, suc, Bool, true, false, cond, List, [], ◌∷◌, ◌++◌, length, slice_get, Option, Some, None, refl, ap, ◌∙◌, sym, subst, find}
 use Rattle.std.specs.Prelude.{unwrap_or, Result, Ok, Err, OnOk, OnErr}
 use Rattle.std.specs.List.{position_from}
@@ -10,7 +10,7 @@ use Rattle.acd_book.specs.Content.{kept_of}
 use Rattle.acd_book.specs.Memory.{key_of, is_kept_under, same_key, HasPlaces}
 use Rattle.acd_book.specs.declared.kept.Kept.{Kept}
 use Rattle.acd_book.specs.declared.key.Key.{Key}
-use Rattle.acd_book.proofs.Keys.{key, own_same, same_is, same_kept}
+use Rattle.acd_book.proofs.Keys.{key, same_itself, same_is, same_kept}
 
 -- the record at the first place
 some_is : (a b : ℕ) → Some a ≡ Some b → a ≡ b
@@ -114,7 +114,7 @@ pub has_place : (first mid : Places) (key : Key) (place : ℕ)
     → ((k : Key) → get same_key mid k ≡ cond (same_key key k) (Some place) (get same_key first k))
     → ¬ (get same_key mid key ≡ None)
 has_place first mid key place one none =
-    absurd (none-some place (sym none ∙ one key ∙ ap (λ (c : Bool). cond c (Some place) (get same_key first key)) (own_same key)))
+    absurd (none-some place (sym none ∙ one key ∙ ap (λ (c : Bool). cond c (Some place) (get same_key first key)) (same_itself key)))
 
 -- a call whose error can't be
 pub went : {A E : Type 0} (r : Result A E) (P N : Type 0) → OnOk r P → OnErr r N → ¬ N → P

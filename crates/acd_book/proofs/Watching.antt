@@ -1,4 +1,4 @@
--- What a running monitor tells, and how a log that is numbered from 1 finds it.
+-- The events that a running monitor reports, and how a log that is numbered from 1 finds them.
 use Rattle.std.proofs.Common.{arith, ◌≡◌, ℕ, ◌+◌, ◌-◌, ◌<◌, ◌≤◌, ◌==◌, suc, max, Bool, true, cond, List, [], ◌∷◌, length, take, drop, filter, map, slice_get, Option, Some, None, inl, inr, refl, sym, ap, subst, ◌∙◌}
 use Rattle.std.specs.List.{cons_option, filter_map}
 use Rattle.std.proofs.lemmas.Bool.Decides.{nat_tests}
@@ -8,28 +8,28 @@ use Rattle.acd_terms.specs.declared.event.Event.{Event}
 use Rattle.acd_terms.specs.declared.record.MonitorRecord.{MonitorRecord}
 use Rattle.acd_lemmas.proofs.Lists.{every_from, every-take, every-filter}
 use Rattle.acd_model.specs.Scans.{monitor_of}
-use Rattle.acd_book.specs.Content.{Content, is_at, is_told, watched_by, events_of_monitor}
+use Rattle.acd_book.specs.Content.{Content, is_at, is_at_after, watched_by, events_of_monitor}
 use Rattle.acd_book.specs.Memory.{event_at, is_numbered, number_of}
 use Rattle.acd_book.proofs.Numbered.{filter_above, first}
 
-pub monitor_told : (c : Content) (monitor number limit : ℕ) (w : MonitorRecord) (found : List Event) → monitor_of c.rows monitor ≡ Some w
-    → found ≡ take limit (filter (is_told (Some w.device) (max number w.after_event)) c.events) → found ≡ events_of_monitor c monitor number limit
-monitor_told c monitor number limit w found runs told = told ∙ ap (λ (o : Option MonitorRecord). watched_by o c.events number limit) (sym runs)
+pub monitor_found : (c : Content) (monitor number limit : ℕ) (w : MonitorRecord) (found : List Event) → monitor_of c.rows monitor ≡ Some w
+    → found ≡ take limit (filter (is_at_after (Some w.device) (max number w.after_event)) c.events) → found ≡ events_of_monitor c monitor number limit
+monitor_found c monitor number limit w found runs is = is ∙ ap (λ (o : Option MonitorRecord). watched_by o c.events number limit) (sym runs)
 
--- the events at a device that a log has behind a number
-pub told_behind : (device number limit : ℕ) (events found : List Event) → is_numbered number_of 0 events ≡ true → found ≡ take limit (filter (is_at (Some device)) (drop number events))
-    → found ≡ take limit (filter (is_told (Some device) number) events)
-told_behind device number limit events found numbered told = told ∙ ap (take limit) (sym (filter_above number_of (is_at (Some device)) number events numbered))
+-- the events at a device that a log has after a number
+pub device_found : (device number limit : ℕ) (events found : List Event) → is_numbered number_of 0 events ≡ true → found ≡ take limit (filter (is_at (Some device)) (drop number events))
+    → found ≡ take limit (filter (is_at_after (Some device) number) events)
+device_found device number limit events found numbered is = is ∙ ap (take limit) (sym (filter_above number_of (is_at (Some device)) number events numbered))
 
 -- no number is above how many there are
 pub none_exceeds : (b : ℕ) (events : List Event) → is_numbered number_of b events ≡ true → Every (λ (e : Event). e.number ≤ b + length events) events
 none_exceeds b [] numbered = tt
 none_exceeds b (e ∷ events) numbered =
     let parts = first number_of b e events numbered in
-    let behind : (b + 1) + length events ≡ b + length (e ∷ events) = omega arith in
-    (omega (arith, parts.0), subst (λ (n : ℕ). Every (λ (e : Event). e.number ≤ n) events) behind (none_exceeds (b + 1) events parts.1))
+    let same : (b + 1) + length events ≡ b + length (e ∷ events) = omega arith in
+    (omega (arith, parts.0), subst (λ (n : ℕ). Every (λ (e : Event). e.number ≤ n) events) same (none_exceeds (b + 1) events parts.1))
 
--- each stands at the place that its number gives
+-- each is at the place that its number gives
 placed : (b : ℕ) (events : List Event) (e : Event) → is_numbered number_of b events ≡ true → Among e events → (b < e.number) × (slice_get events (e.number - (b + 1)) ≡ Some e)
 placed b [] e numbered a = absurd a
 placed b (x ∷ events) e numbered (inl is) =
@@ -57,9 +57,9 @@ found_all events (e ∷ some) numbered all =
     ∙ ap (λ (l : List Event). e ∷ l) (found_all events some numbered all.1)
 
 -- a page of a list of numbers
-pub page_found : (device number limit : ℕ) (events : List Event) (numbers : List ℕ) → is_numbered number_of 0 events ≡ true → numbers ≡ map number_of (take limit (filter (is_told (Some device) number) events))
-    → filter_map (event_at events) numbers ≡ take limit (filter (is_told (Some device) number) events)
+pub page_found : (device number limit : ℕ) (events : List Event) (numbers : List ℕ) → is_numbered number_of 0 events ≡ true → numbers ≡ map number_of (take limit (filter (is_at_after (Some device) number) events))
+    → filter_map (event_at events) numbers ≡ take limit (filter (is_at_after (Some device) number) events)
 page_found device number limit events numbers numbered are =
-    let told = is_told (Some device) number in
-    let there = every-take (λ (e : Event). Among e events) limit (filter told events) (every-filter (λ (e : Event). Among e events) told events (every_from (λ (e : Event). Among e events) events (λ e among. among))) in
-    ap (filter_map (event_at events)) are ∙ found_all events (take limit (filter told events)) numbered there
+    let passes = is_at_after (Some device) number in
+    let there = every-take (λ (e : Event). Among e events) limit (filter passes events) (every-filter (λ (e : Event). Among e events) passes events (every_from (λ (e : Event). Among e events) events (λ e among. among))) in
+    ap (filter_map (event_at events)) are ∙ found_all events (take limit (filter passes events)) numbered there

@@ -1,4 +1,4 @@
--- What a book holds, what it tells of it, and what a commit makes of it.
+-- A book's content, the answers that it reads there, and the content that a commit makes of it.
 use Rattle.std.specs.Prelude.{◌≡◌, ◌⊎◌, ℕ, ◌+◌, ◌-◌, ◌^◌, ◌<◌, ◌≤◌, Bool, true, ◌&&◌, ◌==◌, nat_lt, List, [], ◌∷◌, ◌++◌, length, take, filter, find, max, Option, Some, None}
 use Rattle.std.specs.Str.{bytes_eq}
 use Rattle.acd_terms.specs.Lists.{Every, Among}
@@ -39,8 +39,8 @@ IsKeptAfter kept stamp None = Every (λ (other : Kept). other.stamp ≤ stamp) k
 IsKeptAfter kept stamp (Some k) = Among k kept × (stamp < k.stamp) × Every (λ (other : Kept). stamp < other.stamp → k.stamp ≤ other.stamp) kept
 
 -- the first kept records above a stamp
-abbrev pub kept_behind : List Kept → ℕ → ℕ → List Kept
-kept_behind kept stamp limit = take limit (filter (λ (k : Kept). nat_lt stamp k.stamp) kept)
+abbrev pub records_after : List Kept → ℕ → ℕ → List Kept
+records_after kept stamp limit = take limit (filter (λ (k : Kept). nat_lt stamp k.stamp) kept)
 
 -- the event is at the device, where one is named
 abbrev pub is_at : Option ℕ → Event → Bool
@@ -48,17 +48,17 @@ is_at None e = true
 is_at (Some device) e = has (columns_of e.report).device device
 
 -- and above the number
-abbrev pub is_told : Option ℕ → ℕ → Event → Bool
-is_told device number e = is_at device e && nat_lt number e.number
+abbrev pub is_at_after : Option ℕ → ℕ → Event → Bool
+is_at_after device number e = is_at device e && nat_lt number e.number
 
 -- the first events above a number
-abbrev pub events_behind : List Event → ℕ → ℕ → List Event
-events_behind events number limit = take limit (filter (λ (e : Event). nat_lt number e.number) events)
+abbrev pub events_after : List Event → ℕ → ℕ → List Event
+events_after events number limit = take limit (filter (λ (e : Event). nat_lt number e.number) events)
 
 -- the first events at its device above a number and above the last one before the monitor was started
 abbrev pub watched_by : Option MonitorRecord → List Event → ℕ → ℕ → List Event
 watched_by None events number limit = []
-watched_by (Some w) events number limit = take limit (filter (is_told (Some w.device) (max number w.after_event)) events)
+watched_by (Some w) events number limit = take limit (filter (is_at_after (Some w.device) (max number w.after_event)) events)
 
 -- none where the monitor isn't running
 abbrev pub events_of_monitor : Content → ℕ → ℕ → ℕ → List Event
@@ -73,12 +73,12 @@ abbrev pub GoOn : ℕ → List Event → Type 0
 GoOn last [] = Unit {0}
 GoOn last (e ∷ es) = (e.number ≡ last + 1) × GoOn (last + 1) es
 
--- no event and no kept record stands above the counters, so that what is added stands at the end
+-- no event and no kept record is above the counters, so that new ones are added at the end
 pub record IsCounted (c : Content) : Type 0 where
   pub events : Every (λ (e : Event). e.number ≤ c.rows.last_event) c.events
   pub kept : Every (λ (k : Kept). k.stamp ≤ c.rows.last_stamp) c.kept
 
--- the conditions of a commit: it goes on from the counters, the key is new, and the lists are in order
+-- the conditions of a commit: it continues from the counters, the key is new, and the lists are in order
 pub record Follows (rows : Rows) (events : List Event) (kept : Kept) (c : Content) : Type 0 where
   pub limits : rows.limits ≡ c.rows.limits
   pub next : kept.stamp ≡ c.rows.last_stamp + 1

@@ -1,4 +1,4 @@
--- What a book in memory holds.
+-- The content of a book in memory.
 use Rattle.std.specs.Prelude.{ℕ, vec_len}
 use Rattle.acd_book.specs.Content.{Content}
 use Rattle.acd_book.specs.Ledger.{rows_of}

@@ -1,4 +1,4 @@
--- What the tables of a book in memory hold.
+-- The content of the tables of a book in memory.
 use Rattle.std.specs.Prelude.{drop}
 use Rattle.acd_terms.specs.declared.rows.Rows.{Rows}
 use Rattle.acd_model.specs.Changes.{changed_by}

@@ -1,4 +1,4 @@
--- What a book says of itself, and what its calls leave of that.
+-- The state of a book, and what its calls leave of it.
 use Rattle.std.specs.Prelude.{◌≡◌, ◌⊎◌, ⊤, ℕ, ◌≤◌, Result, IfOk, OnOk, OnErr, IsErrOf}
 use Rattle.acd_book.specs.Content.{Content, Within, HasRisen}
 use Rattle.acd_book.specs.declared.fault.BookFault.{BookFault}
@@ -6,13 +6,13 @@ use Rattle.acd_book.specs.declared.fault.BookFault.TheVariants.{Store}
 
 -- a book at a moment
 pub record BookState : Type 1 where
-  -- what it holds, where it is open
+  -- its content, where it is open
   pub content : Content
-  -- what a reopening may find, if nothing is done to the book from now on
+  -- the contents that a reopening may find, if nothing is done to the book from now on
   pub stops : Content → Type 0
   -- its tables are as they were made: each call keeps this
   pub is_sound : Type 0
-  -- its store has told no lie so far: it may fall at any call
+  -- its store has broken no promise so far: that may happen at any call
   pub is_clean : Type 0
   -- no failure has shut it
   pub is_open : Type 0
@@ -42,7 +42,7 @@ pub record Reads {A : Type 0} (old new : BookState) (result : Result A BookFault
   pub unchanged : Unchanged old new
   pub value : IfHonest old new (IfOk result (λ (found : A). old.is_open × IsAnswer old.content found))
   pub stays : OnOk result (IfHonest old new new.is_open)
-  -- while it is open no stop is gone
+  -- while it is open no stop is lost
   pub keeps : IfHonest old new (new.is_open → Within old.stops new.stops)
   -- a failure is counted where the store has failed
   pub cause : IsErrOf result Store → HasRisen old.failures new.failures

@@ -8,14 +8,14 @@ use Rattle.acd_terms.specs.declared.event.Event.{Event}
 use Rattle.acd_terms.specs.declared.record.MonitorRecord.{MonitorRecord}
 use Rattle.acd_model.specs.declared.moves.Change.{Change}
 use Rattle.acd_model.specs.declared.moves.Change.TheVariants.{PutMonitor, RemoveMonitor}
-use Rattle.acd_book.specs.Content.{is_told}
+use Rattle.acd_book.specs.Content.{is_at_after}
 use Rattle.acd_book.specs.Memory.{number_of}
 use Rattle.acd_book.specs.declared.numbers.Numbers.{Numbers}
 use Rattle.acd_book.specs.declared.watched.Watched.{Watched}
 
 -- all events at the device above the number from which they are listed, and no others
 abbrev pub IsListed : List Event → ℕ → Numbers → Type 0
-IsListed events device l = l.numbers.items ≡ map number_of (filter (is_told (Some device) l.above) events)
+IsListed events device l = l.numbers.items ≡ map number_of (filter (is_at_after (Some device) l.above) events)
 
 pub listed_prop : (events : List Event) (device : ℕ) (l : Numbers) → IsProp (IsListed events device l)
 listed_prop events device l = Coded-set (coded_list coded_ℕ) _ _
@@ -35,24 +35,24 @@ WatchesFrom last old new = (events : List Event) → Every (λ (e : Event). e.nu
 abbrev pub StillWatches : Watched → Watched → Type 0
 StillWatches old new = (events : List Event) → ListsEvents events old → ListsEvents events new
 
--- and more, behind them
+-- and more, after them
 abbrev pub WatchesMore : List Event → Watched → Watched → Type 0
 WatchesMore more old new = (events : List Event) → ListsEvents events old → ListsEvents (events ++ more) new
 
 -- the numbers of the first events at a device above a number
 abbrev pub IsPage : Watched → ℕ → ℕ → ℕ → List ℕ → Type 0
-IsPage w device number limit found = (events : List Event) → ListsEvents events w → found ≡ map number_of (take limit (filter (is_told (Some device) number) events))
+IsPage w device number limit found = (events : List Event) → ListsEvents events w → found ≡ map number_of (take limit (filter (is_at_after (Some device) number) events))
 
 -- ---- nothing is kept of a monitor that was stopped
 
--- the device that a monitor is noted to watch
-abbrev pub noted_at : Watched → ℕ → Option ℕ
-noted_at w monitor = get_by (λ (m : ℕ). monitor == m) w.devices
+-- the device that the index has for a monitor
+abbrev pub recorded_at : Watched → ℕ → Option ℕ
+recorded_at w monitor = get_by (λ (m : ℕ). monitor == m) w.devices
 
 abbrev pub is_one : ℕ → ℕ → ℕ
 is_one device d = if device == d then 1 else 0
 
--- how many monitors are noted to watch the device
+-- how many monitors the index has for the device
 abbrev pub watching : ℕ → Watched → ℕ
 watching device w = sum_by (is_one device) (values w.devices)
 
@@ -60,7 +60,7 @@ watching device w = sum_by (is_one device) (values w.devices)
 abbrev pub counted : Watched → ℕ → Option ℕ
 counted w device = option_map (λ (l : Numbers). l.monitors) (get_by (λ (d : ℕ). device == d) w.lists)
 
--- one monitor less: the list goes with the last one
+-- one monitor less: the list is removed with the last one
 abbrev pub fewer : Option ℕ → Option ℕ
 fewer None = None
 fewer (Some n) = if n - 1 == 0 then None else Some (n - 1)
@@ -84,7 +84,7 @@ pub record CountsAt (device : ℕ) (P : Option ℕ → Option ℕ → Type 0) (o
 abbrev pub IsUpTo : ℕ → ℕ → Type 0
 IsUpTo most n = (1 ≤ n) × (n ≤ most)
 
--- each list counts a monitor of its device at least, and no more than are noted
+-- each list counts at least one monitor of its device, and no more than are indexed
 abbrev pub KeepsWatched : Watched → Type 0
 KeepsWatched w = (device : ℕ) → IfSome (counted w device) (IsUpTo (watching device w))
 
@@ -97,10 +97,10 @@ said_of monitor (PutMonitor r) = if monitor == r.monitor then Some (Some r.devic
 said_of monitor (RemoveMonitor n) = if monitor == n then Some None else None
 said_of monitor _ = None
 
--- what is noted of a monitor is what was said or, for want of memory, nothing; and what was noted before, where nothing was said
-abbrev pub IsNotedAs : Option (Option ℕ) → Option ℕ → Option ℕ → Type 0
-IsNotedAs None old new = new ≡ old
-IsNotedAs (Some said) old new = (new ≡ said) ⊎ (new ≡ None)
+-- the index has of a monitor what was given or, for want of memory, nothing; and what it had before, where nothing was given
+abbrev pub IsRecordedAs : Option (Option ℕ) → Option ℕ → Option ℕ → Type 0
+IsRecordedAs None old new = new ≡ old
+IsRecordedAs (Some said) old new = (new ≡ said) ⊎ (new ≡ None)
 
 abbrev pub or_before : Option (Option ℕ) → Option (Option ℕ) → Option (Option ℕ)
 or_before (Some later) before = Some later
@@ -111,10 +111,10 @@ abbrev pub said_last : Option (Option ℕ) → List Change → ℕ → Option (O
 said_last before [] monitor = before
 said_last before (c ∷ cs) monitor = said_last (or_before (said_of monitor c) before) cs monitor
 
--- behind changes just the monitors are noted that run then, each at its device, as far as there was memory
-abbrev pub NotesChanges : List Change → Watched → Watched → Type 0
-NotesChanges changes old new = (monitor : ℕ) → IsNotedAs (said_last None changes monitor) (noted_at old monitor) (noted_at new monitor)
+-- after the changes just the running monitors are indexed, each at its device, as far as there was memory
+abbrev pub RecordsChanges : List Change → Watched → Watched → Type 0
+RecordsChanges changes old new = (monitor : ℕ) → IsRecordedAs (said_last None changes monitor) (recorded_at old monitor) (recorded_at new monitor)
 
--- and of these monitors, where none was noted before
-abbrev pub NotesThese : List MonitorRecord → Watched → Type 0
-NotesThese monitors w = (monitor : ℕ) → IsNotedAs (said_last None (map PutMonitor monitors) monitor) None (noted_at w monitor)
+-- and of these monitors, where none was indexed before
+abbrev pub RecordsThese : List MonitorRecord → Watched → Type 0
+RecordsThese monitors w = (monitor : ℕ) → IsRecordedAs (said_last None (map PutMonitor monitors) monitor) None (recorded_at w monitor)

@@ -1,7 +1,7 @@
-//! What a desk asks of a store.
+//! The operations that a desk needs of a store.
 
 ghost use Rattle.std.specs.Prelude.{◌≡◌};
-ghost use Rattle.acd_book.specs.Content.{Content, committed, kept_of, IsKeptAfter, kept_behind, events_behind, events_of_monitor, Follows, FollowsBy, committed_by};
+ghost use Rattle.acd_book.specs.Content.{Content, committed, kept_of, IsKeptAfter, records_after, events_after, events_of_monitor, Follows, FollowsBy, committed_by};
 ghost use Rattle.acd_book.specs.State.{BookState, Reads, Commits};
 
 use crate::fault::BookFault;
@@ -11,10 +11,9 @@ use acd_terms::{Event, Invoke, Limits, Requester, Rows};
 
 /// A store of the limits, the tables, the event reports and the kept replies.
 ///
-/// What it holds is known while it is open. A call that fails may shut it; then only its stops say what
-/// a reopening may find. It is clean while its store has told no lie, which may end at any call, so what
-/// is said of many calls has the premise that it was sound and open at their start and is clean at
-/// their end.
+/// Its content is known while it is open. A call that fails may shut it; then only its stops say what a reopening may
+/// find. It is clean while its store has kept its promises. That may end at any call, so statements on many calls
+/// assume that it was sound and open at their start and is clean at their end.
 pub trait Book {
     ghost state: { Self → BookState };
 
@@ -31,7 +30,7 @@ pub trait Book {
     fn rows(&mut self) -> Result<Rows, BookFault>
         ensures { Reads (state self.old) (state self.new) result (λ c found. found ≡ c.rows) };
 
-    /// What is kept under a key.
+    /// The record kept under a key.
     fn kept(&mut self, requester: &Requester, invoke: Invoke) -> Result<Option<Kept>, BookFault>
         ensures { Reads (state self.old) (state self.new) result
             (λ c found. found ≡ kept_of c.kept requester.now invoke) };
@@ -44,12 +43,12 @@ pub trait Book {
     /// The first `limit` kept records above a stamp.
     fn requests_after(&mut self, stamp: u64, limit: usize) -> Result<Vec<Kept>, BookFault>
         ensures { Reads (state self.old) (state self.new) result
-            (λ c found. found.items ≡ kept_behind c.kept stamp limit) };
+            (λ c found. found.items ≡ records_after c.kept stamp limit) };
 
     /// The first `limit` events above a number.
     fn events_after(&mut self, number: u64, limit: usize) -> Result<Vec<Event>, BookFault>
         ensures { Reads (state self.old) (state self.new) result
-            (λ c found. found.items ≡ events_behind c.events number limit) };
+            (λ c found. found.items ≡ events_after c.events number limit) };
 
     /// The first `limit` events of a running monitor above a number.
     fn events_of_monitor(
@@ -61,8 +60,8 @@ pub trait Book {
         ensures { Reads (state self.old) (state self.new) result
             (λ c found. found.items ≡ events_of_monitor c monitor number limit) };
 
-    /// Replaces the tables, and adds the events and the kept record, all or none. What it makes is said
-    /// of a record that follows those that are kept.
+    /// Replaces the tables, and adds the events and the kept record, all or none. Its new content is defined for a
+    /// record that follows the kept ones.
     fn commit(&mut self, rows: &Rows, events: &[Event], kept: &Kept) -> Result<(), BookFault>
         ensures { Commits (state self.old) (state self.new) result
             (Follows rows.now events.now kept.now)

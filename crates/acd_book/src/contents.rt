@@ -1,8 +1,8 @@
-//! What a book in memory holds, and how a commit changes it: whole or not at all.
+//! The content of a book in memory, and how a commit changes it: whole or not at all.
 
 ghost use Rattle.std.specs.Prelude.{◌≡◌, ◌≤◌, ◌<◌, ◌+◌, Some, IfOk, OnOk, OnErr, take, length};
 ghost use Rattle.acd_model.specs.Scans.{monitor_of};
-ghost use Rattle.acd_book.specs.Content.{empty_content, kept_of, IsKeptAfter, kept_behind, events_behind, events_of_monitor, committed, committed_by};
+ghost use Rattle.acd_book.specs.Content.{empty_content, kept_of, IsKeptAfter, records_after, events_after, events_of_monitor, committed, committed_by};
 
 use crate::kept::Kept;
 use crate::ledger::Ledger;
@@ -36,7 +36,7 @@ impl Contents {
         }
     }
 
-    /// What is kept under a key.
+    /// The record kept under a key.
     pub(crate) fn kept(
         &self,
         requester: &Requester,
@@ -63,19 +63,19 @@ impl Contents {
 
     pub(crate) fn requests_after(&self, stamp: u64, limit: usize) -> Result<Vec<Kept>, AllocError>
         ensures { IfOk result
-            (λ found. found.items ≡ kept_behind (content_of self.now).kept stamp limit) }
+            (λ found. found.items ≡ records_after (content_of self.now).kept stamp limit) }
     {
-        first_kept(self.alloc, self.replies.behind(stamp), limit)
+        first_kept(self.alloc, self.replies.all_after(stamp), limit)
     }
 
     pub(crate) fn events_after(&self, number: u64, limit: usize) -> Result<Vec<Event>, AllocError>
         ensures { IfOk result
-            (λ found. found.items ≡ events_behind (content_of self.now).events number limit) }
+            (λ found. found.items ≡ events_after (content_of self.now).events number limit) }
     {
-        first(self.alloc, self.log.behind(number), limit)
+        first(self.alloc, self.log.all_after(number), limit)
     }
 
-    /// The first events of a running monitor above a number. What it holds stays.
+    /// The first events of a running monitor above a number. The content stays the same.
     pub(crate) fn events_of_monitor(
         &mut self,
         monitor: u64,

@@ -7,7 +7,7 @@ use crate::text::Text;
 use acd_terms::Request;
 use std::alloc::AllocError;
 
-/// What is kept of an executed request.
+/// The record that is kept of an executed request.
 #[derive(Debug, Drop, PartialEq, Eq)]
 pub struct Kept {
     /// Its number among the executed requests, from 1.
@@ -24,7 +24,7 @@ pub struct Kept {
 impl Kept {
     ghost use Rattle.acd_book.specs.Memory.{key_of};
 
-    /// What it is kept under.
+    /// The key under which it is kept.
     pub(crate) fn key(&self) -> Key
         ensures { result ≡ key_of self.now }
     {

@@ -1,8 +1,8 @@
-//! What a request is kept under.
+//! The key under which a request is kept.
 
 use acd_terms::{Invoke, Requester};
 
-/// What a request is kept under: who sent it, and its invoke number.
+/// The key under which a request is kept: who sent it, and its invoke number.
 #[derive(Clone, Copy, Debug, PartialEq, Eq, Hash)]
 pub(crate) struct Key {
     pub(crate) requester: Requester,

@@ -10,13 +10,13 @@ use acd_tables::Records;
 use acd_terms::{Limits, MonitorRecord, Rows};
 use std::alloc::{AllocError, Global};
 
-// So many changes wait before they are made together: fewer would be made while what they touch is out of the
-// nearest caches, and more wouldn't lie in them.
+// So many changes wait before they are made together: for fewer, the rows that they change would no longer be in the
+// nearest caches, and more wouldn't fit there.
 const LONG: usize = 256;
 
-/// The tables, and a journal of changes that wait to be made in them. What it holds is the tables with
-/// those changes made. A change that finds no memory stays in the journal, and is tried again later; where
-/// as many wait as are made together, no more are taken in.
+/// The tables, and a journal of changes that wait to be made in them. The content is the tables with those changes
+/// made. A change that finds no memory stays in the journal, and is tried again later; where as many wait as are made
+/// together, no more are accepted.
 #[derive(Drop)]
 pub(crate) struct Ledger {
     pub(crate) alloc: Global,

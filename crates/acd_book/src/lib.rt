@@ -1,4 +1,4 @@
-//! The book: where a desk keeps its tables, its event reports and the replies that it gave.
+//! The book: it keeps a desk's tables, its event reports and the replies that it gave.
 //!
 //! [`Book`] is what a desk asks of a store, also of one whose calls may stop half-way. [`MemoryBook`]
 //! keeps all of it in memory. [`Kept`] is what is kept of an executed request.

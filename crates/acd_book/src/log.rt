@@ -3,7 +3,7 @@
 ghost use Rattle.std.specs.Prelude.{◌≡◌, ◌+◌, ◌≤◌, ◌++◌, [], Some, true, drop, filter, length, take, vec_len, vec_capacity, IfOk, OnOk};
 ghost use Rattle.std.specs.List.{cons_option, filter_map};
 ghost use Rattle.std.proofs.Props.{props};
-ghost use Rattle.acd_book.specs.Content.{is_at, is_told};
+ghost use Rattle.acd_book.specs.Content.{is_at, is_at_after};
 ghost use Rattle.acd_book.specs.Memory.{event_at, is_numbered, number_of};
 ghost use Rattle.acd_book.specs.Watched.{KeepsWatched, ListsEvents, listed_prop};
 
@@ -18,7 +18,7 @@ pub(crate) struct Log {
     pub(crate) events: Vec<Event>,
     pub(crate) watched: Watched,
     ghost numbered: { is_numbered number_of 0 events.items ≡ true },
-    ghost told: { ListsEvents events.items watched } by { Prim.hlevel (props, listed_prop) },
+    ghost listed: { ListsEvents events.items watched } by { Prim.hlevel (props, listed_prop) },
     ghost kept: { KeepsWatched watched } by { Prim.hlevel props },
 }
 
@@ -33,7 +33,7 @@ impl Log {
     }
 
     /// The events above a number.
-    pub(crate) fn behind(&self, number: u64) -> &[Event]
+    pub(crate) fn all_after(&self, number: u64) -> &[Event]
         ensures { result.now ≡ drop number self.now.events.items }
     {
         let place = (number as usize).min(self.events.len());
@@ -71,11 +71,11 @@ impl Log {
     ) -> Result<Vec<Event>, AllocError>
         ensures { IfOk result
             (λ found. found.items
-            ≡ take limit (filter (is_told (Some device) number) self.now.events.items)) }
+            ≡ take limit (filter (is_at_after (Some device) number) self.now.events.items)) }
     {
         match self.watched.numbers(device, number, limit) {
             Some(numbers) => self.events_at(alloc, numbers),
-            None => first_at(alloc, self.behind(number), device, limit),
+            None => first_at(alloc, self.all_after(number), device, limit),
         }
     }
 
@@ -125,7 +125,7 @@ impl Log {
         ensures { self.new.events.items ≡ self.old.events.items ++ events.now }
     {
         let _ = self.events.extend_from_slice(events);
-        self.watched.note_all(events);
+        self.watched.add_all(events);
     }
 }
 

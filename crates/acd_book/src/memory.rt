@@ -15,9 +15,9 @@ use std::marker::Model;
 
 /// A book in memory, seen as its content. Its store never fails.
 ///
-/// Its events are numbered 1, 2, 3 and so on, and so are its kept records. What doesn't follow (a number
-/// or a stamp that doesn't go on, a key that is kept, rows out of order) is refused with
-/// [`BookFault::NoMemory`], and nothing is changed.
+/// Its events are numbered 1, 2, 3 and so on, and so are its kept records. A commit that doesn't follow (a number or a
+/// stamp that doesn't continue, a key that is kept, rows out of order) is refused with [`BookFault::NoMemory`], and
+/// nothing is changed.
 ///
 /// A read by key, by stamp or by number takes no longer as the book grows, and a commit of changes takes
 /// the time of its changes.

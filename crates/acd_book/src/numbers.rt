@@ -45,11 +45,11 @@ impl Numbers {
         Ok(())
     }
 
-    /// Adds the number of an event at the device, where it stands above the first.
-    pub(crate) fn note(&mut self, number: u64) -> Result<(), AllocError>
+    /// Adds the number of an event at the device, if it is above the first.
+    pub(crate) fn add(&mut self, number: u64) -> Result<(), AllocError>
         ensures above { self.new.above ≡ self.old.above }
         ensures counts { self.new.monitors ≡ self.old.monitors }
-        ensures noted { OnOk result
+        ensures added { OnOk result
             (self.new.numbers.items
             ≡ self.old.numbers.items ++ filter (nat_lt self.old.above) (number ∷ [])) }
     {
@@ -60,11 +60,11 @@ impl Numbers {
     }
 
     /// The first `limit` of those above a number.
-    pub(crate) fn behind(&self, number: u64, limit: usize) -> &[u64]
+    pub(crate) fn after(&self, number: u64, limit: usize) -> &[u64]
         ensures { result.now ≡ take limit (filter (nat_lt number) self.now.numbers.items) }
     {
         let place = self.numbers.partition_point(|one| *one <= number);
-        let behind = &self.numbers[place..];
-        &behind[..limit.min(behind.len())]
+        let after = &self.numbers[place..];
+        &after[..limit.min(after.len())]
     }
 }

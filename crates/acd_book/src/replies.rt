@@ -49,7 +49,7 @@ impl Replies {
     }
 
     /// The records above a stamp.
-    pub(crate) fn behind(&self, stamp: u64) -> &[Kept]
+    pub(crate) fn all_after(&self, stamp: u64) -> &[Kept]
         ensures { result.now ≡ drop stamp self.now.records.items }
     {
         let place = (stamp as usize).min(self.records.len());

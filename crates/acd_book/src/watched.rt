@@ -1,10 +1,11 @@
-//! The numbers of the events at the devices that are watched, so that a page of a monitor reads its own events alone.
+//! The numbers of the events at the devices that are watched, so that a page of a monitor reads the events of that
+//! monitor alone.
 
 ghost use Rattle.std.specs.Prelude.{◌≡◌, ◌-◌, ◌==◌, ℕ, ◌∷◌, [], List, None, Some, IfSome, option_map};
 ghost use Rattle.acd_terms.specs.declared.event.Event.{Event};
 ghost use Rattle.acd_model.specs.declared.moves.Change.TheVariants.{PutMonitor, RemoveMonitor};
 ghost use Rattle.acd_book.specs.Watched.{IsPage, ListsEvents, StillWatches, WatchesAfter, WatchesFrom, WatchesMore};
-ghost use Rattle.acd_book.specs.Watched.{CountsAt, IsMore, KeepsWatched, NotesChanges, NotesThese, StillKeeps, counted, fewer, is_none_left, noted_at};
+ghost use Rattle.acd_book.specs.Watched.{CountsAt, IsMore, KeepsWatched, RecordsChanges, RecordsThese, StillKeeps, counted, fewer, is_none_left, recorded_at};
 
 use crate::numbers::Numbers;
 use acd_model::Change;
@@ -14,9 +15,9 @@ use std::collections::HashMap;
 
 /// For each device with a running monitor the numbers of its events, from a number on.
 ///
-/// It takes 8 bytes for each event at such a device, and lets a device's list go with its last monitor. None of its
-/// calls fails: a list that finds no memory is let go, and whoever asks for it has to look through the events. A monitor
-/// that finds none isn't noted.
+/// It takes 8 bytes for each event at such a device, and frees a device's list with its last monitor. None of its calls
+/// fails: a list that finds no memory is freed, and whoever asks for it has to look through the events. A monitor that
+/// finds no memory isn't indexed.
 #[derive(Drop)]
 pub struct Watched {
     pub(crate) alloc: Global,
@@ -30,7 +31,7 @@ impl Watched {
     pub fn new(alloc: Global) -> Watched
         ensures lists { (events : List Event) → ListsEvents events result }
         ensures kept { KeepsWatched result }
-        ensures noted { (monitor : ℕ) → noted_at result monitor ≡ None }
+        ensures recorded { (monitor : ℕ) → recorded_at result monitor ≡ None }
     {
         Watched {
             alloc,
@@ -43,7 +44,7 @@ impl Watched {
     pub fn of_monitors(alloc: Global, monitors: &[MonitorRecord], last: u64) -> Watched
         ensures lists { WatchesAfter last result }
         ensures kept { KeepsWatched result }
-        ensures noted { NotesThese monitors.now result }
+        ensures recorded { RecordsThese monitors.now result }
     {
         let mut watched = Watched::new(alloc);
         for monitor in monitors {
@@ -56,7 +57,7 @@ impl Watched {
     pub fn start(&mut self, monitor: &MonitorRecord, last: u64)
         ensures lists { WatchesFrom last self.old self.new }
         ensures kept { StillKeeps self.old self.new }
-        ensures noted { NotesChanges (PutMonitor monitor.now ∷ []) self.old self.new }
+        ensures recorded { RecordsChanges (PutMonitor monitor.now ∷ []) self.old self.new }
     {
         self.stop(monitor.monitor);
         if self.devices.insert(monitor.monitor, monitor.device).is_ok() {
@@ -76,11 +77,11 @@ impl Watched {
         let _ = self.lists.insert(device, Numbers::new(self.alloc, above));
     }
 
-    /// A monitor is stopped, and the list of its device goes with the last one.
+    /// A monitor is stopped, and the list of its device is removed with the last one.
     pub fn stop(&mut self, monitor: u64)
         ensures lists { StillWatches self.old self.new }
         ensures kept { StillKeeps self.old self.new }
-        ensures noted { NotesChanges (RemoveMonitor monitor ∷ []) self.old self.new }
+        ensures recorded { RecordsChanges (RemoveMonitor monitor ∷ []) self.old self.new }
     {
         if let Some(device) = self.devices.remove(&monitor) {
             self.discount(device);
@@ -97,7 +98,7 @@ impl Watched {
         }
     }
 
-    // Counts one monitor less at the device, and tells whether it was the last.
+    // Counts one monitor less at the device, and answers whether it was the last.
     fn is_last(&mut self, device: DeviceId) -> bool
         ensures lists { StillWatches self.old self.new }
         ensures counts { CountsAt device (λ old new. new ≡ option_map (λ n. n - 1) old)
@@ -117,7 +118,7 @@ impl Watched {
     fn follow(&mut self, change: &Change, last: u64)
         ensures lists { WatchesFrom last self.old self.new }
         ensures kept { StillKeeps self.old self.new }
-        ensures noted { NotesChanges (change.now ∷ []) self.old self.new }
+        ensures recorded { RecordsChanges (change.now ∷ []) self.old self.new }
     {
         match change {
             Change::PutMonitor(monitor) => self.start(monitor, last),
@@ -130,15 +131,15 @@ impl Watched {
     pub fn change(&mut self, changes: &[Change], last: u64)
         ensures lists { WatchesFrom last self.old self.new }
         ensures kept { StillKeeps self.old self.new }
-        ensures noted { NotesChanges changes.now self.old self.new }
+        ensures recorded { RecordsChanges changes.now self.old self.new }
     {
         for change in changes {
             self.follow(change, last);
         }
     }
 
-    /// One more event, behind the others.
-    pub fn note(&mut self, event: &Event)
+    /// Adds one event at the end.
+    pub fn add(&mut self, event: &Event)
         ensures lists { WatchesMore (event.now ∷ []) self.old self.new }
         ensures kept { StillKeeps self.old self.new }
         ensures devices { self.new.devices ≡ self.old.devices }
@@ -149,13 +150,13 @@ impl Watched {
         let Some(list) = self.lists.get_mut(&device) else {
             return;
         };
-        if list.note(event.number).is_err() {
+        if list.add(event.number).is_err() {
             self.lists.remove(&device);
         }
     }
 
-    /// More events, behind the others.
-    pub fn note_all(&mut self, more: &[Event])
+    /// Adds more events at the end.
+    pub fn add_all(&mut self, more: &[Event])
         ensures lists { WatchesMore more.now self.old self.new }
         ensures kept { StillKeeps self.old self.new }
         ensures devices { self.new.devices ≡ self.old.devices }
@@ -164,7 +165,7 @@ impl Watched {
             return;
         }
         for event in more {
-            self.note(event);
+            self.add(event);
         }
     }
 
@@ -176,6 +177,6 @@ impl Watched {
         if number < list.above {
             return None;
         }
-        Some(list.behind(number, limit))
+        Some(list.after(number, limit))
     }
 }

@@ -1,4 +1,4 @@
--- Behind a tick nothing is overdue by the rings and wraps of that tick: a tick ends what is, and what begins later begins later.
+-- After a tick nothing is overdue by the rings and wraps of that tick: a tick ends what is, and what begins later begins later.
 use Rattle.std.proofs.Common.{◌≡◌, ℕ, ◌+◌, ◌<◌, ◌≤◌, ◌⊎◌, inl, inr, true, false, not, ◌&&◌, cond, map, List, [], ◌∷◌, ◌++◌, Option, Some, None, refl, sym, ◌∙◌, ap, subst, arith}
 use Rattle.std.specs.Prelude.{◌==◌, option_map}
 use Rattle.std.proofs.lemmas.Bool.{and_right, cases_Bool, not-true, and_parts, eqb-true, false_from_ne_true}
@@ -26,7 +26,7 @@ use Rattle.acd_lemmas.proofs.Lists.{every_among, every_from, every-put, every-re
 use Rattle.acd_lemmas.proofs.State.{agent_put, agent_among, agent_found, agent_seat, connection_there, left_among, is_of, is_of_self, group_counted_found}
 use Rattle.acd_lemmas.proofs.States.{alerting_is}
 use Rattle.acd_lemmas.proofs.Keyed.{eqb_self, cmp_self}
-use Rattle.acd_laws.proofs.MoveKinds.{AgentMove, stays, remains, tells, Arrival, queues, alerts, fails, arrival_of, releases, occupies, goes_from, released_by, agent_connections, agent_others}
+use Rattle.acd_laws.proofs.MoveKinds.{AgentMove, stays, remains, reports, Arrival, queues, alerts, fails, arrival_of, releases, occupies, goes_from, released_by, agent_connections, agent_others}
 use Rattle.acd_laws.proofs.Deeds.{Deed, nothing, adds_group, adds_station, adds_agent, watches, unwatches, arrives, makes, goes_out, answers, holds, retrieves, clears, deflects, transfers, logs_on, rejects, renames, waits, goes, Regroups, refuses, puts, Round, offers, returns, rests}
 use Rattle.acd_laws.proofs.Offers.Distributing.{Back, return_stays, other_call, overdue_back, returned}
 use Rattle.acd_laws.proofs.Rules.RulesKept.{RoundKeeps, rules_serve, by_rounds, by_tick, by_deeds}
@@ -36,11 +36,11 @@ use Rattle.acd_laws.proofs.Rules.Ended.{rules_step, rules_first}
 use Rattle.acd_laws.proofs.Rules.DecidedAll.{rules_are_kept}
 use Rattle.acd_bounds.specs.TimeLaws.{IsYoung, IsInTime, tick_at, TickBoundsAnswers, RunBoundsAnswers}
 
--- what begins at the moment or later isn't over then
+-- work that begins at the moment or later isn't over then
 begun_later : (n since moment : ℕ) → moment ≤ since → is_over n since moment ≡ false
 begun_later n since moment l = grind (arith, nat_tests)
 
--- what isn't over is younger than its time
+-- work that isn't over is younger than its time
 young : (n since moment : ℕ) → is_over n since moment ≡ false → 0 < n → moment < since + n
 young n since moment e l = grind (arith, nat_tests)
 
@@ -103,7 +103,7 @@ module _ (u : Rows) (t : ℕ) where
   unfolding is_rested
   fits_agent turn _ l stays = tt
   fits_agent turn _ l (remains a name pending h) = h
-  fits_agent turn _ l (tells a b d h r) = let e = r.since in working_later b (omega (arith, l, e))
+  fits_agent turn _ l (reports a b d h r) = let e = r.since in working_later b (omega (arith, l, e))
 
   fits_arrival : (s : Rows) (turn : Turn) (call to : ℕ) (why : Cause) (x : Move) → Arrival s turn call to why x → Fits x.change
   unfolding is_overdue
@@ -129,7 +129,7 @@ module _ (u : Rows) (t : ℕ) where
   unfolding is_overdue
   fits_return s turn x g l h = (tt, (refl, (fits_release s turn x NoAnswer l h, tt)))
 
-  -- what a service does
+  -- the moves of a service
 
   fits_deed : (s : Rows) (turn : Turn) (ms : List Move) → t ≤ turn.moment → Deed s turn ms → Every Works s.agents → AllFit ms
   unfolding is_overdue is_rested
@@ -152,10 +152,10 @@ module _ (u : Rows) (t : ℕ) where
   fits_deed s turn _ l (transfers p to _ _ _) h = (tt, (fits_arrive s turn p.x.call to Transferred, (fits_release s turn p.x (ending_of p.x) l h, tt)))
   fits_deed s turn _ l (logs_on _ _ _ _ _ _ _ _) h = (refl, tt)
   fits_deed s turn _ l (rejects p g _ _) h = fits_return s turn p.x g l h
-  fits_deed s turn _ l (renames a _ own) h = (every_among Works s.agents a h (agent_among s a.agent a own), tt)
-  fits_deed s turn _ l (waits a _ own _ _) h = (every_among Works s.agents a h (agent_among s a.agent a own), tt)
-  fits_deed s turn _ l (goes a wanted own _ _) h =
-      (fits_agent turn _ l (goes_from Works turn a a.station (state_wanted wanted) (every_among Works s.agents a h (agent_among s a.agent a own))), tt)
+  fits_deed s turn _ l (renames a _ found) h = (every_among Works s.agents a h (agent_among s a.agent a found), tt)
+  fits_deed s turn _ l (waits a _ found _ _) h = (every_among Works s.agents a h (agent_among s a.agent a found), tt)
+  fits_deed s turn _ l (goes a wanted found _ _) h =
+      (fits_agent turn _ l (goes_from Works turn a a.station (state_wanted wanted) (every_among Works s.agents a h (agent_among s a.agent a found))), tt)
 
   fits_regroups : (s : Rows) (c : Command) (ms : List Move) → Regroups s c ms → AllFit ms
   fits_regroups s c _ (refuses _ _ _) = tt
@@ -164,8 +164,8 @@ module _ (u : Rows) (t : ℕ) where
   fits_round : (s : Rows) (turn : Turn) (ms : List Move) → t ≤ turn.moment → Round s turn ms → Every Works s.agents → AllFit ms
   fits_round s turn _ l (offers o x a d _) h = (tt, (offered_later (ringing turn.moment x d) turn.moment l refl, tt))
   fits_round s turn _ l (returns x g _ _ _) h = fits_return s turn x g l h
-  fits_round s turn _ l (rests a own _) h =
-      (fits_agent turn _ l (goes_from Works turn a a.station A.Ready (every_among Works s.agents a h (agent_among s a.agent a own))), tt)
+  fits_round s turn _ l (rests a found _) h =
+      (fits_agent turn _ l (goes_from Works turn a a.station A.Ready (every_among Works s.agents a h (agent_among s a.agent a found))), tt)
 
   abbrev HoldsAlong : Rows → List Event → Type 0
   HoldsAlong s es = Holds s
@@ -187,7 +187,7 @@ module _ (u : Rows) (t : ℕ) where
       (λ v es ms d _ w. holds_moves v ms (fits_regroups v c ms d) w)
       (holds_round turn later) s [] r h
 
-  -- what holds from the tick on
+  -- this holds from the tick on
   pub record Since (s : Rows) : Type 0 where
     pub rules : Rules s
     pub passed : t ≤ s.last_moment
@@ -215,7 +215,7 @@ agent_groups : {K : AgentRecord → Type 0} (turn : Turn) (s : Rows) (x : Move) 
 unfolding with_agent
 agent_groups turn s x stays = refl
 agent_groups turn s x (remains _ _ _ _) = refl
-agent_groups turn s x (tells a b d _ _) = refl
+agent_groups turn s x (reports a b d _ _) = refl
 
 return_groups : (s : Rows) (turn : Turn) (x : ConnectionRecord) (g : ℕ) → (moved s (return_to s turn x (Some g))).groups ≡ s.groups
 unfolding with_connection without_connection
@@ -235,7 +235,7 @@ round_groups gs turn s es _ (rests a _ _) r h = rest_groups s turn a ∙ h
 
 -- a tick ends what is overdue
 
--- an offer that goes back isn't there any more
+-- an offer that returns isn't there any more
 module _ (u : Rows) (turn : Turn) where
   abbrev StillOut : List ConnectionRecord → ConnectionRecord → Type 0
   StillOut xs y = Rings u turn.moment y ⊎ Among y xs
@@ -264,11 +264,11 @@ module _ (u : Rows) (turn : Turn) where
   all_left s (x ∷ xs) so b r h y a =
       let bx = b x (inl refl) in
       let g = some_from x.group bx.grouped in
-      let own : connection_of s x.call x.device ≡ Some x = connection_there s r x bx.there in
+      let found : connection_of s x.call x.device ≡ Some x = connection_there s r x bx.there in
       let one : List Move = return_moves s turn x in
       let same : return_to s turn x (Some g.0) ≡ one = ap (return_to s turn x) (sym g.1) in
       let rest : List Move = each (λ t x. return_moves t turn x) (moved s one) xs in
-      let r1 : Rules (moved s one) = subst (λ ms. Rules (moved s ms)) same (kept_return_to s turn g.0 x r own bx.alerting g.1) in
+      let r1 : Rules (moved s one) = subst (λ ms. Rules (moved s ms)) same (kept_return_to s turn g.0 x r found bx.alerting g.1) in
       all_left (moved s one) xs so.1
       (λ z i. let bz = b z (inr i) in record {
         there = subst (λ ms. Among z (moved s ms).connections) same (return_stays s turn g.0 x z bz.there (other_call s x z r bx.there bz.there bx.alerting bz.alerting (after_among connection_order x xs z so.0 i)));
@@ -294,8 +294,8 @@ module _ (u : Rows) (turn : Turn) where
   rested_by : (s : Rows) (a : AgentRecord) (xs : List AgentRecord) → Rules s → agent_of s a.agent ≡ Some a → is_working_after_call a.state ≡ true → ((b : AgentRecord) → Among b s.agents → StillAtWork (a ∷ xs) b)
       → Rules (moved s (rest_moves turn a)) → (b : AgentRecord) → Among b (moved s (rest_moves turn a)).agents → StillAtWork xs b
   unfolding with_agent is_rested
-  rested_by s a xs r own works h =
-      let d = on_station s a.station (seated s a a.state works (every_among (AgentRule s) s.agents a r.agents (agent_among s a.agent a own))).0 in
+  rested_by s a xs r found works h =
+      let d = on_station s a.station (seated s a a.state works (every_among (AgentRule s) s.agents a r.agents (agent_among s a.agent a found))).0 in
       subst (λ o. Rules (moved s (go_from turn a o A.Ready ∷ [])) → (b : AgentRecord) → Among b (moved s (go_from turn a o A.Ready ∷ [])).agents → StillAtWork xs b) (sym d.1) (at d.0)
     where
       at : (d : ℕ) → Rules (moved s (go_from turn a (Some d) A.Ready ∷ [])) → (b : AgentRecord) → Among b (moved s (go_from turn a (Some d) A.Ready ∷ [])).agents → StillAtWork xs b
@@ -307,9 +307,9 @@ module _ (u : Rows) (turn : Turn) where
               | inl good ↦ inl good
               | inr m ↦ elim m [
                 | inl same ↦
-                    let found : agent_of (with_agent s z) b.agent ≡ Some b = agent_found (with_agent s z) r1.orders.agents b i in
+                    let found_now : agent_of (with_agent s z) b.agent ≡ Some b = agent_found (with_agent s z) r1.orders.agents b i in
                     let new : agent_of (with_agent s z) a.agent ≡ Some z = agent_put s z a.agent ∙ ap (λ v. cond v (Some z) (agent_of s a.agent)) (eqb_self a.agent) in
-                    let is : b ≡ z = some_is b z (sym found ∙ ap (λ (v : AgentRecord). agent_of (with_agent s z) v.agent) same ∙ new) in
+                    let is : b ≡ z = some_is b z (sym found_now ∙ ap (λ (v : AgentRecord). agent_of (with_agent s z) v.agent) same ∙ new) in
                     inl (subst (Works u turn.moment) (sym is) refl)
                 | inr more ↦ inr more
               ]
@@ -355,7 +355,7 @@ rested_same u v t a h = by (least_group a.groups)
     by None = refl
     by (Some g) = ap (λ n. is_working_after_call a.state && is_over n a.since t) (h g)
 
--- behind the moves of a tick
+-- after the moves of a tick
 
 tick_groups : (s : Rows) (turn : Turn) → Rules s → (moved s (tick s turn)).groups ≡ s.groups
 tick_groups s turn r = by_tick (GroupsAre s.groups) turn (round_groups s.groups turn) s [] r refl
@@ -397,7 +397,7 @@ tick_holds : (s : Rows) (turn : Turn) → Rules s → Holds s turn.moment (moved
 unfolding tick all_rests group_of
 tick_holds s turn r =
     let v : Rows = moved s (all_returns s turn) in
-    let back = returned (GroupsAre s.groups) turn (λ t es x g rt h own alerting group. return_groups t turn x g ∙ h) s [] r refl in
+    let back = returned (GroupsAre s.groups) turn (λ t es x g rt h found alerting group. return_groups t turn x g ∙ h) s [] r refl in
     let joined : moved s (all_returns s turn ++ all_rests v turn) ≡ moved v (all_rests v turn) = moved_append s (all_returns s turn) (all_rests v turn) in
     let wraps : (g : ℕ) → wrap_of (group_of s g) ≡ wrap_of (group_of v g) = λ g. wrap_by s v g (sym back.1) in (
       subst (λ xs. Every (Rings s turn.moment) xs) (sym (ap (λ (w : Rows). w.connections) joined ∙ rest_connections v turn v (rested_in v turn.moment))) (every_from (Rings s turn.moment) v.connections (none_overdue s turn r)),
@@ -450,7 +450,7 @@ since_tick s moment r =
       );
     }
 
--- what isn't overdue is in time
+-- a state in which nothing is overdue is in time
 
 offered : (s : Rows) (x : ConnectionRecord) (g : ℕ) → ConnectionRule s x → is_alerting x.state ≡ true → x.group ≡ Some g → (o : ℕ) × (x.offered ≡ Some o)
 offered s x g h e f =

@@ -1,4 +1,4 @@
--- A round in which a call of the group that is served first is answered, computed over numbers that grow; call 1 stays where it is.
+-- A round in which an agent answers a call of the preceding group, computed over numbers that grow; call 1 keeps its place.
 use Rattle.std.proofs.Common.{◌≡◌, ℕ, zero, suc, ◌+◌, ◌-◌, ◌*◌, ◌≤◌, true, false, max, List, [], ◌∷◌, ◌++◌, length, Some, None, refl, sym, ◌∙◌, ap, subst, arith}
 use Rattle.std.specs.Prelude.{◌==◌, ◌≢◌, codes, nat_lt}
 use Rattle.std.specs.Ordering.{nat_cmp}
@@ -44,7 +44,7 @@ record Numbers : Type 0 where
 abbrev ana_in : Numbers → AgentState → AgentRecord
 ana_in n state = record { agent = ana; name = codes "Ana"; state = state; pending = None; station = Some first_station; groups = billing ∷ claims ∷ []; stamp = n.stamp; since = n.moment }
 
--- the state with these calls and connections beside call 1 and its own
+-- the state with these calls and connections beside call 1 and its connection
 abbrev stands : Numbers → AgentRecord → List CallRecord → List ConnectionRecord → Rows
 stands n a calls connections = record {
   limits = greatest_limits;
@@ -85,7 +85,7 @@ record Goes (n : Numbers) : Type 0 where
   pub call : 1 ≤ n.call
   pub moment : n.moment ≤ minute n
 
--- how the new call and its moment stand to the others
+-- how the new call and its moment relate to the others
 record Stand (n : Numbers) : Type 0 where
   pub above : nat_cmp (next n) 1 ≡ Greater
   pub same : nat_cmp (next n) (next n) ≡ Equal

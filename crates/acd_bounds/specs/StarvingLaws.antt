@@ -22,7 +22,7 @@ use Rattle.acd_model.specs.Run.{TimedCommand, run}
 use Rattle.acd_model.specs.Examples.Words.{billing, claims, first_station, ana, caller, second_caller, at, asks_for}
 use Rattle.acd_model.specs.Examples.Priorities.{two_groups}
 
--- claims is served before billing; call 1 comes in for billing, and Ana logs on in both groups
+-- claims precedes billing; call 1 comes in for billing, and Ana logs on in both groups
 abbrev pub first_requests : List TimedCommand
 first_requests =
     two_groups ++ at 0 (SetGroupPriority claims 5) ∷ at 10 (ArriveCall caller billing)
@@ -42,7 +42,7 @@ rounds_from call (suc n) = round_of call ++ rounds_from (call + 1) n
 abbrev pub begun : Rows
 begun = (run (empty_rows greatest_limits) first_requests).rows
 
--- call 1 waits for billing where it was put first, and Ana serves both groups
+-- call 1 waits for billing at its first place, and Ana is in both groups
 pub record Waits (s : Rows) : Type 0 where
   pub place : Stamp
   pub waiting : connection_of s 1 billing ≡ Some (queueing 1 billing (Some place) (Some 10))
@@ -50,7 +50,7 @@ pub record Waits (s : Rows) : Type 0 where
   pub known : agent_of s ana ≡ Some agent
   pub groups : agent.groups ≡ billing ∷ claims ∷ []
 
--- it does so before and behind each of the requests
+-- it does so before and after each of the requests
 abbrev pub WaitsThrough : Rows → List TimedCommand → Type 0
 WaitsThrough s [] = Waits s
 WaitsThrough s (q ∷ more) = Waits s × WaitsThrough (step s q.moment q.command).rows more

@@ -1,4 +1,4 @@
--- How long a call rings, and how long after-call work lasts, behind a tick.
+-- How long a call rings, and how long after-call work lasts, after a tick.
 use Rattle.std.specs.Prelude.{◌≡◌, ◌+◌, ◌-◌, ◌<◌, ◌≤◌, true, List, [], ◌∷◌, ◌++◌, Some}
 use Rattle.acd_terms.specs.Lists.{Among}
 use Rattle.acd_terms.specs.Groups.{least_group}
@@ -20,7 +20,7 @@ use Rattle.acd_model.specs.Rules.First.{BreaksNoRule}
 abbrev pub IsYoung : Rows → Rows → Seconds → Moment → Type 0
 IsYoung ticked s time since = 0 < time → s.last_moment < since + time + (s.last_moment - ticked.last_moment)
 
--- a state s behind the one that a tick left: whatever became of rings and wraps in between, those at the tick count
+-- a state s after the one that a tick left: whatever became of rings and wraps in between, those at the tick count
 pub record IsInTime (ticked s : Rows) : Type 0 where
   pub passed : ticked.last_moment ≤ s.last_moment
   -- each call that rings by an offer was offered at a moment, and rings no longer than its group's ring at the tick
@@ -30,7 +30,7 @@ pub record IsInTime (ticked s : Rows) : Type 0 where
   pub work : (a : AgentRecord) → Among a s.agents → is_working_after_call a.state ≡ true
       → (group : Device) × (least_group a.groups ≡ Some group) × IsYoung ticked s (wrap_of (group_of ticked group)) a.since
 
--- behind a tick at any moment of rows that break no rule, after whatever is asked then
+-- after a tick at any moment of rows that break no rule, and after any requests from then on
 abbrev pub TickBoundsAnswers : Type 0
 TickBoundsAnswers = (s : Rows) (moment : Moment) (more : List TimedCommand) → BreaksNoRule s
     → IsInTime (step s moment Tick).rows (run (step s moment Tick).rows more).rows
@@ -38,7 +38,7 @@ TickBoundsAnswers = (s : Rows) (moment : Moment) (more : List TimedCommand) → 
 abbrev pub tick_at : Moment → TimedCommand
 tick_at moment = record { moment = moment; command = Tick }
 
--- in every run: behind each of its ticks, at each state from there on
+-- in every run: after each of its ticks, at each state from there on
 abbrev pub RunBoundsAnswers : Type 0
 RunBoundsAnswers = (limits : Limits) (commands more : List TimedCommand) (moment : Moment)
     → IsInTime (run (empty_rows limits) (commands ++ tick_at moment ∷ [])).rows (run (empty_rows limits) (commands ++ tick_at moment ∷ more)).rows

@@ -1,24 +1,25 @@
-//! What answers owe to ticks and to priorities: how long a call rings at most behind a tick, and that a call of low priority may wait for ever.
+//! The time limits of ticks and the effect of priorities: after a tick no call rings longer than its ring time, and a
+//! call of low priority may wait for ever.
 //!
-//! Each law is the contract of a function with an empty body, stated in `specs/`. Nothing stands on this crate.
+//! Each law is the contract of a function with an empty body, stated in `specs/`. Nothing depends on this crate.
 #![tactic(auto)]
 
 ghost use Rattle.acd_bounds.specs.StarvingLaws.{LowPriorityMayStarve};
 ghost use Rattle.acd_bounds.specs.TimeLaws.{TickBoundsAnswers, RunBoundsAnswers};
 
-/// Behind a tick of rows that break no rule each offer is younger than the ring that its group had at that tick, and the time since it; so is
-/// after-call work, by the wrap of the agent's least group. A time of 0 means never.
+/// After a tick of rows that break no rule each offer is younger than the ring of its group at that tick, and the time
+/// since it; so is after-call work, by the wrap of the agent's least group. A time of 0 means never.
 pub fn tick_bounds_answers()
     ensures { TickBoundsAnswers }
 {}
 
-/// So it is in every run, behind each of its ticks, at each state from there on.
+/// So it is in every run, after each of its ticks, at each state from there on.
 pub fn run_bounds_answers()
     ensures { RunBoundsAnswers }
 {}
 
-/// For each number of rounds there is a run in which a call of a group of low priority waits before and behind each request, while an agent of
-/// both groups answers a call of the other in each round.
+/// For each number of rounds there is a run in which a call of a group of low priority waits before and after each
+/// request, while an agent of both groups answers a call of the other in each round.
 pub fn low_priority_may_starve()
     ensures { LowPriorityMayStarve }
 {}

@@ -32,7 +32,7 @@ pub parts_append : (ps qs : List Part) → parts_tokens (ps ++ qs) ≡ parts_tok
 parts_append [] qs = refl
 parts_append (p ∷ ps) qs = ap (λ (ts : List Token). part_tokens p ++ ts) (parts_append ps qs) ∙ sym (append_assoc (part_tokens p) (parts_tokens ps) (parts_tokens qs))
 
--- what was written is the text of the data that the tokens stand for
+-- the written text is that of the data that the tokens represent
 pub printed : (d : Data) (start out : Written) → start.tokens ≡ [] → Added start out (json_tokens (outline d)) → print out.tokens ≡ compact_text d
 printed d start out empty added = ap print (added.1 ∙ ap (λ (ts : List Token). ts ++ json_tokens (outline d)) empty) ∙ print-outline d
 

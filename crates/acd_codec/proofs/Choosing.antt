@@ -69,15 +69,15 @@ later_placed a b l (x ∷ xs) = by (nat_cmp a x) (nat_cmp b x) refl refl (later_
     before : nat_cmp a b ≡ Less
     before = grind (arith, nat_tests)
 
-    behind : nat_cmp b a ≡ Greater
-    behind = grind (arith, nat_tests)
+    after : nat_cmp b a ≡ Greater
+    after = grind (arith, nat_tests)
 
     by : (o r : Ordering) → nat_cmp a x ≡ o → nat_cmp b x ≡ r → placed a (placed b xs) ≡ placed b (placed a xs)
         → placed a (match_ordering r (b ∷ x ∷ xs) (b ∷ xs) (x ∷ placed b xs)) ≡ placed b (match_ordering o (a ∷ x ∷ xs) (a ∷ xs) (x ∷ placed a xs))
-    by Less Less q p h = rw (before, behind, p) refl
-    by Less Equal q p h = rw (before, behind, p) refl
-    by Less Greater q p h = rw (q, behind, p) refl
-    by Equal Greater q p h = rw (q, behind) refl
+    by Less Less q p h = rw (before, after, p) refl
+    by Less Equal q p h = rw (before, after, p) refl
+    by Less Greater q p h = rw (q, after, p) refl
+    by Equal Greater q p h = rw (q, after) refl
     by Greater Greater q p h = rw (q, p) (ap (λ (ys : List ℕ). x ∷ ys) h)
     by Equal Less q p h = absurd (omega (arith, cmp_equal a x q, less_is b x p))
     by Equal Equal q p h = absurd (omega (arith, cmp_equal a x q, cmp_equal b x p))
@@ -131,7 +131,7 @@ apart_placed d xs (e ∷ es) =
     ∙ nots (d == e) (is_one_of xs e) (is_one_of es d) (apart xs es)
     ∙ ap (λ (b : Bool). not (b || is_one_of es d) && (not (is_one_of xs e) && apart xs es)) (eqb_swap d e)
 
--- there is room for them, and none would stand twice
+-- there is room for them, and none would occur twice
 abbrev fits : List ℕ → List ℕ → Bool
 fits xs ds = nat_le (length xs + length ds) 8 && apart xs ds && are_distinct ds
 
@@ -227,16 +227,16 @@ before x y h = by (nat_cmp x y) h
     by Equal h = absurd (true≢false (sym h))
     by Greater h = absurd (true≢false (sym h))
 
-not_behind : (x g : ℕ) (gs : List ℕ) → x ≤ g → ascends nat_cmp (g ∷ gs) ≡ true → is_one_of gs x ≡ false
-not_behind x g [] l a = refl
-not_behind x g (h ∷ hs) l a =
+not_after : (x g : ℕ) (gs : List ℕ) → x ≤ g → ascends nat_cmp (g ∷ gs) ≡ true → is_one_of gs x ≡ false
+not_after x g [] l a = refl
+not_after x g (h ∷ hs) l a =
     let both = and_parts (is_less (nat_cmp g h)) (ascends nat_cmp (h ∷ hs)) a in
     let step : g < h = less_is g h (before g h both.0) in
-    rw (other x h (omega arith)) (not_behind x h hs (omega arith) both.1)
+    rw (other x h (omega arith)) (not_after x h hs (omega arith) both.1)
 
 all_distinct : (gs : List ℕ) → ascends nat_cmp gs ≡ true → are_distinct gs ≡ true
 all_distinct [] a = refl
-all_distinct (g ∷ gs) a = rw (not_behind g g gs (omega arith) a) (all_distinct gs (tail_ascends g gs a))
+all_distinct (g ∷ gs) a = rw (not_after g g gs (omega arith) a) (all_distinct gs (tail_ascends g gs a))
 
 placed_first : (g : ℕ) (gs : List ℕ) → ascends nat_cmp (g ∷ gs) ≡ true → placed g gs ≡ g ∷ gs
 placed_first g [] a = refl

@@ -1,4 +1,4 @@
--- What was read as a request is read as the same request.
+-- Bytes that were read as a request are read as the same request.
 use Rattle.std.proofs.Common.{◌≡◌, ℕ, List, [], ◌∷◌, ◌++◌, Bool, true, false, cond, Option, Some, None, option_and_then, Result, Ok, Err, refl, ◌∙◌}
 use Rattle.std.specs.Option.{ok_or, is_some}
 use Rattle.std.specs.List.{find}
@@ -21,7 +21,7 @@ use Rattle.acd_codec.specs.MemberReading.{text_in, is_there, device_of, device_i
 use Rattle.acd_codec.specs.Reading.{two_devices_in, one_group_in, chosen_in, requested_in, set_agent_state_in, command_in, request_in, request_from, reads_as}
 use Rattle.acd_codec.specs.OldReading.{old_services, old_service_of, old_service_in, old_requested_in, old_set_agent_state_in, old_command_in, old_request_in, old_request_from, old_reads_as, OldReadsTheSame}
 
--- what the first reading gives the second gives too
+-- the second reading gives what the first one gives
 abbrev Kept : {A : Type 0} → Result A Member → Result A Member → Type 0
 Kept {A} old new = (a : A) → old ≡ Ok a → new ≡ Ok a
 

@@ -1,4 +1,4 @@
--- What is written for a request reads as that request.
+-- The text written for a request reads as that request.
 use Rattle.std.proofs.Common.{◌≡◌, ℕ, ◌^◌, ◌<◌, ◌≤◌, List, [], ◌∷◌, true, Some, Result, Ok, Err, refl, sym, ap, ◌∙◌, lit≤, lit<, arith, true≢false, IsUtf8}
 use Rattle.json.specs.Tree as tree
 use Rattle.json.proofs.Printed.Utf8.{IsUtf8-are_ascii, are_ascii}
@@ -187,7 +187,7 @@ taken q i (ChangeGroup device name ring wrap) hq hi hc = rw (text_again is_reque
 taken q i (ChangeAgent agent name) hq hi hc = rw (text_again is_requester_byte 32 q hq, number_again 1 999999999 i hi, id_again 9 agent hc.0, text_again is_name_byte 40 name hc.1) refl
 taken q i Tick hq hi hc = rw (text_again is_requester_byte 32 q hq, number_again 1 999999999 i hi) refl
 
--- what is written for a request reads as it
+-- the text written for a request reads as it
 pub reads_back : (r : Request) → IsRequest r → reads_as (request_text r) ≡ Ok r
 unfolding request_data request_text
 reads_back r h =

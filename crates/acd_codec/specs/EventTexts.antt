@@ -9,7 +9,7 @@ use Rattle.acd_codec.specs.Parts.{Part, text_part, number_part, list_part, objec
 use Rattle.serde_json.specs.Data.{Data}
 use Rattle.serde_json.specs.Written.{compact_text}
 
--- what the report is about, by the names of its members
+-- the subject of the report, by the names of its members
 abbrev pub subject_parts : Columns → List Part
 subject_parts c =
     text_part (codes "agent") (option_map digits_of c.agent)

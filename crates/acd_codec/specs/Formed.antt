@@ -1,4 +1,4 @@
--- What each part of a request is known to be.
+-- The conditions on each part of a request.
 use Rattle.std.specs.Prelude.{◌≡◌, ℕ, true}
 use Rattle.acd_terms.specs.Forms.{device_digits, agent_digits, IsNumberOf, IsName, IsRequester, IsBetween}
 use Rattle.acd_terms.specs.Groups.{is_choice}

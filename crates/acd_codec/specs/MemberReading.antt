@@ -35,7 +35,7 @@ is_there m d = is_some (get (member_name m) d)
 abbrev pub read_in : {A : Type 0} → (List ℕ → Option A) → Member → Data → Result A Member
 read_in reader m d = ok_or (option_and_then reader (text_in m d)) m
 
--- the member's number, where it lies from the least to the greatest
+-- the member's number, if it is from the least to the greatest
 abbrev pub number_within : ℕ → ℕ → Member → Data → Result ℕ Member
 number_within least greatest m d = ok_or (option_and_then (number_between least greatest) (number_in m d)) m
 
@@ -74,11 +74,11 @@ priority_in d = number_within 0 9 member.Priority d
 unfoldable pub serial_in : Member → Data → Result ℕ Member
 serial_in m d = number_within 1 1000000000 m d
 
--- a service goes by one of the names
+-- a service has one of the names
 unfoldable pub service_in : Data → Result Service Member
 service_in d = read_in service_of member.Service d
 
--- what is asked for is loggedOn or one of four states
+-- the request is for loggedOn or one of four states
 unfoldable pub requested_state_in : Data → Result RequestedState Member
 requested_state_in d = read_in requested_state_of member.Requested d
 
@@ -87,12 +87,12 @@ abbrev pub devices_of : Items → Option (List ℕ)
 devices_of no_items = Some []
 devices_of (item d ds) = option_and_then (λ (n : ℕ). option_map (λ (ns : List ℕ). n ∷ ns) (devices_of ds)) (option_and_then device_of (as_str d))
 
--- none of them stands there twice
+-- none of them occurs there twice
 abbrev pub are_distinct : List ℕ → Bool
 are_distinct [] = true
 are_distinct (d ∷ ds) = not (is_one_of ds d) && are_distinct ds
 
--- in ascending number: each is put in its place among those behind it
+-- in ascending number: each is put in its place among the rest
 abbrev pub ascending : List ℕ → List ℕ
 ascending [] = []
 ascending (d ∷ ds) = put_by (nat_cmp d) (ascending ds) d

@@ -1,4 +1,5 @@
--- Reading as it was while an agent served one group and groups had no priority. What has not changed since is shared.
+-- Reading as it was while an agent was in one group and groups had no priority. The parts that have not changed since
+-- are shared.
 use Rattle.std.specs.Prelude.{◌≡◌, ℕ, List, [], ◌∷◌, Option, Some, None, Result, Ok, Err, if◌then◌else◌}
 use Rattle.std.specs.Option.{is_some}
 use Rattle.std.specs.List.{find}
@@ -50,7 +51,7 @@ old_set_agent_state_in d = do
   requested ← old_requested_in d state
   Ok (SetAgentState agent requested)
 
--- the services that came later had no name that could be read
+-- no name of the later services could be read
 unfoldable pub old_command_in : Service → Data → Result Command Member
 old_command_in service.AddGroup d = at_group AddGroup d
 old_command_in service.AddStation d = at_device AddStation d
@@ -85,7 +86,7 @@ abbrev pub old_request_from : Option Data → Result Request Member
 old_request_from None = Err member.Json
 old_request_from (Some d) = if is_some (as_object d) then old_request_in d else Err member.Json
 
--- the request that the bytes stood for
+-- the request that the bytes represented
 unfoldable pub old_reads_as : List ℕ → Result Request Member
 old_reads_as bytes = if is_utf8 bytes then old_request_from (read bytes) else Err member.Json
 

@@ -3,7 +3,7 @@ use Rattle.std.specs.Prelude.{ℕ, List, [], ◌∷◌, codes, Option, Some, Non
 use Rattle.serde_json.specs.Data.{Data, string, number, array, object, unsigned, Items, no_items, item, Members, member, no_members}
 use Rattle.acd_terms.specs.Forms.{digits_of}
 
--- a name, and what stands under it, if anything
+-- a name, and its value, if any
 pub data Part : Type 0 where
   part : List ℕ → Option Data → Part
 
@@ -16,7 +16,7 @@ number_part k n = part k (option_map (λ (x : ℕ). number (unsigned x)) n)
 abbrev pub list_part : List ℕ → Items → Part
 list_part k ds = part k (Some (array ds))
 
--- the members that are there, in the order of the parts, and the others behind them
+-- the members that are there, in the order of the parts, and the others after them
 abbrev pub written_before : List Part → Members → Members
 written_before [] more = more
 written_before (part k None ∷ ps) more = written_before ps more

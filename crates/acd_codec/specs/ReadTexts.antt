@@ -1,4 +1,4 @@
--- The texts of agents, calls, devices and queues. The members of each object stand in the order of their names.
+-- The texts of agents, calls, devices and queues. The members of each object are in the order of their names.
 use Rattle.std.specs.Prelude.{ℕ, nat_lt, List, [], ◌∷◌, ◌++◌, codes, Option, Some, None, option_map, if◌then◌else◌}
 use Rattle.serde_json.specs.Data.{Data, string}
 use Rattle.serde_json.specs.Written.{compact_text}
@@ -24,7 +24,7 @@ connection_state_name Hold = codes "hold"
 connection_state_name Queued = codes "queued"
 connection_state_name Fail = codes "fail"
 
--- a number that a snapshot tells, and the read of a single record doesn't
+-- a number that a snapshot contains, and the read of a single record doesn't
 abbrev pub in_full : Extent → Option ℕ → Option ℕ
 in_full Brief n = None
 in_full Full n = n
@@ -126,7 +126,7 @@ unfoldable pub device_text : PlannedDevice → List ℕ
 device_text (Group g) = group_text g
 device_text (Station s) = station_text s
 
--- a connection that waits: its place in the queue, and since when it stands there
+-- a connection that waits: its place in the queue, and since when it waits there
 abbrev pub waiting_parts : ConnectionRecord → List Part
 waiting_parts c = number_part (codes "call") (Some c.call) ∷ number_part (codes "place") c.place ∷ number_part (codes "since") c.queued ∷ []
 

@@ -1,4 +1,4 @@
--- The request that bytes stand for, or the first faulty member, which ends the reading.
+-- The request that bytes represent, or the first faulty member, which ends the reading.
 use Rattle.std.specs.Prelude.{◌≡◌, ℕ, List, [], ◌∷◌, Option, Some, None, Result, Ok, Err, if◌then◌else◌}
 use Rattle.std.specs.Option.{is_some}
 use Rattle.std.specs.Str.{is_utf8}
@@ -160,12 +160,12 @@ request_in d = do
   command ← command_in service d
   Ok (record { requester = requester; invoke = invoke; command = command })
 
--- what is read is an object
+-- the data is an object
 abbrev pub request_from : Option Data → Result Request Member
 request_from None = Err member.Json
 request_from (Some d) = if is_some (as_object d) then request_in d else Err member.Json
 
--- the request that the bytes stand for
+-- the request that the bytes represent
 unfoldable pub reads_as : List ℕ → Result Request Member
 reads_as bytes = if is_utf8 bytes then request_from (read bytes) else Err member.Json
 
@@ -174,7 +174,7 @@ abbrev pub IsReadFault : {A : Type 0} → ReadFault → Result A Member → Type
 IsReadFault (Malformed m) reading = reading ≡ Err m
 IsReadFault NoMemory reading = Unit {0}
 
--- what a reader returned is this, unless memory ran out
+-- a reader returned this, unless memory ran out
 abbrev pub Gives : {A : Type 0} → Result A ReadFault → Result A Member → Type 0
 Gives (Ok x) reading = reading ≡ Ok x
 Gives (Err e) reading = IsReadFault e reading

@@ -30,7 +30,7 @@ whole m n more = member (member_name m) (number (unsigned n)) more
 abbrev pub digits : Member → ℕ → Members → Members
 digits m n more = text m (digits_of n) more
 
--- the key and the service, where no other member stands between them
+-- the key and the service, where no other member comes between them
 abbrev pub sent : List ℕ → ℕ → Service → Members → Members
 sent requester invoke s more = whole m.Invoke invoke (text m.Requester requester (text m.Service (service_name s) more))
 

@@ -76,6 +76,6 @@ requested_states =
     requested_state.LoggedOn ∷ requested_state.State pending.LoggedOff ∷ requested_state.State pending.NotReady
     ∷ requested_state.State pending.Ready ∷ requested_state.State pending.WorkingAfterCall ∷ []
 
--- what this name asks for
+-- the state that this name asks for
 abbrev pub requested_state_of : List ℕ → Option RequestedState
 requested_state_of text = find (λ a. bytes_eq text (requested_state_name a)) requested_states

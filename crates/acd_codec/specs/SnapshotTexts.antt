@@ -1,4 +1,4 @@
--- The text of all that a desk has: its records in the words in which each is told alone, and more of them.
+-- The text of a desk's whole content: its records in the words of their single reads, and more of them.
 use Rattle.std.specs.Prelude.{ℕ, List, [], ◌∷◌, codes, Some}
 use Rattle.serde_json.specs.Data.{Data}
 use Rattle.serde_json.specs.Written.{compact_text}

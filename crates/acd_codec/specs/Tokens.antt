@@ -30,7 +30,7 @@ abbrev pub each_tokens : {T : Type 0} → (T → Data) → List T → List Token
 each_tokens f [] = []
 each_tokens f (x ∷ xs) = data_tokens (f x) ++ each_tokens f xs
 
--- these tokens are written behind the others, and what the buffer held before them stays
+-- these tokens are written after the others, and what the buffer held before them stays
 abbrev pub Added : Written → Written → List Token → Type 0
 Added old new ts = (new.before ≡ old.before) × (new.tokens ≡ old.tokens ++ ts)
 

@@ -1,4 +1,4 @@
-//! The JSON of a request, looked up where it stands.
+//! The JSON of a request, looked up in place.
 
 ghost use Rattle.std.specs.Prelude.{◌≡◌, ◌<◌, ◌^◌, ◌==◌, ◌&&◌, length, slice_index, nat_lt, nat_le, true, false, Some, None, option_map, option_and_then, is_some, IfOk, IfErr, IsTrue};
 ghost use Rattle.json.specs.Json.{if_last};

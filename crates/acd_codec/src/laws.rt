@@ -1,4 +1,4 @@
-//! What holds of requests and their texts.
+//! Laws of requests and their texts.
 
 ghost use Rattle.std.specs.Prelude.{◌≡◌, ◌↔◌, Ok};
 ghost use Rattle.acd_terms.specs.Lists.{Every};
@@ -105,7 +105,7 @@ pub fn request_formed(request: &Request)
     command_formed(&request.command);
 }
 
-/// What is written for a request reads as that request.
+/// The text written for a request reads as that request.
 pub fn reads_back(request: &Request)
     ensures { reads_as (request_text request.now) ≡ Ok request.now }
 {
@@ -120,7 +120,7 @@ pub fn same_text(a: &Request, b: &Request)
     request_formed(b);
 }
 
-/// Bytes that were read as a request while an agent served one group and groups had no priority are read as the same
+/// Bytes that were read as a request while an agent was in one group and groups had no priority are read as the same
 /// request.
 pub fn old_reads_the_same()
     ensures { OldReadsTheSame }

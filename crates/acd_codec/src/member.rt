@@ -4,7 +4,7 @@ ghost use Rattle.std.specs.Prelude.{◌≡◌};
 ghost use Rattle.acd_codec.specs.Members.{member_name};
 ghost use Rattle.acd_codec.specs.ReplyTexts.{malformed_text};
 
-/// What can be faulty in an input: a member of a request, the request as JSON, or the moment before it.
+/// The faulty part of an input: a member of a request, the request as JSON, or the moment before it.
 #[derive(Clone, Copy, Debug, PartialEq, Eq)]
 pub enum Member {
     /// The bytes are no JSON, or no object.

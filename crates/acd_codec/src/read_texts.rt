@@ -19,33 +19,33 @@ use std::alloc::{AllocError, Global};
 // An agent, a group or a call with its connections fits, and so do most stations and queues.
 const ROOM: usize = 384;
 
-/// A station, with all that its text tells.
+/// A station, with all that its text contains.
 #[derive(Debug, Drop, PartialEq, Eq)]
 pub struct PlannedStation {
     pub device: DeviceId,
     /// Who is logged on there.
     pub agent: Option<AgentId>,
-    /// The connections there, in the order in which they are to be told.
+    /// The connections there, in the order in which they are to be written.
     pub connections: Listed<ConnectionRecord>,
 }
 
-/// A planned device, with all that its text tells.
+/// A planned device, with all that its text contains.
 #[derive(Debug, Drop, PartialEq, Eq)]
 pub enum PlannedDevice {
     Group(GroupRecord),
     Station(PlannedStation),
 }
 
-/// How much is told of a record.
+/// How much of a record is written.
 #[derive(Clone, Copy)]
 pub(crate) enum Extent {
-    /// What the read of it alone tells.
+    /// As in the read of the record alone.
     Brief,
-    /// What a snapshot tells of it.
+    /// As in a snapshot.
     Full,
 }
 
-// A number that a snapshot tells, and the read of a single record doesn't.
+// A number that a snapshot contains, and the read of a single record doesn't.
 fn in_full(extent: Extent, number: Option<u64>) -> Option<u64>
     ensures { result ≡ in_full extent number }
 {
@@ -196,7 +196,7 @@ pub(crate) fn put_call_members(
     put_number(out, "since", u64::from(call.since))
 }
 
-/// The text of a call with its connections, which stand as they are given.
+/// The text of a call with its connections, in the order in which they are given.
 pub fn call_text(
     alloc: Global,
     call: &CallRecord,
@@ -380,8 +380,8 @@ fn put_queue_members(
     put_list::<Digits>(out, "ready", ready)
 }
 
-/// The text of a group's queue: the connections that wait there, and the agents who may be offered a call. Both
-/// stand as they are given.
+/// The text of a group's queue: the connections that wait there, and the agents who may be offered a call. Both are in
+/// the order in which they are given.
 pub fn queue_text(
     alloc: Global,
     group: DeviceId,

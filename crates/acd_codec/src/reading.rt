@@ -444,7 +444,7 @@ fn request_in(document: &Document<'_>) -> Result<Request, Member>
     })
 }
 
-// The request that a document stands for.
+// The request that a document represents.
 fn request_of(document: &Document<'_>) -> Result<Request, Member>
     ensures { result ≡ request_from (Some (data_of document.now)) }
 {
@@ -469,7 +469,7 @@ impl RequestReader {
         }
     }
 
-    /// The request that the bytes stand for, or the first faulty member.
+    /// The request that the bytes represent, or the first faulty member.
     pub fn read(&mut self, bytes: &[u8]) -> Result<Request, ReadFault>
         ensures { Gives result (reads_as bytes.now) }
     {

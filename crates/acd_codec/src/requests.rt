@@ -26,7 +26,7 @@ fn put_service(out: &mut Writer, service: Service) -> Result<(), AllocError>
     put_text(out, "service", service.name())
 }
 
-// Writes what every request has, where no other member stands between.
+// Writes what every request has, where no other member comes between.
 fn put_sent(out: &mut Writer, request: &Request, service: Service) -> Result<(), AllocError>
     ensures { let r = request.now in
         AddsTokens result out.old out.new

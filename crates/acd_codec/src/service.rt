@@ -117,7 +117,7 @@ impl Service {
     }
 }
 
-/// What Set Agent State asks for, without the members that only loggedOn has.
+/// The states that Set Agent State asks for, without the members that only loggedOn has.
 #[derive(Clone, Copy, Debug, PartialEq, Eq)]
 pub enum RequestedState {
     LoggedOn,
@@ -125,7 +125,7 @@ pub enum RequestedState {
 }
 
 impl RequestedState {
-    /// What this name asks for.
+    /// The state that this name asks for.
     pub fn named(text: &str) -> Option<RequestedState>
         ensures { result ≡ requested_state_of text.now }
     {

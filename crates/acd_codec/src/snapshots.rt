@@ -20,11 +20,11 @@ const ROOM: usize = 4096;
 #[derive(Debug, Drop)]
 pub struct LiveCall {
     pub call: CallRecord,
-    /// Its connections, in the order in which they are to be told.
+    /// Its connections, in the order in which they are to be written.
     pub connections: Listed<ConnectionRecord>,
 }
 
-/// What a snapshot tells. Its lists are told as they are given.
+/// The content of a snapshot. Its lists are written in the order in which they are given.
 #[derive(Debug, Drop)]
 pub struct Snapshot {
     pub agents: Listed<AgentRecord>,

@@ -13,7 +13,7 @@ use acd_terms::{AgentId, DeviceId, Groups, Invoke, Priority, Requester, Seconds,
 use json::Writer;
 use std::alloc::{AllocError, Global};
 
-/// How things of one type stand in a list.
+/// How things of one type are written in a list.
 pub(crate) trait Form {
     type Item;
 
@@ -58,7 +58,7 @@ pub(crate) fn put_requester(out: &mut Writer, requester: &Requester) -> Result<(
     put_text(out, "requester", requester.as_str())
 }
 
-/// Writes whose request it is, where no other member stands between.
+/// Writes whose request it is, where no other member comes between.
 pub(crate) fn put_whom(
     out: &mut Writer,
     requester: &Requester,
@@ -205,7 +205,7 @@ pub(crate) fn put_groups(out: &mut Writer, groups: &Groups) -> Result<(), AllocE
     }
 }
 
-/// What was written into an empty buffer.
+/// The text that was written into an empty buffer.
 pub(crate) fn text_of(out: Writer) -> Result<String, AllocError>
     requires { out.before ≡ [] }
     ensures { IfOk result (λ s. string_bytes s ≡ print out.tokens) }

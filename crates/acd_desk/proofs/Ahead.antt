@@ -1,9 +1,9 @@
--- What a page of events that were read ahead tells of those above a number.
+-- The events above a number, found in a page of events that were read ahead.
 use Rattle.std.proofs.Common.{◌≡◌, ℕ, ◌<◌, ◌≤◌, zero, suc, Bool, true, false, cond, List, [], ◌∷◌, ◌++◌, inl, inr, refl, ap, sym, ◌∙◌, subst, take, drop, length, arith}
 use Rattle.std.specs.Prelude.{◌⊎◌, nat_lt}
 use Rattle.acd_terms.specs.declared.event.Event.{Event}
-use Rattle.acd_book.specs.Content.{Content, events_behind}
-use Rattle.acd_desk.specs.Tells.{above}
+use Rattle.acd_book.specs.Content.{Content, events_after}
+use Rattle.acd_desk.specs.ReadAnswers.{above}
 use Rattle.acd_desk.specs.declared.page.Page.{Page}
 use Rattle.acd_desk.specs.Pages.{IsPageOf, Reaches}
 use Rattle.acd_desk.proofs.PageLemmas.{above-again, split}
@@ -40,7 +40,7 @@ by_reach n count limit all page is (inr there) =
     sym (take_front count (above page n) (above (drop limit all) n) there)
     ∙ ap (take count) (sym (above_append n page (drop limit all)) ∙ ap (λ l. above l n) (ap (λ l. l ++ drop limit all) is ∙ split limit all))
 
-pub on_page : (c : Content) (p : Page) (n count : ℕ) → IsPageOf c p → Reaches p n count → events_behind p.events.items n count ≡ events_behind c.events n count
+pub on_page : (c : Content) (p : Page) (n count : ℕ) → IsPageOf c p → Reaches p n count → events_after p.events.items n count ≡ events_after c.events n count
 on_page c p n count is reaches =
     by_reach n count p.limit (above c.events p.above) p.events.items is reaches.1 ∙ ap (take count) (above-again p.above n c.events reaches.0)
 
@@ -56,8 +56,8 @@ still_above n (e ∷ events) k = by (nat_lt n e.number) refl k (still_above n ev
     by true p (suc k) more = ap (λ c. cond c (e ∷ above (take k (above events n)) n) (above (take k (above events n)) n)) p ∙ ap (λ l. e ∷ l) (more k)
     by false p k more = more k
 
--- a page that begins behind the number has the first of so many
-pub on_next_page : (c : Content) (p : Page) (n count : ℕ) → IsPageOf c p → p.above ≡ n → count ≤ p.limit → events_behind p.events.items n count ≡ events_behind c.events n count
+-- a page that begins after the number has the first of so many
+pub on_next_page : (c : Content) (p : Page) (n count : ℕ) → IsPageOf c p → p.above ≡ n → count ≤ p.limit → events_after p.events.items n count ≡ events_after c.events n count
 on_next_page c p n count is at room =
     let is : p.events.items ≡ take p.limit (above c.events n) = is ∙ ap (λ (m : ℕ). take p.limit (above c.events m)) at in
     ap (λ l. take count (above l n)) is ∙ ap (take count) (still_above n c.events p.limit) ∙ take_less count p.limit (above c.events n) room

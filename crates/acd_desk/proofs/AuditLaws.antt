@@ -17,7 +17,7 @@ use Rattle.acd_desk.specs.Stands.{arrivals_of, IsSound, raised_from}
 use Rattle.acd_desk.specs.Audit.{replayed, Agrees, IsFirstDifference, IsAudit}
 use Rattle.acd_desk.proofs.Steps.{step_numbers}
 use Rattle.acd_desk.proofs.Counting.{counted_executed}
-use Rattle.acd_desk.proofs.Sound.{New, new-distinct, distinct-new, new-take, kept-raised, length-raised, length-arrivals, firsts_own, sound_list}
+use Rattle.acd_desk.proofs.Sound.{New, new-distinct, distinct-new, new-take, kept-raised, length-raised, length-arrivals, firsts_same, sound_list}
 use Rattle.acd_desk.proofs.Audits.{begins}
 use Rattle.acd_desk.proofs.SharedLists.{rises_append}
 
@@ -50,9 +50,9 @@ sound_agrees c n sound le =
     let some : length t ≡ n = length-take-le n l (subst (λ (k : ℕ). n ≤ k) (sym size) le) in
     let few : length c.kept ≤ c.rows.limits.requests = sound.few in
     let short : length t ≤ c.rows.limits.requests = omega (arith, some, le, few) in
-    let own : firsts c.rows.limits.requests t ≡ t = firsts_own c.rows.limits.requests t (new-distinct t [] (new-take n l [] new)) short in
+    let same : firsts c.rows.limits.requests t ≡ t = firsts_same c.rows.limits.requests t (new-distinct t [] (new-take n l [] new)) short in
     let replay : replayed c n ≡ r
-    = ap (run c.rows.limits) (sym (take-map (λ (k : Kept). record { moment = k.moment; request = k.request }) n c.kept)) ∙ ap (run_from start) own in
+    = ap (run c.rows.limits) (sym (take-map (λ (k : Kept). record { moment = k.moment; request = k.request }) n c.kept)) ∙ ap (run_from start) same in
     let whole : c ≡ run_from r (drop n l) = sound_list c sound ∙ ap (run_from start) (sym (take-append-drop n l)) ∙ run_in_two start t (drop n l) in
     let kept = kept_more r (drop n l) in
     let events = events_more r (drop n l) in
@@ -72,16 +72,16 @@ sound_agrees c n sound le =
 sound_or_not : (c : Content) (n : ℕ) → IsSound c → IsFirstDifference c n → ⊥
 sound_or_not c n sound d = elim d.differs [
   | inl here ↦ here.1 (sound_agrees c n sound here.0)
-  | inr behind ↦ behind.1 sound
+  | inr beyond ↦ beyond.1 sound
 ]
 
 -- of two first differences none comes before the other
 no_earlier : (c : Content) (n m : ℕ) → IsFirstDifference c n → IsFirstDifference c m → n < m → ⊥
 no_earlier c n m d e less = elim d.differs [
   | inl here ↦ here.1 (e.before n d.place less)
-  | inr behind ↦ elim e.differs [
-    | inl there ↦ too_far n m (length c.kept) less behind.0 there.0
-    | inr also ↦ too_far_too n m (length c.kept) less behind.0 also.0
+  | inr beyond ↦ elim e.differs [
+    | inl there ↦ too_far n m (length c.kept) less beyond.0 there.0
+    | inr also ↦ too_far_too n m (length c.kept) less beyond.0 also.0
   ]
 ]
   where
@@ -111,7 +111,7 @@ one_audit c (Differs n) (Differs m) h g =
     both : (n m : ℕ) → m ≤ n → n ≤ m → n ≡ m
     both n m le ge = omega (arith, le, ge)
 
--- ---- a sound content stands in order ----
+-- ---- a sound content is in order ----
 
 pub going_rises : (last : ℕ) (es : List Event) → GoOn last es → Rises number_of last es
 going_rises last [] h = tt
@@ -140,5 +140,5 @@ sound_ordered c sound =
     (run_ordered (arrivals_of c.kept) (empty_content c.rows.limits) (record { events = tt; kept = tt }) (record { kept = tt; events = tt }))
 
 -- so an audit of it answers Sound
-pub told_sound : (b d : BookState) (found : Audit) → Reads b d (Ok found) (λ (c : Content) (x : Audit). IsOrdered c → IsAudit c x) → d.is_clean → b.is_sound → IsSound b.content → found ≡ Sound
-told_sound b d found r clean sound whole = one_audit b.content found Sound ((r.value clean sound).1 (sound_ordered b.content whole)) whole
+pub finds_sound : (b d : BookState) (found : Audit) → Reads b d (Ok found) (λ (c : Content) (x : Audit). IsOrdered c → IsAudit c x) → d.is_clean → b.is_sound → IsSound b.content → found ≡ Sound
+finds_sound b d found r clean sound whole = one_audit b.content found Sound ((r.value clean sound).1 (sound_ordered b.content whole)) whole

@@ -1,4 +1,4 @@
--- What a desk answers to an audit with an archive.
+-- An audit of a desk with an archive: the desk's answer.
 use Rattle.std.proofs.Common.{◌≡◌, Bool, true, false, Option, None, Result, Ok, Err, IfOk, sym, subst, ◌∙◌, inl, inr, true≢false, refl}
 use Rattle.acd_book.specs.Content.{Content, IsCounted}
 use Rattle.acd_book.specs.State.{BookState, IfHonest}
@@ -16,18 +16,18 @@ use Rattle.acd_desk.specs.Pairs.{ReadsBoth}
 use Rattle.acd_desk.specs.Faults.{fault_of, left_by}
 use Rattle.acd_desk.specs.Pages.{ReadsIfOpen}
 use Rattle.acd_desk.specs.Standing.{Standing, InStep, switch_of, is_failed, Mirrors}
-use Rattle.acd_desk.specs.Told.{Told}
+use Rattle.acd_desk.specs.ReadDone.{ReadDone}
 use Rattle.acd_desk.proofs.DeskSteps.{works}
 use Rattle.acd_desk.proofs.StepsWith.{WholeOf}
-use Rattle.acd_desk.proofs.Telling.{stands, without_memory, store_failed}
+use Rattle.acd_desk.proofs.ReadsDone.{stands, without_memory, store_failed}
 use Rattle.acd_terms.proofs.Results.{ok_err, same_error}
 
 abbrev Anything : {T : Type 0} → Content → T → Type 0
 Anything c found = Unit {0}
 
--- it was found
-pub told_found : {T : Type 0} (b d : BookState) (w : Working) (x : T) → ReadsIfOpen {A = T} b d (Ok x) Anything → is_failed w ≡ false → Told {A = T} (stands b w) (stands d w) (Ok x) Anything
-told_found b d w x read working = record {
+-- the audit found it
+pub read_found : {T : Type 0} (b d : BookState) (w : Working) (x : T) → ReadsIfOpen {A = T} b d (Ok x) Anything → is_failed w ≡ false → ReadDone {A = T} (stands b w) (stands d w) (Ok x) Anything
+read_found b d w x read working = record {
   step = step_so read.step (λ is. absurd (ok_err is));
   unchanged = read.unchanged;
   desk = works (stands b w) (stands d w) (λ h. ok_err h) working working (λ clean sound step opened still.
@@ -39,26 +39,26 @@ told_found b d w x read working = record {
   loads = λ working gone. gone;
 }
 
--- the book told nothing
-pub told_not : {T S : Type 0} (b d : BookState) (w : Working) (f : BookFault) → ReadsIfOpen {A = T} b d (Err f) Anything → is_failed w ≡ false → Told {A = S} (stands b w) (stands d (left_by f w)) (Err (fault_of f)) Anything
-told_not {S = S} b d w faults.NoMemory read working = without_memory b d w (Anything {T = S}) read.step read.unchanged (λ h. (let same = same_error h in absurd cc)) working
-told_not {S = S} b d w faults.Store read working = store_failed b d w (Anything {T = S}) read.step read.unchanged (inl (inr (read.cause refl)))
+-- the book answered nothing
+pub read_failed : {T S : Type 0} (b d : BookState) (w : Working) (f : BookFault) → ReadsIfOpen {A = T} b d (Err f) Anything → is_failed w ≡ false → ReadDone {A = S} (stands b w) (stands d (left_by f w)) (Err (fault_of f)) Anything
+read_failed {S = S} b d w faults.NoMemory read working = without_memory b d w (Anything {T = S}) read.step read.unchanged (λ h. (let same = same_error h in absurd cc)) working
+read_failed {S = S} b d w faults.Store read working = store_failed b d w (Anything {T = S}) read.step read.unchanged (inl (inr (read.cause refl)))
 
--- the archive told nothing
-pub told_other : {T S : Type 0} (b d : BookState) (w : Working) → ReadsIfOpen {A = T} b d (Err faults.NoMemory) Anything → is_failed w ≡ false → Told {A = S} (stands b w) (stands d w) (Err NoMemory) Anything
-told_other {S = S} b d w read working = without_memory b d w (Anything {T = S}) read.step read.unchanged (λ h. (let same = same_error h in absurd cc)) working
+-- the archive answered nothing
+pub other_failed : {T S : Type 0} (b d : BookState) (w : Working) → ReadsIfOpen {A = T} b d (Err faults.NoMemory) Anything → is_failed w ≡ false → ReadDone {A = S} (stands b w) (stands d w) (Err NoMemory) Anything
+other_failed {S = S} b d w read working = without_memory b d w (Anything {T = S}) read.step read.unchanged (λ h. (let same = same_error h in absurd cc)) working
 
--- neither told anything: what that is to the desk, and to the archive
-pub told_neither : (a e b d : BookState) (w : Working) (f : PairFault) (P : Content → Content → Audit → Type 0) → ReadsBoth a e b d (Err f) P → is_failed w ≡ false
-    → Told {A = Audit} (stands b w) (stands d (left_by_pair f w)) (desk_part (Err (audit_fault f))) Anything
-told_neither a e b d w (pair.Own f) P read working = told_not {T = Audit} b d w f read.own working
-told_neither a e b d w (pair.Archive f) P read working = told_other {T = Audit} b d w read.own working
+-- neither answered anything: the consequence for the desk, and for the archive
+pub both_failed : (a e b d : BookState) (w : Working) (f : PairFault) (P : Content → Content → Audit → Type 0) → ReadsBoth a e b d (Err f) P → is_failed w ≡ false
+    → ReadDone {A = Audit} (stands b w) (stands d (left_by_pair f w)) (desk_part (Err (audit_fault f))) Anything
+both_failed a e b d w (pair.Current f) P read working = read_failed {T = Audit} b d w f read.current working
+both_failed a e b d w (pair.Archive f) P read working = other_failed {T = Audit} b d w read.current working
 
 pub archive_neither : (a e b d : BookState) (f : PairFault) (P : Content → Content → Audit → Type 0) → ReadsBoth a e b d (Err f) P → ReadsIfOpen {A = Audit} a e (archive_part (Err (audit_fault f))) Anything
-archive_neither a e b d (pair.Own f) P read = read.archive
+archive_neither a e b d (pair.Current f) P read = read.archive
 archive_neither a e b d (pair.Archive f) P read = read.archive
 
 -- the audit is that of both contents
 pub audited_both : (a e b d : BookState) (found : Audit) → ReadsBoth a e b d (Ok found) WholeOf → IsAuditedWith a e b d (Ok found)
-audited_both a e b d found read = λ clean sound own_clean own_sound opened own_opened stands ordered.
-    read.value clean sound own_clean own_sound opened own_opened (record { archive = stands; own = ordered })
+audited_both a e b d found read = λ clean sound current_clean current_sound opened current_opened stands ordered.
+    read.value clean sound current_clean current_sound opened current_opened (record { archive = stands; current = ordered })

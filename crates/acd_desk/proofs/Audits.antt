@@ -1,4 +1,4 @@
--- A replay goes on record by record, and ends where the content is sound or differs.
+-- A replay continues record by record, and ends where the content is sound or differs.
 use Rattle.std.proofs.Common.{◌≡◌, ℕ, ◌+◌, ◌<◌, ◌≤◌, List, [], ◌∷◌, ◌++◌, length, take, drop, refl, sym, ap, ap₂, subst, ◌∙◌, arith, append_assoc, append-nil, Bool, true, false, cond, nat_lt, filter, find, Option, Some, None, is_some, option_map, inl, inr, true≢false, lt-ltb, ltb-true, ltb-false}
 use Rattle.std.specs.Option.{option_or}
 use Rattle.std.proofs.Math.Seq.{take-append_seam, take-append-add}
@@ -14,7 +14,7 @@ use Rattle.acd_terms.specs.declared.rows.Rows.{Rows}
 use Rattle.acd_terms.specs.declared.event.Event.{Event}
 use Rattle.acd_terms.specs.declared.command.Arrival.{Arrival}
 use Rattle.acd_book.specs.declared.kept.Kept.{Kept}
-use Rattle.acd_book.specs.Content.{Content, empty_content, kept_of, is_key, events_behind, IsKeptAfter, IsCounted, GoOn}
+use Rattle.acd_book.specs.Content.{Content, empty_content, kept_of, is_key, events_after, IsKeptAfter, IsCounted, GoOn}
 use Rattle.acd_book.specs.Memory.{stamp_of, number_of}
 use Rattle.acd_book.specs.Order.{Rises, IsOrdered}
 use Rattle.acd_desk.specs.Firsts.{stepped, record_of, executed, run_from, run, firsts}
@@ -30,8 +30,8 @@ use Rattle.acd_desk.proofs.Counting.{counted_run}
 use Rattle.acd_desk.proofs.Commits.{some_none}
 use Rattle.acd_desk.proofs.ContentLaws.{nothing_taken}
 use Rattle.acd_desk.proofs.Sound.{run_sound}
-use Rattle.acd_book.proofs.Keys.{key_own}
-use Rattle.acd_book.proofs.Left.{left_behind}
+use Rattle.acd_book.proofs.Keys.{key_itself}
+use Rattle.acd_book.proofs.Left.{left_after}
 
 -- ---- lists in order ----
 
@@ -120,11 +120,11 @@ split_counted c r kl el s = subst IsCounted (sym s.is_run) (counted_run c.rows.l
 split_limits : (c r : Content) (kl : List Kept) (el : List Event) → Splits c r kl el → r.rows.limits ≡ c.rows.limits
 split_limits c r kl el s = ap (λ (x : Content). x.rows.limits) s.is_run ∙ run-limits (firsts c.rows.limits.requests (arrivals_of r.kept)) (empty_content c.rows.limits)
 
--- what is left behind the events of a replay, as a book tells it
-pub told_left : (c r : Content) (kl : List Kept) (el : List Event) (n : ℕ) → Splits c r kl el → events_behind c.events r.rows.last_event n ≡ take n el
-told_left c r kl el n s =
-    ap (λ (l : List Event). events_behind l r.rows.last_event n) s.events
-    ∙ left_behind r.rows.last_event n r.events el (split_counted c r kl el s).events s.events_rise
+-- the events after those of a replay, as a book reads them
+pub read_left : (c r : Content) (kl : List Kept) (el : List Event) (n : ℕ) → Splits c r kl el → events_after c.events r.rows.last_event n ≡ take n el
+read_left c r kl el n s =
+    ap (λ (l : List Event). events_after l r.rows.last_event n) s.events
+    ∙ left_after r.rows.last_event n r.events el (split_counted c r kl el s).events s.events_rise
 
 -- where the next place agrees, its record matches and a request was left
 agreed_matches : (c r : Content) (k : Kept) (tail : List Kept) (el : List Event) → Splits c r (k ∷ tail) el → Agrees c (r.rows.last_stamp + 1)
@@ -146,11 +146,11 @@ agreed_matches c r k tail el s ag =
     = ap (λ (l : List Kept). kept_of l k.request.requester k.request.invoke) s.kept
     ∙ find-append (λ (x : Kept). is_key k.request.requester k.request.invoke x.request) r.kept (k ∷ tail)
     ∙ ap (λ (o : Option Kept). option_or o (kept_of (k ∷ tail) k.request.requester k.request.invoke)) room.0
-    ∙ ap (λ (b : Bool). cond b (Some k) (kept_of tail k.request.requester k.request.invoke)) (key_own k.request) in (
+    ∙ ap (λ (b : Bool). cond b (Some k) (kept_of tail k.request.requester k.request.invoke)) (key_itself k.request) in (
       record {
         kept = sym mine;
         first = ap (option_map stamp_of) found;
-        events = told_left c r (k ∷ tail) el (length evs) s ∙ sym left;
+        events = read_left c r (k ∷ tail) el (length evs) s ∙ sym left;
       },
       subst (λ (n : Limits). r.rows.last_stamp < n.requests) (split_limits c r (k ∷ tail) el s) room.1,
     )
@@ -168,8 +168,8 @@ unkept_before whole front tail k n is lows stamp first =
       | None ↦ λ is. refl
       | Some x ↦ λ is.
           let low : x.stamp ≤ n = every_find (λ (y : Kept). y.stamp ≤ n) (λ (y : Kept). is_key p q y.request) front x lows is in
-          let told : Some x.stamp ≡ Some k.stamp = ap (option_map stamp_of) (ap (λ (o : Option Kept). option_or o (kept_of (k ∷ tail) p q)) (sym is) ∙ sym found) ∙ first in
-          absurd (clash x.stamp k.stamp n told low stamp)
+          let holds : Some x.stamp ≡ Some k.stamp = ap (option_map stamp_of) (ap (λ (o : Option Kept). option_or o (kept_of (k ∷ tail) p q)) (sym is) ∙ sym found) ∙ first in
+          absurd (clash x.stamp k.stamp n holds low stamp)
     ] in
     cases (kept_of front p q) refl
   where
@@ -195,7 +195,7 @@ splits_next c r k tail el s m room =
     let stamp = step_stamp r.rows a.moment a.request.command in
     let event = step_event r.rows a.moment a.request.command in
     let left : el ≡ evs ++ drop (length evs) el
-    = sym (take-append-drop (length evs) el) ∙ ap (λ (l : List Event). l ++ drop (length evs) el) (sym (told_left c r (k ∷ tail) el (length evs) s) ∙ m.events) in
+    = sym (take-append-drop (length evs) el) ∙ ap (λ (l : List Event). l ++ drop (length evs) el) (sym (read_left c r (k ∷ tail) el (length evs) s) ∙ m.events) in
     let is_stamp : k.stamp ≡ (stepped r.rows a).rows.last_stamp = ap (λ (x : Kept). x.stamp) m.kept ∙ sym stamp in
     let long = length-append r.kept (record_of r.rows a ∷ []) in
     let size = s.size in
@@ -222,7 +222,7 @@ agrees_on c n before here m low high =
     is_last : (m n : ℕ) → m < n + 1 → n ≤ m → n ≡ m
     is_last m n h le = omega (arith, h, le)
 
--- ---- what a replay is told, and what it answers ----
+-- ---- what a replay reads, and what it answers ----
 
 no_place : (m : ℕ) → 1 ≤ m → m < 1 → ⊥
 no_place m low high = omega (arith, low, high)
@@ -343,17 +343,17 @@ same_content c r e1 e2 e3 =
     let whole : Rows → List Event → List Kept → Content = λ x y z. record { rows = x; events = y; kept = z } in
     ap (λ (x : Rows). whole x c.events c.kept) e1 ∙ ap (λ (y : List Event). whole r.rows y c.kept) e2 ∙ ap (λ (z : List Kept). whole r.rows r.events z) e3
 
-ends_sound : (c r : Content) (el : List Event) → limits_fit c.rows.limits ≡ true → Splits c r [] el → events_behind c.events r.rows.last_event 1 ≡ [] → c.rows ≡ r.rows → IsSound c
+ends_sound : (c r : Content) (el : List Event) → limits_fit c.rows.limits ≡ true → Splits c r [] el → events_after c.events r.rows.last_event 1 ≡ [] → c.rows ≡ r.rows → IsSound c
 ends_sound c r el fits s none rows =
-    let no_event : el ≡ [] = nothing_more el (sym (told_left c r [] el 1 s) ∙ none) in
+    let no_event : el ≡ [] = nothing_more el (sym (read_left c r [] el 1 s) ∙ none) in
     let same : c ≡ r = same_content c r rows (s.events ∙ ap (λ (l : List Event). r.events ++ l) no_event ∙ append-nil r.events) (s.kept ∙ append-nil r.kept) in
     subst IsSound (sym (same ∙ s.is_run)) (run_sound c.rows.limits (arrivals_of r.kept) fits)
 
-sound_ends : (c r : Content) (el : List Event) → Splits c r [] el → IsSound c → (events_behind c.events r.rows.last_event 1 ≡ []) × (c.rows ≡ r.rows)
+sound_ends : (c r : Content) (el : List Event) → Splits c r [] el → IsSound c → (events_after c.events r.rows.last_event 1 ≡ []) × (c.rows ≡ r.rows)
 sound_ends c r el s sound =
     let same : c ≡ r = sound.replays ∙ ap (λ (l : List Kept). run c.rows.limits (arrivals_of l)) (s.kept ∙ append-nil r.kept) ∙ sym s.is_run in
     let no_event : el ≡ [] = append_cancel_left r.events el [] (sym s.events ∙ ap (λ (x : Content). x.events) same ∙ sym (append-nil r.events)) in (
-      told_left c r [] el 1 s ∙ ap (λ (l : List Event). take 1 l) no_event,
+      read_left c r [] el 1 s ∙ ap (λ (l : List Event). take 1 l) no_event,
       ap (λ (x : Content). x.rows) same,
     )
 
@@ -361,7 +361,7 @@ sound_ends c r el s sound =
 pub replay_sound : (c : Content) (s : Rows) → Replays c s → IsKeptAfter c.kept s.last_stamp None → IsEnd c s → IsSound c
 replay_sound c s p found ended =
     ends_sound c p.ran p.events_left p.fits (subst (λ (l : List Kept). Splits c p.ran l p.events_left) (nothing_left c s p found) p.splits)
-    (subst (λ (x : Rows). events_behind c.events x.last_event 1 ≡ []) p.rows ended.0) (ended.1 ∙ p.rows)
+    (subst (λ (x : Rows). events_after c.events x.last_event 1 ≡ []) p.rows ended.0) (ended.1 ∙ p.rows)
 
 all_places : (c r : Content) (el : List Event) → Splits c r [] el → r.rows.last_stamp + 1 ≡ length c.kept + 1
 all_places c r el s =
@@ -381,6 +381,6 @@ replay_rest c s p found unmet =
         all_places c p.ran p.events_left splits,
         λ sound.
             let both = sound_ends c p.ran p.events_left splits sound in
-            unmet (subst (λ (x : Rows). events_behind c.events x.last_event 1 ≡ []) (sym p.rows) both.0, both.1 ∙ sym p.rows),
+            unmet (subst (λ (x : Rows). events_after c.events x.last_event 1 ≡ []) (sym p.rows) both.0, both.1 ∙ sym p.rows),
       );
     })

@@ -11,15 +11,15 @@ use Rattle.acd_book.specs.Content.{Content, empty_content, is_key, kept_of}
 use Rattle.acd_desk.specs.declared.taken.Taken.{Taken}
 use Rattle.acd_desk.specs.declared.taken.Taken.TheVariants.{Reply, InvokeReused}
 use Rattle.acd_desk.specs.Firsts.{has_key, distinct_from, firsts, record_of, executed, run_from, run}
-use Rattle.acd_desk.specs.Replies.{same_request, answer_of, reply_to, StandTogether, StandsFirst, IsEarlier, IsReplyAt, own, repeat, reused, full}
-use Rattle.acd_desk.proofs.Keys.{same_own}
+use Rattle.acd_desk.specs.Replies.{same_request, answer_of, reply_to, StandTogether, StandsFirst, IsEarlier, IsReplyAt, first_arrival, repeat, reused, full}
+use Rattle.acd_desk.proofs.Keys.{same_itself}
 use Rattle.acd_desk.proofs.Runs.{has-push}
 use Rattle.acd_desk.proofs.Sound.{New, distinct-new}
 use Rattle.acd_desk.proofs.SameRequests.{same_true}
-use Rattle.acd_book.proofs.Keys.{key_same, key_own}
+use Rattle.acd_book.proofs.Keys.{key_same, key_itself}
 use Rattle.acd_lemmas.proofs.Lists.{some_is}
 
--- what a run keeps of each arrival in turn
+-- the records that a run keeps of each arrival in turn
 abbrev records : Content → List Arrival → List Kept
 records c [] = []
 records c (a ∷ l) = record_of c.rows a ∷ records (executed c a) l
@@ -114,7 +114,7 @@ first_of_key [] seen x p q key h = absurd h
 first_of_key (a ∷ l) seen x p q key h =
     let same : (x.request.requester ≡ p) × (x.request.invoke ≡ q) = key_same p q x.request key in
     let rest : List Arrival = distinct_from (seen ++ a ∷ []) l in
-    let behind : Among x rest → find (has_its_key p q) (a ∷ l) ≡ Some x
+    let in_rest : Among x rest → find (has_its_key p q) (a ∷ l) ≡ Some x
     = λ there.
     let other : is_key x.request.requester x.request.invoke a.request ≡ false
     = (neither (has_key seen x.request.requester x.request.invoke) (is_key x.request.requester x.request.invoke a.request)
@@ -127,8 +127,8 @@ first_of_key (a ∷ l) seen x p q key h =
     let P : Bool → Type 0 = λ b. Among x (cond b [] (a ∷ []) ++ rest) → find (has_its_key p q) (a ∷ l) ≡ Some x in
     let cases : (b : Bool) → P b
     = elim [
-      | true ↦ behind
-      | false ↦ λ at. elim at [ inl is ↦ here is | inr there ↦ behind there ]
+      | true ↦ in_rest
+      | false ↦ λ at. elim at [ inl is ↦ here is | inr there ↦ in_rest there ]
     ] in
     cases (has_key seen a.request.requester a.request.invoke) h
 
@@ -158,57 +158,57 @@ pub record FirstOf (limits : Limits) (list : List Arrival) (r : Request) (o : Op
   pub same : k.request ≡ x.request
   pub first : find (has_its_key r.requester r.invoke) list ≡ Some x
 
-own_answer : (k : Kept) (r : Request) → k.request ≡ r → answer_of (Some k) r ≡ Reply k.status k.body
-own_answer k r e = ap (λ (b : Bool). cond b (Reply k.status k.body) InvokeReused) (ap (λ (s : Request). same_request s r) e ∙ same_own r)
+same_answer : (k : Kept) (r : Request) → k.request ≡ r → answer_of (Some k) r ≡ Reply k.status k.body
+same_answer k r e = ap (λ (b : Bool). cond b (Reply k.status k.body) InvokeReused) (ap (λ (s : Request). same_request s r) e ∙ same_itself r)
 
 other_answer : (k : Kept) (r : Request) → k.request ≢ r → answer_of (Some k) r ≡ InvokeReused
 other_answer k r e = ap (λ (b : Bool). cond b (Reply k.status k.body) InvokeReused) (other_false k.request r e)
 
 -- where the first arrival of its key was found
-by_place : (limits : Limits) (before : List Arrival) (a : Arrival) (behind : List Arrival) (o : Option Kept) (x : Arrival) (k : Kept)
-    → FirstOf limits (before ++ a ∷ behind) a.request o x k → IsReplyAt limits before a behind (answer_of o a.request)
-by_place limits before a behind o x k f =
+by_place : (limits : Limits) (before : List Arrival) (a : Arrival) (rest : List Arrival) (o : Option Kept) (x : Arrival) (k : Kept)
+    → FirstOf limits (before ++ a ∷ rest) a.request o x k → IsReplyAt limits before a rest (answer_of o a.request)
+by_place limits before a rest o x k f =
     let p : List ℕ = a.request.requester in
     let q : ℕ = a.request.invoke in
-    let R : Taken → Type 0 = IsReplyAt limits before a behind in
-    let list : List Arrival = before ++ a ∷ behind in
-    let split : option_or (find (has_its_key p q) before) (find (has_its_key p q) (a ∷ behind)) ≡ Some x = sym (find-append (has_its_key p q) before (a ∷ behind)) ∙ f.first in
-    let mine : find (has_its_key p q) (a ∷ behind) ≡ Some a = ap (λ (b : Bool). cond b (Some a) (find (has_its_key p q) behind)) (key_own a.request) in
+    let R : Taken → Type 0 = IsReplyAt limits before a rest in
+    let list : List Arrival = before ++ a ∷ rest in
+    let split : option_or (find (has_its_key p q) before) (find (has_its_key p q) (a ∷ rest)) ≡ Some x = sym (find-append (has_its_key p q) before (a ∷ rest)) ∙ f.first in
+    let mine : find (has_its_key p q) (a ∷ rest) ≡ Some a = ap (λ (b : Bool). cond b (Some a) (find (has_its_key p q) rest)) (key_itself a.request) in
     let looked : (t : Taken) → answer_of (Some k) a.request ≡ t → R t → R (answer_of o a.request) = λ t e r. subst R (sym (ap (λ (o : Option Kept). answer_of o a.request) f.there ∙ e)) r in
     let cases : (u : Option Arrival) → find (has_its_key p q) before ≡ u → R (answer_of o a.request)
     = λ u. elim u as (λ u. find (has_its_key p q) before ≡ u → R (answer_of o a.request)) [
       | None ↦ λ e.
-          let is : a ≡ x = some_is a x (sym mine ∙ ap (λ (u : Option Arrival). option_or u (find (has_its_key p q) (a ∷ behind))) (sym e) ∙ split) in
-          looked (Reply k.status k.body) (own_answer k a.request (f.same ∙ ap (λ (y : Arrival). y.request) (sym is)))
-          (own k (none_has before p q e) (subst (λ (y : Arrival). StandsFirst limits list y k) (sym is) f.stands))
+          let is : a ≡ x = some_is a x (sym mine ∙ ap (λ (u : Option Arrival). option_or u (find (has_its_key p q) (a ∷ rest))) (sym e) ∙ split) in
+          looked (Reply k.status k.body) (same_answer k a.request (f.same ∙ ap (λ (y : Arrival). y.request) (sym is)))
+          (first_arrival k (none_has before p q e) (subst (λ (y : Arrival). StandsFirst limits list y k) (sym is) f.stands))
       | Some y ↦ λ e.
-          let is : y ≡ x = some_is y x (ap (λ (u : Option Arrival). option_or u (find (has_its_key p q) (a ∷ behind))) (sym e) ∙ split) in
+          let is : y ≡ x = some_is y x (ap (λ (u : Option Arrival). option_or u (find (has_its_key p q) (a ∷ rest))) (sym e) ∙ split) in
           let there = found_among before y p q e in
           let earlier : IsEarlier before a x = subst (IsEarlier before a) is (record { stands = there.0; key = there.1 }) in
           let same : (b : Bool) → same_request x.request a.request ≡ b → R (answer_of o a.request)
           = λ b. elim b as (λ b. same_request x.request a.request ≡ b → R (answer_of o a.request)) [
             | true ↦ λ h. let one : x.request ≡ a.request = same_true x.request a.request h in
-                looked (Reply k.status k.body) (own_answer k a.request (f.same ∙ one)) (repeat x k earlier f.stands one)
-            | false ↦ λ h. let two : x.request ≢ a.request = λ one. true≢false (sym (ap (λ (s : Request). same_request s a.request) one ∙ same_own a.request) ∙ h) in
+                looked (Reply k.status k.body) (same_answer k a.request (f.same ∙ one)) (repeat x k earlier f.stands one)
+            | false ↦ λ h. let two : x.request ≢ a.request = λ one. true≢false (sym (ap (λ (s : Request). same_request s a.request) one ∙ same_itself a.request) ∙ h) in
                 looked InvokeReused (other_answer k a.request (λ one. two (sym f.same ∙ one))) (reused x k earlier f.stands two)
           ] in
           same (same_request x.request a.request) refl
     ] in
     cases (find (has_its_key p q) before) refl
 
-pub reply_by_place : (limits : Limits) (before : List Arrival) (a : Arrival) (behind : List Arrival) → IsReplyAt limits before a behind (reply_to limits (before ++ a ∷ behind) a.request)
-reply_by_place limits before a behind =
+pub reply_by_place : (limits : Limits) (before : List Arrival) (a : Arrival) (rest : List Arrival) → IsReplyAt limits before a rest (reply_to limits (before ++ a ∷ rest) a.request)
+reply_by_place limits before a rest =
     let p : List ℕ = a.request.requester in
     let q : ℕ = a.request.invoke in
-    let list : List Arrival = before ++ a ∷ behind in
+    let list : List Arrival = before ++ a ∷ rest in
     let f : List Arrival = firsts limits.requests list in
     let kept : (run limits list).kept ≡ records (empty_content limits) f = kept_records f (empty_content limits) in
     elim (found_or_not f (empty_content limits) p q) [
-      | inl x ↦ by_place limits before a behind (kept_of (run limits list).kept p q) x.first x.kept (record {
+      | inl x ↦ by_place limits before a rest (kept_of (run limits list).kept p q) x.first x.kept (record {
         there = ap (λ (ks : List Kept). kept_of ks p q) kept ∙ x.there;
         stands = subst (λ (ks : List Kept). StandTogether f ks x.first x.kept) (sym kept) x.together;
         same = x.same;
         first = first_of_key list [] x.first p q x.key (among_take limits.requests (distinct_from [] list) x.first (together_among f (records (empty_content limits) f) x.first x.kept x.together));
       })
-      | inr none ↦ subst (IsReplyAt limits before a behind) (sym (ap (λ (ks : List Kept). answer_of (kept_of ks p q) a.request) kept ∙ ap (λ (o : Option Kept). answer_of o a.request) none.0)) (full none.1)
+      | inr none ↦ subst (IsReplyAt limits before a rest) (sym (ap (λ (ks : List Kept). answer_of (kept_of ks p q) a.request) kept ∙ ap (λ (o : Option Kept). answer_of o a.request) none.0)) (full none.1)
     ]

@@ -1,4 +1,4 @@
--- What a call of a desk leaves, by what the calls of its book left.
+-- A call of a desk, by the calls of its book.
 use Rattle.std.proofs.Common.{◌≡◌, false, Some, None, Ok, refl, sym, ap, subst, ◌∙◌, inl, inr}
 use Rattle.acd_terms.specs.declared.rows.Rows.{Rows}
 use Rattle.acd_terms.specs.declared.command.Request.{Request}
@@ -15,10 +15,10 @@ use Rattle.acd_desk.specs.Stands.{IsNew}
 use Rattle.acd_desk.proofs.DeskSteps.{rereads, desk_then}
 use Rattle.acd_terms.proofs.Results.{ok_err}
 
--- ---- behind a read ----
+-- ---- after a read ----
 
-pub behind : (old mid new : Standing) (a : Arrival) (t : Taken) → Reread old mid → Took mid a t new → Took old a t new
-behind old mid new a t r took =
+pub after_reread : (old mid new : Standing) (a : Arrival) (t : Taken) → Reread old mid → Took mid a t new → Took old a t new
+after_reread old mid new a t r took =
     let before : new.book.is_clean → mid.book.is_clean = took.step.clean in
     let sound_then : new.book.is_clean → old.book.is_sound → mid.book.is_sound = λ clean. r.step.sound (before clean) in
     let same : new.book.is_clean → old.book.is_sound → mid.book.content ≡ old.book.content = λ clean. r.same (before clean) in
@@ -56,9 +56,9 @@ loaded_rows b d rows switch reads is =
       stays = λ clean sound up. reads.stays clean sound;
       same = same;
       in_step = λ clean sound step opened working.
-          let told = reads.value clean sound in (
-            ap (λ (x : Content). x.rows) (same clean sound) ∙ sym told.1 ∙ sym is,
-            subst IsCounted (sym (same clean sound)) (step told.0 refl).1,
+          let holds = reads.value clean sound in (
+            ap (λ (x : Content). x.rows) (same clean sound) ∙ sym holds.1 ∙ sym is,
+            subst IsCounted (sym (same clean sound)) (step holds.0 refl).1,
           );
       failed = refl;
       loaded = λ gone. refl;
@@ -73,7 +73,7 @@ leaves stands old a t u d e said is took =
 pub step_new : {F G : Type 0} (s : Standing) (q : Request) (d : BookState) → BookStep F s.book d → (F → G) → BookStep G (with_new_key s q).book d
 step_new s q d step so = record { clean = step.clean; sound = λ clean sound. step.sound clean sound.0; quiet = λ none. step.quiet (λ failed. none (so failed)); counts = step.counts }
 
--- what is said where the key is new is said of all
+-- a statement on new keys holds of all
 pub also_new : (s new : Standing) (q : Request) (a : Arrival) (t : Taken) → Took s a t new → Took (with_new_key s q) a t new
 also_new s new q a t took =
     let same : Reread (with_new_key s q) s = record {
@@ -85,11 +85,11 @@ also_new s new q a t took =
       failed = refl;
       loaded = λ gone. gone;
     } in
-    behind (with_new_key s q) s new a t same took
+    after_reread (with_new_key s q) s new a t same took
 
 -- a desk that holds what it read again, as long as the key is new
 pub again_new : (old mid new : Standing) (q : Request) (a : Arrival) (t : Taken) → Reread old mid → Took (with_new_key mid q) a t new → Took (with_new_key old q) a t new
-again_new old mid new q a t r took = behind (with_new_key old q) (with_new_key mid q) new a t still took
+again_new old mid new q a t r took = after_reread (with_new_key old q) (with_new_key mid q) new a t still took
   where
     still : Reread (with_new_key old q) (with_new_key mid q)
     still = record {

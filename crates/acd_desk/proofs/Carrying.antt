@@ -16,7 +16,7 @@ use Rattle.acd_desk.specs.declared.taken.Taken.{Taken}
 use Rattle.acd_desk.specs.declared.taken.Taken.TheVariants.{Reply, InvokeReused, DeskFull, NoMemory, StoreFault}
 use Rattle.acd_desk.specs.Firsts.{stepped, record_of, executed}
 use Rattle.acd_desk.specs.Replies.{answer_of, answer_in, after}
-use Rattle.acd_desk.specs.Served.{is_fault, has_served, served, maybe_last}
+use Rattle.acd_desk.specs.Accepted.{is_fault, has_accepted, accepted, maybe_last}
 use Rattle.acd_desk.specs.Stands.{IsSound, ran_after, StopsAt}
 use Rattle.acd_desk.specs.Leads.{led, answers_to, StopsFrom}
 use Rattle.acd_desk.specs.Carried.{Archive, together, joined, IsNewTo, NoneSentAgain}
@@ -82,14 +82,14 @@ run_of_all p c list sound new =
 
 -- ---- opened, and carried over again ----
 
-pub counted_behind : (p : Archive) (c : Content) → IsCounted (together p c) → IsCounted c
-counted_behind p c whole = record {
+pub counted_rest : (p : Archive) (c : Content) → IsCounted (together p c) → IsCounted c
+counted_rest p c whole = record {
   events = every_back (λ (e : Event). e.number ≤ c.rows.last_event) p.events c.events whole.events;
   kept = every_back (λ (k : Kept). k.stamp ≤ c.rows.last_stamp) p.kept c.kept whole.kept;
 }
 
 pub counted_alone : (p : Archive) (c : Content) → IsSound (together p c) → IsCounted c
-counted_alone p c sound = counted_behind p c (sound_counted (together p c) sound)
+counted_alone p c sound = counted_rest p c (sound_counted (together p c) sound)
 
 pub opens_alone : (p : Archive) (c : Content) → IsSound (together p c) → BreaksNoRule c.rows × IsCounted c
 opens_alone p c sound = (sound_rules (together p c) sound, counted_alone p c sound)
@@ -114,16 +114,16 @@ every_contains P (y ∷ ys) x h at = elim (Contains-append_cases (y ∷ []) ys x
     | inl none ↦ absurd (omega (arith, none.1))
     | inr same ↦ subst P same h.0
   ]
-  | inr behind ↦ every_contains P ys x h.1 behind
+  | inr in_rest ↦ every_contains P ys x h.1 in_rest
 ]
 
-every_served : (P : Arrival → Type 0) (l : List Arrival) (ts : List Taken) → Every P l → Every P (served l ts)
-every_served P [] [] h = tt
-every_served P [] (t ∷ ts) h = tt
-every_served P (a ∷ l) [] h = tt
-every_served P (a ∷ l) (t ∷ ts) h = elim (is_fault t) as (λ b. Every P (cond b [] (a ∷ []) ++ served l ts)) [
-  | true ↦ every_served P l ts h.1
-  | false ↦ (h.0, every_served P l ts h.1)
+every_accepted : (P : Arrival → Type 0) (l : List Arrival) (ts : List Taken) → Every P l → Every P (accepted l ts)
+every_accepted P [] [] h = tt
+every_accepted P [] (t ∷ ts) h = tt
+every_accepted P (a ∷ l) [] h = tt
+every_accepted P (a ∷ l) (t ∷ ts) h = elim (is_fault t) as (λ b. Every P (cond b [] (a ∷ []) ++ accepted l ts)) [
+  | true ↦ every_accepted P l ts h.1
+  | false ↦ (h.0, every_accepted P l ts h.1)
 ]
 
 every_maybe : (P : Arrival → Type 0) (l : List Arrival) (ts : List Taken) → Every P l → Every P (maybe_last l ts)
@@ -133,7 +133,7 @@ every_maybe P (a ∷ l) [] h = tt
 every_maybe P (a ∷ l) (Reply status body ∷ ts) h = every_maybe P l ts h.1
 every_maybe P (a ∷ l) (InvokeReused ∷ ts) h = every_maybe P l ts h.1
 every_maybe P (a ∷ l) (DeskFull ∷ ts) h = every_maybe P l ts h.1
-every_maybe P (a ∷ l) (NoMemory ∷ ts) h = elim (has_served ts) as (λ b. Every P (cond b [] (a ∷ []) ++ maybe_last l ts)) [
+every_maybe P (a ∷ l) (NoMemory ∷ ts) h = elim (has_accepted ts) as (λ b. Every P (cond b [] (a ∷ []) ++ maybe_last l ts)) [
   | true ↦ every_maybe P l ts h.1
   | false ↦ (h.0, every_maybe P l ts h.1)
 ]
@@ -151,8 +151,8 @@ stop_together p start list others c sound new maybe at = elim at [
 
 pub runs_together : {B : Type 0} (book : Ghosts B) → CarriedRuns book
 runs_together book p start arrivals answers new leads sound none =
-    let list : List Arrival = served arrivals answers in
-    let later : NoneSentAgain p list = every_served (IsNewTo p) arrivals answers none in
+    let list : List Arrival = accepted arrivals answers in
+    let later : NoneSentAgain p list = every_accepted (IsNewTo p) arrivals answers none in
     let all : IsRunOfAll p start list = run_of_all p start list sound later in
     let content : (book.state new).is_open → together p (book.state new).content ≡ ran_after (together p start) list
     = λ opened. ap (together p) (leads.content opened) ∙ all.content in

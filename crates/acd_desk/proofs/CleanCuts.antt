@@ -1,4 +1,4 @@
--- Whether a cut leaves behind an event of a record that is carried over is told by two records.
+-- Two records decide whether a cut leaves an event of a carried record in the archive.
 use Rattle.std.proofs.Common.{◌≡◌, ℕ, ◌+◌, ◌-◌, ◌<◌, ◌≤◌, Bool, true, false, nat_lt, List, [], ◌∷◌, ◌++◌, length, take, Option, Some, None, refl, sym, ap, subst, ◌∙◌, arith, append_assoc, append-nil, ltb-true, ltb-false}
 use Rattle.std.proofs.Math.Nat.{le_refl}
 use Rattle.std.specs.Bool.{Decides}
@@ -6,7 +6,7 @@ use Rattle.acd_terms.specs.Lists.{Every}
 use Rattle.acd_terms.specs.declared.event.Event.{Event}
 use Rattle.acd_lemmas.proofs.Lists.{every-append}
 use Rattle.acd_book.specs.declared.kept.Kept.{Kept}
-use Rattle.acd_book.specs.Content.{Content, IsKeptAfter, GoOn, events_behind}
+use Rattle.acd_book.specs.Content.{Content, IsKeptAfter, GoOn, events_after}
 use Rattle.acd_book.specs.Memory.{stamp_of, number_of}
 use Rattle.acd_book.specs.Order.{Rises}
 use Rattle.acd_desk.specs.Sharing.{IsSplit}
@@ -25,7 +25,7 @@ pub ascends_back : {T : Type 0} (f : T → ℕ) (m : ℕ) (xs ys : List T) → A
 ascends_back f m [] ys h = h
 ascends_back f m (x ∷ xs) ys h = ascends_lower f m (f x) ys h.0 (ascends_back f (f x) xs ys h.1)
 
--- all are at or behind the first
+-- all are at or after the first
 ascends_least : {T : Type 0} (f : T → ℕ) (m : ℕ) (xs : List T) → Ascends f m xs → Every (λ (x : T). m ≤ f x) xs
 ascends_least f m [] h = tt
 ascends_least f m (x ∷ xs) h = (h.0, ascends_least f m xs (ascends_lower f m (f x) xs h.0 h.1))
@@ -109,7 +109,7 @@ earlier_each m top carried (e ∷ left) lt low h = (earlier_all m e carried (bel
 pred : (n : ℕ) → n - 1 ≤ n
 pred n = omega arith
 
--- the event of the number is the last that is left behind
+-- the event of the number is the last one left in the archive
 at_number : (number : ℕ) (past : List Event) (e : Event) (rest left reported : List Event) → past ++ e ∷ rest ≡ left ++ reported → Every (λ (x : Event). x.number ≤ number - 1) past → Rises number_of (number - 1) (e ∷ rest) → e.number ≡ number
     → Every (λ (x : Event). x.number ≤ number) left → Rises number_of number reported → past ++ e ∷ [] ≡ left
 at_number number past e rest left reported is low up here lows ups =
@@ -117,7 +117,7 @@ at_number number past e rest left reported is low up here lows ups =
     (every-append (λ (x : Event). x.number ≤ number) past (e ∷ []) (every_upto number_of (number - 1) number past (pred number) low) (subst (λ (n : ℕ). n ≤ number) (sym here) (le_refl number), tt)) lows
     (subst (λ (n : ℕ). Rises number_of n rest) here up.1) ups).0
 
--- no event has the number: none is left behind
+-- no event has the number: none is left in the archive
 beside_number : (number : ℕ) (past : List Event) (e : Event) (rest left reported : List Event) → past ++ e ∷ rest ≡ left ++ reported → Every (λ (x : Event). x.number ≤ number - 1) past → Rises number_of (number - 1) (e ∷ rest) → number < e.number
     → Every (λ (x : Event). x.number ≤ number) left → Rises number_of number reported → past ≡ left
 beside_number number past e rest left reported is low up above lows ups =
@@ -135,7 +135,7 @@ above_it n m lt other =
     equal : (n m : ℕ) → n - 1 < m → m ≤ n → m ≡ n
     equal n m lt le = omega (arith, lt, le)
 
--- what is left behind, by the event that comes first above the number before
+-- the events left in the archive, by the event that comes first above the number before
 clean_left : (a : Content) (number moment : ℕ) (past rest left reported : List Event) (carried : List Kept) → StandsInTime a → number ≤ a.rows.last_event → IsSplit number_of (number - 1) a.events past rest → IsSplit number_of number a.events left reported
     → IsBefore (take 1 rest) number moment → Every (λ (k : Kept). moment ≤ k.moment) carried → Every (IsEarlier carried) left
 clean_left a number moment past [] left reported carried stands within_last one two before late =
@@ -173,7 +173,7 @@ clean_left a number moment past (e ∷ rest) left reported carried stands within
     equal : (n m : ℕ) → m ≤ n → n ≤ m → m ≡ n
     equal n m le more = omega (arith, le, more)
 
--- the event is left behind, and the record carried over
+-- the event is left in the archive, and the record carried over
 before_left : (number moment : ℕ) (past rest left reported : List Event) (k : Kept) (tail : List Kept) → past ++ rest ≡ left ++ reported → Every (λ (x : Event). x.number ≤ number - 1) past → Rises number_of (number - 1) rest
     → Every (λ (x : Event). x.number ≤ number) left → Rises number_of number reported → k.moment ≡ moment → Every (IsEarlier (k ∷ tail)) left → IsBefore (take 1 rest) number moment
 before_left number moment past [] left reported k tail is low up lows ups at clean = tt
@@ -181,19 +181,19 @@ before_left number moment past (e ∷ rest) left reported k tail is low up lows 
     let mine : past ++ e ∷ [] ≡ left = at_number number past e rest left reported is low up here lows ups in
     subst (λ (n : ℕ). e.moment < n) at (every_back (IsEarlier (k ∷ tail)) past (e ∷ []) (subst (Every (IsEarlier (k ∷ tail))) (sym mine) clean)).0.0
 
-pub clean_decided : (a : Content) (stamp number before : ℕ) (k : Kept) (found : List Event) (b : Bool) → StandsInTime a → number ≤ a.rows.last_event → IsKeptAfter a.kept stamp (Some k) → before ≡ number - 1 → found ≡ events_behind a.events before 1
+pub clean_decided : (a : Content) (stamp number before : ℕ) (k : Kept) (found : List Event) (b : Bool) → StandsInTime a → number ≤ a.rows.last_event → IsKeptAfter a.kept stamp (Some k) → before ≡ number - 1 → found ≡ events_after a.events before 1
     → Decides b (IsBefore found number k.moment) → Decides b (IsCleanCut a stamp number)
 clean_decided a stamp number before k found b stands within_last next is_before is decides =
     let events_two = split_at number_of 0 (number - 1) a.events (omega arith) stands.ordered.events in
     let one : IsSplit number_of (number - 1) a.events events_two.0 events_two.1 = events_two.2 in
-    let told : found ≡ take 1 events_two.1 = is ∙ ap (λ (n : ℕ). events_behind a.events n 1) is_before ∙ next_left number_of (number - 1) a.events events_two.0 events_two.1 one in (
+    let found_is : found ≡ take 1 events_two.1 = is ∙ ap (λ (n : ℕ). events_after a.events n 1) is_before ∙ next_left number_of (number - 1) a.events events_two.0 events_two.1 one in (
       λ holds past carried left reported kept_split events_split.
           let front = next_record stamp past carried k kept_split.below kept_split.above (subst (λ (l : List Kept). IsKeptAfter l stamp (Some k)) kept_split.whole next) in
           let late : Every (λ (x : Kept). k.moment ≤ x.moment) carried
           = subst (Every (λ (x : Kept). k.moment ≤ x.moment)) (sym front.1)
           (first_least (λ (x : Kept). x.moment) 0 k front.0
           (ascends_back (λ (x : Kept). x.moment) 0 past (k ∷ front.0) (subst (Ascends (λ (x : Kept). x.moment) 0) (kept_split.whole ∙ ap (λ (l : List Kept). past ++ l) front.1) stands.kept))) in
-          clean_left a number k.moment events_two.0 events_two.1 left reported carried stands within_last one events_split (subst (λ (l : List Event). IsBefore l number k.moment) told (decides.0 holds)) late,
+          clean_left a number k.moment events_two.0 events_two.1 left reported carried stands within_last one events_split (subst (λ (l : List Event). IsBefore l number k.moment) found_is (decides.0 holds)) late,
       λ clean.
           let kept_parts = split_at stamp_of 0 stamp a.kept (omega arith) stands.ordered.kept in
           let kept_split : IsSplit stamp_of stamp a.kept kept_parts.0 kept_parts.1 = kept_parts.2 in
@@ -201,6 +201,6 @@ clean_decided a stamp number before k found b stands within_last next is_before 
           let events_split : IsSplit number_of number a.events parts.0 parts.1 = parts.2 in
           let front = next_record stamp kept_parts.0 kept_parts.1 k kept_split.below kept_split.above (subst (λ (l : List Kept). IsKeptAfter l stamp (Some k)) kept_split.whole next) in
           let all : Every (IsEarlier (k ∷ front.0)) parts.0 = subst (λ (ks : List Kept). Every (IsEarlier ks) parts.0) front.1 (clean kept_parts.0 kept_parts.1 parts.0 parts.1 kept_split events_split) in
-          decides.1 (subst (λ (l : List Event). IsBefore l number k.moment) (sym told)
+          decides.1 (subst (λ (l : List Event). IsBefore l number k.moment) (sym found_is)
           (before_left number k.moment events_two.0 events_two.1 parts.0 parts.1 k front.0 (sym one.whole ∙ events_split.whole) one.below one.above events_split.below events_split.above refl all)),
     )

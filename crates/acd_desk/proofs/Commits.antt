@@ -1,4 +1,4 @@
--- What a desk commits for an arrival is what the abstract desk makes of it.
+-- A desk commits for an arrival what the abstract desk makes of it.
 use Rattle.std.proofs.Common.{◌≡◌, ◌+◌, ◌<◌, List, true, false, Some, None, sym, ap, ◌∙◌, subst, length, nat_le, leb-false}
 use Rattle.acd_terms.specs.declared.rows.Rows.{Rows}
 use Rattle.acd_terms.specs.declared.answer.Outcome.{Outcome}
@@ -91,7 +91,7 @@ kept_by_rows s next a outcome k e1 e2 e3 =
     let moment : (stepped s a).rows.last_moment ≡ executed_moment s a.moment = moment_after s a.moment a.request.command in
     cc
 
--- what is prepared, of what a step says
+-- the prepared commit, by what a step says
 pub prepares : (s next : Rows) (a : Arrival) (changes : List Change) (es : List Event) (outcome : Outcome) (k : Kept)
     → next ≡ (stepped s a).rows → outcome ≡ (stepped s a).outcome → es ≡ (stepped s a).events → BreaksNoRule next
     → rows_made s changes (next_stamp s) (executed_moment s a.moment) (length es) ≡ next
@@ -106,7 +106,7 @@ prepares s next a changes es outcome k e1 e2 e3 rules made e4 =
       rules = rules;
     }
 
--- the lists behind references
+-- the lists that references point to
 pub prepared_as : (s next : Rows) (a : Arrival) (changes changes' : List Change) (es es' : List Event) (k : Kept) → changes' ≡ changes → es' ≡ es → Prepared s a changes es k next → Prepared s a changes' es' k next
 prepared_as s next a changes changes' es es' k e f p =
     subst (λ (x : List Change). Prepared s a x es' k next) (sym e) (subst (λ (x : List Event). Prepared s a changes x k next) (sym f) p)

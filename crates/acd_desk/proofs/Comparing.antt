@@ -4,63 +4,63 @@ use Rattle.std.specs.Bool.{Decides}
 use Rattle.acd_terms.specs.declared.rows.Rows.{Rows}
 use Rattle.acd_terms.specs.declared.event.Event.{Event}
 use Rattle.acd_book.specs.declared.kept.Kept.{Kept}
-use Rattle.acd_book.specs.Content.{Content, events_behind}
-use Rattle.acd_desk.specs.declared.noted.Noted.{Noted}
+use Rattle.acd_book.specs.Content.{Content, events_after}
+use Rattle.acd_desk.specs.declared.seen.SeenKeys.{SeenKeys}
 use Rattle.acd_desk.specs.declared.page.Page.{Page}
 use Rattle.acd_desk.specs.declared.replay.Course.{Course}
 use Rattle.acd_desk.specs.Firsts.{stepped, record_of}
-use Rattle.acd_desk.specs.Noting.{IsNoted}
+use Rattle.acd_desk.specs.KeyPlaces.{IsSeenKey}
 use Rattle.acd_desk.specs.Pages.{IsPageOf}
-use Rattle.acd_desk.specs.Replay.{again, rows_of, IsFirstOfKey, Matches, TellsKeys, Knows}
+use Rattle.acd_desk.specs.Replay.{again, rows_of, IsFirstOfKey, Matches, FindsFirst, Knows}
 
--- a key that isn't noted is new
-pub unnoted_new : (c : Content) (keys : Noted) (k : Kept) → ¬ IsNoted keys k.request → TellsKeys c keys k → Decides true (IsFirstOfKey c k)
-unnoted_new c keys k new tells = (λ told. tells new, λ first. refl)
+-- a key that wasn't seen is new
+pub unseen_new : (c : Content) (keys : SeenKeys) (k : Kept) → ¬ IsSeenKey keys k.request → FindsFirst c keys k → Decides true (IsFirstOfKey c k)
+unseen_new c keys k new finds = (λ holds. finds new, λ first. refl)
 
 -- the record, its key and its events are as they should be
 abbrev pub IsAsKept : Content → Kept → Kept → ℕ → List Event → Type 0
-IsAsKept c k expected last events = (k ≡ expected) × IsFirstOfKey c k × (events_behind c.events last (length events) ≡ events)
+IsAsKept c k expected last events = (k ≡ expected) × IsFirstOfKey c k × (events_after c.events last (length events) ≡ events)
 
--- the events that were found are compared
-pub events_decided : (c : Content) (last n : ℕ) (found lent events : List Event) (b : Bool) → found ≡ events_behind c.events last n → lent ≡ found → Decides b (lent ≡ events) → n ≡ length events
-    → Decides b (events_behind c.events last (length events) ≡ events)
+-- the comparison of the events that were read
+pub events_decided : (c : Content) (last n : ℕ) (found lent events : List Event) (b : Bool) → found ≡ events_after c.events last n → lent ≡ found → Decides b (lent ≡ events) → n ≡ length events
+    → Decides b (events_after c.events last (length events) ≡ events)
 events_decided c last n found lent events b is same decides long =
-    let whole : lent ≡ events_behind c.events last (length events) = same ∙ is ∙ ap (events_behind c.events last) long in
+    let whole : lent ≡ events_after c.events last (length events) = same ∙ is ∙ ap (events_after c.events last) long in
     subst (λ (l : List Event). Decides b (l ≡ events)) whole decides
 
 -- another record
-pub other_record : (c : Content) (keys : Noted) (page : Page) (k expected : Kept) (last : ℕ) (events : List Event) (b : Bool) → b ≡ false → Decides b (k ≡ expected) → Knows c keys page k
+pub other_record : (c : Content) (keys : SeenKeys) (page : Page) (k expected : Kept) (last : ℕ) (events : List Event) (b : Bool) → b ≡ false → Decides b (k ≡ expected) → Knows c keys page k
     → IsPageOf c page × Decides false (IsAsKept c k expected last events)
 other_record c keys page k expected last events b other decides knows =
-    (knows.page, (λ told. absurd (true≢false (sym told)), λ same. absurd (true≢false (sym (decides.1 same.0) ∙ other))))
+    (knows.page, (λ holds. absurd (true≢false (sym holds)), λ same. absurd (true≢false (sym (decides.1 same.0) ∙ other))))
 
 -- a key that an earlier record has
-pub other_key : (c : Content) (keys : Noted) (page : Page) (k expected : Kept) (last : ℕ) (events : List Event) (b : Bool) → b ≡ false → (TellsKeys c keys k → Decides b (IsFirstOfKey c k)) → Knows c keys page k
+pub other_key : (c : Content) (keys : SeenKeys) (page : Page) (k expected : Kept) (last : ℕ) (events : List Event) (b : Bool) → b ≡ false → (FindsFirst c keys k → Decides b (IsFirstOfKey c k)) → Knows c keys page k
     → IsPageOf c page × Decides false (IsAsKept c k expected last events)
 other_key c keys page k expected last events b other decides knows =
-    (knows.page, (λ told. absurd (true≢false (sym told)), λ same. absurd (true≢false (sym ((decides knows.tells).1 same.1) ∙ other))))
+    (knows.page, (λ holds. absurd (true≢false (sym holds)), λ same. absurd (true≢false (sym ((decides knows.finds).1 same.1) ∙ other))))
 
 -- the record and its key, so all hangs on the events
-pub same_events : (c : Content) (keys : Noted) (old new : Page) (k expected : Kept) (last : ℕ) (events : List Event) (same first b : Bool) → same ≡ true → Decides same (k ≡ expected)
-    → first ≡ true → (TellsKeys c keys k → Decides first (IsFirstOfKey c k)) → (IsPageOf c old → IsPageOf c new × Decides b (events_behind c.events last (length events) ≡ events)) → Knows c keys old k
+pub same_events : (c : Content) (keys : SeenKeys) (old new : Page) (k expected : Kept) (last : ℕ) (events : List Event) (same first b : Bool) → same ≡ true → Decides same (k ≡ expected)
+    → first ≡ true → (FindsFirst c keys k → Decides first (IsFirstOfKey c k)) → (IsPageOf c old → IsPageOf c new × Decides b (events_after c.events last (length events) ≡ events)) → Knows c keys old k
     → IsPageOf c new × Decides b (IsAsKept c k expected last events)
-same_events c keys old new k expected last events same first b is_same same_decides is_first first_decides told knows =
-    let there = told knows.page in
-    (there.0, (λ holds. (same_decides.0 is_same, (first_decides knows.tells).0 is_first, there.1.0 holds), λ all. there.1.1 all.2))
+same_events c keys old new k expected last events same first b is_same same_decides is_first first_decides events_hold knows =
+    let there = events_hold knows.page in
+    (there.0, (λ holds. (same_decides.0 is_same, (first_decides knows.finds).0 is_first, there.1.0 holds), λ all. there.1.1 all.2))
 
--- what is compared is what the request gives
+-- the compared record is what the request gives
 pub matches_decided : (c : Content) (s : Rows) (k expected : Kept) (last : ℕ) (events : List Event) (b : Bool) → Decides b (IsAsKept c k expected last events)
     → expected ≡ record_of s (again k) → events ≡ (stepped s (again k)).events → last ≡ s.last_event → Decides b (Matches c s k)
 matches_decided c s k expected last events b decides is_record are_events is_last = (
   (λ holds. let all = decides.0 holds in record {
     kept = all.0 ∙ is_record;
     first = all.1;
-    events = subst (λ (l : List Event). events_behind c.events s.last_event (length l) ≡ l) are_events (subst (λ (n : ℕ). events_behind c.events n (length events) ≡ events) is_last all.2);
+    events = subst (λ (l : List Event). events_after c.events s.last_event (length l) ≡ l) are_events (subst (λ (n : ℕ). events_after c.events n (length events) ≡ events) is_last all.2);
   }),
   (λ m. decides.1 (
     m.kept ∙ sym is_record,
     m.first,
-    subst (λ (n : ℕ). events_behind c.events n (length events) ≡ events) (sym is_last) (subst (λ (l : List Event). events_behind c.events s.last_event (length l) ≡ l) (sym are_events) m.events),
+    subst (λ (n : ℕ). events_after c.events n (length events) ≡ events) (sym is_last) (subst (λ (l : List Event). events_after c.events s.last_event (length l) ≡ l) (sym are_events) m.events),
   )),
 )
 

@@ -19,10 +19,10 @@ use Rattle.acd_model.specs.Watched.{IsWatched}
 use Rattle.acd_laws.specs.BalanceLaws.{IsBalanced}
 use Rattle.acd_laws.specs.OfferLaws.{LeavesNoOffer}
 use Rattle.acd_laws.specs.FigureLaws.{KeepsFigures}
-use Rattle.acd_laws.specs.WatchedLaws.{TellsNoMore}
+use Rattle.acd_laws.specs.WatchedLaws.{ReportsNoMore}
 use Rattle.acd_laws.proofs.Places.PlacedRuns.{run_is_placed}
 use Rattle.acd_laws.proofs.Offers.OneOffer.{run_has_one_offer}
-use Rattle.acd_laws.proofs.Watched.WatchedRuns.{run_is_watched, run_tells_no_more, run_is_balanced, run_leaves_no_offer}
+use Rattle.acd_laws.proofs.Watched.WatchedRuns.{run_is_watched, run_reports_no_more, run_is_balanced, run_leaves_no_offer}
 use Rattle.acd_laws.proofs.Figures.FiguresCounted.{run_keeps_figures, figures_kept}
 use Rattle.acd_laws.proofs.Rules.RulesAll.{run_keeps_rules}
 use Rattle.acd_book.specs.declared.kept.Kept.{Kept}
@@ -97,9 +97,9 @@ sound_keeps_laws c sound =
       watched = over IsWatched rows events (run_is_watched c.rows.limits commands);
     }
 
--- the events tell no more than its rows, and its figures are those that they count
-pub sound_tells_no_more : (c : Content) → IsSound c → TellsNoMore c.rows c.events
-sound_tells_no_more c sound = over TellsNoMore (sym (sound_rows c sound)) (sym (sound_events c sound)) (run_tells_no_more c.rows.limits (commands_of (arrivals_of c.kept)))
+-- the events say no more than its rows, and its figures are those that they count
+pub sound_reports_no_more : (c : Content) → IsSound c → ReportsNoMore c.rows c.events
+sound_reports_no_more c sound = over ReportsNoMore (sym (sound_rows c sound)) (sym (sound_events c sound)) (run_reports_no_more c.rows.limits (commands_of (arrivals_of c.kept)))
 
 pub sound_keeps_figures : (c : Content) → IsSound c → KeepsFigures c.rows c.events
 sound_keeps_figures c sound = over KeepsFigures (sym (sound_rows c sound)) (sym (sound_events c sound)) (figures_kept c.rows.limits (commands_of (arrivals_of c.kept)))

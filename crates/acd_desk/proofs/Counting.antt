@@ -1,4 +1,4 @@
--- What a desk executes leaves the records below the counters.
+-- An execution leaves the records below the counters.
 use Rattle.std.proofs.Common.{ℕ, ◌+◌, ◌≤◌, List, [], ◌∷◌, length, arith}
 use Rattle.acd_terms.specs.Lists.{Every}
 use Rattle.acd_terms.specs.declared.event.Event.{Event}

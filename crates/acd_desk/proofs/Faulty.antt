@@ -1,4 +1,4 @@
--- What a call of a desk leaves that is answered by a fault.
+-- A call of a desk that is answered by a fault: what it leaves.
 use Rattle.std.proofs.Common.{◌≡◌, Bool, true, false, Option, None, refl, sym, subst, ◌∙◌, inl, inr, ◌⊎◌, true≢false}
 use Rattle.acd_terms.specs.declared.rows.Rows.{Rows}
 use Rattle.acd_terms.specs.declared.command.Arrival.{Arrival}
@@ -12,7 +12,7 @@ use Rattle.acd_desk.specs.declared.taken.Taken.TheVariants.{NoMemory, StoreFault
 use Rattle.acd_desk.specs.declared.working.Working.{Working}
 use Rattle.acd_desk.specs.Faults.{answer_to, left_by}
 use Rattle.acd_desk.specs.Replies.{after}
-use Rattle.acd_desk.specs.Served.{is_fault}
+use Rattle.acd_desk.specs.Accepted.{is_fault}
 use Rattle.acd_desk.specs.Standing.{Standing, switch_of, is_failed, Mirrors, InStep}
 use Rattle.acd_desk.specs.Ran.{DeskStep, IsCause, IsDeceived, Took}
 use Rattle.acd_desk.proofs.DeskSteps.{works, fails}
@@ -40,13 +40,13 @@ took_fault old new a t fault step desk unmoved stops unloads = record {
   unloads = unloads;
 }
 
--- what a call of the book leaves that did nothing, or nothing that is known
+-- a call of the book that did nothing, or nothing that is known: what it leaves
 pub record Undone (Failed : Type 0) (old : Standing) (a : Arrival) (new : BookState) : Type 0 where
   pub step : BookStep Failed old.book new
   pub same : Unmoved old new
   pub stops : StopsBy old a new
 
--- no memory: what is left in memory mirrors what was there mirrored
+-- no memory: the memory mirrors what it mirrored before
 pub no_memory : {F : Type 0} (old : Standing) (a : Arrival) (d : BookState) (left : Option Rows) → Undone F old a d → ¬ F → old.failed ≡ false
     → ((s : Rows) → Mirrors old.switch s → Mirrors left s) → Took old a NoMemory (record { book = d; switch = left; failed = false })
 no_memory old a d left undone none working mirrors =

@@ -14,7 +14,7 @@ use Rattle.acd_desk.specs.Feeding.{IsFed, nothing, part}
 use Rattle.acd_desk.proofs.Runs.{distinct-push, has-push}
 use Rattle.acd_desk.proofs.Longer.{reply_stays, has_within}
 use Rattle.acd_lemmas.proofs.Bools.{or_yes}
-use Rattle.acd_book.proofs.Keys.{key_same, key_own}
+use Rattle.acd_book.proofs.Keys.{key_same, key_itself}
 
 -- two lists with the same first arrivals and the same keys
 record Alike (x y : List Arrival) : Type 0 where
@@ -71,18 +71,18 @@ alike_again (a ∷ b) x known =
     one
 
 -- a list has the keys of its members
-has_own : (b : List Arrival) → HaveKeys b b
-has_own [] a there = absurd there
-has_own (c ∷ b) a there = elim there [
-  | inl same ↦ ap (λ (r : Bool). r || has_key b a.request.requester a.request.invoke) (ap (λ (x : Arrival). is_key a.request.requester a.request.invoke x.request) (sym same) ∙ key_own a.request)
-  | inr behind ↦ ap (λ (r : Bool). is_key a.request.requester a.request.invoke c.request || r) (has_own b a behind) ∙ or_yes (is_key a.request.requester a.request.invoke c.request)
+has_itself : (b : List Arrival) → HaveKeys b b
+has_itself [] a there = absurd there
+has_itself (c ∷ b) a there = elim there [
+  | inl same ↦ ap (λ (r : Bool). r || has_key b a.request.requester a.request.invoke) (ap (λ (x : Arrival). is_key a.request.requester a.request.invoke x.request) (sym same) ∙ key_itself a.request)
+  | inr rest ↦ ap (λ (r : Bool). is_key a.request.requester a.request.invoke c.request || r) (has_itself b a rest) ∙ or_yes (is_key a.request.requester a.request.invoke c.request)
 ]
 
 -- and of those of its parts
-has_behind : (x b : List Arrival) → HaveKeys (x ++ b) b
-has_behind x b a there =
+has_rest : (x b : List Arrival) → HaveKeys (x ++ b) b
+has_rest x b a there =
     list_any-append (λ (c : Arrival). is_key a.request.requester a.request.invoke c.request) x b
-    ∙ ap (λ (r : Bool). has_key x a.request.requester a.request.invoke || r) (has_own b a there)
+    ∙ ap (λ (r : Bool). has_key x a.request.requester a.request.invoke || r) (has_itself b a there)
     ∙ or_yes (has_key x a.request.requester a.request.invoke)
 
 has_more : (x y b : List Arrival) → HaveKeys x b → HaveKeys (x ++ y) b
@@ -91,11 +91,11 @@ has_more x y b known a there =
     ∙ ap (λ (r : Bool). r || has_key y a.request.requester a.request.invoke) (known a there)
 
 pub again_adds_nothing : (limit : ℕ) (a b c : List Arrival) → firsts limit (a ++ b ++ b ++ c) ≡ firsts limit (a ++ b ++ c)
-again_adds_nothing limit a b c = ap (take limit) (alike_more c (a ++ b ++ b) (a ++ b) (alike_again b (a ++ b) (has_behind a b))).same
+again_adds_nothing limit a b c = ap (take limit) (alike_more c (a ++ b ++ b) (a ++ b) (alike_again b (a ++ b) (has_rest a b))).same
 
 -- ---- a log ----
 
--- how one number stands to another
+-- how one number relates to another
 either_more : (a b : ℕ) → ((k : ℕ) × (b ≡ a + k)) ⊎ ((k : ℕ) × (a ≡ b + k))
 either_more zero b = inl (b, omega arith)
 either_more (suc a) zero = inr (suc a, omega arith)
@@ -112,7 +112,7 @@ part_within log place count more =
     alike_again (take count (drop place log)) (take (place + count + more) log)
     (subst (λ (s : List Arrival). HaveKeys s (take count (drop place log))) (sym whole)
     (has_more (take (place + count) log) (take more (drop (place + count) log)) (take count (drop place log))
-    (subst (λ (s : List Arrival). HaveKeys s (take count (drop place log))) (sym front) (has_behind (take place log) (take count (drop place log))))))
+    (subst (λ (s : List Arrival). HaveKeys s (take count (drop place log))) (sym front) (has_rest (take place log) (take count (drop place log))))))
 
 -- a part beyond it
 part_beyond : (log : List Arrival) (place count more : ℕ) → Alike (take (place + count) log ++ take (count + more) (drop place log)) (take (place + count + more) log)
@@ -131,12 +131,12 @@ one_part log reached place count before = elim (either_more (place + count) reac
   | inl more ↦ subst (λ (n : ℕ). Alike (take reached log ++ take count (drop place log)) (take n log)) (omega (arith, more.1))
       (subst (λ (n : ℕ). Alike (take n log ++ take count (drop place log)) (take n log)) (sym more.1) (part_within log place count more.0))
   | inr more ↦
-      let had : ℕ = reached - place in
-      let there : place + had ≡ reached = omega (arith, before) in
-      let all : had + more.0 ≡ count = omega (arith, more.1, before) in
+      let old_count : ℕ = reached - place in
+      let there : place + old_count ≡ reached = omega (arith, before) in
+      let all : old_count + more.0 ≡ count = omega (arith, more.1, before) in
       subst (λ (n : ℕ). Alike (take reached log ++ take count (drop place log)) (take n log)) (omega (arith, more.1, before))
       (subst (λ (n : ℕ). Alike (take n log ++ take count (drop place log)) (take (n + more.0) log)) there
-      (subst (λ (n : ℕ). Alike (take (place + had) log ++ take n (drop place log)) (take (place + had + more.0) log)) all (part_beyond log place had more.0)))
+      (subst (λ (n : ℕ). Alike (take (place + old_count) log ++ take n (drop place log)) (take (place + old_count + more.0) log)) all (part_beyond log place old_count more.0)))
 ]
 
 alike_fed : (log : List Arrival) (reached : ℕ) (fed : List Arrival) → IsFed log reached fed → Alike fed (take reached log)
@@ -151,7 +151,7 @@ fed_holds_the_log limits log reached fed h = ap (λ (s : List Arrival). run_from
 
 -- ---- answers ----
 
--- an answer stays as it is, whatever is fed behind it
+-- an answer stays the same, whatever is fed after it
 stays : (n : Limits) (more list : List Arrival) (r : Request) → has_key list r.requester r.invoke ≡ true → reply_to n (list ++ more) r ≡ reply_to n list r
 stays n [] list r known = ap (λ (s : List Arrival). reply_to n s r) (append-nil list)
 stays n (a ∷ more) list r known =
@@ -159,23 +159,23 @@ stays n (a ∷ more) list r known =
     ∙ stays n more (list ++ a ∷ []) r (has-push list a r.requester r.invoke ∙ ap (λ (b : Bool). b || is_key r.requester r.invoke a.request) known)
     ∙ reply_stays n list a r known
 
--- the answer at a place of the log, by what stands before it
+-- the answer at a place of the log, by the arrivals before it
 answer_at : (limits : Limits) (log : List Arrival) (reached : ℕ) (fed : List Arrival) → IsFed log reached fed
-    → (before : List Arrival) (a : Arrival) (behind : List Arrival) → log ≡ before ++ a ∷ behind → length before < reached
+    → (before : List Arrival) (a : Arrival) (rest : List Arrival) → log ≡ before ++ a ∷ rest → length before < reached
     → reply_to limits fed a.request ≡ reply_to limits (before ++ a ∷ []) a.request
-answer_at limits log reached fed h before a behind e there =
+answer_at limits log reached fed h before a rest e there =
     let more : ℕ = reached - (length before + 1) in
     let size : length (before ++ a ∷ []) + more ≡ reached = omega (arith, there, length-append before (a ∷ [])) in
-    let front : take reached log ≡ (before ++ a ∷ []) ++ take more behind
-    = ap (λ (s : List Arrival). take reached s) (e ∙ sym (append_assoc before (a ∷ []) behind))
-    ∙ ap (λ (n : ℕ). take n ((before ++ a ∷ []) ++ behind)) (sym size)
-    ∙ take-append-add (before ++ a ∷ []) behind more in
+    let front : take reached log ≡ (before ++ a ∷ []) ++ take more rest
+    = ap (λ (s : List Arrival). take reached s) (e ∙ sym (append_assoc before (a ∷ []) rest))
+    ∙ ap (λ (n : ℕ). take n ((before ++ a ∷ []) ++ rest)) (sym size)
+    ∙ take-append-add (before ++ a ∷ []) rest more in
     ap (λ (c : Content). answer_in c a.request) (fed_holds_the_log limits log reached fed h)
     ∙ ap (λ (s : List Arrival). reply_to limits s a.request) front
-    ∙ stays limits (take more behind) (before ++ a ∷ []) a.request (has_within before [] a)
+    ∙ stays limits (take more rest) (before ++ a ∷ []) a.request (has_within before [] a)
 
 pub desks_agree : (limits : Limits) (log : List Arrival) (here there : ℕ) (mine yours : List Arrival) → IsFed log here mine → IsFed log there yours
-    → (before : List Arrival) (a : Arrival) (behind : List Arrival) → log ≡ before ++ a ∷ behind → length before < here → length before < there
+    → (before : List Arrival) (a : Arrival) (rest : List Arrival) → log ≡ before ++ a ∷ rest → length before < here → length before < there
     → reply_to limits mine a.request ≡ reply_to limits yours a.request
-desks_agree limits log here there mine yours f s before a behind e h t =
-    answer_at limits log here mine f before a behind e h ∙ sym (answer_at limits log there yours s before a behind e t)
+desks_agree limits log here there mine yours f s before a rest e h t =
+    answer_at limits log here mine f before a rest e h ∙ sym (answer_at limits log there yours s before a rest e t)

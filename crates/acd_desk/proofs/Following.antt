@@ -1,4 +1,4 @@
--- What a snapshot shows leads on, by the events behind it, to what a later one shows.
+-- A snapshot, followed by the events after it, leads to what a later snapshot shows.
 use Rattle.std.proofs.Common.{◌≡◌, ◌⊎◌, inl, inr, ◌↔◌, ℕ, ◌+◌, ◌<◌, ◌≤◌, Bool, true, false, cond, List, [], ◌∷◌, ◌++◌, Option, Some, None, refl, ap, sym, ◌∙◌, subst, arith, append_assoc, append-nil}
 use Rattle.std.specs.Prelude.{nat_lt, is_some}
 use Rattle.acd_terms.specs.Lists.{Every}
@@ -10,22 +10,22 @@ use Rattle.acd_terms.specs.declared.event.Columns.{Columns}
 use Rattle.acd_terms.specs.declared.event.Event.{Event}
 use Rattle.acd_model.specs.Scans.{group_of, agent_of}
 use Rattle.acd_model.specs.Figures.{figures_of, sum_of_figures}
-use Rattle.acd_model.specs.Told.{known_after, connection_told, Seat, no_seat, seat_told, enters, last_entry}
+use Rattle.acd_model.specs.Reported.{known_after, connection_reported, Seat, no_seat, seat_reported, enters, last_entry}
 use Rattle.acd_model.specs.Watched.{is_external_caller, state_at, seat_of, HasPlace, IsWatched}
-use Rattle.acd_laws.specs.WatchedLaws.{TellsNoMore}
+use Rattle.acd_laws.specs.WatchedLaws.{ReportsNoMore}
 use Rattle.acd_laws.proofs.Figures.CountedEvents.{figures_joined}
 use Rattle.acd_laws.proofs.Rules.DecidedAll.{rules_are_kept}
 use Rattle.acd_lemmas.proofs.Facts.{Rules}
 use Rattle.acd_lemmas.proofs.State.{group_among, group_key}
-use Rattle.acd_laws.proofs.Watched.Told.{after-append}
+use Rattle.acd_laws.proofs.Watched.Reported.{after-append}
 use Rattle.acd_laws.proofs.Watched.WatchedRuns.{step_keeps_watched, entry_number}
 use Rattle.acd_book.specs.Content.{Content, GoOn, IsCounted, kept_of}
 use Rattle.acd_desk.specs.Firsts.{stepped, executed}
 use Rattle.acd_desk.specs.Replies as replies
 use Rattle.acd_desk.specs.Stands.{IsSound, ran_after}
-use Rattle.acd_desk.specs.Tells.{above}
+use Rattle.acd_desk.specs.ReadAnswers.{above}
 use Rattle.acd_desk.specs.Following.{shown_at, figures_shown, IsBefore, LeadsBy, SnapshotLeadsOn}
-use Rattle.acd_desk.proofs.ContentLaws.{sound_keeps_laws, sound_keeps_figures, sound_rules, sound_tells_no_more, sound_counted}
+use Rattle.acd_desk.proofs.ContentLaws.{sound_keeps_laws, sound_keeps_figures, sound_rules, sound_reports_no_more, sound_counted}
 use Rattle.acd_desk.proofs.Recast.{is_held, history, watched_recast, no_more_recast, last_none, held_place}
 use Rattle.acd_desk.proofs.Longer.{ran_none, ran_push}
 use Rattle.acd_desk.proofs.Sound.{ran_sound}
@@ -42,14 +42,14 @@ above_new : (n : ℕ) (es : List Event) → Every (λ (e : Event). n < e.number)
 above_new n [] h = refl
 above_new n (e ∷ es) h = ap (λ (b : Bool). cond b (e ∷ above es n) (above es n)) (is_above n e h.0) ∙ ap (λ (l : List Event). e ∷ l) (above_new n es h.1)
 
--- one content has the events of another, and others behind its last one, which tell a watcher the rest
+-- one content has the events of another, and others after its last one, which give a watcher the rest
 record Grown (c d : Content) : Type 0 where
   new : List Event
   whole : d.events ≡ c.events ++ new
-  behind : Every (λ (e : Event). c.rows.last_event < e.number) new
+  after : Every (λ (e : Event). c.rows.last_event < e.number) new
   last : c.rows.last_event ≤ d.rows.last_event
   watched : IsWatched d.rows (history c.rows c.events ++ new)
-  no_more : TellsNoMore d.rows (history c.rows c.events ++ new)
+  no_more : ReportsNoMore d.rows (history c.rows c.events ++ new)
 
 going_up : (low n : ℕ) (es : List Event) → low ≤ n → GoOn n es → Every (λ (e : Event). low < e.number) es
 going_up low n [] le h = tt
@@ -60,15 +60,15 @@ grown_executed c d a sound g =
     let es : List Event = (stepped d.rows a).events in
     let event = step_event d.rows a.moment a.request.command in
     let last = g.last in
-    let told = step_keeps_watched d.rows (history c.rows c.events ++ g.new) a.moment a.request.command (rules_are_kept d.rows (sound_rules d sound)) g.watched g.no_more in
+    let holds = step_keeps_watched d.rows (history c.rows c.events ++ g.new) a.moment a.request.command (rules_are_kept d.rows (sound_rules d sound)) g.watched g.no_more in
     let on = append_assoc (history c.rows c.events) g.new es in
     record {
       new = g.new ++ es;
       whole = ap (λ (l : List Event). l ++ es) g.whole ∙ append_assoc c.events g.new es;
-      behind = every-append (λ (e : Event). c.rows.last_event < e.number) g.new es g.behind (going_up c.rows.last_event d.rows.last_event es last (step_numbers d.rows a.moment a.request.command));
+      after = every-append (λ (e : Event). c.rows.last_event < e.number) g.new es g.after (going_up c.rows.last_event d.rows.last_event es last (step_numbers d.rows a.moment a.request.command));
       last = omega (arith, last, event);
-      watched = subst (IsWatched (stepped d.rows a).rows) on told.0;
-      no_more = subst (TellsNoMore (stepped d.rows a).rows) on told.1;
+      watched = subst (IsWatched (stepped d.rows a).rows) on holds.0;
+      no_more = subst (ReportsNoMore (stepped d.rows a).rows) on holds.1;
     }
 
 grown_after : (c d : Content) (a : Arrival) → IsSound d → Grown c d → Grown c (replies.after d a)
@@ -91,25 +91,25 @@ nothing_new c sound =
     record {
       new = [];
       whole = sym (append-nil c.events);
-      behind = tt;
+      after = tt;
       last = omega arith;
       watched = subst (IsWatched c.rows) same (watched_recast c.rows c.events (sound_keeps_laws c sound).watched);
-      no_more = subst (TellsNoMore c.rows) same (no_more_recast c.rows c.events (sound_tells_no_more c sound));
+      no_more = subst (ReportsNoMore c.rows) same (no_more_recast c.rows c.events (sound_reports_no_more c sound));
     }
 
 grown : (c : Content) (list : List Arrival) → IsSound c → Grown c (ran_after c list)
 grown c list sound = grown_list c [] list sound (subst (Grown c) (ran_none c sound) (nothing_new c sound))
 
--- all that is shown is told by the events up to it
+-- the events up to it report all that is shown
 
-shown_told : (c : Content) → IsSound c → (call device : ℕ) → shown_at c.rows call device ≡ known_after (connection_told call device) None c.events
-shown_told c sound call device = by (is_external_caller c.rows call device) refl
+shown_by_events : (c : Content) → IsSound c → (call device : ℕ) → shown_at c.rows call device ≡ known_after (connection_reported call device) None c.events
+shown_by_events c sound call device = by (is_external_caller c.rows call device) refl
   where
-    by : (b : Bool) → is_external_caller c.rows call device ≡ b → cond b None (state_at c.rows call device) ≡ known_after (connection_told call device) None c.events
-    by true e = sym ((sound_tells_no_more c sound).outside call device e)
+    by : (b : Bool) → is_external_caller c.rows call device ≡ b → cond b None (state_at c.rows call device) ≡ known_after (connection_reported call device) None c.events
+    by true e = sym ((sound_reports_no_more c sound).outside call device e)
     by false e = (sound_keeps_laws c sound).watched.connections call device e
 
-seat_shown : (c : Content) → IsSound c → (agent : ℕ) → seat_of (agent_of c.rows agent) ≡ known_after (seat_told agent) no_seat c.events
+seat_shown : (c : Content) → IsSound c → (agent : ℕ) → seat_of (agent_of c.rows agent) ≡ known_after (seat_reported agent) no_seat c.events
 seat_shown c sound agent = (sound_keeps_laws c sound).watched.agents agent
 
 figures_counted : (c : Content) → IsSound c → (group : ℕ) → figures_shown (group_of c.rows group) ≡ figures_of group c.events
@@ -129,9 +129,9 @@ above_low : (g c low k : ℕ) (es : List Event) → Every (λ (e : Event). low <
 above_low g c low k [] h j = j
 above_low g c low k (e ∷ es) h j = above_low g c low (cond (enters g c e) e.number k) es h.1 (still_above low e.number k (enters g c e) h.0 j)
 
--- what was known of the last entry stays so, or a later one is told
+-- what was known of the last entry stays so, or a later one is reported
 abbrev KnownOr : ℕ → ℕ → ℕ → ℕ → Type 0
-KnownOr low k fresh last = ((fresh ≡ 0) × (last ≡ k)) ⊎ ((low < fresh) × (last ≡ fresh))
+KnownOr low k new_last last = ((new_last ≡ 0) × (last ≡ k)) ⊎ ((low < new_last) × (last ≡ new_last))
 
 known_or : (g c low k : ℕ) (es : List Event) → Every (λ (e : Event). low < e.number) es → KnownOr low k (last_entry g c 0 es) (last_entry g c k es)
 known_or g c low k [] h = inl (refl, refl)
@@ -141,7 +141,7 @@ known_or g c low k (e ∷ es) h = by (enters g c e) (known_or g c low k es h.1)
     by true rest = inr (above_low g c low e.number es h.1 h.0, refl)
     by false rest = rest
 
--- a call that is held in the later state, and of which no entry is told since, was held in the first one
+-- a call that is held in the later state, and of which no entry is reported since, was held in the first one
 held_before : (c d : Content) (g : Grown c d) → Rules c.rows → (group call p : ℕ) → HasPlace d.rows group call p
     → last_entry group call (last_entry group call 0 (history c.rows c.events)) g.new ≡ last_entry group call 0 (history c.rows c.events) → (q : ℕ) × HasPlace c.rows group call q
 held_before c d g rules group call p h same = by (is_held c.rows group call) refl
@@ -164,12 +164,12 @@ queue_order c d g sound group first second p q a b =
     let order = g.watched.queues group first second p q a b in
     let fa = last-append group first 0 old g.new in
     let fb = last-append group second 0 old g.new in
-    let below = no_more_recast c.rows c.events (sound_tells_no_more c sound) in
+    let below = no_more_recast c.rows c.events (sound_reports_no_more c sound) in
     let before = watched_recast c.rows c.events (sound_keeps_laws c sound).watched in
     let la = below.entries group first in
     let lb = below.entries group second in
-    elim (known_or group first low (last_entry group first 0 old) g.new g.behind) [
-      | inl x ↦ elim (known_or group second low (last_entry group second 0 old) g.new g.behind) [
+    elim (known_or group first low (last_entry group first 0 old) g.new g.after) [
+      | inl x ↦ elim (known_or group second low (last_entry group second 0 old) g.new g.after) [
         | inl y ↦ (
             let x0 = x.0 in let x1 = x.1 in let y0 = y.0 in let y1 = y.1 in
             let pa = held_before c d g rules group first p a x1 in
@@ -186,7 +186,7 @@ queue_order c d g sound group first second p q a b =
             (λ l. inl (omega (arith, x0, y0)), λ i. order.1 (omega (arith, fa, fb, la, x1, y0, y1)))
             )
       ]
-      | inr x ↦ elim (known_or group second low (last_entry group second 0 old) g.new g.behind) [
+      | inr x ↦ elim (known_or group second low (last_entry group second 0 old) g.new g.after) [
         | inl y ↦ (
             let x0 = x.0 in let x1 = x.1 in let y0 = y.0 in let y1 = y.1 in (
               λ l. let o = order.0 l in absurd (omega (arith, o, fa, fb, lb, x0, x1, y1)),
@@ -212,12 +212,12 @@ leads_by : (c d : Content) (g : Grown c d) → IsSound c → IsSound d → Leads
 leads_by c d g before later = record {
   whole = g.whole;
   connections = λ call device.
-      let told : Option ConnectionState → Columns → Option ConnectionState = connection_told call device in
-      shown_told d later call device ∙ ap (known_after told None) g.whole ∙ after-append told None c.events g.new
-      ∙ ap (λ (v : Option ConnectionState). known_after told v g.new) (sym (shown_told c before call device));
+      let reported : Option ConnectionState → Columns → Option ConnectionState = connection_reported call device in
+      shown_by_events d later call device ∙ ap (known_after reported None) g.whole ∙ after-append reported None c.events g.new
+      ∙ ap (λ (v : Option ConnectionState). known_after reported v g.new) (sym (shown_by_events c before call device));
   agents = λ agent.
-      seat_shown d later agent ∙ ap (known_after (seat_told agent) no_seat) g.whole ∙ after-append (seat_told agent) no_seat c.events g.new
-      ∙ ap (λ (v : Seat). known_after (seat_told agent) v g.new) (sym (seat_shown c before agent));
+      seat_shown d later agent ∙ ap (known_after (seat_reported agent) no_seat) g.whole ∙ after-append (seat_reported agent) no_seat c.events g.new
+      ∙ ap (λ (v : Seat). known_after (seat_reported agent) v g.new) (sym (seat_shown c before agent));
   figures = λ group among.
       (sound_keeps_figures d later).groups group among ∙ ap (figures_of group.device) g.whole ∙ figures_joined group.device c.events g.new
       ∙ ap (λ (f : Figures). sum_of_figures f (figures_of group.device g.new)) (sym (figures_counted c before group.device));
@@ -230,5 +230,5 @@ snapshot_leads_on c list sound =
     let g = grown c list sound in
     let counted : IsCounted c = sound_counted c sound in
     let is : above d.events c.rows.last_event ≡ g.new
-    = ap (λ (l : List Event). above l c.rows.last_event) g.whole ∙ above_old c.rows.last_event c.events g.new counted.events ∙ above_new c.rows.last_event g.new g.behind in
+    = ap (λ (l : List Event). above l c.rows.last_event) g.whole ∙ above_old c.rows.last_event c.events g.new counted.events ∙ above_new c.rows.last_event g.new g.after in
     subst (LeadsBy c d) (sym is) (leads_by c d g sound (ran_sound c list sound))

@@ -25,7 +25,7 @@ use Rattle.acd_terms.specs.declared.record.GroupRecord.{GroupRecord}
 use Rattle.acd_reports.specs.declared.queues.GroupState.{GroupState}
 use Rattle.acd_reports.specs.QueueReport.{first_queued, ringing_from}
 use Rattle.acd_desk.specs.GroupStates.{first_of, lesser, queued_of}
-use Rattle.acd_desk.specs.Tells.{in_order, by_place, queue_in}
+use Rattle.acd_desk.specs.ReadAnswers.{in_order, by_place, queue_in}
 use Rattle.acd_desk.proofs.OrderLemmas.{Apart, by_key, ordered_among, waiting_apart}
 use Rattle.std.proofs.lemmas.List.{length-map}
 
@@ -60,9 +60,9 @@ lesser_swap None b = sym (lesser_none b)
 lesser_swap (Some n) None = refl
 lesser_swap (Some n) (Some m) = ap Some (min_swap n m)
 
-pub least_noted : (o : Option ℕ) (xs : List ℕ) → reduce min (cons_option o xs) ≡ lesser o (reduce min xs)
-least_noted None xs = refl
-least_noted (Some n) xs = least_more n xs
+pub least_with : (o : Option ℕ) (xs : List ℕ) → reduce min (cons_option o xs) ≡ lesser o (reduce min xs)
+least_with None xs = refl
+least_with (Some n) xs = least_more n xs
 
 -- ---- a list in order has the same least and as many
 
@@ -71,22 +71,22 @@ module _ {T : Type 0} (of : T → Option ℕ) where
   least xs = reduce min (filter_map of xs)
 
   least_put : (at : T → Ordering) (x : T) (xs : List T) → ((z : T) → Among z xs → at z ≡ Equal → ⊥) → (least (put_by at xs x) ≡ lesser (of x) (least xs)) × (length (put_by at xs x) ≡ suc (length xs))
-  least_put at x [] other = (least_noted (of x) [], refl)
+  least_put at x [] other = (least_with (of x) [], refl)
   least_put at x (y ∷ xs) other =
       by (at y) (other y (inl refl)) (least_put at x xs (λ z a. other z (inr a)))
     where
       by : (o : Ordering) → (o ≡ Equal → ⊥) → (least (put_by at xs x) ≡ lesser (of x) (least xs)) × (length (put_by at xs x) ≡ suc (length xs))
           → (least (match_ordering o (x ∷ y ∷ xs) (x ∷ xs) (y ∷ put_by at xs x)) ≡ lesser (of x) (least (y ∷ xs)))
           × (length (match_ordering o (x ∷ y ∷ xs) (x ∷ xs) (y ∷ put_by at xs x)) ≡ suc (suc (length xs)))
-      by Less not rest = (least_noted (of x) (filter_map of (y ∷ xs)), refl)
+      by Less not rest = (least_with (of x) (filter_map of (y ∷ xs)), refl)
       by Equal not rest = absurd (not refl)
       by Greater not rest = (
-        least_noted (of y) (filter_map of (put_by at xs x))
+        least_with (of y) (filter_map of (put_by at xs x))
             ∙ ap (lesser (of y)) rest.0
             ∙ sym (lesser_join (of y) (of x) (least xs))
             ∙ ap (λ (o : Option ℕ). lesser o (least xs)) (lesser_swap (of y) (of x))
             ∙ lesser_join (of x) (of y) (least xs)
-            ∙ ap (lesser (of x)) (sym (least_noted (of y) (filter_map of xs))),
+            ∙ ap (lesser (of x)) (sym (least_with (of y) (filter_map of xs))),
         ap suc rest.1,
       )
 
@@ -96,7 +96,7 @@ module _ {T : Type 0} (of : T → Option ℕ) where
       let rest = least_ordered key xs apart.1 in
       let put = least_put (by_key key x) x (in_order (by_key key) xs)
       (λ z a same. apart.0 z (ordered_among key xs z a) (exact_pair (key x) (key z) (is_eq_of (pair_cmp (key x) (key z)) same))) in
-      (put.0 ∙ ap (lesser (of x)) rest.0 ∙ sym (least_noted (of x) (filter_map of xs)), put.1 ∙ ap suc rest.1)
+      (put.0 ∙ ap (lesser (of x)) rest.0 ∙ sym (least_with (of x) (filter_map of xs)), put.1 ∙ ap suc rest.1)
 
 -- the connections found at some pairs, and when they entered
 entered_found : (f : ℕ × ℕ → Option ConnectionRecord) (ps : List (ℕ × ℕ)) → filter_map (λ (p : ℕ × ℕ). queued_of (f p)) ps ≡ filter_map (λ (x : ConnectionRecord). x.queued) (filter_map f ps)
@@ -108,7 +108,7 @@ entered_found f (p ∷ ps) = by (f p) (entered_found f ps)
     by None rest = rest
     by (Some x) rest = ap (cons_option x.queued) rest
 
--- a queue tells how many wait, and when the first of them entered
+-- a queue says how many calls wait, and when the first of them entered
 pub first_is : (s : Rows) (rules : BreaksNoRule s) (g : ℕ) (keys : List (ℕ × ℕ)) → filter_map (λ (p : ℕ × ℕ). connection_of s p.1 g) keys ≡ queue_in s g → first_of s g keys ≡ first_queued s g
 unfolding queue_in first_queued
 first_is s rules g keys lent =
@@ -132,7 +132,7 @@ ringing_offered : (x : ConnectionRecord) (state : ConnectionState) (g : ℕ) →
 ringing_offered x Alerting g columns e = offered_at x x.group g columns (and_parts (has x.group g) true e).0
 ringing_offered x _ g columns e = absurd (true≢false (sym (and_parts (has x.group g) false e).1))
 
--- what passes one test passes the other too
+-- whatever passes one test passes the other too
 module _ {T : Type 0} (p q : T → Bool) where
   filter_both : (xs : List T) → Every (λ (x : T). p x ≡ true → q x ≡ true) xs → filter p (filter q xs) ≡ filter p xs
   filter_both [] all = refl

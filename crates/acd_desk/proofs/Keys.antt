@@ -5,6 +5,6 @@ use Rattle.acd_terms.specs.contracts.command.RequestEq.TheImpl.Laws.{laws-law}
 use Rattle.acd_desk.specs.Replies.{same_request}
 
 -- a request is the same as itself
-pub same_own : (r : Request) → same_request r r ≡ true
+pub same_itself : (r : Request) → same_request r r ≡ true
 unfolding same_request
-same_own r = laws-law.refl r
+same_itself r = laws-law.refl r

@@ -1,11 +1,11 @@
--- What a desk makes of any content: one answer more, and what that is from a sound one.
+-- A desk over any content: one answer more, and what that is from a sound one.
 use Rattle.std.proofs.Common.{◌≡◌, List, [], ◌∷◌, ◌++◌, refl, sym, ap, ap₂, subst, ◌∙◌, append_assoc, append-nil, Bool, true, false, cond, inl, inr, ◌⊎◌}
 use Rattle.std.specs.List.{Contains}
 use Rattle.acd_terms.specs.declared.command.Arrival.{Arrival}
 use Rattle.acd_book.specs.Content.{Content}
 use Rattle.acd_desk.specs.declared.taken.Taken.{Taken}
 use Rattle.acd_desk.specs.Replies.{answer_in, after}
-use Rattle.acd_desk.specs.Served.{is_fault, sent}
+use Rattle.acd_desk.specs.Accepted.{is_fault, sent}
 use Rattle.acd_desk.specs.Stands.{IsSound, ran_after, replies, StopsAt}
 use Rattle.acd_desk.specs.Leads.{led, answers_to, StopsFrom}
 use Rattle.acd_desk.proofs.Longer.{ran_none, ran_push, replies_push, sent-push}

@@ -17,7 +17,7 @@ pub mod Calls
 pub mod Faulty
 pub mod NewKeys
 pub mod Opens
-pub mod Telling
+pub mod ReadsDone
 pub mod OrderLemmas
 pub mod PageLemmas
 pub mod Rising

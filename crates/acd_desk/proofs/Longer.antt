@@ -14,10 +14,10 @@ use Rattle.acd_desk.specs.declared.taken.Taken.{Taken}
 use Rattle.acd_desk.specs.Firsts.{has_key, firsts, record_of, executed, run}
 use Rattle.acd_desk.specs.Replies.{answer_of, answer_in, reply_to, after}
 use Rattle.acd_desk.specs.declared.taken.Taken.TheVariants.{Reply, InvokeReused, DeskFull, NoMemory, StoreFault}
-use Rattle.acd_desk.specs.Served.{is_fault, served, sent, has_served, maybe_last}
+use Rattle.acd_desk.specs.Accepted.{is_fault, accepted, sent, has_accepted, maybe_last}
 use Rattle.acd_desk.specs.Stands.{arrivals_of, IsSound, ran_after, replies}
 use Rattle.acd_desk.proofs.Runs.{run-stamp, run-limits, run-found, firsts-room, has-distinct, after_firsts}
-use Rattle.acd_book.proofs.Keys.{key_own}
+use Rattle.acd_book.proofs.Keys.{key_itself}
 use Rattle.acd_lemmas.proofs.Bools.{or_yes}
 
 -- ---- a reply stays ----
@@ -56,7 +56,7 @@ reply_stays n l a r there =
 pub has_within : (pre post : List Arrival) (a : Arrival) → has_key (pre ++ a ∷ post) a.request.requester a.request.invoke ≡ true
 has_within pre post a =
     list_any-append (λ (x : Arrival). is_key a.request.requester a.request.invoke x.request) pre (a ∷ post)
-    ∙ ap (λ (b : Bool). has_key pre a.request.requester a.request.invoke || (b || has_key post a.request.requester a.request.invoke)) (key_own a.request)
+    ∙ ap (λ (b : Bool). has_key pre a.request.requester a.request.invoke || (b || has_key post a.request.requester a.request.invoke)) (key_itself a.request)
     ∙ or_yes (has_key pre a.request.requester a.request.invoke)
 
 replies_stay : (n : Limits) (x : Arrival) (l pre : List Arrival)
@@ -89,13 +89,13 @@ replies_push start l a =
     ∙ sym (map-append (λ (x : Arrival). reply_to n ((k ++ l) ++ a ∷ []) x.request) l (a ∷ []))
     ∙ ap (λ (s : List Arrival). map (λ (x : Arrival). reply_to n s x.request) (l ++ a ∷ [])) (append_assoc k l (a ∷ []))
 
-pub served-push : (l : List Arrival) (ts : List Taken) (a : Arrival) (t : Taken) → length l ≡ length ts → served (l ++ a ∷ []) (ts ++ t ∷ []) ≡ served l ts ++ cond (is_fault t) [] (a ∷ [])
-served-push [] [] a t same = append-nil (cond (is_fault t) [] (a ∷ []))
-served-push [] (u ∷ ts) a t same = absurd (omega arith)
-served-push (b ∷ l) [] a t same = absurd (omega arith)
-served-push (b ∷ l) (u ∷ ts) a t same =
+pub accepted-push : (l : List Arrival) (ts : List Taken) (a : Arrival) (t : Taken) → length l ≡ length ts → accepted (l ++ a ∷ []) (ts ++ t ∷ []) ≡ accepted l ts ++ cond (is_fault t) [] (a ∷ [])
+accepted-push [] [] a t same = append-nil (cond (is_fault t) [] (a ∷ []))
+accepted-push [] (u ∷ ts) a t same = absurd (omega arith)
+accepted-push (b ∷ l) [] a t same = absurd (omega arith)
+accepted-push (b ∷ l) (u ∷ ts) a t same =
     let less : length l ≡ length ts = omega arith in
-    ap (λ (s : List Arrival). cond (is_fault u) [] (b ∷ []) ++ s) (served-push l ts a t less) ∙ sym (append_assoc (cond (is_fault u) [] (b ∷ [])) (served l ts) (cond (is_fault t) [] (a ∷ [])))
+    ap (λ (s : List Arrival). cond (is_fault u) [] (b ∷ []) ++ s) (accepted-push l ts a t less) ∙ sym (append_assoc (cond (is_fault u) [] (b ∷ [])) (accepted l ts) (cond (is_fault t) [] (a ∷ [])))
 
 faulty_more : (b : Bool) → b ≡ true → (not b || false) ≡ false
 faulty_more true h = refl
@@ -105,11 +105,11 @@ or-false : (a b : Bool) → b ≡ false → (a || b) ≡ a
 or-false true b h = refl
 or-false false b h = h
 
-has_served-push : (ts : List Taken) (t : Taken) → is_fault t ≡ true → has_served (ts ++ t ∷ []) ≡ has_served ts
-has_served-push ts t bad =
-    list_any-append (λ (u : Taken). not (is_fault u)) ts (t ∷ []) ∙ or-false (has_served ts) (not (is_fault t) || false) (faulty_more (is_fault t) bad)
+has_accepted-push : (ts : List Taken) (t : Taken) → is_fault t ≡ true → has_accepted (ts ++ t ∷ []) ≡ has_accepted ts
+has_accepted-push ts t bad =
+    list_any-append (λ (u : Taken). not (is_fault u)) ts (t ∷ []) ∙ or-false (has_accepted ts) (not (is_fault t) || false) (faulty_more (is_fault t) bad)
 
--- an arrival that may be the last stays so behind a fault
+-- an arrival that may be the last stays so after a fault
 pub maybe_stays : (l : List Arrival) (ts : List Taken) (a : Arrival) (t : Taken) → is_fault t ≡ true
     → (x : Arrival) → Contains (maybe_last l ts) x → Contains (maybe_last (l ++ a ∷ []) (ts ++ t ∷ [])) x
 maybe_stays [] ts a t bad x h = absurd (omega (arith, h.1))
@@ -118,9 +118,9 @@ maybe_stays (b ∷ l) (Reply status body ∷ ts) a t bad x h = maybe_stays l ts 
 maybe_stays (b ∷ l) (InvokeReused ∷ ts) a t bad x h = maybe_stays l ts a t bad x h
 maybe_stays (b ∷ l) (DeskFull ∷ ts) a t bad x h = maybe_stays l ts a t bad x h
 maybe_stays (b ∷ l) (NoMemory ∷ ts) a t bad x h =
-    let one : List Arrival = cond (has_served ts) [] (b ∷ []) in
+    let one : List Arrival = cond (has_accepted ts) [] (b ∷ []) in
     let more : List Arrival = maybe_last (l ++ a ∷ []) (ts ++ t ∷ []) in
-    subst (λ (c : Bool). Contains (cond c [] (b ∷ []) ++ more) x) (sym (has_served-push ts t bad))
+    subst (λ (c : Bool). Contains (cond c [] (b ∷ []) ++ more) x) (sym (has_accepted-push ts t bad))
     (elim (Contains-append_cases one (maybe_last l ts) x h) [
       | inl now ↦ Contains-append_left one more x now
       | inr rest ↦ Contains-append_right one more x (maybe_stays l ts a t bad x rest)
@@ -143,7 +143,7 @@ maybe_this (b ∷ l) [] a t same none h = absurd (omega arith)
 maybe_this (b ∷ l) (Reply status body ∷ ts) a t same none h = maybe_this l ts a t (one_less b (Reply status body) l ts same) (λ found. none (Contains-append_right (Reply status body ∷ []) ts StoreFault found)) h
 maybe_this (b ∷ l) (InvokeReused ∷ ts) a t same none h = maybe_this l ts a t (one_less b InvokeReused l ts same) (λ found. none (Contains-append_right (InvokeReused ∷ []) ts StoreFault found)) h
 maybe_this (b ∷ l) (DeskFull ∷ ts) a t same none h = maybe_this l ts a t (one_less b DeskFull l ts same) (λ found. none (Contains-append_right (DeskFull ∷ []) ts StoreFault found)) h
-maybe_this (b ∷ l) (NoMemory ∷ ts) a t same none h = Contains-append_right (cond (has_served (ts ++ t ∷ [])) [] (b ∷ [])) (maybe_last (l ++ a ∷ []) (ts ++ t ∷ [])) a (maybe_this l ts a t (one_less b NoMemory l ts same) (λ found. none (Contains-append_right (NoMemory ∷ []) ts StoreFault found)) h)
+maybe_this (b ∷ l) (NoMemory ∷ ts) a t same none h = Contains-append_right (cond (has_accepted (ts ++ t ∷ [])) [] (b ∷ [])) (maybe_last (l ++ a ∷ []) (ts ++ t ∷ [])) a (maybe_this l ts a t (one_less b NoMemory l ts same) (λ found. none (Contains-append_right (NoMemory ∷ []) ts StoreFault found)) h)
 maybe_this (b ∷ l) (StoreFault ∷ ts) a t same none h = absurd (none (Contains-append_left (StoreFault ∷ []) ts StoreFault (Contains-push [] StoreFault)))
 
 cond-not : (b : Bool) (t : Taken) → cond (not b) (t ∷ []) [] ≡ cond b [] (t ∷ [])

@@ -9,22 +9,22 @@ use Rattle.acd_book.proofs.BookSteps.{no_step, step_so, step_then}
 use Rattle.acd_desk.specs.declared.taken.Taken.{Taken}
 use Rattle.acd_desk.specs.declared.taken.Taken.TheVariants.{Reply, InvokeReused, DeskFull, NoMemory, StoreFault}
 use Rattle.acd_desk.specs.Replies.{answer_in, after}
-use Rattle.acd_desk.specs.Served.{is_fault, is_rejection, is_reply, served, maybe_last}
+use Rattle.acd_desk.specs.Accepted.{is_fault, is_rejection, is_reply, accepted, maybe_last}
 use Rattle.acd_desk.specs.Stands.{IsSound, ran_after}
 use Rattle.acd_desk.specs.Leads.{led, answers_to, StopsFrom, Leads}
 use Rattle.acd_desk.specs.Standing.{Standing, InStep, Starts}
 use Rattle.acd_desk.specs.Ran.{WasUnloaded, EndsIn, IsFault, EndsUp, Took, Ran}
 use Rattle.acd_desk.specs.Attended.{Attended}
-use Rattle.acd_desk.specs.Told.{Told}
+use Rattle.acd_desk.specs.ReadDone.{ReadDone}
 use Rattle.acd_desk.specs.AnswerTexts.{Said, IsSaid, SaysOf}
 use Rattle.acd_desk.specs.declared.fault.DeskFault.{DeskFault}
 use Rattle.acd_desk.proofs.DeskSteps.{desk_so, desk_then}
-use Rattle.acd_desk.proofs.Longer.{ran_none, served-push, maybe_stays, maybe_this}
+use Rattle.acd_desk.proofs.Longer.{ran_none, accepted-push, maybe_stays, maybe_this}
 use Rattle.acd_desk.proofs.Leading.{one_said, one_content, one_stop, sound_led, sound_answers, sound_stop}
 use Rattle.acd_desk.proofs.Sound.{ran_sound, stop_sound}
 use Rattle.acd_desk.proofs.ContentLaws.{sound_keeps_laws}
 
--- what a book promises of its stops
+-- the promise of a book on its stops
 abbrev pub Settles : Standing → Type 0
 Settles s = (c : Content) → s.book.is_clean → s.book.is_sound → s.book.is_open → s.book.stops c → c ≡ s.book.content
 
@@ -36,7 +36,7 @@ ran_nothing s settles =
     record {
       even = refl;
       step = no_step s.book;
-      desk = record { in_step = λ clean sound step. step; shuts = λ h. absurd (omega (arith, h.1)); tells = λ h. inl h; lasts = λ h. h; cause = λ h. inl (inl h) };
+      desk = record { in_step = λ clean sound step. step; shuts = λ h. absurd (omega (arith, h.1)); answers = λ h. inl h; lasts = λ h. h; cause = λ h. inl (inl h) };
       leads = λ clean sound opened step. record { replies = refl; content = λ up. refl; stops = λ c at. inl (settles c clean sound opened at) };
       replies = λ clean start. refl;
       holds = λ clean start opened. record {
@@ -111,12 +111,12 @@ was_open m n a t took clean sound opened =
     cases (is_reply t) refl
 
 -- the last answer is no fault
-last_served : (s : Standing) (ts : List Taken) (t : Taken) → EndsUp s (ts ++ t ∷ []) → is_fault t ≡ false
-last_served s [] t h = h
-last_served s (u ∷ []) t h = h
-last_served s (u ∷ v ∷ ts) t h = last_served s (v ∷ ts) t h
+last_accepted : (s : Standing) (ts : List Taken) (t : Taken) → EndsUp s (ts ++ t ∷ []) → is_fault t ≡ false
+last_accepted s [] t h = h
+last_accepted s (u ∷ []) t h = h
+last_accepted s (u ∷ v ∷ ts) t h = last_accepted s (v ∷ ts) t h
 
--- over a book that was shut, or by a desk that had failed, nothing is done
+-- a book that was shut, or a desk that failed before, does nothing
 idle : (s m n : Standing) (l : List Arrival) (ts : List Taken) (a : Arrival) (t : Taken) → Ran s l ts m → Took m a t n
     → n.book.is_clean → s.book.is_sound → (¬ s.book.is_open) ⊎ (s.failed ≡ true) → Within n.book.stops s.book.stops
 idle s m n l ts a t ran took clean sound shut c at =
@@ -133,7 +133,7 @@ idle s m n l ts a t ran took clean sound shut c at =
       ]
     ]
 
--- what is said of a run is said of it where the desk was read, too
+-- a statement on a run holds of it where the desk was read, too
 pub attended_ran : (old new : Standing) (l : List Arrival) (ts : List Taken) → Ran old l ts new → Attended old l ts new
 attended_ran old new l ts ran = record {
   even = ran.even;
@@ -151,21 +151,21 @@ attended_ran old new l ts ran = record {
 leads_more : (start : Content) (m n : Standing) (l : List Arrival) (ts : List Taken) (a : Arrival) (t : Taken) → Settles n → length l ≡ length ts → (Contains ts StoreFault → m.failed ≡ true)
     → n.book.is_clean → m.book.is_sound → InStep m → Leads start l ts m.book → Took m a t n → Leads start (l ++ a ∷ []) (ts ++ t ∷ []) n.book
 leads_more start m n l ts a t settles even shuts clean sound step before took =
-    let yes : served (l ++ a ∷ []) (ts ++ t ∷ []) ≡ served l ts ++ cond (is_fault t) [] (a ∷ []) = served-push l ts a t even in
+    let yes : accepted (l ++ a ∷ []) (ts ++ t ∷ []) ≡ accepted l ts ++ cond (is_fault t) [] (a ∷ []) = accepted-push l ts a t even in
     let maybe : List Arrival = maybe_last (l ++ a ∷ []) (ts ++ t ∷ []) in
     record {
       replies =
-          one_said start (served l ts) ts a t before.replies (λ (fine : is_fault t ≡ false).
+          one_said start (accepted l ts) ts a t before.replies (λ (fine : is_fault t ≡ false).
           (took.sent fine clean sound step).0 ∙ ap (λ (x : Content). answer_in (after x a) a.request) (before.content (took.up fine clean sound).0))
           ∙ ap (answers_to start) (sym yes);
       content = λ opened.
-          one_content start (served l ts) a t n.book.content
+          one_content start (accepted l ts) a t n.book.content
           (λ (fine : is_fault t ≡ false). (took.sent fine clean sound step).1 ∙ ap (λ (x : Content). after x a) (before.content (took.up fine clean sound).0))
           (λ (bad : is_fault t ≡ true). (took.unmoved (fault_no_reply t bad) clean sound opened).1 ∙ before.content (took.unmoved (fault_no_reply t bad) clean sound opened).0)
           ∙ ap (led start) (sym yes);
       stops = λ c stop.
           subst (λ (y : List Arrival). StopsFrom start y maybe c) (sym yes)
-          (one_stop start (served l ts) (maybe_last l ts) maybe a t c (maybe_stays l ts a t)
+          (one_stop start (accepted l ts) (maybe_last l ts) maybe a t c (maybe_stays l ts a t)
           (λ (fine : is_fault t ≡ false).
           settles c clean (took.step.sound clean sound) (took.up fine clean sound).1 stop
           ∙ (took.sent fine clean sound step).1 ∙ ap (λ (x : Content). after x a) (before.content (took.up fine clean sound).0))
@@ -182,7 +182,7 @@ leads_more start m n l ts a t settles even shuts clean sound step before took =
 pub attended_more : (s m n : Standing) (l : List Arrival) (ts : List Taken) (a : Arrival) (t : Taken) → Settles n → Attended s l ts m → Took m a t n → Attended s (l ++ a ∷ []) (ts ++ t ∷ []) n
 attended_more s m n l ts a t settles ran took =
     let start : Content = s.book.content in
-    let yes : List Arrival = served (l ++ a ∷ []) (ts ++ t ∷ []) in
+    let yes : List Arrival = accepted (l ++ a ∷ []) (ts ++ t ∷ []) in
     let leads : n.book.is_clean → s.book.is_sound → s.book.is_open → InStep s → Leads start (l ++ a ∷ []) (ts ++ t ∷ []) n.book
     = λ clean sound opened step.
     let before = took.step.clean clean in
@@ -206,7 +206,7 @@ attended_more s m n l ts a t settles ran took =
 pub ran_more : (s m n : Standing) (l : List Arrival) (ts : List Taken) (a : Arrival) (t : Taken) → Settles n → Ran s l ts m → Took m a t n → Ran s (l ++ a ∷ []) (ts ++ t ∷ []) n
 ran_more s m n l ts a t settles ran took =
     let start : Content = s.book.content in
-    let yes : List Arrival = served (l ++ a ∷ []) (ts ++ t ∷ []) in
+    let yes : List Arrival = accepted (l ++ a ∷ []) (ts ++ t ∷ []) in
     let more : Attended s (l ++ a ∷ []) (ts ++ t ∷ []) n = attended_more s m n l ts a t settles (attended_ran s m l ts ran) took in
     record {
       even = more.even;
@@ -224,7 +224,7 @@ ran_more s m n l ts a t settles ran took =
             laws = sound_keeps_laws n.book.content whole;
             alone = λ c stop. settles c clean (more.sound clean starts.0) opened stop;
           };
-      up = λ clean sound ended. (took.up (last_served s ts t ended) clean (ran.step.sound (took.step.clean clean) sound)).1;
+      up = λ clean sound ended. (took.up (last_accepted s ts t ended) clean (ran.step.sound (took.step.clean clean) sound)).1;
       opened = λ clean sound opened. ran.opened (took.step.clean clean) sound (was_open m n a t took clean (ran.step.sound (took.step.clean clean) sound) opened);
       stops = more.stops;
       sound_stops = λ clean starts c stop. stop_sound start yes (maybe_last (l ++ a ∷ []) (ts ++ t ∷ [])) c starts.3 (more.stops clean starts c stop);
@@ -238,27 +238,27 @@ ran_more s m n l ts a t settles ran took =
     }
 
 -- a read between two calls
-pub attended_told : {A : Type 0} (s m n : Standing) (l : List Arrival) (ts : List Taken) (r : Result A DeskFault) (P : Content → A → Type 0) → Attended s l ts m → Told m n r P → Attended s l ts n
-attended_told s m n l ts r P ran told = record {
+pub attended_read : {A : Type 0} (s m n : Standing) (l : List Arrival) (ts : List Taken) (r : Result A DeskFault) (P : Content → A → Type 0) → Attended s l ts m → ReadDone m n r P → Attended s l ts n
+attended_read s m n l ts r P ran read = record {
   even = ran.even;
-  clean = λ clean. ran.clean (told.step.clean clean);
-  sound = λ clean sound. told.step.sound clean (ran.sound (told.step.clean clean) sound);
-  in_step = λ clean sound step. told.desk.in_step clean (ran.sound (told.step.clean clean) sound) (ran.in_step (told.step.clean clean) sound step);
+  clean = λ clean. ran.clean (read.step.clean clean);
+  sound = λ clean sound. read.step.sound clean (ran.sound (read.step.clean clean) sound);
+  in_step = λ clean sound step. read.desk.in_step clean (ran.sound (read.step.clean clean) sound) (ran.in_step (read.step.clean clean) sound step);
   leads = λ clean sound opened step.
-      let before = told.step.clean clean in
+      let before = read.step.clean clean in
       let so_far = ran.leads before sound opened step in
       record {
         replies = so_far.replies;
-        content = λ up. let same = told.unchanged.same clean (ran.sound before sound) up in same.1 ∙ so_far.content same.0;
-        stops = λ c stop. so_far.stops c (told.unchanged.stops clean (ran.sound before sound) c stop);
+        content = λ up. let same = read.unchanged.same clean (ran.sound before sound) up in same.1 ∙ so_far.content same.0;
+        stops = λ c stop. so_far.stops c (read.unchanged.stops clean (ran.sound before sound) c stop);
       };
-  replies = λ clean starts. ran.replies (told.step.clean clean) starts;
+  replies = λ clean starts. ran.replies (read.step.clean clean) starts;
   content = λ clean starts opened.
-      let before = told.step.clean clean in
-      let same = told.unchanged.same clean (ran.sound before starts.0) opened in
+      let before = read.step.clean clean in
+      let same = read.unchanged.same clean (ran.sound before starts.0) opened in
       same.1 ∙ ran.content before starts same.0;
-  stops = λ clean starts c stop. let before = told.step.clean clean in ran.stops before starts c (told.unchanged.stops clean (ran.sound before starts.0) c stop);
-  shuts = λ found. told.desk.lasts (ran.shuts found);
+  stops = λ clean starts c stop. let before = read.step.clean clean in ran.stops before starts c (read.unchanged.stops clean (ran.sound before starts.0) c stop);
+  shuts = λ found. read.desk.lasts (ran.shuts found);
 }
 
 -- one call alone
@@ -293,7 +293,7 @@ forgets m n a t rejected took =
       unloads = λ working gone. inr refl;
     }
 
--- what is said of an answer, or noMemory in its place
+-- the text of an answer, or noMemory in its place
 pub says_of : (s n : Standing) (a : Arrival) (t : Taken) (out : Said) → Settles s → Settles n → Took s a t n → Ran s (a ∷ []) (t ∷ []) n → IsSaid a.request t out → SaysOf s a out n
 says_of s n a t out settles settled took ran (inl is) = record { answer = t; says = is; took = took; ran = ran }
 says_of s n a t out settles settled took ran (inr lost) =

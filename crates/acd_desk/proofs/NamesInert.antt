@@ -18,7 +18,7 @@ use Rattle.acd_desk.specs.declared.taken.Taken.TheVariants.{Reply, InvokeReused,
 use Rattle.acd_desk.specs.Firsts.{has_key, distinct_from, firsts, kept_at, record_of, executed, run_from, run}
 use Rattle.acd_desk.specs.Replies.{same_request, answer_of, reply_to}
 use Rattle.acd_desk.specs.NameLaws.{unnamed_request, unnamed_arrival, unnamed_kept, HasOneRequestAKey, answers, SameArrivalsButNames, ContentIgnoresNames, AnswersIgnoreNames}
-use Rattle.acd_desk.proofs.Keys.{same_own}
+use Rattle.acd_desk.proofs.Keys.{same_itself}
 
 abbrev unnamed_content : Content → Content
 unnamed_content c = record c { rows = unnamed c.rows; kept = map unnamed_kept c.kept }
@@ -70,7 +70,7 @@ content_ignores_names limits xs ys same =
 
 -- answers
 
--- a request that stands in the list
+-- a request that is in the list
 abbrev AskedIn : List Arrival → Request → Type 0
 AskedIn list r = (a : Arrival) × (Among a list × (r ≡ a.request))
 
@@ -90,25 +90,25 @@ every_distinct P (a ∷ l) seen h =
     ]
 
 -- the reply that is kept, whatever was asked
-abbrev told : Option Kept → Taken
-told None = DeskFull
-told (Some k) = Reply k.status k.body
+abbrev kept_reply : Option Kept → Taken
+kept_reply None = DeskFull
+kept_reply (Some k) = Reply k.status k.body
 
-told_to : (limits : Limits) (list : List Arrival) (a : Arrival) → HasOneRequestAKey list → Among a list
-    → reply_to limits list a.request ≡ told (kept_of (run limits list).kept a.request.requester a.request.invoke)
-told_to limits list a once there =
+reply_is_kept : (limits : Limits) (list : List Arrival) (a : Arrival) → HasOneRequestAKey list → Among a list
+    → reply_to limits list a.request ≡ kept_reply (kept_of (run limits list).kept a.request.requester a.request.invoke)
+reply_is_kept limits list a once there =
     let p : List ℕ = a.request.requester in
     let q : ℕ = a.request.invoke in
     let kept : List Kept = (run limits list).kept in
     let asked : AllAsked list kept = kept_asked list (firsts limits.requests list) (empty_content limits) tt
     (every-take (λ (x : Arrival). Among x list) limits.requests (distinct_from [] list) (every_distinct (λ (x : Arrival). Among x list) list [] (every_from (λ (x : Arrival). Among x list) list (λ x i. i)))) in
-    (elim (kept_of kept p q) as (λ o. kept_of kept p q ≡ o → answer_of o a.request ≡ told o) [
+    (elim (kept_of kept p q) as (λ o. kept_of kept p q ≡ o → answer_of o a.request ≡ kept_reply o) [
       | None ↦ λ e. refl
       | Some k ↦ λ e.
           let by : AskedIn list k.request = every_among (λ (k : Kept). AskedIn list k.request) kept k asked (find_among (λ (k : Kept). is_key p q k.request) kept k e) in
           let key : is_key p q k.request ≡ true = find_passes (λ (k : Kept). is_key p q k.request) kept k e in
-          let own : a.request ≡ k.request = once a by.0 there by.1.0 (subst (λ (r : Request). is_key p q r ≡ true) by.1.1 key) ∙ sym by.1.1 in
-          ap (λ (b : Bool). cond b (Reply k.status k.body) InvokeReused) (ap (same_request k.request) own ∙ same_own k.request)
+          let same : a.request ≡ k.request = once a by.0 there by.1.0 (subst (λ (r : Request). is_key p q r ≡ true) by.1.1 key) ∙ sym by.1.1 in
+          ap (λ (b : Bool). cond b (Reply k.status k.body) InvokeReused) (ap (same_request k.request) same ∙ same_itself k.request)
     ]) refl
 
 -- over the list
@@ -116,20 +116,20 @@ map_alike : {X Y : Type 0} (f g : X → Y) (xs : List X) → ((x : X) → Among 
 map_alike f g [] h = refl
 map_alike f g (x ∷ xs) h = ap₂ (λ y l. y ∷ l) (h x (inl refl)) (map_alike f g xs (λ z i. h z (inr i)))
 
--- what is kept without names tells the same, by keys alone
+-- what is kept without names gives the same answers, by keys alone
 answers_unnamed : (limits : Limits) (list : List Arrival) → HasOneRequestAKey list
-    → answers limits list ≡ map (λ (a : Arrival). told (kept_of (map unnamed_kept (run limits list).kept) a.request.requester a.request.invoke)) (map unnamed_arrival list)
+    → answers limits list ≡ map (λ (a : Arrival). kept_reply (kept_of (map unnamed_kept (run limits list).kept) a.request.requester a.request.invoke)) (map unnamed_arrival list)
 answers_unnamed limits list once =
-    map_alike _ _ list (λ a i. told_to limits list a once i ∙ told_unnamed (run limits list).kept a.request.requester a.request.invoke)
-    ∙ sym (map-map (λ (a : Arrival). told (kept_of (map unnamed_kept (run limits list).kept) a.request.requester a.request.invoke)) unnamed_arrival list)
+    map_alike _ _ list (λ a i. reply_is_kept limits list a once i ∙ reply_unnamed (run limits list).kept a.request.requester a.request.invoke)
+    ∙ sym (map-map (λ (a : Arrival). kept_reply (kept_of (map unnamed_kept (run limits list).kept) a.request.requester a.request.invoke)) unnamed_arrival list)
   where
-    told_unnamed : (kept : List Kept) (p : List ℕ) (q : ℕ) → told (kept_of kept p q) ≡ told (kept_of (map unnamed_kept kept) p q)
-    told_unnamed kept p q =
-        sym (ap told (find-map unnamed_kept (λ (k : Kept). is_key p q k.request) (λ (k : Kept). is_key p q k.request) (λ k. refl) kept)
-        ∙ of-option_map unnamed_kept told told refl (λ k. refl) (kept_of kept p q))
+    reply_unnamed : (kept : List Kept) (p : List ℕ) (q : ℕ) → kept_reply (kept_of kept p q) ≡ kept_reply (kept_of (map unnamed_kept kept) p q)
+    reply_unnamed kept p q =
+        sym (ap kept_reply (find-map unnamed_kept (λ (k : Kept). is_key p q k.request) (λ (k : Kept). is_key p q k.request) (λ k. refl) kept)
+        ∙ of-option_map unnamed_kept kept_reply kept_reply refl (λ k. refl) (kept_of kept p q))
 
 pub answers_ignore_names : AnswersIgnoreNames
 answers_ignore_names limits xs ys same once_x once_y =
     answers_unnamed limits xs once_x
-    ∙ ap₂ (λ (kept : List Kept) (l : List Arrival). map (λ (a : Arrival). told (kept_of kept a.request.requester a.request.invoke)) l) (content_ignores_names limits xs ys same).kept same
+    ∙ ap₂ (λ (kept : List Kept) (l : List Arrival). map (λ (a : Arrival). kept_reply (kept_of kept a.request.requester a.request.invoke)) l) (content_ignores_names limits xs ys same).kept same
     ∙ sym (answers_unnamed limits ys once_y)

@@ -1,4 +1,4 @@
--- What a call of a desk leaves that executes a request with a new key.
+-- A call of a desk that executes a request with a new key: what it leaves.
 use Rattle.std.proofs.Common.{◌≡◌, ℕ, false, List, Some, None, Result, Ok, Err, refl, sym, ap, subst, ◌∙◌, inl, inr, true≢false, nat_le}
 use Rattle.acd_terms.specs.declared.rows.Rows.{Rows}
 use Rattle.acd_terms.specs.declared.event.Event.{Event}

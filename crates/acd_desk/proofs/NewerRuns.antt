@@ -13,24 +13,24 @@ use Rattle.acd_terms.specs.declared.command.Request.{Request}
 use Rattle.acd_terms.specs.declared.command.Arrival.{Arrival}
 use Rattle.acd_lemmas.proofs.Lists.{every-append, head_is}
 use Rattle.acd_book.specs.declared.kept.Kept.{Kept}
-use Rattle.acd_book.specs.Content.{Content, kept_of, is_key, events_behind, IsCounted, GoOn}
+use Rattle.acd_book.specs.Content.{Content, kept_of, is_key, events_after, IsCounted, GoOn}
 use Rattle.acd_book.specs.Memory.{stamp_of, number_of}
 use Rattle.acd_book.specs.Order.{Rises}
-use Rattle.acd_book.proofs.Keys.{key_own}
-use Rattle.acd_book.proofs.Left.{left_behind}
-use Rattle.acd_desk.specs.declared.noted.Noted.{Noted}
+use Rattle.acd_book.proofs.Keys.{key_itself}
+use Rattle.acd_book.proofs.Left.{left_after}
+use Rattle.acd_desk.specs.declared.seen.SeenKeys.{SeenKeys}
 use Rattle.acd_desk.specs.Firsts.{stepped, record_of, executed}
 use Rattle.acd_desk.specs.Replies.{after}
 use Rattle.acd_desk.specs.Stands.{arrivals_of}
 use Rattle.acd_desk.specs.Leads.{led}
 use Rattle.acd_desk.specs.Carried.{Archive, together}
-use Rattle.acd_desk.specs.Noting.{IsNoted}
+use Rattle.acd_desk.specs.KeyPlaces.{IsSeenKey}
 use Rattle.acd_desk.specs.Replay.{again, IsFirstOfKey}
 use Rattle.acd_desk.specs.WithArchive.{IsCut, IsSoundWith}
 use Rattle.acd_desk.specs.AuditWith.{HoldsArchive, RunsOn, MatchesWith}
 use Rattle.acd_desk.proofs.AuditLaws.{going_rises, zero_least}
 use Rattle.acd_desk.proofs.Audits.{rises_after, none_of, nothing_more, same_content, unkept_before}
-use Rattle.acd_desk.proofs.Carrying.{counted_behind, executed_together}
+use Rattle.acd_desk.proofs.Carrying.{counted_rest, executed_together}
 use Rattle.acd_desk.proofs.Commits.{some_none}
 use Rattle.acd_desk.proofs.Counting.{counted_executed}
 use Rattle.acd_desk.proofs.Courses.{none_of_new}
@@ -161,9 +161,9 @@ led_counted [] c h = h
 led_counted (a ∷ l) c h =
     led_counted l (after c a) (elim (after_cases c a) [ inl same ↦ subst IsCounted (sym same) h | inr does ↦ subst IsCounted (sym does.0) (counted_executed c a h) ])
 
--- so do those of what goes on from an archive
+-- so do those of a content that continues an archive
 pub counted_with : (a c : Content) → IsCounted a → IsSoundWith a c → IsCounted c
-counted_with a c counted goes = counted_behind goes.left c (subst IsCounted (sym goes.made) (led_counted (arrivals_of goes.newer) a counted))
+counted_with a c counted goes = counted_rest goes.left c (subst IsCounted (sym goes.made) (led_counted (arrivals_of goes.newer) a counted))
 
 -- ---- keys ----
 
@@ -175,15 +175,15 @@ second_none : (x y : Option Kept) → option_or x y ≡ None → y ≡ None
 second_none None y h = h
 second_none (Some k) y h = absurd (some_none k h)
 
--- a key is looked up in the front, and then behind it
+-- a key is looked up in the front, and then in the rest
 looked_up : (xs ys : List Kept) (p : List ℕ) (q : ℕ) → kept_of (xs ++ ys) p q ≡ option_or (kept_of xs p q) (kept_of ys p q)
 looked_up xs ys p q = find-append (λ (k : Kept). is_key p q k.request) xs ys
 
 none_front : (xs ys : List Kept) (p : List ℕ) (q : ℕ) → kept_of (xs ++ ys) p q ≡ None → kept_of xs p q ≡ None
 none_front xs ys p q none = first_none (kept_of xs p q) (kept_of ys p q) (sym (looked_up xs ys p q) ∙ none)
 
-none_behind : (xs ys : List Kept) (p : List ℕ) (q : ℕ) → kept_of (xs ++ ys) p q ≡ None → kept_of ys p q ≡ None
-none_behind xs ys p q none = second_none (kept_of xs p q) (kept_of ys p q) (sym (looked_up xs ys p q) ∙ none)
+none_rest : (xs ys : List Kept) (p : List ℕ) (q : ℕ) → kept_of (xs ++ ys) p q ≡ None → kept_of ys p q ≡ None
+none_rest xs ys p q none = second_none (kept_of xs p q) (kept_of ys p q) (sym (looked_up xs ys p q) ∙ none)
 
 none_in_both : (xs ys : List Kept) (p : List ℕ) (q : ℕ) → kept_of xs p q ≡ None → kept_of ys p q ≡ None → kept_of (xs ++ ys) p q ≡ None
 none_in_both xs ys p q none no_more = looked_up xs ys p q ∙ ap (λ (o : Option Kept). option_or o (kept_of ys p q)) none ∙ no_more
@@ -193,7 +193,7 @@ first_record : (xs ys : List Kept) (k : Kept) → kept_of xs k.request.requester
 first_record xs ys k none =
     looked_up xs (k ∷ ys) k.request.requester k.request.invoke
     ∙ ap (λ (o : Option Kept). option_or o (kept_of (k ∷ ys) k.request.requester k.request.invoke)) none
-    ∙ ap (λ (b : Bool). cond b (Some k) (kept_of ys k.request.requester k.request.invoke)) (key_own k.request)
+    ∙ ap (λ (b : Bool). cond b (Some k) (kept_of ys k.request.requester k.request.invoke)) (key_itself k.request)
 
 -- ---- the archive's part ----
 
@@ -219,7 +219,7 @@ all_of : (a c r : Content) (kl : List Kept) (el : List Event) (s : RunsOn a c r 
 all_of a c r kl el s =
     ap (λ (l : List Kept). s.left.kept ++ l) s.ran ∙ sym (append_assoc s.left.kept s.carried.kept s.newer) ∙ ap (λ (l : List Kept). l ++ s.newer) (sym (kept_whole a s.left s.carried s.cut))
 
--- ---- it starts, goes on and ends ----
+-- ---- it starts, continues and ends ----
 
 pub runs_start : (a c : Content) (h : HoldsArchive a c) → IsCounted a → (s : RunsOn a c h.carried h.kept_left h.events_left) × (s.newer ≡ [])
 runs_start a c h counted =
@@ -243,14 +243,14 @@ runs_start a c h counted =
       refl,
     )
 
--- what is left behind the events of a run, as a book tells it
-pub told_newer : (a c r : Content) (kl : List Kept) (el : List Event) (n : ℕ) → RunsOn a c r kl el → events_behind c.events r.rows.last_event n ≡ take n el
-told_newer a c r kl el n s =
-    ap (λ (l : List Event). events_behind l r.rows.last_event n) s.events ∙ left_behind r.rows.last_event n r.events el s.counted.events s.events_rise
+-- the events after those of a run, as a book reads them
+pub read_newer : (a c r : Content) (kl : List Kept) (el : List Event) (n : ℕ) → RunsOn a c r kl el → events_after c.events r.rows.last_event n ≡ take n el
+read_newer a c r kl el n s =
+    ap (λ (l : List Event). events_after l r.rows.last_event n) s.events ∙ left_after r.rows.last_event n r.events el s.counted.events s.events_rise
 
 -- the key of a record that matches is new to both
 unkept : (a c r : Content) (k : Kept) (tail : List Kept) (el : List Event) → RunsOn a c r (k ∷ tail) el → MatchesWith a c r.rows k → kept_of r.kept k.request.requester k.request.invoke ≡ None
-unkept a c r k tail el s m = unkept_before c.kept r.kept tail k r.rows.last_stamp s.kept s.counted.kept (ap (λ (x : Kept). x.stamp) m.own.kept) m.own.first
+unkept a c r k tail el s m = unkept_before c.kept r.kept tail k r.rows.last_stamp s.kept s.counted.kept (ap (λ (x : Kept). x.stamp) m.matches.kept) m.matches.first
 
 pub runs_next : (a c r : Content) (k : Kept) (tail : List Kept) (el : List Event) (s : RunsOn a c r (k ∷ tail) el) → MatchesWith a c r.rows k → r.rows.last_stamp < r.rows.limits.requests
     → (t : RunsOn a c (executed r (again k)) tail (drop (length (stepped r.rows (again k)).events) el)) × (t.newer ≡ s.newer ++ k ∷ [])
@@ -261,12 +261,12 @@ runs_next a c r k tail el s m room =
     let q : ℕ = k.request.invoke in
     let old : kept_of s.left.kept p q ≡ None = none_front s.left.kept s.carried.kept p q (ap (λ (l : List Kept). kept_of l p q) (sym (kept_whole a s.left s.carried s.cut)) ∙ m.older) in
     let new : kept_of (s.left.kept ++ r.kept) p q ≡ None = none_in_both s.left.kept r.kept p q old (unkept a c r k tail el s m) in
-    let mine : r.kept ++ k ∷ [] ≡ r.kept ++ record_of r.rows x ∷ [] = ap (λ (y : Kept). r.kept ++ y ∷ []) m.own.kept in
+    let mine : r.kept ++ k ∷ [] ≡ r.kept ++ record_of r.rows x ∷ [] = ap (λ (y : Kept). r.kept ++ y ∷ []) m.matches.kept in
     let stamp = step_stamp r.rows x.moment x.request.command in
     let event = step_event r.rows x.moment x.request.command in
     let left : el ≡ evs ++ drop (length evs) el
-    = sym (take-append-drop (length evs) el) ∙ ap (λ (l : List Event). l ++ drop (length evs) el) (sym (told_newer a c r (k ∷ tail) el (length evs) s) ∙ m.own.events) in
-    let is_stamp : k.stamp ≡ (stepped r.rows x).rows.last_stamp = ap (λ (y : Kept). y.stamp) m.own.kept ∙ sym stamp in (
+    = sym (take-append-drop (length evs) el) ∙ ap (λ (l : List Event). l ++ drop (length evs) el) (sym (read_newer a c r (k ∷ tail) el (length evs) s) ∙ m.matches.events) in
+    let is_stamp : k.stamp ≡ (stepped r.rows x).rows.last_stamp = ap (λ (y : Kept). y.stamp) m.matches.kept ∙ sym stamp in (
       record {
         left = s.left;
         carried = s.carried;
@@ -286,9 +286,9 @@ runs_next a c r k tail el s m room =
     )
 
 -- all are replayed, no event is left, and the tables are these
-pub runs_sound : (a c r : Content) (el : List Event) (s : RunsOn a c r [] el) → events_behind c.events r.rows.last_event 1 ≡ [] → c.rows ≡ r.rows → IsSoundWith a c
+pub runs_sound : (a c r : Content) (el : List Event) (s : RunsOn a c r [] el) → events_after c.events r.rows.last_event 1 ≡ [] → c.rows ≡ r.rows → IsSoundWith a c
 runs_sound a c r el s none rows =
-    let no_event : el ≡ [] = nothing_more el (sym (told_newer a c r [] el 1 s) ∙ none) in
+    let no_event : el ≡ [] = nothing_more el (sym (read_newer a c r [] el 1 s) ∙ none) in
     let same : c ≡ r = same_content c r rows (s.events ∙ ap (λ (l : List Event). r.events ++ l) no_event ∙ append-nil r.events) (s.kept ∙ append-nil r.kept) in
     record {
       left = s.left;
@@ -299,9 +299,9 @@ runs_sound a c r el s none rows =
       made = ap (together s.left) same ∙ s.made;
     }
 
--- ---- a content that is sound with its archive holds it, and goes on so ----
+-- ---- a content that is sound with its archive holds it, and continues so ----
 
--- what it has behind the archive's part
+-- the content's part after that of the archive
 pub record Newer (a c : Content) (goes : IsSoundWith a c) : Type 0 where
   pub reported : List Event
   pub all_events : (led a (arrivals_of goes.newer)).events ≡ a.events ++ reported
@@ -383,7 +383,7 @@ sound_left a c r kl el s goes counted =
           ∙ ap (λ (l : List Event). l ++ el) (sym grown.events ∙ sym (ap (λ (x : Content). x.events) s.made));
     }
 
--- what the next request makes, where the content is sound with the archive
+-- the result of the next request, where the content is sound with the archive
 pub sound_matches : (a c r : Content) (k : Kept) (tail : List Kept) (el : List Event) (s : RunsOn a c r (k ∷ tail) el) (goes : IsSoundWith a c) → IsCounted a
     → MatchesWith a c r.rows k × (r.rows.last_stamp < r.rows.limits.requests)
 sound_matches a c r k tail el s goes counted =
@@ -409,13 +409,13 @@ sound_matches a c r k tail el s goes counted =
           let more : record_of r.rows x ∷ grown.more ≡ k ∷ tail
           = append_cancel_left d.kept (record_of r.rows x ∷ grown.more) (k ∷ tail) (sym (grown.kept ∙ append_assoc d.kept (record_of r.rows x ∷ []) grown.more) ∙ kept) in
           let reported : evs ++ grown.reported ≡ el = append_cancel_left d.events (evs ++ grown.reported) el (sym (grown.events ∙ append_assoc d.events evs grown.reported) ∙ events) in
-          let none : kept_of r.kept p q ≡ None = none_behind s.left.kept r.kept p q does.1 in
+          let none : kept_of r.kept p q ≡ None = none_rest s.left.kept r.kept p q does.1 in
           let older : kept_of a.kept p q ≡ None = none_front a.kept s.newer p q (ap (λ (l : List Kept). kept_of l p q) (sym (all_of a c r (k ∷ tail) el s)) ∙ does.1) in (
             record {
-              own = record {
+              matches = record {
                 kept = sym (head_is (record_of r.rows x) k grown.more tail more);
                 first = ap (option_map stamp_of) (ap (λ (l : List Kept). kept_of l p q) s.kept ∙ first_record r.kept tail k none);
-                events = told_newer a c r (k ∷ tail) el (length evs) s ∙ ap (take (length evs)) (sym reported) ∙ take-append_seam evs grown.reported;
+                events = read_newer a c r (k ∷ tail) el (length evs) s ∙ ap (take (length evs)) (sym reported) ∙ take-append_seam evs grown.reported;
               };
               older = older;
             },
@@ -427,27 +427,27 @@ sound_matches a c r k tail el s goes counted =
     too_few k tail n le is = omega (arith, le, is)
 
 -- where nothing is left of its requests, nothing else is
-pub sound_ends : (a c r : Content) (el : List Event) (s : RunsOn a c r [] el) (goes : IsSoundWith a c) → IsCounted a → (events_behind c.events r.rows.last_event 1 ≡ []) × (c.rows ≡ r.rows)
+pub sound_ends : (a c r : Content) (el : List Event) (s : RunsOn a c r [] el) (goes : IsSoundWith a c) → IsCounted a → (events_after c.events r.rows.last_event 1 ≡ []) × (c.rows ≡ r.rows)
 sound_ends a c r el s goes counted =
     let rest : Left a c r [] el s goes = sound_left a c r [] el s goes counted in
     let all : led a (arrivals_of goes.newer) ≡ together s.left r = ap (λ (l : List Kept). led a (arrivals_of l)) (rest.kept ∙ append-nil s.newer) ∙ sym s.made in
     let none : el ≡ [] = append_cancel_left (together s.left r).events el [] (sym rest.all_events ∙ ap (λ (e : Content). e.events) all ∙ sym (append-nil (together s.left r).events)) in (
-      told_newer a c r [] el 1 s ∙ ap (take 1) none,
+      read_newer a c r [] el 1 s ∙ ap (take 1) none,
       ap (λ (e : Content). e.rows) goes.made ∙ ap (λ (e : Content). e.rows) all,
     )
 
--- a run doesn't come behind the archive's last stamp
+-- a run never goes past the archive's last stamp
 pub runs_above : (a c r : Content) (kl : List Kept) (el : List Event) → RunsOn a c r kl el → a.rows.last_stamp ≤ r.rows.last_stamp
 runs_above a c r kl el s =
     subst (λ (x : Rows). a.rows.last_stamp ≤ x.last_stamp) (sym (ap (λ (x : Content). x.rows) s.made)) (led_grows a (arrivals_of s.newer)).stamps
 
--- the next record, where its key is neither noted nor in the archive, is the first of its key
-pub newer_first : (a c r : Content) (k : Kept) (tail kl : List Kept) (el : List Event) (s : RunsOn a c r kl el) → kl ≡ k ∷ tail → (keys : Noted) → Every (λ (x : Kept). IsNoted keys x.request) s.newer
-    → kept_of a.kept k.request.requester k.request.invoke ≡ None → ¬ IsNoted keys k.request → IsFirstOfKey c k
-newer_first a c r k tail kl el s is keys noted older new =
+-- the next record, where its key was neither seen nor is in the archive, is the first of its key
+pub newer_first : (a c r : Content) (k : Kept) (tail kl : List Kept) (el : List Event) (s : RunsOn a c r kl el) → kl ≡ k ∷ tail → (keys : SeenKeys) → Every (λ (x : Kept). IsSeenKey keys x.request) s.newer
+    → kept_of a.kept k.request.requester k.request.invoke ≡ None → ¬ IsSeenKey keys k.request → IsFirstOfKey c k
+newer_first a c r k tail kl el s is keys seen older new =
     let p : List ℕ = k.request.requester in
     let q : ℕ = k.request.invoke in
-    let carried : kept_of s.carried.kept p q ≡ None = none_behind s.left.kept s.carried.kept p q (ap (λ (l : List Kept). kept_of l p q) (sym (kept_whole a s.left s.carried s.cut)) ∙ older) in
+    let carried : kept_of s.carried.kept p q ≡ None = none_rest s.left.kept s.carried.kept p q (ap (λ (l : List Kept). kept_of l p q) (sym (kept_whole a s.left s.carried s.cut)) ∙ older) in
     let none : kept_of r.kept p q ≡ None
-    = ap (λ (l : List Kept). kept_of l p q) s.ran ∙ none_in_both s.carried.kept s.newer p q carried (none_of_new keys k.request s.newer noted new) in
+    = ap (λ (l : List Kept). kept_of l p q) s.ran ∙ none_in_both s.carried.kept s.newer p q carried (none_of_new keys k.request s.newer seen new) in
     ap (option_map stamp_of) (ap (λ (l : List Kept). kept_of l p q) (s.kept ∙ ap (λ (l : List Kept). r.kept ++ l) is) ∙ first_record r.kept tail k none)

@@ -47,7 +47,7 @@ next_left n past (x ∷ left) k h rise found = elim (among_cases k past (x ∷ l
   | inl here ↦ absurd (not_both n k.stamp found.1 (among_every (λ (other : Kept). other.stamp ≤ n) k past h here))
   | inr there ↦ elim there [
     | inl same ↦ (left, ap (λ (y : Kept). y ∷ left) (sym same))
-    | inr behind ↦ absurd (not_both x.stamp k.stamp (rises_above x.stamp k left rise.1 behind)
+    | inr in_rest ↦ absurd (not_both x.stamp k.stamp (rises_above x.stamp k left rise.1 in_rest)
         ((every_back (λ (other : Kept). n < other.stamp → k.stamp ≤ other.stamp) past (x ∷ left) found.2).0 rise.0))
   ]
 ]

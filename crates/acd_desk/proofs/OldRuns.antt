@@ -1,4 +1,4 @@
--- A content that was sound is sound: where each agent serves one group at most and no group has a priority, a request that
+-- A content that was sound is sound: where each agent is in one group at most and no group has a priority, a request that
 -- could be made then is executed as it was.
 use Rattle.std.proofs.Common.{◌≡◌, ℕ, ◌≤◌, Bool, true, false, not, List, [], ◌∷◌, ◌++◌, length, refl, sym, subst, ◌∙◌, ap, arith}
 use Rattle.std.specs.Option.{ok_or}
@@ -32,7 +32,7 @@ use Rattle.acd_desk.specs.OldStep.{old_log_on_at, old_log_on, old_set_agent_stat
 use Rattle.acd_desk.specs.OldSound.{old_executed, old_run_from, IsOldRequested, IsOldCommand, IsOldSound}
 use Rattle.acd_desk.proofs.OldStates.{just_one, IsOldState, empty_is_old, moved_is_old, serve_old, step_is_old}
 use Rattle.acd_desk.proofs.OldOffers.{same_distribution}
-use Rattle.acd_desk.proofs.Sound.{firsts_own, length-arrivals}
+use Rattle.acd_desk.proofs.Sound.{firsts_same, length-arrivals}
 use Rattle.acd_terms.specs.declared.command.Turn.{Turn}
 
 -- a log-on in one group
@@ -101,10 +101,10 @@ old_sound_is_sound c sound =
     let list : List Arrival = arrivals_of c.kept in
     let size = length-arrivals c.kept in
     let few : length list ≤ c.rows.limits.requests = omega (arith, size, sound.few) in
-    let own : firsts c.rows.limits.requests list ≡ list = firsts_own c.rows.limits.requests list sound.distinct few in
+    let same : firsts c.rows.limits.requests list ≡ list = firsts_same c.rows.limits.requests list sound.distinct few in
     record {
       fits = sound.fits;
       distinct = sound.distinct;
       few = sound.few;
-      replays = sound.replays ∙ ap (old_run_from start) own ∙ same_run list start (arrivals_old c.kept sound.old) (empty_is_old c.rows.limits) ∙ ap (run_from start) (sym own);
+      replays = sound.replays ∙ ap (old_run_from start) same ∙ same_run list start (arrivals_old c.kept sound.old) (empty_is_old c.rows.limits) ∙ ap (run_from start) (sym same);
     }

@@ -1,5 +1,4 @@
--- States in which each agent serves one group at most and no group has a priority; and that the moves of a step over such a
--- state leave such a state.
+-- States in which each agent is in one group at most and no group has a priority; the moves of a step keep a state so.
 use Rattle.std.proofs.Common.{◌≡◌, ℕ, zero, suc, Bool, true, false, cond, List, [], ◌∷◌, ◌++◌, map, Option, Some, None, refl, sym, subst, length, arith, Err}
 use Rattle.std.specs.Option.{ok_or}
 use Rattle.std.specs.Prelude.{Result, Ok}
@@ -57,7 +56,7 @@ just_one (g ∷ f ∷ gs) e = absurd (more (length gs) e)
     more : (n : ℕ) → ◌≡◌ {A = ℕ} (suc (suc n)) 1 → ⊥
     more n e = omega (arith, e)
 
--- the agent serves one group at most
+-- the agent is in one group at most
 abbrev pub HasOneGroup : AgentRecord → Type 0
 HasOneGroup a = IsOneAtMost a.groups
 
@@ -72,7 +71,7 @@ pub record IsOldState (s : Rows) : Type 0 where
 pub empty_is_old : (limits : Limits) → IsOldState (empty_rows limits)
 empty_is_old limits = record { agents = tt; groups = tt; ascend = tt }
 
--- what keeps a state so
+-- the moves that keep a state so
 
 abbrev pub IsOldChange : Change → Type 0
 IsOldChange (PutGroup g) = HasNoPriority g
@@ -115,7 +114,7 @@ there_old : (s : Rows) (d : ℕ) → IsOldState s → (a : AgentRecord) → agen
 unfolding agent_at
 there_old s d o a e = every_among HasOneGroup s.agents a o.agents (find_among (λ (b : AgentRecord). has b.station d) s.agents a e)
 
-released_old : (turn : Turn) (a : AgentRecord) (d : ℕ) (to : Release) → HasOneGroup a → IsOldMove (released turn a d to)
+released_old : (turn : Turn) (a : AgentRecord) (d : ℕ) (how : Release) → HasOneGroup a → IsOldMove (released turn a d how)
 released_old turn a d Stays h = h
 released_old turn a d (Goes state) h = in_state_old state turn a h
 

@@ -1,4 +1,4 @@
--- What opening a desk leaves.
+-- Opening a desk: what it leaves.
 use Rattle.std.proofs.Common.{◌≡◌, Some, Ok, false, refl, sym, ap, subst, ◌∙◌}
 use Rattle.acd_terms.specs.declared.rows.Rows.{Rows}
 use Rattle.acd_terms.specs.declared.rows.Rule.{Rule}
@@ -56,8 +56,8 @@ refuses b d rows (row.Broken rule) reads broken = record {
   unchanged = reads.unchanged;
   keeps = reads.keeps;
   refuses = λ clean sound.
-      let told = reads.value clean sound in
-      (told.0, reads.stays clean sound, (reads.unchanged.same clean sound (reads.stays clean sound)).1, subst (λ (s : Rows). first_broken s ≡ Some rule) told.1 broken);
+      let holds = reads.value clean sound in
+      (holds.0, reads.stays clean sound, (reads.unchanged.same clean sound (reads.stays clean sound)).1, subst (λ (s : Rows). first_broken s ≡ Some rule) holds.1 broken);
   well = λ p clean sound whole. some_none rule (sym (subst (λ (s : Rows). first_broken s ≡ Some rule) (reads.value clean sound).1 broken) ∙ sound_rules (together p b.content) whole);
   cause = λ h. absurd (rows_store rule h);
 }

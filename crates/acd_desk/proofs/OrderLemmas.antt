@@ -28,7 +28,7 @@ use Rattle.acd_laws.proofs.Rules.DecidedAll.{rules_are_kept}
 use Rattle.acd_tables.specs.Indexed.{pair_cmp}
 use Rattle.acd_tables.proofs.Picked.{ascending-same, contained, exact_pair}
 use Rattle.acd_codec.specs.ReadTexts.{queue_text}
-use Rattle.acd_desk.specs.Tells.{in_order, by_place, by_stamp, queue_in, ready_in, queue_read}
+use Rattle.acd_desk.specs.ReadAnswers.{in_order, by_place, by_stamp, queue_in, ready_in, queue_read}
 
 pub pair_total : IsTotalOrder pair_cmp
 pair_total = then_total (on_total (λ (p : ℕ × ℕ). p.0) nat_cmp_total) (on_total (λ (p : ℕ × ℕ). p.1) nat_cmp_total)
@@ -69,8 +69,8 @@ module _ {T : Type 0} (key : T → ℕ × ℕ) where
   -- ascending pairs, the keys of a list, are those of the list in order
   pub keys-ordered : (ks : List (ℕ × ℕ)) (xs : List T) → IsAscending pair_cmp ks → Apart xs → ((p : ℕ × ℕ) → Among p ks → Among p (map key xs)) → ((p : ℕ × ℕ) → Among p (map key xs) → Among p ks)
       → ks ≡ map key (in_order by_key xs)
-  keys-ordered ks xs sorted apart to back = ascending-same pair_cmp pair_total ks (map key (in_order by_key xs)) sorted (ascending_mapped (in_order by_key xs) (ascending-ordered xs))
-      (λ p a. let m = mapped_among key xs p (to p a) in subst (λ q. Among q (map key (in_order by_key xs))) (sym m.1.1) (among-map key m.0 (in_order by_key xs) (among-ordered xs m.0 apart m.1.0)))
+  keys-ordered ks xs sorted apart there back = ascending-same pair_cmp pair_total ks (map key (in_order by_key xs)) sorted (ascending_mapped (in_order by_key xs) (ascending-ordered xs))
+      (λ p a. let m = mapped_among key xs p (there p a) in subst (λ q. Among q (map key (in_order by_key xs))) (sym m.1.1) (among-map key m.0 (in_order by_key xs) (among-ordered xs m.0 apart m.1.0)))
       (λ p a. let m = mapped_among key (in_order by_key xs) p a in subst (λ q. Among q ks) (sym m.1.1) (back (key m.0) (among-map key m.0 xs (ordered_among xs m.0 m.1.0))))
 
   -- a look-up that finds each at its key gives the list
@@ -173,7 +173,7 @@ both_parties (x ∷ y ∷ []) first second h e f = rw (e, f) refl
 both_parties (x ∷ y ∷ z ∷ xs) first second h e f = absurd (omega (arith, h))
 
 -- the text of a planned group's queue
-pub queue_told : (s : Rows) (g : ℕ) (waiting : List ConnectionRecord) (ready text : List ℕ) → true ≡ is_group s g → text ≡ queue_text g waiting ready → waiting ≡ queue_in s g → ready ≡ ready_in s g → Some text ≡ queue_read s g
-queue_told s g waiting ready text planned is queue agents =
+pub read_queue : (s : Rows) (g : ℕ) (waiting : List ConnectionRecord) (ready text : List ℕ) → true ≡ is_group s g → text ≡ queue_text g waiting ready → waiting ≡ queue_in s g → ready ≡ ready_in s g → Some text ≡ queue_read s g
+read_queue s g waiting ready text planned is queue agents =
     ap Some (is ∙ ap (λ l. queue_text g l ready) queue ∙ ap (queue_text g (queue_in s g)) agents)
     ∙ ap (λ b. cond b (Some (queue_text g (queue_in s g) (ready_in s g))) None) planned

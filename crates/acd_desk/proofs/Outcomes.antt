@@ -1,4 +1,4 @@
--- What a service answers, numbers the next call or the next monitor alone.
+-- A service's answer numbers the next call or the next monitor alone.
 use Rattle.std.proofs.Common.{ℕ, ◌<◌, Bool, true, false, cond, min, Option, Some, None, List, [], ◌∷◌, Result, Ok, Err, arith}
 use Rattle.std.specs.Option.{ok_or}
 use Rattle.acd_terms.specs.Results.{◌>>=◌, ◌>>◌}
@@ -55,7 +55,7 @@ party : {s : Rows} (number device : ℕ) (r q : Refusal) (rest : CallRecord → 
 party {s} number device r q rest h =
     with (call_of s number) r (λ c. ok_or (connection_of s number device) q >>= rest c) (λ c. with (connection_of s number device) q (rest c) (λ x. h c x))
 
--- what is found is put or removed, and nothing is answered
+-- the record is put or removed, and nothing is answered
 found : {T : Type 0} {s : Rows} (o : Option T) (r : Refusal) (moves : T → List Move) → NextBy s (ok_or o r >>= (λ x. gives answer.Nothing (moves x)))
 found None r moves = refused r
 found (Some x) r moves = nothing

@@ -3,13 +3,13 @@ use Rattle.std.proofs.Common.{◌≡◌, ℕ, ◌-◌, ◌<◌, ◌≤◌, zero,
 use Rattle.std.specs.Prelude.{nat_lt, slice_get}
 use Rattle.std.proofs.lemmas.Bool.Decides.{nat_tests}
 use Rattle.acd_terms.specs.declared.event.Event.{Event}
-use Rattle.acd_book.specs.Content.{Content, events_behind}
+use Rattle.acd_book.specs.Content.{Content, events_after}
 use Rattle.acd_reports.proofs.ExportLemmas.{joined}
 use Rattle.acd_reports.specs.Export.{header_record, records_text, events_csv}
 use Rattle.acd_desk.specs.Standing.{Standing}
-use Rattle.acd_desk.specs.Told.{Told}
-use Rattle.acd_desk.specs.Tells.{Rise, above, records_left}
-use Rattle.acd_desk.proofs.Telling.{told_then}
+use Rattle.acd_desk.specs.ReadDone.{ReadDone}
+use Rattle.acd_desk.specs.ReadAnswers.{Rise, above, records_left}
+use Rattle.acd_desk.proofs.ReadsDone.{read_twice}
 
 pub rise_lower : (m n : ℕ) (es : List Event) → m ≤ n → Rise n es → Rise m es
 rise_lower m n [] le h = tt
@@ -55,12 +55,12 @@ last-up : (m : ℕ) (es more : List Event) → Rise m (es ++ more) → m ≤ las
 last-up m [] more h = omega arith
 last-up m (e ∷ es) more h = let up = last-up e.number es more h.1 in let here = h.0 in omega (arith, up, here)
 
--- behind the last event of the first part stands the second
-behind_last : (m : ℕ) (es more : List Event) → Rise m (es ++ more) → above (es ++ more) (last_of m es) ≡ more
-behind_last m [] more h = rise-above m more h
-behind_last m (e ∷ es) more h =
+-- the second part follows the last event of the first
+after_last : (m : ℕ) (es more : List Event) → Rise m (es ++ more) → above (es ++ more) (last_of m es) ≡ more
+after_last m [] more h = rise-above m more h
+after_last m (e ∷ es) more h =
     ap (λ b. cond b (e ∷ above (es ++ more) (last_of e.number es)) (above (es ++ more) (last_of e.number es))) (not_above (last_of e.number es) e (last-up e.number es more h.1))
-    ∙ behind_last e.number es more h.1
+    ∙ after_last e.number es more h.1
 
 pub above-again : (m n : ℕ) (es : List Event) → m ≤ n → above (above es m) n ≡ above es n
 above-again m n [] le = refl
@@ -96,9 +96,9 @@ no-last (x ∷ es) h =
     let size : length (x ∷ es) - 1 ≡ length es = omega arith in
     absurd (last-there x es (subst (λ n. slice_get (x ∷ es) n ≡ None) size h))
 
--- a page, and what stands above its last event, are what stood above the number
-pub page-then : (n limit : ℕ) (events : List Event) (e : Event) → Rise 0 events → slice_get (events_behind events n limit) (length (events_behind events n limit) - 1) ≡ Some e
-    → above events n ≡ events_behind events n limit ++ above events e.number
+-- a page, and the events above its last one, are those above the number
+pub page-then : (n limit : ℕ) (events : List Event) (e : Event) → Rise 0 events → slice_get (events_after events n limit) (length (events_after events n limit) - 1) ≡ Some e
+    → above events n ≡ events_after events n limit ++ above events e.number
 page-then n limit events e rise last =
     let all : List Event = above events n in
     let page : List Event = take limit all in
@@ -107,12 +107,12 @@ page-then n limit events e rise last =
     let rises : Rise n (page ++ rest) = subst (Rise n) (sym whole) (rises_above 0 n events rise) in
     let number : last_of n page ≡ e.number = last-number n page e last in
     let up : n ≤ e.number = subst (λ k. n ≤ k) number (last-up n page rest rises) in
-    let behind : rest ≡ above events e.number
-    = sym (behind_last n page rest rises) ∙ ap (λ l. above l (last_of n page)) whole ∙ ap (above all) number ∙ above-again n e.number events up in
-    sym whole ∙ ap (λ l. page ++ l) behind
+    let rest_above : rest ≡ above events e.number
+    = sym (after_last n page rest rises) ∙ ap (λ l. above l (last_of n page)) whole ∙ ap (above all) number ∙ above-again n e.number events up in
+    sym whole ∙ ap (λ l. page ++ l) rest_above
 
 -- where a page has none, there is none
-pub page-none : (n limit : ℕ) (events : List Event) → 1 ≤ limit → events_behind events n limit ≡ [] → above events n ≡ []
+pub page-none : (n limit : ℕ) (events : List Event) → 1 ≤ limit → events_after events n limit ≡ [] → above events n ≡ []
 page-none n limit events some none = by limit (above events n) some none
   where
     by : (k : ℕ) (l : List Event) → 1 ≤ k → take k l ≡ [] → l ≡ []
@@ -120,22 +120,22 @@ page-none n limit events some none = by limit (above events n) some none
     by (suc k) [] le h = refl
     by (suc k) (x ∷ l) le h = absurd (cc h)
 
--- above 0 stand all
+-- all are above 0
 pub above-nothing : (events : List Event) → Rise 0 events → above events 0 ≡ events
 above-nothing events h = rise-above 0 events h
 
 -- an export whose next page has no event is done
-pub export_ends : (text : List ℕ) (events page shown : List Event) (after limit : ℕ) → 1 ≤ limit → shown ≡ page → slice_get shown (length shown - 1) ≡ None → page ≡ events_behind events after limit
+pub export_ends : (text : List ℕ) (events page shown : List Event) (after limit : ℕ) → 1 ≤ limit → shown ≡ page → slice_get shown (length shown - 1) ≡ None → page ≡ events_after events after limit
     → text ++ [] ≡ text ++ records_text (above events after)
 unfolding records_text
 export_ends text events page shown after limit some same none is =
     ap (λ l. text ++ records_text l) (sym (page-none after limit events some (sym is ∙ sym same ∙ no-last shown none)))
 
--- else it goes on with the records of the page
-pub export_goes_on : (old more new : List ℕ) (events page shown : List Event) (after limit : ℕ) (e : Event) → shown ≡ page → slice_get shown (length shown - 1) ≡ Some e → page ≡ events_behind events after limit
+-- else it continues with the records of the page
+pub export_goes_on : (old more new : List ℕ) (events page shown : List Event) (after limit : ℕ) (e : Event) → shown ≡ page → slice_get shown (length shown - 1) ≡ Some e → page ≡ events_after events after limit
     → more ≡ records_text shown → new ≡ old ++ more → Rise 0 events → new ++ records_text (above events e.number) ≡ old ++ records_text (above events after)
 export_goes_on old more new events page shown after limit e same last is records pushed rise =
-    let here : shown ≡ events_behind events after limit = same ∙ is in
+    let here : shown ≡ events_after events after limit = same ∙ is in
     let whole : above events after ≡ shown ++ above events e.number
     = page-then after limit events e rise (subst (λ l. slice_get l (length l - 1) ≡ Some e) here last) ∙ ap (λ l. l ++ above events e.number) (sym here) in
     ap (λ l. l ++ records_text (above events e.number)) (pushed ∙ ap (λ l. old ++ l) records)
@@ -149,7 +149,7 @@ export_begins text events is rise = ap (λ l. l ++ records_text (above events 0)
 
 -- one page more: with it, what is left makes the whole
 pub export_step : (old mid new : Standing) (last : Option ℕ) (before after : List ℕ) (n : ℕ)
-    → Told {A = Unit {0}} old mid (Ok tt) (λ (c : Content) done. Rise 0 c.events → before ++ records_text (above c.events n) ≡ events_csv c.events)
-    → Told mid new (Ok last) (λ (c : Content) next. Rise 0 c.events → after ++ records_left c.events next ≡ before ++ records_text (above c.events n))
-    → Told old new (Ok last) (λ (c : Content) next. Rise 0 c.events → after ++ records_left c.events next ≡ events_csv c.events)
-export_step old mid new last before after n first second = told_then old mid new tt (Ok last) _ _ _ (λ c next left more rise. more rise ∙ left rise) first second
+    → ReadDone {A = Unit {0}} old mid (Ok tt) (λ (c : Content) done. Rise 0 c.events → before ++ records_text (above c.events n) ≡ events_csv c.events)
+    → ReadDone mid new (Ok last) (λ (c : Content) next. Rise 0 c.events → after ++ records_left c.events next ≡ before ++ records_text (above c.events n))
+    → ReadDone old new (Ok last) (λ (c : Content) next. Rise 0 c.events → after ++ records_left c.events next ≡ events_csv c.events)
+export_step old mid new last before after n first second = read_twice old mid new tt (Ok last) _ _ _ (λ c next left more rise. more rise ∙ left rise) first second

@@ -19,7 +19,7 @@ use Rattle.acd_book.specs.Content.{Content, empty_content}
 use Rattle.acd_desk.specs.Firsts.{stepped, record_of, executed, run_from}
 use Rattle.acd_desk.specs.Stands.{arrivals_of}
 use Rattle.acd_desk.specs.RequestPages.{executed_text, further_texts, requests_text}
-use Rattle.acd_desk.specs.Tells.{requests_size, requests_page}
+use Rattle.acd_desk.specs.ReadAnswers.{requests_size, requests_page}
 use Rattle.acd_desk.specs.PageSizes.{IsReplied, IsFormed, longest_page, PagesAreShort, SoundIsReplied}
 use Rattle.acd_desk.proofs.Outcomes.{step_outcome}
 use Rattle.acd_desk.proofs.Sound.{sound_list, length-arrivals}
@@ -99,10 +99,10 @@ text_short kept last few low f r =
 
 pub pages_are_short : PagesAreShort
 pages_are_short c after low f r =
-    let behind : List Kept = filter (λ (k : Kept). nat_lt after k.stamp) c.kept in
-    text_short (requests_page c after) c.rows.last_stamp (taken_few requests_size behind) low
-    (every-take IsFormed requests_size behind (every-filter IsFormed (λ (k : Kept). nat_lt after k.stamp) c.kept f))
-    (every-take IsReplied requests_size behind (every-filter IsReplied (λ (k : Kept). nat_lt after k.stamp) c.kept r))
+    let newer : List Kept = filter (λ (k : Kept). nat_lt after k.stamp) c.kept in
+    text_short (requests_page c after) c.rows.last_stamp (taken_few requests_size newer) low
+    (every-take IsFormed requests_size newer (every-filter IsFormed (λ (k : Kept). nat_lt after k.stamp) c.kept f))
+    (every-take IsReplied requests_size newer (every-filter IsReplied (λ (k : Kept). nat_lt after k.stamp) c.kept r))
 
 -- ---- what a run keeps are replies ----
 

@@ -1,4 +1,4 @@
--- What is read of a sound content, page by page, rebuilds it.
+-- Page by page, the reads of a sound content rebuild it.
 use Rattle.std.proofs.Common.{◌≡◌, ℕ, zero, suc, ◌+◌, ◌<◌, ◌≤◌, List, [], ◌∷◌, ◌++◌, length, take, drop, nat_lt, refl, sym, ap, subst, ◌∙◌, arith, append_assoc, append-nil, length-append, Bool, true, false, cond, ◌==◌, is_some, inl, inr, take-append-drop}
 use Rattle.std.proofs.lemmas.Bool.{and_parts, and_from}
 use Rattle.std.proofs.lemmas.List.{nil_from_length}
@@ -11,7 +11,7 @@ use Rattle.acd_book.proofs.Numbered.{first, above, numbered-push}
 use Rattle.acd_desk.specs.Firsts.{record_of, executed, firsts, run_from, run}
 use Rattle.acd_desk.specs.Replies.{after}
 use Rattle.acd_desk.specs.Stands.{arrivals_of, IsSound, ran_after}
-use Rattle.acd_desk.specs.Tells.{requests_size, requests_page}
+use Rattle.acd_desk.specs.ReadAnswers.{requests_size, requests_page}
 use Rattle.acd_desk.specs.Rebuilding.{last_read, IsRead, nothing, page, IsAllRead, made_of, PagesRebuild}
 use Rattle.acd_desk.proofs.AuditLaws.{sound_agrees}
 use Rattle.acd_desk.proofs.Longer.{ran_none, ran_push}
@@ -50,7 +50,7 @@ last_is : (ks : List Kept) → is_numbered stamp_of 0 ks ≡ true → last_read 
 last_is [] h = refl
 last_is (k ∷ ks) h = let e = last_from 0 k ks h in omega (arith, e)
 
--- ---- a desk that goes on keeps what it has kept ----
+-- ---- a desk that continues keeps what it has kept ----
 
 abbrev Grows : Content → Content → Type 0
 Grows c d = (new : List Kept) × (d.kept ≡ c.kept ++ new)
@@ -89,7 +89,7 @@ Begins c read = (rest : List Kept) × (c.kept ≡ read ++ rest)
 reached : (c : Content) (read : List Kept) → IsSound c → Begins c read → last_read read ≡ length read
 reached c read sound b = last_is read (numbered_front 0 read b.0 (subst (λ (l : List Kept). is_numbered stamp_of 0 l ≡ true) b.1 (sound_numbered c sound).0))
 
--- a page behind it has the first of the rest
+-- a page after it has the first of the rest
 page_is : (c : Content) (read : List Kept) → IsSound c → (b : Begins c read) → requests_page c (last_read read) ≡ take requests_size b.0
 page_is c read sound b =
     ap (requests_page c) (reached c read sound b)

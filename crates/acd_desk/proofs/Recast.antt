@@ -1,4 +1,4 @@
--- The events up to a state, recast: of a call that neither waits in a group nor rings from it they tell no entry there. All else they tell as before.
+-- The events up to a state, recast: they report no entry of a call that neither waits in a group nor rings from it. All else they report as before.
 use Rattle.std.proofs.Common.{◌≡◌, ℕ, ◌≤◌, Bool, true, false, ◌&&◌, cond, not, List, [], ◌∷◌, map, Option, None, inl, inr, refl, ap, sym, ◌∙◌, arith, eq-eqb}
 use Rattle.std.specs.Prelude.{◌==◌, find}
 use Rattle.std.specs.List.{list_any}
@@ -16,9 +16,9 @@ use Rattle.acd_terms.specs.declared.event.Report.{Report}
 use Rattle.acd_terms.specs.declared.event.Report.TheVariants.{Queued}
 use Rattle.acd_model.specs.Scans.{has}
 use Rattle.acd_model.specs.Figures.{is_no_answer, is_entry}
-use Rattle.acd_model.specs.Told.{known_after, connection_told, Seat, no_seat, seat_told, enters, last_entry}
+use Rattle.acd_model.specs.Reported.{known_after, connection_reported, Seat, no_seat, seat_reported, enters, last_entry}
 use Rattle.acd_model.specs.Watched.{waits_or_rings, HasPlace, HasEntered, IsWatched}
-use Rattle.acd_laws.specs.WatchedLaws.{TellsNoMore}
+use Rattle.acd_laws.specs.WatchedLaws.{ReportsNoMore}
 use Rattle.acd_lemmas.proofs.Facts.{Rules, ConnectionRule}
 use Rattle.acd_lemmas.proofs.Lists.{any_some, any_found, find_among, find_passes, every_among, some_from}
 use Rattle.acd_laws.proofs.Watched.WatchedRuns.{place_in}
@@ -44,13 +44,13 @@ recast_event s e = record e { report = recast s e.report }
 abbrev pub history : Rows → List Event → List Event
 history s events = map (recast_event s) events
 
--- what they tell of connections and agents is the same
+-- they report the same of connections and agents
 
-same_connection : (s : Rows) (call device : ℕ) (v : Option ConnectionState) (r : Report) → connection_told call device v (columns_of (recast s r)) ≡ connection_told call device v (columns_of r)
+same_connection : (s : Rows) (call device : ℕ) (v : Option ConnectionState) (r : Report) → connection_reported call device v (columns_of (recast s r)) ≡ connection_reported call device v (columns_of r)
 same_connection s call device v (Queued c g cause) = refl
 same_connection s call device v _ = refl
 
-same_seat : (s : Rows) (agent : ℕ) (v : Seat) (r : Report) → seat_told agent v (columns_of (recast s r)) ≡ seat_told agent v (columns_of r)
+same_seat : (s : Rows) (agent : ℕ) (v : Seat) (r : Report) → seat_reported agent v (columns_of (recast s r)) ≡ seat_reported agent v (columns_of r)
 same_seat s agent v (Queued c g cause) = refl
 same_seat s agent v _ = refl
 
@@ -58,7 +58,7 @@ after_recast : {T : Type 0} (f : T → Columns → T) (s : Rows) → ((v : T) (r
 after_recast f s h x [] = refl
 after_recast f s h x (e ∷ es) = after_recast f s h (f x (columns_of (recast s e.report))) es ∙ ap (λ v. known_after f v es) (h x e.report)
 
--- an entry of a call that is held is told as before, and no other is
+-- they report the entry of a call that is held as before, and no other
 
 held_same : (s : Rows) (g c group call : ℕ) → group == g ≡ true → call == c ≡ true → is_held s group call ≡ is_held s g c
 held_same s g c group call e f = ap (λ (n : ℕ). is_held s n call) (eqb-true group g e) ∙ ap (λ (n : ℕ). is_held s g n) (eqb-true call c f)
@@ -101,7 +101,7 @@ held_at s g c x there held of = any_some (holds_call g c) s.connections x there 
 held_placed : (s : Rows) (g c p : ℕ) → HasPlace s g c p → is_held s g c ≡ true
 held_placed s g c p h = held_at s g c h.connection h.there h.of_group h.of_call
 
--- so they tell a watcher what those events tell
+-- so they report to a watcher what those events report
 
 among_mapped : (f : Event → Event) (es : List Event) (e : Event) → Among e es → Among (f e) (map f es)
 among_mapped f [] e a = absurd a
@@ -119,8 +119,8 @@ entered_recast s events g c held h = record {
 
 pub watched_recast : (s : Rows) (events : List Event) → IsWatched s events → IsWatched s (history s events)
 watched_recast s events w = record {
-  connections = λ call device e. w.connections call device e ∙ sym (after_recast (connection_told call device) s (same_connection s call device) None events);
-  agents = λ agent. w.agents agent ∙ sym (after_recast (seat_told agent) s (same_seat s agent) no_seat events);
+  connections = λ call device e. w.connections call device e ∙ sym (after_recast (connection_reported call device) s (same_connection s call device) None events);
+  agents = λ agent. w.agents agent ∙ sym (after_recast (seat_reported agent) s (same_seat s agent) no_seat events);
   entries = λ g x there held. entered_recast s events g x.call (held_at s g x.call x there held refl) (w.entries g x there held);
   queues = λ g c d p q a b.
       let order = w.queues g c d p q a b in
@@ -129,9 +129,9 @@ watched_recast s events w = record {
       (λ l. let o = order.0 l in omega (arith, o, e, f), λ l. order.1 (omega (arith, l, e, f)));
 }
 
-pub no_more_recast : (s : Rows) (events : List Event) → TellsNoMore s events → TellsNoMore s (history s events)
+pub no_more_recast : (s : Rows) (events : List Event) → ReportsNoMore s events → ReportsNoMore s (history s events)
 no_more_recast s events n = record {
-  outside = λ call device e. after_recast (connection_told call device) s (same_connection s call device) None events ∙ n.outside call device e;
+  outside = λ call device e. after_recast (connection_reported call device) s (same_connection s call device) None events ∙ n.outside call device e;
   entries = λ g c. below g c (is_held s g c) refl;
   places = n.places;
 }

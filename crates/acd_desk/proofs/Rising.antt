@@ -1,4 +1,4 @@
--- The events of a sound content stand in ascending number.
+-- The events of a sound content are in ascending number.
 use Rattle.std.proofs.Common.{ℕ, ◌+◌, ◌≤◌, List, [], ◌∷◌, ◌++◌, arith, sym, subst}
 use Rattle.acd_terms.specs.Lists.{Every}
 use Rattle.acd_terms.specs.declared.event.Event.{Event}
@@ -7,7 +7,7 @@ use Rattle.acd_book.specs.Content.{Content, empty_content, GoOn, IsCounted}
 use Rattle.acd_desk.specs.Firsts.{stepped, executed, run_from, firsts}
 use Rattle.acd_desk.specs.Stands.{IsSound, arrivals_of}
 use Rattle.acd_desk.specs.Carried.{Archive, together}
-use Rattle.acd_desk.specs.Tells.{Rise}
+use Rattle.acd_desk.specs.ReadAnswers.{Rise}
 use Rattle.acd_desk.proofs.Steps.{step_numbers}
 use Rattle.acd_desk.proofs.Counting.{counted_executed}
 use Rattle.acd_desk.proofs.PageLemmas.{rise_lower}

@@ -14,8 +14,8 @@ use Rattle.acd_desk.specs.declared.taken.Taken.TheVariants.{Reply, InvokeReused}
 use Rattle.acd_desk.specs.Firsts.{has_key, distinct_from, firsts, record_of, executed, run_from, run}
 use Rattle.acd_desk.specs.Replies.{answer_of, answer_in, after}
 use Rattle.acd_desk.proofs.Steps.{step_limits, step_stamp}
-use Rattle.acd_desk.proofs.Keys.{same_own}
-use Rattle.acd_book.proofs.Keys.{key_same, key_own}
+use Rattle.acd_desk.proofs.Keys.{same_itself}
+use Rattle.acd_book.proofs.Keys.{key_same, key_itself}
 use Rattle.acd_lemmas.proofs.Bools.{or_no}
 
 -- ---- those whose key is new ----
@@ -45,7 +45,7 @@ cond_has : (b : Bool) (x : Arrival) (p : List ℕ) (q : ℕ) → has_key (cond b
 cond_has true x p q = refl
 cond_has false x p q = or_no (is_key p q x.request)
 
--- what is left has every key
+-- the rest has every key
 pub has-distinct : (l seen : List Arrival) (p : List ℕ) (q : ℕ) → (has_key seen p q || has_key (distinct_from seen l) p q) ≡ (has_key seen p q || has_key l p q)
 has-distinct [] seen p q = refl
 has-distinct (x ∷ l) seen p q =
@@ -123,8 +123,8 @@ full n l a h =
     let e : length (take n (distinct_from [] l)) ≤ length (distinct_from [] l) = grind (arith, common_steps) in
     firsts-push n l a ∙ take-append-le n (distinct_from [] l) (cond (has_key l a.request.requester a.request.invoke) [] (a ∷ [])) (omega (arith, e, h))
 
-fresh : (n : ℕ) (l : List Arrival) (a : Arrival) → length (firsts n l) < n → has_key (firsts n l) a.request.requester a.request.invoke ≡ false → firsts n (l ++ a ∷ []) ≡ firsts n l ++ a ∷ []
-fresh n l a room new =
+new_key : (n : ℕ) (l : List Arrival) (a : Arrival) → length (firsts n l) < n → has_key (firsts n l) a.request.requester a.request.invoke ≡ false → firsts n (l ++ a ∷ []) ≡ firsts n l ++ a ∷ []
+new_key n l a room new =
     let whole : firsts n l ≡ distinct_from [] l = firsts-room n l room in
     let none : has_key l a.request.requester a.request.invoke ≡ false
     = sym (has-distinct l [] a.request.requester a.request.invoke) ∙ ap (λ (s : List Arrival). has_key s a.request.requester a.request.invoke) (sym whole) ∙ new in
@@ -134,7 +134,7 @@ fresh n l a room new =
     ∙ take_all n (distinct_from [] l ++ a ∷ []) short
     ∙ ap (λ (s : List Arrival). s ++ a ∷ []) (sym whole)
 
--- what a desk does with an arrival is what the abstract switch does with the list that it ends
+-- a desk does with an arrival what the abstract switch does with the list that it ends
 pub after_firsts : (n : Limits) (l : List Arrival) (a : Arrival) → after (run n l) a ≡ run n (l ++ a ∷ [])
 after_firsts n l a =
     let f : List Arrival = firsts n.requests l in
@@ -149,7 +149,7 @@ after_firsts n l a =
     = λ x. elim x as (λ x. (y : Bool) → is_some (kept_of c.kept p q) ≡ x → nat_lt c.rows.last_stamp c.rows.limits.requests ≡ y → P x y) [
       | true ↦ λ y old room. ap (run_from (empty_content n)) (sym (known n.requests l a (sym found ∙ old)))
       | false ↦ λ y. elim y as (λ y. is_some (kept_of c.kept p q) ≡ false → nat_lt c.rows.last_stamp c.rows.limits.requests ≡ y → P false y) [
-        | true ↦ λ new room. let lt : c.rows.last_stamp < c.rows.limits.requests = ltb-true c.rows.last_stamp c.rows.limits.requests room in sym (run-push (empty_content n) f a) ∙ ap (run_from (empty_content n)) (sym (fresh n.requests l a (omega (arith, lt, stamp, limit)) (sym found ∙ new)))
+        | true ↦ λ new room. let lt : c.rows.last_stamp < c.rows.limits.requests = ltb-true c.rows.last_stamp c.rows.limits.requests room in sym (run-push (empty_content n) f a) ∙ ap (run_from (empty_content n)) (sym (new_key n.requests l a (omega (arith, lt, stamp, limit)) (sym found ∙ new)))
         | false ↦ λ new room. let le : c.rows.limits.requests ≤ c.rows.last_stamp = ltb-false c.rows.last_stamp c.rows.limits.requests room in ap (run_from (empty_content n)) (sym (full n.requests l a (omega (arith, le, stamp, limit))))
       ]
     ] in
@@ -167,5 +167,5 @@ pub answers_new : (c : Content) (a : Arrival) → kept_of c.kept a.request.reque
 answers_new c a new =
     let r : Request = a.request in
     let k : Kept = record_of c.rows a in
-    ap (λ (o : Option Kept). answer_of o r) (find-append (λ (k : Kept). is_key r.requester r.invoke k.request) c.kept (k ∷ []) ∙ ap (λ (o : Option Kept). option_or o (cond (is_key r.requester r.invoke r) (Some k) None)) new ∙ ap (λ (b : Bool). cond b (Some k) None) (key_own r))
-    ∙ ap (λ (b : Bool). cond b (Reply k.status k.body) InvokeReused) (same_own r)
+    ap (λ (o : Option Kept). answer_of o r) (find-append (λ (k : Kept). is_key r.requester r.invoke k.request) c.kept (k ∷ []) ∙ ap (λ (o : Option Kept). option_or o (cond (is_key r.requester r.invoke r) (Some k) None)) new ∙ ap (λ (b : Bool). cond b (Some k) None) (key_itself r))
+    ∙ ap (λ (b : Bool). cond b (Reply k.status k.body) InvokeReused) (same_itself r)

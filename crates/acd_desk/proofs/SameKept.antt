@@ -24,4 +24,4 @@ same_kept a b h =
     }
 
 pub kept_decided : (a b : Kept) (r : Bool) → r ≡ (kept.eq-value).it a b → Decides r (a ≡ b)
-kept_decided a b r h = (λ told. same_kept a b (sym h ∙ told), λ same. h ∙ ap (λ (x : Kept). (kept.eq-value).it x b) same ∙ (kept_laws.laws-law).refl b)
+kept_decided a b r h = (λ holds. same_kept a b (sym h ∙ holds), λ same. h ∙ ap (λ (x : Kept). (kept.eq-value).it x b) same ∙ (kept_laws.laws-law).refl b)

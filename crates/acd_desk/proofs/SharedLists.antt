@@ -47,7 +47,7 @@ pub every_upto : {T : Type 0} (f : T → ℕ) (m n : ℕ) (xs : List T) → m �
 every_upto f m n [] le h = tt
 every_upto f m n (x ∷ xs) le h = (within (f x) m n h.0 le, every_upto f m n xs le h.1)
 
--- what is left behind the front
+-- the rest after the front
 pub rises_back : {T : Type 0} (f : T → ℕ) (m : ℕ) (xs ys : List T) → Rises f m (xs ++ ys) → Rises f m ys
 rises_back f m [] ys h = h
 rises_back f m (x ∷ xs) ys h = rises_lower f m (f x) ys (weaker m (f x) h.0) (rises_back f (f x) xs ys h.1)
@@ -100,36 +100,36 @@ split_once {T = T} f n (x ∷ past) left (y ∷ old) new is low lows up ups =
 
 -- ---- one list begins with what another one has above a cut ----
 
--- so far they were found to have the same
-pub record Shares {T : Type 0} (f : T → ℕ) (cut n : ℕ) (theirs own : List T) : Type 0 where
+-- so far they have the same
+pub record Shares {T : Type 0} (f : T → ℕ) (cut n : ℕ) (archived current : List T) : Type 0 where
   pub past : List T
   pub done : List T
   pub left : List T
   pub rest : List T
-  pub split : IsSplit f cut theirs past (done ++ left)
-  pub mine : own ≡ done ++ rest
+  pub split : IsSplit f cut archived past (done ++ left)
+  pub mine : current ≡ done ++ rest
   pub done_low : Every (λ (x : T). f x ≤ n) done
   pub left_high : Rises f n left
   pub rest_high : Rises f n rest
   pub above : cut ≤ n
 
-pub shares_nothing : {T : Type 0} (f : T → ℕ) (cut : ℕ) (theirs own : List T) → Rises f 0 theirs → Rises f cut own → Shares f cut cut theirs own
-shares_nothing f cut theirs own rise own_rise =
-    let two = split_at f 0 cut theirs (omega arith) rise in
-    let split : IsSplit f cut theirs two.0 two.1 = two.2 in
-    record { past = two.0; done = []; left = two.1; rest = own; split = split; mine = refl; done_low = tt; left_high = split.above; rest_high = own_rise; above = omega arith }
+pub shares_nothing : {T : Type 0} (f : T → ℕ) (cut : ℕ) (archived current : List T) → Rises f 0 archived → Rises f cut current → Shares f cut cut archived current
+shares_nothing f cut archived current rise current_rise =
+    let two = split_at f 0 cut archived (omega arith) rise in
+    let split : IsSplit f cut archived two.0 two.1 = two.2 in
+    record { past = two.0; done = []; left = two.1; rest = current; split = split; mine = refl; done_low = tt; left_high = split.above; rest_high = current_rise; above = omega arith }
 
 -- all that the other one has up to there
-pub behind_split : {T : Type 0} (f : T → ℕ) (cut n : ℕ) (theirs own : List T) (s : Shares f cut n theirs own) → IsSplit f n theirs (s.past ++ s.done) s.left
-behind_split {T = T} f cut n theirs own s = record {
+pub archived_split : {T : Type 0} (f : T → ℕ) (cut n : ℕ) (archived current : List T) (s : Shares f cut n archived current) → IsSplit f n archived (s.past ++ s.done) s.left
+archived_split {T = T} f cut n archived current s = record {
   whole = s.split.whole ∙ sym (append_assoc s.past s.done s.left);
   below = every-append (λ (x : T). f x ≤ n) s.past s.done (every_upto f cut n s.past s.above s.split.below) s.done_low;
   above = s.left_high;
 }
 
 -- both have this next
-pub shares_next : {T : Type 0} (f : T → ℕ) (cut n : ℕ) (theirs own : List T) (s : Shares f cut n theirs own) (x : T) (left rest : List T) → s.left ≡ x ∷ left → s.rest ≡ x ∷ rest → Shares f cut (f x) theirs own
-shares_next {T = T} f cut n theirs own s x left rest is_left is_rest =
+pub shares_next : {T : Type 0} (f : T → ℕ) (cut n : ℕ) (archived current : List T) (s : Shares f cut n archived current) (x : T) (left rest : List T) → s.left ≡ x ∷ left → s.rest ≡ x ∷ rest → Shares f cut (f x) archived current
+shares_next {T = T} f cut n archived current s x left rest is_left is_rest =
     let high : Rises f n (x ∷ left) = subst (Rises f n) is_left s.left_high in
     let highs : Rises f n (x ∷ rest) = subst (Rises f n) is_rest s.rest_high in
     let le : n ≤ f x = weaker n (f x) high.0 in
@@ -139,7 +139,7 @@ shares_next {T = T} f cut n theirs own s x left rest is_left is_rest =
       done = s.done ++ x ∷ [];
       left = left;
       rest = rest;
-      split = subst (IsSplit f cut theirs s.past) one s.split;
+      split = subst (IsSplit f cut archived s.past) one s.split;
       mine = s.mine ∙ ap (λ (l : List T). s.done ++ l) is_rest ∙ sym (append_assoc s.done (x ∷ []) rest);
       done_low = every-append (λ (y : T). f y ≤ f x) s.done (x ∷ []) (every_upto f n (f x) s.done le s.done_low) (le_refl (f x), tt);
       left_high = high.1;
@@ -148,33 +148,33 @@ shares_next {T = T} f cut n theirs own s x left rest is_left is_rest =
     }
 
 -- nothing is left of the other one
-pub shares_all : {T : Type 0} (f : T → ℕ) (cut n last : ℕ) (theirs own : List T) (s : Shares f cut n theirs own) → s.left ≡ [] → Rises f last s.rest → Begins f cut last theirs own
-shares_all {T = T} f cut n last theirs own s none newer = record {
+pub shares_all : {T : Type 0} (f : T → ℕ) (cut n last : ℕ) (archived current : List T) (s : Shares f cut n archived current) → s.left ≡ [] → Rises f last s.rest → Begins f cut last archived current
+shares_all {T = T} f cut n last archived current s none newer = record {
   past = s.past;
   carried = s.done;
   rest = s.rest;
-  split = subst (IsSplit f cut theirs s.past) (ap (λ (l : List T). s.done ++ l) none ∙ append-nil s.done) s.split;
+  split = subst (IsSplit f cut archived s.past) (ap (λ (l : List T). s.done ++ l) none ∙ append-nil s.done) s.split;
   mine = s.mine;
   newer = newer;
 }
 
 -- where one begins so, what is left of it begins with what is left of the other one
-pub begins_left : {T : Type 0} (f : T → ℕ) (cut n last : ℕ) (theirs own : List T) (s : Shares f cut n theirs own) (b : Begins f cut last theirs own) → s.rest ≡ s.left ++ b.rest
-begins_left {T = T} f cut n last theirs own s b =
+pub begins_left : {T : Type 0} (f : T → ℕ) (cut n last : ℕ) (archived current : List T) (s : Shares f cut n archived current) (b : Begins f cut last archived current) → s.rest ≡ s.left ++ b.rest
+begins_left {T = T} f cut n last archived current s b =
     let once = split_once f cut s.past (s.done ++ s.left) b.past b.carried (sym s.split.whole ∙ b.split.whole) s.split.below b.split.below s.split.above b.split.above in
     append_cancel_left s.done s.rest (s.left ++ b.rest)
     (sym s.mine ∙ b.mine ∙ ap (λ (l : List T). l ++ b.rest) (sym once.1) ∙ append_assoc s.done s.left b.rest)
 
 -- ---- the cut ----
 
-pub cut_rises : {T : Type 0} (f : T → ℕ) (last : ℕ) (own : List T) → Rises f 0 own → Rises f (cut_before f last own) own
+pub cut_rises : {T : Type 0} (f : T → ℕ) (last : ℕ) (current : List T) → Rises f 0 current → Rises f (cut_before f last current) current
 cut_rises f last [] h = tt
 cut_rises f last (x ∷ xs) h = (below last (f x) h.0, h.1)
   where
     below : (last n : ℕ) → 0 < n → min last (n - 1) < n
     below last n h = omega (arith, h)
 
-pub cut_within : {T : Type 0} (f : T → ℕ) (last : ℕ) (own : List T) → cut_before f last own ≤ last
+pub cut_within : {T : Type 0} (f : T → ℕ) (last : ℕ) (current : List T) → cut_before f last current ≤ last
 cut_within f last [] = omega arith
 cut_within f last (x ∷ xs) = less last (f x)
   where
@@ -182,14 +182,14 @@ cut_within f last (x ∷ xs) = less last (f x)
     less last n = omega arith
 
 -- wherever the other one was cut, that is the cut
-pub split_there : {T : Type 0} (f : T → ℕ) (last : ℕ) (theirs own past carried rest : List T) → theirs ≡ past ++ carried → own ≡ carried ++ rest → Rises f 0 theirs → Every (λ (x : T). f x ≤ last) theirs → Rises f last rest
-    → IsSplit f (cut_before f last own) theirs past carried
-split_there {T = T} f last theirs own past [] rest whole mine rise low newer =
+pub split_there : {T : Type 0} (f : T → ℕ) (last : ℕ) (archived current past carried rest : List T) → archived ≡ past ++ carried → current ≡ carried ++ rest → Rises f 0 archived → Every (λ (x : T). f x ≤ last) archived → Rises f last rest
+    → IsSplit f (cut_before f last current) archived past carried
+split_there {T = T} f last archived current past [] rest whole mine rise low newer =
     let far : (l : List T) → Rises f last l → cut_before f last l ≡ last = λ l. elim l as (λ l. Rises f last l → cut_before f last l ≡ last) [
       | [] ↦ λ h. refl
       | x ∷ xs ↦ λ h. beyond last (f x) h.0
     ] in
-    let cut : cut_before f last own ≡ last = ap (cut_before f last) mine ∙ far rest newer in
+    let cut : cut_before f last current ≡ last = ap (cut_before f last) mine ∙ far rest newer in
     record {
       whole = whole;
       below = subst (λ (n : ℕ). Every (λ (x : T). f x ≤ n) past) (sym cut) (every_front (λ (x : T). f x ≤ last) past [] (subst (Every (λ (x : T). f x ≤ last)) whole low));
@@ -198,11 +198,11 @@ split_there {T = T} f last theirs own past [] rest whole mine rise low newer =
   where
     beyond : (last n : ℕ) → last < n → min last (n - 1) ≡ last
     beyond last n h = omega (arith, h)
-split_there {T = T} f last theirs own past (x ∷ carried) rest whole mine rise low newer =
+split_there {T = T} f last archived current past (x ∷ carried) rest whole mine rise low newer =
     let rises : Rises f 0 (past ++ x ∷ carried) = subst (Rises f 0) whole rise in
     let lows : Every (λ (y : T). f y ≤ last) (past ++ x ∷ carried) = subst (Every (λ (y : T). f y ≤ last)) whole low in
     let most : f x ≤ last = (every_back (λ (y : T). f y ≤ last) past (x ∷ carried) lows).0 in
-    let cut : cut_before f last own ≡ f x - 1 = ap (cut_before f last) mine ∙ within last (f x) most in
+    let cut : cut_before f last current ≡ f x - 1 = ap (cut_before f last) mine ∙ within last (f x) most in
     let first : 0 < f x = (rises_back f 0 past (x ∷ carried) rises).0 in
     record {
       whole = whole;
@@ -232,21 +232,21 @@ all_above {T = T} f n m (x ∷ xs) le up =
     further : (n m k : ℕ) → n ≤ m → m < k → n ≤ k
     further n m k le lt = omega (arith, le, lt)
 
--- what a book tells above a number is what is left there
+-- a book reads above a number what is left there
 pub next_left : {T : Type 0} (f : T → ℕ) (n : ℕ) (xs past left : List T) → IsSplit f n xs past left → take 1 (filter (λ (x : T). nat_lt n (f x)) xs) ≡ take 1 left
 next_left {T = T} f n xs past left s =
     let p : T → Bool = λ (x : T). nat_lt n (f x) in
     ap (λ (l : List T). take 1 (filter p l)) s.whole
     ∙ ap (take 1) (filter-append p past left ∙ ap₂ (λ (a b : List T). a ++ b) (none_above f n past s.below) (all_above f n n left (le_refl n) s.above))
 
-own_split : {T : Type 0} (f : T → ℕ) (cut n : ℕ) (theirs own : List T) (s : Shares f cut n theirs own) → IsSplit f n own s.done s.rest
-own_split f cut n theirs own s = record { whole = s.mine; below = s.done_low; above = s.rest_high }
+current_split : {T : Type 0} (f : T → ℕ) (cut n : ℕ) (archived current : List T) (s : Shares f cut n archived current) → IsSplit f n current s.done s.rest
+current_split f cut n archived current s = record { whole = s.mine; below = s.done_low; above = s.rest_high }
 
-theirs_left : {T : Type 0} (f : T → ℕ) (cut n : ℕ) (theirs own : List T) (s : Shares f cut n theirs own) → take 1 (filter (λ (x : T). nat_lt n (f x)) theirs) ≡ take 1 s.left
-theirs_left f cut n theirs own s = next_left f n theirs (s.past ++ s.done) s.left (behind_split f cut n theirs own s)
+archived_left : {T : Type 0} (f : T → ℕ) (cut n : ℕ) (archived current : List T) (s : Shares f cut n archived current) → take 1 (filter (λ (x : T). nat_lt n (f x)) archived) ≡ take 1 s.left
+archived_left f cut n archived current s = next_left f n archived (s.past ++ s.done) s.left (archived_split f cut n archived current s)
 
-own_left : {T : Type 0} (f : T → ℕ) (cut n : ℕ) (theirs own : List T) (s : Shares f cut n theirs own) → take 1 (filter (λ (x : T). nat_lt n (f x)) own) ≡ take 1 s.rest
-own_left f cut n theirs own s = next_left f n own s.done s.rest (own_split f cut n theirs own s)
+current_left : {T : Type 0} (f : T → ℕ) (cut n : ℕ) (archived current : List T) (s : Shares f cut n archived current) → take 1 (filter (λ (x : T). nat_lt n (f x)) current) ≡ take 1 s.rest
+current_left f cut n archived current s = next_left f n current s.done s.rest (current_split f cut n archived current s)
 
 first_is : {T : Type 0} (x : T) (xs ys : List T) → take 1 xs ≡ x ∷ ys → (tail : List T) × (xs ≡ x ∷ tail)
 first_is x [] ys h = absurd (cons_not_nil x ys (sym h))
@@ -257,50 +257,50 @@ none_first [] h = refl
 none_first (x ∷ xs) h = absurd (cons_not_nil x [] h)
 
 -- both have the same next
-pub same_next : {T : Type 0} (f : T → ℕ) (cut n : ℕ) (theirs own : List T) (s : Shares f cut n theirs own) (x : T) (xs ys : List T)
-    → take 1 (filter (λ (x : T). nat_lt n (f x)) theirs) ≡ x ∷ xs → take 1 (filter (λ (x : T). nat_lt n (f x)) own) ≡ x ∷ ys → Shares f cut (f x) theirs own
-same_next f cut n theirs own s x xs ys is_theirs is_own =
-    let left = first_is x s.left xs (sym (theirs_left f cut n theirs own s) ∙ is_theirs) in
-    let rest = first_is x s.rest ys (sym (own_left f cut n theirs own s) ∙ is_own) in
-    shares_next f cut n theirs own s x left.0 rest.0 left.1 rest.1
+pub same_next : {T : Type 0} (f : T → ℕ) (cut n : ℕ) (archived current : List T) (s : Shares f cut n archived current) (x : T) (xs ys : List T)
+    → take 1 (filter (λ (x : T). nat_lt n (f x)) archived) ≡ x ∷ xs → take 1 (filter (λ (x : T). nat_lt n (f x)) current) ≡ x ∷ ys → Shares f cut (f x) archived current
+same_next f cut n archived current s x xs ys is_archived is_current =
+    let left = first_is x s.left xs (sym (archived_left f cut n archived current s) ∙ is_archived) in
+    let rest = first_is x s.rest ys (sym (current_left f cut n archived current s) ∙ is_current) in
+    shares_next f cut n archived current s x left.0 rest.0 left.1 rest.1
 
 -- they haven't
-pub other_next : {T : Type 0} (f : T → ℕ) (cut n last : ℕ) (theirs own : List T) (s : Shares f cut n theirs own) (x : T) (xs : List T)
-    → take 1 (filter (λ (x : T). nat_lt n (f x)) theirs) ≡ x ∷ xs → (take 1 (filter (λ (x : T). nat_lt n (f x)) own) ≡ take 1 (filter (λ (x : T). nat_lt n (f x)) theirs) → ⊥) → ¬ Begins f cut last theirs own
-other_next {T = T} f cut n last theirs own s x xs is_theirs other b =
-    let left = first_is x s.left xs (sym (theirs_left f cut n theirs own s) ∙ is_theirs) in
-    let rest : s.rest ≡ x ∷ (left.0 ++ b.rest) = begins_left f cut n last theirs own s b ∙ ap (λ (l : List T). l ++ b.rest) left.1 in
-    other (own_left f cut n theirs own s ∙ ap (take 1) rest ∙ sym (ap (take 1) left.1) ∙ sym (theirs_left f cut n theirs own s))
+pub other_next : {T : Type 0} (f : T → ℕ) (cut n last : ℕ) (archived current : List T) (s : Shares f cut n archived current) (x : T) (xs : List T)
+    → take 1 (filter (λ (x : T). nat_lt n (f x)) archived) ≡ x ∷ xs → (take 1 (filter (λ (x : T). nat_lt n (f x)) current) ≡ take 1 (filter (λ (x : T). nat_lt n (f x)) archived) → ⊥) → ¬ Begins f cut last archived current
+other_next {T = T} f cut n last archived current s x xs is_archived other b =
+    let left = first_is x s.left xs (sym (archived_left f cut n archived current s) ∙ is_archived) in
+    let rest : s.rest ≡ x ∷ (left.0 ++ b.rest) = begins_left f cut n last archived current s b ∙ ap (λ (l : List T). l ++ b.rest) left.1 in
+    other (current_left f cut n archived current s ∙ ap (take 1) rest ∙ sym (ap (take 1) left.1) ∙ sym (archived_left f cut n archived current s))
 
 -- nothing is left of the other one, and what is left of this one is looked at
-pub over_first : {T : Type 0} (f : T → ℕ) (cut n last : ℕ) (theirs own : List T) (s : Shares f cut n theirs own) (found : Option ℕ)
-    → take 1 (filter (λ (x : T). nat_lt n (f x)) theirs) ≡ [] → IsFirstUpTo f last (take 1 (filter (λ (x : T). nat_lt n (f x)) own)) found → IsOther (Begins f cut last theirs own) found
-over_first {T = T} f cut n last theirs own s None none first =
-    let empty : s.left ≡ [] = none_first s.left (sym (theirs_left f cut n theirs own s) ∙ none) in
-    let newer : (l : List T) → take 1 (filter (λ (x : T). nat_lt n (f x)) own) ≡ take 1 l → Rises f n l → Rises f last l
-    = λ l. elim l as (λ l. take 1 (filter (λ (x : T). nat_lt n (f x)) own) ≡ take 1 l → Rises f n l → Rises f last l) [
+pub over_first : {T : Type 0} (f : T → ℕ) (cut n last : ℕ) (archived current : List T) (s : Shares f cut n archived current) (found : Option ℕ)
+    → take 1 (filter (λ (x : T). nat_lt n (f x)) archived) ≡ [] → IsFirstUpTo f last (take 1 (filter (λ (x : T). nat_lt n (f x)) current)) found → IsOther (Begins f cut last archived current) found
+over_first {T = T} f cut n last archived current s None none first =
+    let empty : s.left ≡ [] = none_first s.left (sym (archived_left f cut n archived current s) ∙ none) in
+    let newer : (l : List T) → take 1 (filter (λ (x : T). nat_lt n (f x)) current) ≡ take 1 l → Rises f n l → Rises f last l
+    = λ l. elim l as (λ l. take 1 (filter (λ (x : T). nat_lt n (f x)) current) ≡ take 1 l → Rises f n l → Rises f last l) [
       | [] ↦ λ is up. tt
       | x ∷ xs ↦ λ is up. (first x [] is, up.1)
     ] in
-    shares_all f cut n last theirs own s empty (newer s.rest (own_left f cut n theirs own s) s.rest_high)
-over_first {T = T} f cut n last theirs own s (Some place) none first =
+    shares_all f cut n last archived current s empty (newer s.rest (current_left f cut n archived current s) s.rest_high)
+over_first {T = T} f cut n last archived current s (Some place) none first =
     λ b.
-    let empty : s.left ≡ [] = none_first s.left (sym (theirs_left f cut n theirs own s) ∙ none) in
-    let rest : s.rest ≡ b.rest = begins_left f cut n last theirs own s b ∙ ap (λ (l : List T). l ++ b.rest) empty in
-    let mine = first_is first.0 s.rest first.1 (sym (own_left f cut n theirs own s) ∙ first.2) in
+    let empty : s.left ≡ [] = none_first s.left (sym (archived_left f cut n archived current s) ∙ none) in
+    let rest : s.rest ≡ b.rest = begins_left f cut n last archived current s b ∙ ap (λ (l : List T). l ++ b.rest) empty in
+    let mine = first_is first.0 s.rest first.1 (sym (current_left f cut n archived current s) ∙ first.2) in
     let up : Rises f last (first.0 ∷ mine.0) = subst (Rises f last) (sym rest ∙ mine.1) b.newer in
     not_both last (f first.0) up.0 first.3
 
 -- the last number is reached
-pub reached : {T : Type 0} (f : T → ℕ) (cut n last : ℕ) (theirs own : List T) (s : Shares f cut n theirs own) → last ≤ n → Every (λ (x : T). f x ≤ last) theirs → Begins f cut last theirs own
-reached {T = T} f cut n last theirs own s le low =
+pub reached : {T : Type 0} (f : T → ℕ) (cut n last : ℕ) (archived current : List T) (s : Shares f cut n archived current) → last ≤ n → Every (λ (x : T). f x ≤ last) archived → Begins f cut last archived current
+reached {T = T} f cut n last archived current s le low =
     let left_low : Every (λ (x : T). f x ≤ last) s.left = every_back (λ (x : T). f x ≤ last) s.done s.left (every_back (λ (x : T). f x ≤ last) s.past (s.done ++ s.left) (subst (Every (λ (x : T). f x ≤ last)) s.split.whole low)) in
     let empty : (l : List T) → Every (λ (x : T). f x ≤ last) l → Rises f n l → l ≡ []
     = λ l. elim l as (λ l. Every (λ (x : T). f x ≤ last) l → Rises f n l → l ≡ []) [
       | [] ↦ λ h up. refl
       | x ∷ xs ↦ λ h up. absurd (clash last n (f x) le h.0 up.0)
     ] in
-    shares_all f cut n last theirs own s (empty s.left left_low s.left_high) (rises_lower f last n s.rest le s.rest_high)
+    shares_all f cut n last archived current s (empty s.left left_low s.left_high) (rises_lower f last n s.rest le s.rest_high)
   where
     clash : (last n k : ℕ) → last ≤ n → k ≤ last → n < k → ⊥
     clash last n k le h up = omega (arith, le, h, up)
@@ -310,25 +310,25 @@ reached {T = T} f cut n last theirs own s le low =
 abbrev pub next_above : {T : Type 0} → (T → ℕ) → ℕ → List T → List T
 next_above {T} f n xs = take 1 (filter (λ (x : T). nat_lt n (f x)) xs)
 
-pub next_shares : {T : Type 0} (f : T → ℕ) (cut n count place : ℕ) (theirs own : List T) → Shares f cut n theirs own → count ≤ n → IsNextOf f (next_above f n theirs) (next_above f n own) (Same place)
-    → Shares f cut place theirs own × (count + 1 ≤ place)
-next_shares {T = T} f cut n count place theirs own s le next =
+pub next_shares : {T : Type 0} (f : T → ℕ) (cut n count place : ℕ) (archived current : List T) → Shares f cut n archived current → count ≤ n → IsNextOf f (next_above f n archived) (next_above f n current) (Same place)
+    → Shares f cut place archived current × (count + 1 ≤ place)
+next_shares {T = T} f cut n count place archived current s le next =
     let x : T = next.0 in
-    let left = first_is x s.left next.1 (sym (theirs_left f cut n theirs own s) ∙ next.3) in
+    let left = first_is x s.left next.1 (sym (archived_left f cut n archived current s) ∙ next.3) in
     let high : Rises f n (x ∷ left.0) = subst (Rises f n) left.1 s.left_high in
     let is : f x ≡ place = sym next.5 in (
-      subst (λ (m : ℕ). Shares f cut m theirs own) is (same_next f cut n theirs own s x next.1 next.2 next.3 next.4),
+      subst (λ (m : ℕ). Shares f cut m archived current) is (same_next f cut n archived current s x next.1 next.2 next.3 next.4),
       more count n (f x) place le high.0 is,
     )
   where
     more : (count n k place : ℕ) → count ≤ n → n < k → k ≡ place → count + 1 ≤ place
     more count n k place le lt is = omega (arith, le, lt, is)
 
-pub other_shares : {T : Type 0} (f : T → ℕ) (cut n last place : ℕ) (theirs own : List T) → Shares f cut n theirs own → IsNextOf f (next_above f n theirs) (next_above f n own) (Other place) → ¬ Begins f cut last theirs own
-other_shares f cut n last place theirs own s next = other_next f cut n last theirs own s next.0 next.1 next.2 next.3
+pub other_shares : {T : Type 0} (f : T → ℕ) (cut n last place : ℕ) (archived current : List T) → Shares f cut n archived current → IsNextOf f (next_above f n archived) (next_above f n current) (Other place) → ¬ Begins f cut last archived current
+other_shares f cut n last place archived current s next = other_next f cut n last archived current s next.0 next.1 next.2 next.3
 
-pub other_low : {T : Type 0} (f : T → ℕ) (cut n last place : ℕ) (theirs own : List T) → Shares f cut n theirs own → Every (λ (x : T). f x ≤ last) theirs → IsOtherPlace f (next_above f n theirs) (Other place) → place ≤ last
-other_low {T = T} f cut n last place theirs own s low at =
-    let left = first_is at.0 s.left at.1 (sym (theirs_left f cut n theirs own s) ∙ at.2) in
+pub other_low : {T : Type 0} (f : T → ℕ) (cut n last place : ℕ) (archived current : List T) → Shares f cut n archived current → Every (λ (x : T). f x ≤ last) archived → IsOtherPlace f (next_above f n archived) (Other place) → place ≤ last
+other_low {T = T} f cut n last place archived current s low at =
+    let left = first_is at.0 s.left at.1 (sym (archived_left f cut n archived current s) ∙ at.2) in
     let lows : Every (λ (x : T). f x ≤ last) s.left = every_back (λ (x : T). f x ≤ last) s.done s.left (every_back (λ (x : T). f x ≤ last) s.past (s.done ++ s.left) (subst (Every (λ (x : T). f x ≤ last)) s.split.whole low)) in
     within place (f at.0) last at.3 (subst (Every (λ (x : T). f x ≤ last)) left.1 lows).0

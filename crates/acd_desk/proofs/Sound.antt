@@ -1,4 +1,4 @@
--- What a run leaves is sound: it replays to itself.
+-- The result of a run is sound: it replays to itself.
 use Rattle.std.proofs.Common.{◌≡◌, ℕ, ◌+◌, ◌≤◌, List, [], ◌∷◌, ◌++◌, length, take, zero, suc, refl, sym, ap, ap₂, subst, ◌∙◌, arith, append_assoc, append-nil, Bool, true, false, cond, ◌||◌, take_all, inl, inr}
 use Rattle.std.proofs.lemmas.List.{map-append}
 use Rattle.std.proofs.lemmas.Grind.{common_steps}
@@ -94,15 +94,15 @@ pub length-arrivals : (ks : List Kept) → length (arrivals_of ks) ≡ length ks
 length-arrivals [] = refl
 length-arrivals (k ∷ ks) = let e = length-arrivals ks in omega (arith, e)
 
--- a list of distinct keys that isn't too long is its own first arrivals
-pub firsts_own : (n : ℕ) (l : List Arrival) → distinct_from [] l ≡ l → length l ≤ n → firsts n l ≡ l
-firsts_own n l e few = ap (take n) e ∙ take_all n l few
+-- a list of distinct keys that isn't too long is equal to its first arrivals
+pub firsts_same : (n : ℕ) (l : List Arrival) → distinct_from [] l ≡ l → length l ≤ n → firsts n l ≡ l
+firsts_same n l e few = ap (take n) e ∙ take_all n l few
 
 pub sound_list : (c : Content) → IsSound c → c ≡ run_from (empty_content c.rows.limits) (arrivals_of c.kept)
 sound_list c sound =
     let size = length-arrivals c.kept in
     let few : length (arrivals_of c.kept) ≤ c.rows.limits.requests = omega (arith, size, sound.few) in
-    sound.replays ∙ ap (run_from (empty_content c.rows.limits)) (firsts_own c.rows.limits.requests (arrivals_of c.kept) sound.distinct few)
+    sound.replays ∙ ap (run_from (empty_content c.rows.limits)) (firsts_same c.rows.limits.requests (arrivals_of c.kept) sound.distinct few)
 
 pub run_sound : (n : Limits) (l : List Arrival) → limits_fit n ≡ true → IsSound (run n l)
 run_sound n l fits =
@@ -117,19 +117,19 @@ run_sound n l fits =
     let as_long : length (arrivals_of (run n l).kept) ≡ length r = ap (λ (s : List Arrival). length s) kept in
     let limit : (run n l).rows.limits.requests ≡ n.requests = ap (λ (x : Limits). x.requests) limits in
     let distinct : distinct_from [] r ≡ r = new-distinct r [] new in
-    let own : firsts n.requests r ≡ r = firsts_own n.requests r distinct (omega (arith, short, raised)) in
+    let same : firsts n.requests r ≡ r = firsts_same n.requests r distinct (omega (arith, short, raised)) in
     record {
       fits = ap limits_fit limits ∙ fits;
       distinct = ap (distinct_from []) kept ∙ distinct ∙ sym kept;
       few = omega (arith, size, as_long, short, raised, limit);
-      replays = sym (run-raised f (empty_content n)) ∙ ap (run_from (empty_content n)) (sym own) ∙ ap (run n) (sym kept)
+      replays = sym (run-raised f (empty_content n)) ∙ ap (run_from (empty_content n)) (sym same) ∙ ap (run n) (sym kept)
           ∙ ap (λ (m : Limits). run m (arrivals_of (run n l).kept)) (sym limits);
     }
 
 pub ran_sound : (start : Content) (l : List Arrival) → IsSound start → IsSound (ran_after start l)
 ran_sound start l sound = run_sound start.rows.limits (arrivals_of start.kept ++ l) sound.fits
 
--- what a run has kept is its first arrivals, each at its executed moment
+-- a run has kept its first arrivals, each at its executed moment
 pub ran_kept : (start : Content) (l : List Arrival) → arrivals_of (ran_after start l).kept ≡ raised_from (empty_content start.rows.limits) (firsts start.rows.limits.requests (arrivals_of start.kept ++ l))
 ran_kept start l = kept-raised (firsts start.rows.limits.requests (arrivals_of start.kept ++ l)) (empty_content start.rows.limits)
 

@@ -1,4 +1,4 @@
--- A replay from an archive on: what its steps come to, and what they are told.
+-- A replay from an archive on: the results of its steps, and what they read.
 use Rattle.std.proofs.Common.{◌≡◌, ℕ, ◌+◌, ◌<◌, ◌≤◌, Bool, true, false, cond, List, [], ◌∷◌, ◌++◌, length, drop, Option, Some, None, is_some, Result, Ok, IfSome, refl, sym, ap, subst, ◌∙◌, arith, true≢false, inl, inr, ◌⊎◌}
 use Rattle.std.specs.Bool.{Decides}
 use Rattle.acd_terms.specs.Lists.{Every}
@@ -10,20 +10,20 @@ use Rattle.acd_lemmas.proofs.Changes.{requests_few}
 use Rattle.acd_lemmas.proofs.Lists.{head_is}
 use Rattle.acd_laws.proofs.Rules.DecidedAll.{keeps_read, requests_read}
 use Rattle.acd_book.specs.declared.kept.Kept.{Kept}
-use Rattle.acd_book.specs.Content.{Content, kept_of, IsKeptAfter, events_behind}
+use Rattle.acd_book.specs.Content.{Content, kept_of, IsKeptAfter, events_after}
 use Rattle.acd_book.specs.State.{BookState}
 use Rattle.acd_desk.specs.declared.audit.Audit.{Audit}
 use Rattle.acd_desk.specs.declared.audit.Audit.TheVariants.{Sound, Differs}
 use Rattle.acd_desk.specs.declared.overlap.Cut.{Cut}
 use Rattle.acd_desk.specs.declared.pair.PairFault.{PairFault}
-use Rattle.acd_desk.specs.declared.noted.Noted.{Noted}
+use Rattle.acd_desk.specs.declared.seen.SeenKeys.{SeenKeys}
 use Rattle.acd_desk.specs.declared.page.Page.{Page}
 use Rattle.acd_desk.specs.declared.replay.Course.{Course}
 use Rattle.acd_desk.specs.declared.replay.Step.{Step}
 use Rattle.acd_desk.specs.declared.replay.Step.TheVariants as step
 use Rattle.acd_desk.specs.Firsts.{stepped, executed}
-use Rattle.acd_desk.specs.Noting.{IsNoted}
-use Rattle.acd_desk.specs.Replay.{again, rows_of, IsFirstOfKey, IsEnd, IsAll, TellsKeys, Knows, GoesOn, IsReplayed, CountsOne}
+use Rattle.acd_desk.specs.KeyPlaces.{IsSeenKey}
+use Rattle.acd_desk.specs.Replay.{again, rows_of, IsFirstOfKey, IsEnd, IsAll, FindsFirst, Knows, GoesOn, IsReplayed, CountsOne}
 use Rattle.acd_desk.specs.WithArchive.{IsSoundWith}
 use Rattle.acd_desk.specs.AuditWith.{HoldsArchive, RunsOn, RunsTo, MatchesWith, IsNewerDifference, IsDifferenceWith, IsAuditWith}
 use Rattle.acd_desk.specs.Overlap.{AreInOrder, IsLast, IsOtherUpTo}
@@ -32,7 +32,7 @@ use Rattle.acd_desk.specs.Pages.{IsPageOf}
 use Rattle.acd_desk.specs.ReplayWith.{KnowsWith, GoesWith, BeginsWith, IsReplayedWith, IsStepWith}
 use Rattle.acd_desk.proofs.Audits.{none_of}
 use Rattle.acd_desk.proofs.BothReads.{both_known, both_ok, both_then}
-use Rattle.acd_desk.proofs.Courses.{noted_more}
+use Rattle.acd_desk.proofs.Courses.{seen_one_more}
 use Rattle.acd_desk.proofs.NewerRuns.{sound_holds, runs_start, runs_next, runs_sound, runs_above, sound_matches, sound_ends, carried_rows, newer_first}
 use Rattle.acd_desk.proofs.NextRecords.{none_left, next_left}
 use Rattle.acd_desk.proofs.Overlaps.{FindsPlace}
@@ -96,7 +96,7 @@ newer_sound a c r g at ended =
     let s : Rows = rows_of r in
     let p : RunsTo a c s = g.runs in
     runs_sound a c p.ran p.events_left (subst (λ (l : List Kept). RunsOn a c p.ran l p.events_left) (rows_none a c s p at) p.runs)
-    (subst (λ (x : Rows). events_behind c.events x.last_event 1 ≡ []) p.rows ended.0) (ended.1 ∙ p.rows)
+    (subst (λ (x : Rows). events_after c.events x.last_event 1 ≡ []) p.rows ended.0) (ended.1 ∙ p.rows)
 
 pub newer_rest : (a c : Content) (r : Course) → GoesWith a c r → IsKeptAfter c.kept (rows_of r).last_stamp None → ¬ IsEnd c (rows_of r) → IsDifferenceWith a c ((rows_of r).last_stamp + 1)
 newer_rest a c r g at unmet =
@@ -107,10 +107,10 @@ newer_rest a c r g at unmet =
     differs_here a c s p
     (λ goes.
     let both = sound_ends a c p.ran p.events_left runs goes g.order.archive.counted in
-    unmet (subst (λ (x : Rows). events_behind c.events x.last_event 1 ≡ []) (sym p.rows) both.0, both.1 ∙ sym p.rows))
+    unmet (subst (λ (x : Rows). events_after c.events x.last_event 1 ≡ []) (sym p.rows) both.0, both.1 ∙ sym p.rows))
     (λ k also room m. let next = rows_next a c s k p also in cons_not_nil k next.0 (sym next.1 ∙ none))
 
--- ---- it begins and goes on ----
+-- ---- it begins and continues ----
 
 pub newer_start : (a c : Content) (r : Course) → BeginsWith a c r → GoesWith a c r
 newer_start a c r b =
@@ -118,7 +118,7 @@ newer_start a c r b =
     record {
       order = b.order;
       runs = record { ran = b.holds.carried; kept_left = b.holds.kept_left; events_left = b.holds.events_left; runs = first.0; rows = b.rows ∙ sym (carried_rows a b.holds.left b.holds.carried b.holds.cut) };
-      noted = subst (Every (λ (k : Kept). IsNoted r.keys k.request)) (sym first.1) tt;
+      seen = subst (Every (λ (k : Kept). IsSeenKey r.keys k.request)) (sym first.1) tt;
       page = b.page;
     }
 
@@ -128,8 +128,8 @@ newer_next a c r next k g at matches goes is room =
     let s : Rows = rows_of r in
     let p : RunsTo a c s = g.runs in
     let left = rows_next a c s k p at in
-    let both : (t : RunsOn a c p.ran (k ∷ left.0) p.events_left) × Every (λ (x : Kept). IsNoted r.keys x.request) t.newer
-    = subst (λ (l : List Kept). (t : RunsOn a c p.ran l p.events_left) × Every (λ (x : Kept). IsNoted r.keys x.request) t.newer) left.1 (p.runs, g.noted) in
+    let both : (t : RunsOn a c p.ran (k ∷ left.0) p.events_left) × Every (λ (x : Kept). IsSeenKey r.keys x.request) t.newer
+    = subst (λ (l : List Kept). (t : RunsOn a c p.ran l p.events_left) × Every (λ (x : Kept). IsSeenKey r.keys x.request) t.newer) left.1 (p.runs, g.seen) in
     let more = runs_next a c p.ran k left.0 p.events_left both.0 (subst (λ (x : Rows). MatchesWith a c x k) p.rows matches) (subst (λ (x : Rows). x.last_stamp < x.limits.requests) p.rows room) in
     record {
       order = g.order;
@@ -140,7 +140,7 @@ newer_next a c r next k g at matches goes is room =
         runs = more.0;
         rows = is ∙ ap (λ (x : Rows). (stepped x (again k)).rows) p.rows;
       };
-      noted = subst (Every (λ (x : Kept). IsNoted next.keys x.request)) (sym more.1) (noted_more r.keys next.keys k both.0.newer goes.others goes.own both.1);
+      seen = subst (Every (λ (x : Kept). IsSeenKey next.keys x.request)) (sym more.1) (seen_one_more r.keys next.keys k both.0.newer goes.others goes.itself both.1);
       page = goes.page;
     }
 
@@ -149,15 +149,15 @@ pub knows_newer : (a c : Content) (r : Course) (k : Kept) → GoesWith a c r →
 knows_newer a c r k g at =
     let left = rows_next a c (rows_of r) k g.runs at in
     record {
-      tells = λ none new. newer_first a c g.runs.ran k left.0 g.runs.kept_left g.runs.events_left g.runs.runs left.1 r.keys g.noted none new;
+      finds = λ none new. newer_first a c g.runs.ran k left.0 g.runs.kept_left g.runs.events_left g.runs.runs left.1 r.keys g.seen none new;
       page = g.page;
     }
 
--- ---- what the steps are told ----
+-- ---- what the steps read ----
 
--- the record behind this stamp was asked for
-abbrev pub IsNextOwn : ℕ → Content → Content → Option Kept → Type 0
-IsNextOwn n a c found = IsKeptAfter c.kept n found
+-- the record after this stamp was asked for
+abbrev pub IsNextCurrent : ℕ → Content → Content → Option Kept → Type 0
+IsNextCurrent n a c found = IsKeptAfter c.kept n found
 
 abbrev pub PlaysWith : Course → Kept → Content → Content → Option Course → Type 0
 PlaysWith r k a c found = KnowsWith a c r.keys r.page k → IsReplayedWith a c r k found
@@ -169,42 +169,42 @@ abbrev pub StepOf : Course → Content → Content → Step → Type 0
 StepOf r a c found = IsStepWith a c r found
 
 next_at : (c : Content) (n m : ℕ) (found known : Option Kept) → n ≡ m → found ≡ known → IsKeptAfter c.kept n found → IsKeptAfter c.kept m known
-next_at c n m found known behind is next = subst (λ (o : Option Kept). IsKeptAfter c.kept m o) is (subst (λ (x : ℕ). IsKeptAfter c.kept x found) behind next)
+next_at c n m found known from_last is next = subst (λ (o : Option Kept). IsKeptAfter c.kept m o) is (subst (λ (x : ℕ). IsKeptAfter c.kept x found) from_last next)
 
--- two reads tell what follows from both
-pub both_told : {T S V : Type 0} {P : Content → Content → T → Type 0} {Q : Content → Content → S → Type 0} (R : Content → Content → V → Type 0) (a b e c d f : BookState) (x : T) (y : S) (v : V)
+-- two reads give what follows from both
+pub both_then_ok : {T S V : Type 0} {P : Content → Content → T → Type 0} {Q : Content → Content → S → Type 0} (R : Content → Content → V → Type 0) (a b e c d f : BookState) (x : T) (y : S) (v : V)
     → ReadsBoth a b c d (Ok x) P → ReadsBoth b e d f (Ok y) Q → ((p q : Content) → P p q x → Q p q y → R p q v) → ReadsBoth a e c f (Ok v) R
-both_told {S = S} {P = P} {Q = Q} R a b e c d f x y v one two tells =
-    both_ok R a e c f y v (both_then (λ (p q : Content) (z : S). P p q x × Q p q z) a b e c d f x (Ok y) one two (λ p q told z more. (told, more))) (λ p q both. tells p q both.0 both.1)
+both_then_ok {S = S} {P = P} {Q = Q} R a b e c d f x y v one two follows =
+    both_ok R a e c f y v (both_then (λ (p q : Content) (z : S). P p q x × Q p q z) a b e c d f x (Ok y) one two (λ p q holds z more. (holds, more))) (λ p q both. follows p q both.0 both.1)
 
 pub step_replayed : (a b e c d f : BookState) (r : Course) (n : ℕ) (found : Option Kept) (k : Kept) (played : Option Course) (next : Course) → n ≡ (rows_of r).last_stamp → found ≡ Some k → played ≡ Some next
-    → ReadsBoth a b c d (Ok found) (IsNextOwn n) → ReadsBoth b e d f (Ok played) (PlaysWith r k) → StepsOn (rows_of r) k played → (rows_of r).last_stamp < (rows_of r).limits.requests
+    → ReadsBoth a b c d (Ok found) (IsNextCurrent n) → ReadsBoth b e d f (Ok played) (PlaysWith r k) → StepsOn (rows_of r) k played → (rows_of r).last_stamp < (rows_of r).limits.requests
     → ReadsBoth a e c f (Ok (step.Replayed next)) (StepOf r)
-step_replayed a b e c d f r n found k played next behind is_next is_played one two goes room =
-    both_told (StepOf r) a b e c d f found played (step.Replayed next) one two
-    (λ p q told plays g.
-    let at = next_at q n (rows_of r).last_stamp found (Some k) behind is_next told in
+step_replayed a b e c d f r n found k played next from_last is_next is_played one two goes room =
+    both_then_ok (StepOf r) a b e c d f found played (step.Replayed next) one two
+    (λ p q holds plays g.
+    let at = next_at q n (rows_of r).last_stamp found (Some k) from_last is_next holds in
     let both = subst (IsReplayedWith p q r k) is_played (plays (knows_newer p q r k g at)) in
     newer_next p q r next k g at both.0 both.1 (subst (StepsOn (rows_of r) k) is_played goes) room)
 
 pub step_differs : (a b e c d f : BookState) (r : Course) (n : ℕ) (found : Option Kept) (k : Kept) (played : Option Course) → n ≡ (rows_of r).last_stamp → found ≡ Some k → played ≡ None
-    → ReadsBoth a b c d (Ok found) (IsNextOwn n) → ReadsBoth b e d f (Ok played) (PlaysWith r k) → ReadsBoth a e c f (Ok step.Differs) (StepOf r)
-step_differs a b e c d f r n found k played behind is_next is_played one two =
-    both_told (StepOf r) a b e c d f found played step.Differs one two
-    (λ p q told plays g.
-    let at = next_at q n (rows_of r).last_stamp found (Some k) behind is_next told in
+    → ReadsBoth a b c d (Ok found) (IsNextCurrent n) → ReadsBoth b e d f (Ok played) (PlaysWith r k) → ReadsBoth a e c f (Ok step.Differs) (StepOf r)
+step_differs a b e c d f r n found k played from_last is_next is_played one two =
+    both_then_ok (StepOf r) a b e c d f found played step.Differs one two
+    (λ p q holds plays g.
+    let at = next_at q n (rows_of r).last_stamp found (Some k) from_last is_next holds in
     newer_unlike p q r k g at (subst (IsReplayedWith p q r k) is_played (plays (knows_newer p q r k g at))))
 
 last_is : (a c : Content) (r : Course) → IsKeptAfter c.kept (rows_of r).last_stamp None → (w : Bool) → Decides w (IsEnd c (rows_of r)) → IsStepWith a c r (cond w step.Ended step.Differs)
-last_is a c r found true told = λ g. newer_sound a c r g found (told.0 refl)
-last_is a c r found false told = λ g. newer_rest a c r g found (λ ended. true≢false (sym (told.1 ended)))
+last_is a c r found true holds = λ g. newer_sound a c r g found (holds.0 refl)
+last_is a c r found false holds = λ g. newer_rest a c r g found (λ ended. true≢false (sym (holds.1 ended)))
 
-pub step_last : (a b e c d f : BookState) (r : Course) (s : Rows) (n : ℕ) (found : Option Kept) (whole : Bool) (last : Step) → s ≡ rows_of r → n ≡ (rows_of r).last_stamp → found ≡ None → ReadsBoth a b c d (Ok found) (IsNextOwn n)
+pub step_last : (a b e c d f : BookState) (r : Course) (s : Rows) (n : ℕ) (found : Option Kept) (whole : Bool) (last : Step) → s ≡ rows_of r → n ≡ (rows_of r).last_stamp → found ≡ None → ReadsBoth a b c d (Ok found) (IsNextCurrent n)
     → ReadsBoth b e d f (Ok whole) (λ (p q : Content) (w : Bool). Decides w (IsEnd q s)) → last ≡ cond whole step.Ended step.Differs → ReadsBoth a e c f (Ok last) (StepOf r)
-step_last a b e c d f r s n found whole last same behind is_next one two is =
-    both_told (StepOf r) a b e c d f found whole last one two
-    (λ p q told ended. subst (IsStepWith p q r) (sym is)
-    (last_is p q r (next_at q n (rows_of r).last_stamp found None behind is_next told) whole (subst (λ (x : Rows). Decides whole (IsEnd q x)) same ended)))
+step_last a b e c d f r s n found whole last same from_last is_next one two is =
+    both_then_ok (StepOf r) a b e c d f found whole last one two
+    (λ p q holds ended. subst (IsStepWith p q r) (sym is)
+    (last_is p q r (next_at q n (rows_of r).last_stamp found None from_last is_next holds) whole (subst (λ (x : Rows). Decides whole (IsEnd q x)) same ended)))
 
 -- ---- a record is replayed, where the archive doesn't have its key ----
 
@@ -217,19 +217,19 @@ IsKnownIn k a c found = found ≡ is_some (kept_of a.kept k.request.requester k.
 pub replayed_not : (a b c d : BookState) (r : Course) (k : Kept) (found : Bool) → found ≡ true → ReadsBoth a b c d (Ok found) (IsKnownIn k) → ReadsBoth a b c d (Ok None) (PlaysWith r k)
 replayed_not a b c d r k found is read =
     both_ok (PlaysWith r k) a b c d found None read
-    (λ p q told knows matches. known_not (kept_of p.kept k.request.requester k.request.invoke) (sym told ∙ is) matches.older)
+    (λ p q holds knows matches. known_not (kept_of p.kept k.request.requester k.request.invoke) (sym holds ∙ is) matches.older)
 
 played_as : (a c : Content) (r : Course) (k : Kept) (y : Option Course) → kept_of a.kept k.request.requester k.request.invoke ≡ None → IsReplayed c r k y → IsReplayedWith a c r k y
-played_as a c r k None none unlike = λ m. unlike m.own
-played_as a c r k (Some next) none both = (record { own = both.0; older = none }, both.1)
+played_as a c r k None none unlike = λ m. unlike m.matches
+played_as a c r k (Some next) none both = (record { matches = both.0; older = none }, both.1)
 
-pub replayed_own : (a b e c d f : BookState) (r : Course) (k : Kept) (found : Bool) (played : Result (Option Course) PairFault) → found ≡ false → ReadsBoth a b c d (Ok found) (IsKnownIn k)
+pub replayed_current : (a b e c d f : BookState) (r : Course) (k : Kept) (found : Bool) (played : Result (Option Course) PairFault) → found ≡ false → ReadsBoth a b c d (Ok found) (IsKnownIn k)
     → ReadsBoth b e d f played (λ (p q : Content) (y : Option Course). Knows q r.keys r.page k → IsReplayed q r k y) → ReadsBoth a e c f played (PlaysWith r k)
-replayed_own a b e c d f r k found played is one two =
+replayed_current a b e c d f r k found played is one two =
     both_then (PlaysWith r k) a b e c d f found played one two
-    (λ p q told y plays knows.
-    let none = none_of (kept_of p.kept k.request.requester k.request.invoke) (sym told ∙ is) in
-    played_as p q r k y none (plays (record { tells = knows.tells none; page = knows.page })))
+    (λ p q holds y plays knows.
+    let none = none_of (kept_of p.kept k.request.requester k.request.invoke) (sym holds ∙ is) in
+    played_as p q r k y none (plays (record { finds = knows.finds none; page = knows.page })))
 
 -- ---- step by step ----
 
@@ -243,7 +243,7 @@ newer_begun a c first = both_known (SeenWith first first) a c tt (λ p q begins.
 pub newer_more : (a b e c d f : BookState) (first r : Course) (taken : Step) (next : Course) → taken ≡ step.Replayed next → ReadsBoth a b c d (Ok tt) (SeenWith first r) → ReadsBoth b e d f (Ok taken) (StepOf r)
     → ReadsBoth a e c f (Ok tt) (SeenWith first next)
 newer_more a b e c d f first r taken next is seen read =
-    both_told (SeenWith first next) a b e c d f tt taken tt seen read (λ p q before goes_on begins. subst (IsStepWith p q r) is goes_on (before begins))
+    both_then_ok (SeenWith first next) a b e c d f tt taken tt seen read (λ p q before goes_on begins. subst (IsStepWith p q r) is goes_on (before begins))
 
 abbrev pub AuditOf : Course → Content → Content → Audit → Type 0
 AuditOf first a c found = BeginsWith a c first → IsAuditWith a c found
@@ -251,29 +251,29 @@ AuditOf first a c found = BeginsWith a c first → IsAuditWith a c found
 pub newer_differs : (a b e c d f : BookState) (first r : Course) (taken : Step) (count : ℕ) → taken ≡ step.Differs → (rows_of r).last_stamp ≡ count → ReadsBoth a b c d (Ok tt) (SeenWith first r) → ReadsBoth b e d f (Ok taken) (StepOf r)
     → ReadsBoth a e c f (Ok (Differs (count + 1))) (AuditOf first)
 newer_differs a b e c d f first r taken count is stamp seen read =
-    both_told (AuditOf first) a b e c d f tt taken (Differs (count + 1)) seen read
+    both_then_ok (AuditOf first) a b e c d f tt taken (Differs (count + 1)) seen read
     (λ p q before goes_on begins. subst (λ (n : ℕ). IsDifferenceWith p q (n + 1)) stamp (subst (IsStepWith p q r) is goes_on (before begins)))
 
 pub newer_ended : (a b e c d f : BookState) (first r : Course) (taken : Step) → taken ≡ step.Ended → ReadsBoth a b c d (Ok tt) (SeenWith first r) → ReadsBoth b e d f (Ok taken) (StepOf r)
     → ReadsBoth a e c f (Ok Sound) (AuditOf first)
 newer_ended a b e c d f first r taken is seen read =
-    both_told (AuditOf first) a b e c d f tt taken Sound seen read (λ p q before goes_on begins. subst (IsStepWith p q r) is goes_on (before begins))
+    both_then_ok (AuditOf first) a b e c d f tt taken Sound seen read (λ p q before goes_on begins. subst (IsStepWith p q r) is goes_on (before begins))
 
 -- the limit of executed requests is reached
 pub newer_all : (a b e c d f : BookState) (first r : Course) (s : Rows) (all : Bool) → s ≡ rows_of r → all ≡ true → ReadsBoth a b c d (Ok tt) (SeenWith first r) → ReadsBoth b e d f (Ok all) (λ (p q : Content) (w : Bool). IsAll q s w)
     → ReadsBoth a e c f (Ok Sound) (AuditOf first)
 newer_all a b e c d f first r s all same is seen read =
-    both_told (AuditOf first) a b e c d f tt all Sound seen read
-    (λ p q before told begins.
-    let whole : IsAll q (rows_of r) true = subst (λ (x : Rows). IsAll q x true) same (subst (IsAll q s) is told) in
+    both_then_ok (AuditOf first) a b e c d f tt all Sound seen read
+    (λ p q before holds begins.
+    let whole : IsAll q (rows_of r) true = subst (λ (x : Rows). IsAll q x true) same (subst (IsAll q s) is holds) in
     newer_sound p q r (before begins) whole.0 whole.1)
 
 pub newer_left : (a b e c d f : BookState) (first r : Course) (s : Rows) (all : Bool) (n : ℕ) → s ≡ rows_of r → all ≡ false → n ≡ (rows_of r).last_stamp + 1 → (rows_of r).limits.requests ≤ (rows_of r).last_stamp
     → ReadsBoth a b c d (Ok tt) (SeenWith first r) → ReadsBoth b e d f (Ok all) (λ (p q : Content) (w : Bool). IsAll q s w) → ReadsBoth a e c f (Ok (Differs n)) (AuditOf first)
 newer_left a b e c d f first r s all n same is place full seen read =
-    both_told (AuditOf first) a b e c d f tt all (Differs n) seen read
-    (λ p q before told begins.
-    let rest : IsAll q (rows_of r) false = subst (λ (x : Rows). IsAll q x false) same (subst (IsAll q s) is told) in
+    both_then_ok (AuditOf first) a b e c d f tt all (Differs n) seen read
+    (λ p q before holds begins.
+    let rest : IsAll q (rows_of r) false = subst (λ (x : Rows). IsAll q x false) same (subst (IsAll q s) is holds) in
     subst (IsDifferenceWith p q) (sym place)
     (elim rest [
       | inl more ↦ newer_full p q r more.0 (before begins) more.1 full
@@ -299,10 +299,10 @@ IsLoaded s a c u = s ≡ a.rows
 pub whole_differs : (a b e c d f : BookState) (s : Rows) (last : Cut) (found : Option ℕ) (place : ℕ) → last.stamp ≡ s.last_stamp → last.number ≡ s.last_event → found ≡ Some place → ReadsBoth a b c d (Ok tt) (IsLoaded s)
     → ReadsBoth b e d f (Ok found) (FindsPlace last) → ReadsBoth a e c f (Ok (Differs place)) WholeOf
 whole_differs a b e c d f s last found place stamp number is one two =
-    both_told WholeOf a b e c d f tt found (Differs place) one two
-    (λ p q rows told order.
+    both_then_ok WholeOf a b e c d f tt found (Differs place) one two
+    (λ p q rows holds order.
     let is_last : IsLast p last = record { stamp = stamp ∙ ap (λ (x : Rows). x.last_stamp) rows; number = number ∙ ap (λ (x : Rows). x.last_event) rows } in
-    let other = subst (IsOtherUpTo last.stamp (HoldsArchive p q)) is (told order is_last) in
+    let other = subst (IsOtherUpTo last.stamp (HoldsArchive p q)) is (holds order is_last) in
     differs_older p q place (subst (λ (n : ℕ). place ≤ n) is_last.stamp other.0) other.1)
 
 -- all is as the archive's up to its last stamp, and the rest is replayed
@@ -310,11 +310,11 @@ pub whole_newer : (a b e g c d f h : BookState) (s : Rows) (last : Cut) (found :
     → ((x : Content) → IsPageOf x first.page) → ReadsBoth a b c d (Ok tt) (IsLoaded s) → ReadsBoth b e d f (Ok found) (FindsPlace last) → ReadsBoth e g f h result (AuditOf first) → ReadsBoth a g c h result WholeOf
 whole_newer a b e g c d f h s last found first result stamp number is rows page one two three =
     both_then WholeOf a e g c f h tt result
-    (both_told (λ (p q : Content) (u : Unit {0}). AreInOrder p q → BeginsWith p q first) a b e c d f tt found tt one two
-    (λ p q loaded told order.
+    (both_then_ok (λ (p q : Content) (u : Unit {0}). AreInOrder p q → BeginsWith p q first) a b e c d f tt found tt one two
+    (λ p q loaded found_holds order.
     let is_last : IsLast p last = record { stamp = stamp ∙ ap (λ (x : Rows). x.last_stamp) loaded; number = number ∙ ap (λ (x : Rows). x.last_event) loaded } in
-    record { order = order; holds = subst (IsOtherUpTo last.stamp (HoldsArchive p q)) is (told order is_last); rows = rows ∙ loaded; page = page q }))
-    three (λ p q begins y told order. told (begins order))
+    record { order = order; holds = subst (IsOtherUpTo last.stamp (HoldsArchive p q)) is (found_holds order is_last); rows = rows ∙ loaded; page = page q }))
+    three (λ p q begins y found_holds order. found_holds (begins order))
 
 -- no last stamp is near the end of its type
 pub few_stamps : (s : Rows) → BreaksNoRule s → s.last_stamp ≤ 1000000000
@@ -324,5 +324,5 @@ few_stamps s rules =
     let within = requests_read s rules in
     omega (arith, few, within)
 
-pub few_behind : (n : ℕ) (lent own : Rows) → BreaksNoRule own → n ≡ lent.last_stamp → lent ≡ own → n ≤ 1000000000
-few_behind n lent own rules is same = subst (λ (m : ℕ). m ≤ 1000000000) (sym (is ∙ ap (λ (x : Rows). x.last_stamp) same)) (few_stamps own rules)
+pub few_of_switch : (n : ℕ) (lent held : Rows) → BreaksNoRule held → n ≡ lent.last_stamp → lent ≡ held → n ≤ 1000000000
+few_of_switch n lent held rules is same = subst (λ (m : ℕ). m ≤ 1000000000) (sym (is ∙ ap (λ (x : Rows). x.last_stamp) same)) (few_stamps held rules)

@@ -129,9 +129,9 @@ digits_escaped (x ∷ t) h =
     let rest = digits_escaped t h.1 in
     omega (arith, e, here, rest)
 
-behind_first : (t : List ℕ) → AllDigits 10 t → AllDigits 10 (drop 1 t)
-behind_first [] h = h
-behind_first (x ∷ t) h = h.1
+digits_rest : (t : List ℕ) → AllDigits 10 t → AllDigits 10 (drop 1 t)
+digits_rest [] h = h
+digits_rest (x ∷ t) h = h.1
 
 -- ---- values ----
 
@@ -145,7 +145,7 @@ id_short : (longest n : ℕ) → IsNumberOf longest n → length (quoted (digits
 id_short longest n h =
     let short = h.short in
     let left = length-drop 1 (decimal n) in
-    let e = digits_escaped (digits_of n) (behind_first (decimal n) (decimal_is_IsNumeral n h.range).0.1) in
+    let e = digits_escaped (digits_of n) (digits_rest (decimal n) (decimal_is_IsNumeral n h.range).0.1) in
     quoted_by (digits_of n) longest (omega (arith, short, left, e))
 
 device_short : (n : ℕ) → IsDevice n → length (quoted (digits_of n)) ≤ 17

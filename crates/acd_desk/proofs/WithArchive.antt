@@ -1,4 +1,4 @@
--- A content that goes on from a sound archive is sound with it.
+-- A content that continues a sound archive is sound with it.
 use Rattle.std.proofs.Common.{List, sym, ap, subst, ◌∙◌}
 use Rattle.acd_terms.specs.declared.command.Arrival.{Arrival}
 use Rattle.acd_book.specs.Content.{Content}

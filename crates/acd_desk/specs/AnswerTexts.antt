@@ -14,16 +14,16 @@ use Rattle.acd_desk.specs.declared.fault.DeskFault.{DeskFault}
 use Rattle.acd_desk.specs.declared.fault.DeskFault.TheVariants as fault
 use Rattle.acd_desk.specs.declared.taken.Taken.{Taken}
 use Rattle.acd_desk.specs.declared.taken.Taken.TheVariants as taken
-use Rattle.acd_desk.specs.Served.{is_rejection}
+use Rattle.acd_desk.specs.Accepted.{is_rejection}
 use Rattle.acd_desk.specs.Ran.{Standing, Took, Ran}
-use Rattle.acd_desk.specs.Tells.{told}
+use Rattle.acd_desk.specs.ReadAnswers.{text_read}
 
--- what is said to a client
+-- the text for a client
 pub record Said : Type 0 where
   pub status : ℕ
   pub body : List ℕ
 
--- what an answer says
+-- the text of an answer
 abbrev pub said : AnswerText → Said
 said (Made status body) = record { status = status; body = body }
 said (Fixed status body) = record { status = status; body = body.now }
@@ -51,19 +51,19 @@ taken_said r taken.StoreFault = fixed_said fixed.StoreFault
 abbrev pub IsSaid : Request → Taken → Said → Type 0
 IsSaid r t out = (out ≡ taken_said r t) ⊎ ((is_rejection t ≡ true) × (out ≡ fixed_said fixed.NoMemory))
 
--- what the desk told, seen as its characters
+-- the text that the desk read, seen as its characters
 abbrev pub seen : {Z : Type 0} → Result (Option (String Z)) DeskFault → Result (Option (List ℕ)) DeskFault
-seen (Ok text) = Ok (told text)
+seen (Ok text) = Ok (text_read text)
 seen (Err why) = Err why
 
--- the answer to a question, by what was found
+-- the answer to a question, by the result of the look-up
 abbrev pub found_said : Result (Option (List ℕ)) DeskFault → Said
 found_said (Ok (Some text)) = record { status = 200; body = text }
 found_said (Ok None) = fixed_said fixed.NotFound
 found_said (Err fault.NoMemory) = fixed_said fixed.NoMemory
 found_said (Err fault.StoreFault) = fixed_said fixed.StoreFault
 
--- an arrival was taken, and this is said of what was answered to it
+-- the desk executed an arrival, and this is the text of its answer
 pub record SaysOf (old : Standing) (a : Arrival) (out : Said) (new : Standing) : Type 0 where
   pub answer : Taken
   pub says : out ≡ taken_said a.request answer

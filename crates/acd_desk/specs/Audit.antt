@@ -1,4 +1,4 @@
--- What the audit of a content answers.
+-- The answer of an audit of a content.
 use Rattle.std.specs.Prelude.{◌≡◌, ◌⊎◌, ℕ, ◌+◌, ◌<◌, ◌≤◌, true, length, take, Result, IfOk}
 use Rattle.acd_terms.specs.Limits.{limits_fit}
 use Rattle.acd_book.specs.Content.{Content}
@@ -24,7 +24,7 @@ pub record Agrees (c : Content) (n : ℕ) : Type 0 where
 abbrev pub AgreesBefore : Content → ℕ → Type 0
 AgreesBefore c n = (m : ℕ) → 1 ≤ m → m < n → Agrees c m
 
--- the first place of the kept list that differs, or the one behind the list where only what is left does
+-- the first place of the kept list that differs, or the one after the list where only the rest does
 pub record IsFirstDifference (c : Content) (n : ℕ) : Type 0 where
   pub place : 1 ≤ n
   pub before : AgreesBefore c n
@@ -34,10 +34,10 @@ abbrev pub IsAudit : Content → Audit → Type 0
 IsAudit c Sound = IsSound c
 IsAudit c (Differs n) = IsFirstDifference c n
 
--- an answer is the audit of what an open book holds, where its records stand in order
+-- an answer is the audit of an open book's content, where its records are in order
 abbrev pub IsAudited : BookState → BookState → Result Audit DeskFault → Type 0
 IsAudited old new result = IfHonest old new (IfOk result (λ (found : Audit). old.is_open × (IsOrdered old.content → IsAudit old.content found)))
 
--- a sound content is told to be sound
-abbrev pub TellsSound : BookState → BookState → Result Audit DeskFault → Type 0
-TellsSound old new result = IfHonest old new (IsSound old.content → IfOk result (λ (found : Audit). found ≡ Sound))
+-- the audit finds a sound content sound
+abbrev pub FindsSound : BookState → BookState → Result Audit DeskFault → Type 0
+FindsSound old new result = IfHonest old new (IsSound old.content → IfOk result (λ (found : Audit). found ≡ Sound))

@@ -1,4 +1,4 @@
--- What holds of the audit of a content.
+-- Laws of the audit of a content.
 use Rattle.std.specs.Prelude.{◌≡◌, ℕ, ◌≤◌, length}
 use Rattle.acd_book.specs.Content.{Content}
 use Rattle.acd_book.specs.Order.{IsOrdered}
@@ -10,7 +10,7 @@ use Rattle.acd_desk.specs.Audit.{Agrees, IsAudit}
 abbrev pub HasOneAudit : Type 0
 HasOneAudit = (c : Content) (a b : Audit) → IsAudit c a → IsAudit c b → a ≡ b
 
--- what is sound stands in order
+-- a sound content is in order
 abbrev pub SoundIsOrdered : Type 0
 SoundIsOrdered = (c : Content) → IsSound c → IsOrdered c
 

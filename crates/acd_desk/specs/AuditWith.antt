@@ -1,4 +1,4 @@
--- What the audit of a content with its archive answers.
+-- The answer of an audit of a content with its archive.
 use Rattle.std.specs.Prelude.{◌≡◌, ◌≢◌, ℕ, ◌+◌, ◌<◌, ◌≤◌, List, [], ◌∷◌, ◌++◌, length, Option, Some, None, Result, IfOk}
 use Rattle.acd_terms.specs.Lists.{Every}
 use Rattle.acd_terms.specs.declared.rows.Rows.{Rows}
@@ -16,7 +16,7 @@ use Rattle.acd_desk.specs.Replay.{Matches}
 use Rattle.acd_desk.specs.Carried.{Archive, together}
 use Rattle.acd_desk.specs.WithArchive.{IsCut, IsSoundWith}
 
--- no moment goes back from one to the next
+-- no moment is before the one that precedes it
 abbrev pub Ascends : {T : Type 0} → (T → ℕ) → ℕ → List T → Type 0
 Ascends moment last [] = Unit {0}
 Ascends moment last (x ∷ xs) = (last ≤ moment x) × Ascends moment (moment x) xs
@@ -27,7 +27,7 @@ pub record IsNumbered (a : Content) : Type 0 where
   pub go_on : GoOn before a.events
   pub up_to : before + length a.events ≡ a.rows.last_event
 
--- what each sound content keeps, also where older records lie in an archive of its own
+-- each sound content keeps this, also where an archive of that content has its older records
 pub record StandsInTime (a : Content) : Type 0 where
   pub ordered : IsOrdered a
   pub counted : IsCounted a
@@ -47,7 +47,7 @@ pub record HoldsArchive (a c : Content) : Type 0 where
   pub kept_rise : Rises stamp_of a.rows.last_stamp kept_left
   pub events_rise : Rises number_of a.rows.last_event events_left
 
--- the content is what a run of its first newer requests makes of the archive, without what was left behind there, and what is left behind them
+-- the content is what a run of its first newer requests makes of the archive, without the part left there, and then the rest
 pub record RunsOn (a c r : Content) (kept_left : List Kept) (events_left : List Event) : Type 0 where
   pub left : Archive
   pub carried : Content
@@ -71,10 +71,10 @@ pub record RunsTo (a c : Content) (s : Rows) : Type 0 where
 
 -- the record is the one that a step from these rows keeps of its request, its events are there, and no earlier record of either has its key
 pub record MatchesWith (a c : Content) (s : Rows) (k : Kept) : Type 0 where
-  pub own : Matches c s k
+  pub matches : Matches c s k
   pub older : kept_of a.kept k.request.requester k.request.invoke ≡ None
 
--- all up to this stamp is as it has to be, and what stands there, where something does and a request is left, isn't
+-- all up to this stamp is as it has to be, and the record there, where there is one and a request is left, isn't
 pub record IsNewerDifference (a c : Content) (n : ℕ) : Type 0 where
   pub rows : Rows
   pub before : RunsTo a c rows
@@ -92,6 +92,6 @@ abbrev pub IsAuditWith : Content → Content → Audit → Type 0
 IsAuditWith a c Sound = IsSoundWith a c
 IsAuditWith a c (Differs n) = IsDifferenceWith a c n
 
--- what is sound, by itself or with an archive of its own, stands in time
+-- a content that is sound, by itself or with its archive, keeps to time
 abbrev pub SoundStandsInTime : Type 0
 SoundStandsInTime = (p : Archive) (a : Content) → IsSound (together p a) → StandsInTime a

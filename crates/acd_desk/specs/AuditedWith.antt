@@ -1,4 +1,4 @@
--- What a desk answers to an audit with an archive.
+-- The answer of a desk to an audit with an archive.
 use Rattle.std.specs.Prelude.{Result, Ok, Err, IfOk}
 use Rattle.acd_book.specs.Order.{IsOrdered}
 use Rattle.acd_book.specs.State.{BookState, IfHonest}
@@ -16,7 +16,7 @@ use Rattle.acd_desk.specs.AuditWith.{StandsInTime, IsAuditWith}
 use Rattle.acd_desk.specs.Faults.{fault_of, left_by}
 use Rattle.acd_desk.specs.Pairs.{by_opening}
 
--- what it is to the desk: where the archive told nothing, the desk has told no fault of its store
+-- the desk's part: where the archive answered nothing, the desk has read no fault of its store
 abbrev pub desk_part : {T : Type 0} → Result T AuditFault → Result T DeskFault
 desk_part (Ok found) = Ok found
 desk_part (Err (Desk fault)) = Err fault
@@ -28,16 +28,16 @@ archive_part (Ok found) = Ok found
 archive_part (Err (Desk fault)) = Err book.NoMemory
 archive_part {T = T} (Err (Archive fault)) = by_opening {T = T} (Err fault)
 
--- what a fault of either is to the audit, and what it leaves of the desk
+-- a fault of either as a fault of the audit, and what it leaves of the desk
 abbrev pub audit_fault : PairFault → AuditFault
-audit_fault (pair.Own fault) = Desk (fault_of fault)
+audit_fault (pair.Current fault) = Desk (fault_of fault)
 audit_fault (pair.Archive fault) = Archive fault
 
 abbrev pub left_by_pair : PairFault → Working → Working
-left_by_pair (pair.Own fault) w = left_by fault w
+left_by_pair (pair.Current fault) w = left_by fault w
 left_by_pair (pair.Archive fault) w = w
 
--- an answer is the audit of what the open book holds, with what the open archive holds: an archive that stands in time, and a content in order
+-- an answer is the audit of the open book's content, with that of the open archive: an archive that keeps to time, and a content in order
 abbrev pub IsAuditedWith : BookState → BookState → BookState → BookState → Result Audit AuditFault → Type 0
 IsAuditedWith old_archive new_archive old new result =
     IfHonest old_archive new_archive (IfHonest old new (old_archive.is_open → old.is_open

@@ -1,4 +1,4 @@
--- A content that was carried over: its older records lie in an archive.
+-- A content that was carried over: an archive has its older records.
 use Rattle.std.specs.Prelude.{◌≡◌, List, [], ◌++◌, None}
 use Rattle.acd_terms.specs.Lists.{Every}
 use Rattle.acd_terms.specs.declared.command.Arrival.{Arrival}
@@ -14,7 +14,7 @@ pub record Archive : Type 0 where
 abbrev pub no_archive : Archive
 no_archive = record { events = []; kept = [] }
 
--- archive and content together: the archive's records stand before the content's own
+-- archive and content together: the archive's records come before the current ones
 abbrev pub together : Archive → Content → Content
 together p c = record { rows = c.rows; events = p.events ++ c.events; kept = p.kept ++ c.kept }
 

@@ -1,4 +1,4 @@
--- What holds of a content that was carried over, and of its archive.
+-- Laws of a content that was carried over, and of its archive.
 use Rattle.std.specs.Prelude.{◌≡◌, List}
 use Rattle.acd_terms.specs.declared.command.Arrival.{Arrival}
 use Rattle.acd_model.specs.Rules.First.{BreaksNoRule}
@@ -6,7 +6,7 @@ use Rattle.acd_book.specs.declared.book.Book.{Ghosts}
 use Rattle.acd_book.specs.Content.{Content, IsCounted}
 use Rattle.acd_book.specs.State.{BookState}
 use Rattle.acd_desk.specs.declared.taken.Taken.{Taken}
-use Rattle.acd_desk.specs.Served.{served, maybe_last, sent}
+use Rattle.acd_desk.specs.Accepted.{accepted, maybe_last, sent}
 use Rattle.acd_desk.specs.Stands.{IsSound, ran_after, replies, StopsAt}
 use Rattle.acd_desk.specs.Laws.{KeepsLaws}
 use Rattle.acd_desk.specs.Leads.{led, answers_to, Leads}
@@ -29,7 +29,7 @@ pub record IsRunOfAll (p : Archive) (c : Content) (list : List Arrival) : Type 0
 abbrev pub CarriedIsRunOfAll : Type 0
 CarriedIsRunOfAll = (p : Archive) (c : Content) (list : List Arrival) → IsSound (together p c) → NoneSentAgain p list → IsRunOfAll p c list
 
--- what is left may be carried over again: two archives are as one, which has the keys of both
+-- the rest may be carried over again: two archives are as one, which has the keys of both
 pub record IsCutAgain (p q : Archive) (c : Content) : Type 0 where
   pub content : together p (together q c) ≡ together (joined p q) c
   pub keys : (list : List Arrival) → NoneSentAgain p list → NoneSentAgain q list → NoneSentAgain (joined p q) list
@@ -43,11 +43,11 @@ CarriedOpens = (p : Archive) (c : Content) → IsSound (together p c) → Breaks
 
 -- the headline, of archive and book together
 pub record RanTogether (p : Archive) (start : Content) (arrivals : List Arrival) (answers : List Taken) (new : BookState) : Type 0 where
-  pub answered : sent answers ≡ replies (together p start) (served arrivals answers)
-  pub content : new.is_open → together p new.content ≡ ran_after (together p start) (served arrivals answers)
+  pub answered : sent answers ≡ replies (together p start) (accepted arrivals answers)
+  pub content : new.is_open → together p new.content ≡ ran_after (together p start) (accepted arrivals answers)
   pub whole : new.is_open → IsSound (together p new.content)
   pub laws : new.is_open → KeepsLaws (together p new.content)
-  pub stops : (c : Content) → new.stops c → StopsAt (together p start) (served arrivals answers) (maybe_last arrivals answers) (together p c)
+  pub stops : (c : Content) → new.stops c → StopsAt (together p start) (accepted arrivals answers) (maybe_last arrivals answers) (together p c)
   pub sound_stops : (c : Content) → new.stops c → IsSound (together p c)
 
 -- where a book leads from such a content by a run, it is kept

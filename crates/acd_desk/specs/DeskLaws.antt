@@ -1,4 +1,4 @@
--- What holds of the abstract desk.
+-- Laws of the abstract desk.
 use Rattle.std.specs.Prelude.{◌≡◌, true, List, [], ◌∷◌, ◌++◌}
 use Rattle.acd_terms.specs.Limits.{limits_fit}
 use Rattle.acd_terms.specs.declared.rows.Limits.{Limits}
@@ -8,7 +8,7 @@ use Rattle.acd_desk.specs.Firsts.{firsts, run}
 use Rattle.acd_desk.specs.Replies.{reply_to, IsReplyAt, after}
 use Rattle.acd_desk.specs.Stands.{arrivals_of, IsSound, ran_after, raised_from}
 use Rattle.acd_desk.specs.Laws.{KeepsLaws}
-use Rattle.acd_desk.specs.Tells.{Rise}
+use Rattle.acd_desk.specs.ReadAnswers.{Rise}
 
 -- one more arrival leads from the run of a list to the run of the longer list
 abbrev pub OneMoreArrival : Type 0
@@ -16,7 +16,7 @@ OneMoreArrival = (limits : Limits) (list : List Arrival) (a : Arrival) → after
 
 -- the look-up by key answers what the table by place says
 abbrev pub AnswersByPlace : Type 0
-AnswersByPlace = (limits : Limits) (before : List Arrival) (a : Arrival) (behind : List Arrival) → IsReplyAt limits before a behind (reply_to limits (before ++ a ∷ behind) a.request)
+AnswersByPlace = (limits : Limits) (before : List Arrival) (a : Arrival) (rest : List Arrival) → IsReplyAt limits before a rest (reply_to limits (before ++ a ∷ rest) a.request)
 
 -- a sound content keeps the laws of runs, and breaks no rule of rows
 abbrev pub SoundKeepsLaws : Type 0
@@ -30,12 +30,12 @@ EmptyIsSound = (limits : Limits) → limits_fit limits ≡ true → IsSound (emp
 abbrev pub StaysSound : Type 0
 StaysSound = (c : Content) (a : Arrival) → IsSound c → IsSound (after c a)
 
--- what is kept after a run is the first arrivals of the list, each at its executed moment
+-- a run keeps the first arrivals of the list, each at its executed moment
 abbrev pub KeepsFirsts : Type 0
 KeepsFirsts = (start : Content) (list : List Arrival)
     → arrivals_of (ran_after start list).kept
     ≡ raised_from (empty_content start.rows.limits) (firsts start.rows.limits.requests (arrivals_of start.kept ++ list))
 
--- the events of a sound content stand in ascending number
+-- the events of a sound content are in ascending number
 abbrev pub EventsInOrder : Type 0
 EventsInOrder = (c : Content) → IsSound c → Rise 0 c.events

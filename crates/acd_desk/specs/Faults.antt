@@ -1,4 +1,4 @@
--- What a desk does with a fault of its book.
+-- A desk's reaction to a fault of its book.
 use Rattle.acd_book.specs.declared.fault.BookFault.{BookFault}
 use Rattle.acd_book.specs.declared.fault.BookFault.TheVariants as book
 use Rattle.acd_desk.specs.declared.fault.DeskFault.{DeskFault}

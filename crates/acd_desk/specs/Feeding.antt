@@ -1,11 +1,11 @@
--- What a desk makes of a log that is fed to it in parts, some of them again.
+-- A log that is fed to a desk in parts, some of them again, and what the desk makes of it.
 use Rattle.std.specs.Prelude.{◌≡◌, ℕ, ◌+◌, ◌<◌, ◌≤◌, max, List, [], ◌∷◌, ◌++◌, length, take, drop}
 use Rattle.acd_terms.specs.declared.rows.Limits.{Limits}
 use Rattle.acd_terms.specs.declared.command.Arrival.{Arrival}
 use Rattle.acd_desk.specs.Firsts.{firsts, run}
 use Rattle.acd_desk.specs.Replies.{reply_to}
 
--- what came in by parts of the log, one behind the other: each begins at the place that was reached, or at an earlier one
+-- the arrivals by parts of the log, one after the other: each begins at the place that was reached, or at an earlier one
 pub data IsFed (log : List Arrival) : ℕ → List Arrival → Type 0 where
   nothing : IsFed log 0 []
   part : (reached : ℕ) (fed : List Arrival) → IsFed log reached fed → (place count : ℕ) → place ≤ reached → IsFed log (max reached (place + count)) (fed ++ take count (drop place log))
@@ -21,5 +21,5 @@ FedHoldsTheLog = (limits : Limits) (log : List Arrival) (reached : ℕ) (fed : L
 -- two desks that were fed one log give the same answer to the request at each place that both have reached
 abbrev pub DesksAgree : Type 0
 DesksAgree = (limits : Limits) (log : List Arrival) (here there : ℕ) (mine yours : List Arrival) → IsFed log here mine → IsFed log there yours
-    → (before : List Arrival) (a : Arrival) (behind : List Arrival) → log ≡ before ++ a ∷ behind → length before < here → length before < there
+    → (before : List Arrival) (a : Arrival) (rest : List Arrival) → log ≡ before ++ a ∷ rest → length before < here → length before < there
     → reply_to limits mine a.request ≡ reply_to limits yours a.request

@@ -33,7 +33,7 @@ abbrev pub kept_at : Stamp → Moment → Request → Outcome → Kept
 kept_at stamp moment r outcome =
     record { stamp = stamp; moment = moment; request = r; status = outcome_status outcome; body = reply_text r.requester r.invoke outcome }
 
--- what is kept of an executed arrival: its stamp, its executed moment, and the reply
+-- the record kept of an executed arrival: its stamp, its executed moment, and the reply
 abbrev pub record_of : Rows → Arrival → Kept
 record_of s a = kept_at (next_stamp s) (executed_moment s a.moment) a.request (stepped s a).outcome
 

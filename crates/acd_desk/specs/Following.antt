@@ -1,4 +1,4 @@
--- What a snapshot shows, and the events behind its last one, tell of a later content.
+-- A snapshot, followed by the events after it, gives a later content.
 use Rattle.std.specs.Prelude.{◌≡◌, ◌⊎◌, ◌↔◌, ◌<◌, List, ◌++◌, Option, Some, None, if◌then◌else◌}
 use Rattle.acd_terms.specs.Lists.{Among}
 use Rattle.acd_terms.specs.Numbers.{Device, Agent, CallId, Stamp}
@@ -10,37 +10,38 @@ use Rattle.acd_terms.specs.declared.command.Arrival.{Arrival}
 use Rattle.acd_terms.specs.declared.event.Event.{Event}
 use Rattle.acd_model.specs.Scans.{group_of, agent_of}
 use Rattle.acd_model.specs.Figures.{figures_of, sum_of_figures}
-use Rattle.acd_model.specs.Told.{known_after, connection_told, seat_told, last_entry}
+use Rattle.acd_model.specs.Reported.{known_after, connection_reported, seat_reported, last_entry}
 use Rattle.acd_model.specs.Watched.{is_external_caller, state_at, seat_of, HasPlace}
 use Rattle.acd_model.specs.Services.{no_figures}
 use Rattle.acd_book.specs.Content.{Content}
 use Rattle.acd_desk.specs.Stands.{IsSound, ran_after}
-use Rattle.acd_desk.specs.Tells.{above}
+use Rattle.acd_desk.specs.ReadAnswers.{above}
 
--- what is shown of a connection: its state, but of an external caller's none, since no event tells of it
+-- a snapshot shows a connection's state; it shows no external caller's, since no event reports one
 abbrev pub shown_at : Rows → CallId → Device → Option ConnectionState
 shown_at s call device = if is_external_caller s call device then None else state_at s call device
 
--- what is shown of a group's figures, which are 0 where it isn't there
+-- a group's figures as they are shown: 0 where it isn't there
 abbrev pub figures_shown : Option GroupRecord → Figures
 figures_shown None = no_figures
 figures_shown (Some g) = g.figures
 
--- of two calls in a group the first entered there before the second, by these events; or these tell an entry of neither, and its place in what is shown is the lower
+-- of two calls in a group the first entered there before the second, by these events; or these report an entry of neither, and its place in what is shown is the
+-- lower
 abbrev pub IsBefore : Rows → List Event → Device → CallId → CallId → Type 0
-IsBefore s behind group first second =
-    (last_entry group first 0 behind < last_entry group second 0 behind)
-    ⊎ ((last_entry group first 0 behind ≡ 0) × (last_entry group second 0 behind ≡ 0) × (p q : Stamp) × HasPlace s group first p × HasPlace s group second q × (p < q))
+IsBefore s rest group first second =
+    (last_entry group first 0 rest < last_entry group second 0 rest)
+    ⊎ ((last_entry group first 0 rest ≡ 0) × (last_entry group second 0 rest ≡ 0) × (p q : Stamp) × HasPlace s group first p × HasPlace s group second q × (p < q))
 
--- one content is shown, and these events come behind it: what they make of what is shown is what a later content shows
-pub record LeadsBy (c d : Content) (behind : List Event) : Type 0 where
-  -- none is missed, and none stands twice
-  pub whole : d.events ≡ c.events ++ behind
-  pub connections : (call : CallId) (device : Device) → shown_at d.rows call device ≡ known_after (connection_told call device) (shown_at c.rows call device) behind
-  pub agents : (agent : Agent) → seat_of (agent_of d.rows agent) ≡ known_after (seat_told agent) (seat_of (agent_of c.rows agent)) behind
-  pub figures : (g : GroupRecord) → Among g d.rows.groups → g.figures ≡ sum_of_figures (figures_shown (group_of c.rows g.device)) (figures_of g.device behind)
+-- one content is shown, and these events come after it: they make of what is shown what a later content shows
+pub record LeadsBy (c d : Content) (rest : List Event) : Type 0 where
+  -- none is missed, and none occurs twice
+  pub whole : d.events ≡ c.events ++ rest
+  pub connections : (call : CallId) (device : Device) → shown_at d.rows call device ≡ known_after (connection_reported call device) (shown_at c.rows call device) rest
+  pub agents : (agent : Agent) → seat_of (agent_of d.rows agent) ≡ known_after (seat_reported agent) (seat_of (agent_of c.rows agent)) rest
+  pub figures : (g : GroupRecord) → Among g d.rows.groups → g.figures ≡ sum_of_figures (figures_shown (group_of c.rows g.device)) (figures_of g.device rest)
   -- of the calls that wait in a group or ring from it
-  pub queues : (group : Device) (first second : CallId) (p q : Stamp) → HasPlace d.rows group first p → HasPlace d.rows group second q → (p < q) ↔ IsBefore c.rows behind group first second
+  pub queues : (group : Device) (first second : CallId) (p q : Stamp) → HasPlace d.rows group first p → HasPlace d.rows group second q → (p < q) ↔ IsBefore c.rows rest group first second
 
 -- a sound content leads on to each later one by the events above its last number
 abbrev pub SnapshotLeadsOn : Type 0

@@ -1,4 +1,4 @@
--- What a report shows of groups, by the sets that the tables lend.
+-- The groups as a report shows them, by the sets that the tables lend.
 use Rattle.std.specs.Prelude.{ℕ, List, min, Option, Some, None}
 use Rattle.std.specs.List.{filter_map, reduce}
 use Rattle.acd_terms.specs.Numbers.{Device, CallId, Moment, Stamp}

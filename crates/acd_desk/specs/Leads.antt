@@ -1,4 +1,4 @@
--- What a desk makes of any content, sound or not.
+-- A desk over any content, sound or not.
 use Rattle.std.specs.Prelude.{◌≡◌, ◌⊎◌, List, [], ◌∷◌, ◌++◌}
 use Rattle.std.specs.List.{Contains}
 use Rattle.acd_terms.specs.declared.command.Arrival.{Arrival}
@@ -6,24 +6,24 @@ use Rattle.acd_book.specs.Content.{Content}
 use Rattle.acd_book.specs.State.{BookState}
 use Rattle.acd_desk.specs.declared.taken.Taken.{Taken}
 use Rattle.acd_desk.specs.Replies.{answer_in, after}
-use Rattle.acd_desk.specs.Served.{served, maybe_last, sent}
+use Rattle.acd_desk.specs.Accepted.{accepted, maybe_last, sent}
 
--- the content behind some arrivals, one after the other
+-- the content after some arrivals, one after the other
 abbrev pub led : Content → List Arrival → Content
 led c [] = c
 led c (a ∷ rest) = led (after c a) rest
 
--- what each of them is answered in its turn
+-- the answer to each of them in its turn
 abbrev pub answers_to : Content → List Arrival → List Taken
 answers_to c [] = []
 answers_to c (a ∷ rest) = answer_in (after c a) a.request ∷ answers_to (after c a) rest
 
--- what a reopening may find: that content, or the one behind one more of those that were not served
+-- a reopening may find that content, or the one after one more of the arrivals that were not accepted
 abbrev pub StopsFrom : Content → List Arrival → List Arrival → Content → Type 0
 StopsFrom start list others c = (c ≡ led start list) ⊎ ((a : Arrival) × Contains others a × (c ≡ led start (list ++ a ∷ [])))
 
--- from this content on those that were served were taken in turn, and nothing else was
+-- from this content on the accepted arrivals were executed in turn, and nothing else was
 pub record Leads (start : Content) (arrivals : List Arrival) (answers : List Taken) (new : BookState) : Type 0 where
-  pub replies : sent answers ≡ answers_to start (served arrivals answers)
-  pub content : new.is_open → new.content ≡ led start (served arrivals answers)
-  pub stops : (c : Content) → new.stops c → StopsFrom start (served arrivals answers) (maybe_last arrivals answers) c
+  pub replies : sent answers ≡ answers_to start (accepted arrivals answers)
+  pub content : new.is_open → new.content ≡ led start (accepted arrivals answers)
+  pub stops : (c : Content) → new.stops c → StopsFrom start (accepted arrivals answers) (maybe_last arrivals answers) c

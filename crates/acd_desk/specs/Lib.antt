@@ -1,6 +1,6 @@
 pub mod Firsts
 pub mod Replies
-pub mod Served
+pub mod Accepted
 pub mod Stands
 pub mod Leads
 pub mod Carried
@@ -15,8 +15,8 @@ pub mod DeskLaws
 pub mod Ran
 pub mod Attended
 pub mod RequestPages
-pub mod Tells
-pub mod Told
+pub mod ReadAnswers
+pub mod ReadDone
 pub mod AnswerTexts
 pub mod Session
 pub mod Audit
@@ -31,7 +31,7 @@ pub mod Rebuilding
 pub mod PageSizes
 pub mod GroupStates
 pub mod Pages
-pub mod Noting
+pub mod KeyPlaces
 pub mod NameLaws
 pub mod CarriedLaws
 pub mod WithArchive

@@ -1,4 +1,4 @@
--- Names are inert in a desk too: what it keeps and answers depends on no name of a group or an agent, but that a repeat has to ask the same.
+-- Names are inert in a desk too: its records and answers depend on no name of a group or an agent, but that a repeat has to ask the same.
 use Rattle.std.specs.Prelude.{◌≡◌, true, List, map}
 use Rattle.acd_terms.specs.Lists.{Among}
 use Rattle.acd_terms.specs.declared.rows.Limits.{Limits}
@@ -11,7 +11,7 @@ use Rattle.acd_desk.specs.declared.taken.Taken.{Taken}
 use Rattle.acd_desk.specs.Firsts.{run}
 use Rattle.acd_desk.specs.Replies.{reply_to}
 
--- with the name of its command taken out
+-- with the name of its command removed
 abbrev pub unnamed_request : Request → Request
 unnamed_request r = record r { command = unnamed_command r.command }
 

@@ -1,6 +1,6 @@
--- Distribution as it was while an agent served one group and groups had no priority, over the records of today: of an agent's
--- groups the one of least number stands for the one that it had. What has not changed since is shared: who waits, the least
--- of a list, and the moves of an offer.
+-- Distribution as it was while an agent was in one group and groups had no priority, over the records of today: of an agent's
+-- groups the one of least number takes the place of its only one. The parts that have not changed since are shared: who
+-- waits, the least of a list, and the moves of an offer.
 use Rattle.std.specs.Prelude.{ℕ, zero, suc, Bool, not, ◌&&◌, List, [], ◌∷◌, ◌++◌, length, filter, map, Option, Some, None}
 use Rattle.acd_terms.specs.Groups.{least_group}
 use Rattle.acd_terms.specs.States.{is_ready}

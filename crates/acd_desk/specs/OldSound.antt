@@ -1,5 +1,6 @@
--- What a sound content was while an agent served one group and groups had no priority, over the records of today; and that it
--- is sound still. What has not changed since is shared: keys, first arrivals, limits, and the reply that an outcome gives.
+-- A sound content as it was while an agent was in one group and groups had no priority, over the records of today; it is
+-- sound still. The parts that have not changed since are shared: keys, first arrivals, limits, and the reply that an outcome
+-- gives.
 use Rattle.std.specs.Prelude.{◌≡◌, ◌≤◌, true, List, [], ◌∷◌, length}
 use Rattle.acd_terms.specs.Lists.{Every}
 use Rattle.acd_terms.specs.Limits.{limits_fit}
@@ -20,7 +21,7 @@ use Rattle.acd_desk.specs.OldStep.{old_step}
 abbrev pub old_stepped : Rows → Arrival → Stepped
 old_stepped s a = old_step s a.moment a.request.command
 
--- what is kept of an executed arrival: its stamp, its executed moment, and the reply
+-- the record kept of an executed arrival: its stamp, its executed moment, and the reply
 abbrev pub old_record_of : Rows → Arrival → Kept
 old_record_of s a = kept_at (next_stamp s) (executed_moment s a.moment) a.request (old_stepped s a).outcome
 
@@ -42,7 +43,7 @@ abbrev pub IsOldRequested : Requested → Type 0
 IsOldRequested (requested.LoggedOn device groups) = length groups ≡ 1
 IsOldRequested (requested.State wanted) = Unit {0}
 
--- what could be asked for: none of the services that came later, and no log-on in more groups than one
+-- commands that could be sent: none of the services that came later, and no log-on in more groups than one
 abbrev pub IsOldCommand : Command → Type 0
 IsOldCommand (SetAgentState agent requested) = IsOldRequested requested
 IsOldCommand (SetGroupPriority device priority) = ⊥

@@ -1,7 +1,7 @@
--- One executed request as it was while an agent served one group and groups had no priority, over the records of today. What
--- has not changed since is shared, and so is what changed with the records' fields alone: an agent's new state leaves it its
--- group, or none in null; an agent is planned with none, and a group with priority 0; and after-call work lasts as long as
--- the agent's group has it, which is the one of least number.
+-- One executed request as it was while an agent was in one group and groups had no priority, over the records of today. The
+-- parts that have not changed since are shared, and so are those that changed with the records' fields alone: an agent's new
+-- state leaves it its group, or none in null; an agent is planned with none, and a group with priority 0; and after-call
+-- work lasts as long as the wrap of the agent's group, which is the one of least number.
 use Rattle.std.specs.Prelude.{not, List, [], ◌∷◌, ◌++◌, Some, None, is_some, Err}
 use Rattle.std.specs.Option.{ok_or}
 use Rattle.acd_terms.specs.Numbers.{Device, Agent, Moment}

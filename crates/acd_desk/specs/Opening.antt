@@ -1,4 +1,4 @@
--- What opening a desk over a book leaves.
+-- Opening a desk over a book: what it leaves.
 use Rattle.std.specs.Prelude.{◌≡◌, false, Some}
 use Rattle.acd_model.specs.Rules.First.{first_broken, BreaksNoRule}
 use Rattle.acd_switch.specs.declared.row_fault.RowFault.{RowFault}

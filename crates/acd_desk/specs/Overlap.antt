@@ -1,9 +1,9 @@
--- What is found where the records of an archive and those of the content that goes on from it are compared.
+-- The comparison of the records of an archive and those of the content that continues it: what it finds.
 use Rattle.std.specs.Prelude.{◌≡◌, ◌≢◌, ℕ, ◌<◌, ◌≤◌, List, [], ◌∷◌, Option, Some, None, min}
 use Rattle.acd_terms.specs.Lists.{Every}
 use Rattle.acd_terms.specs.declared.event.Event.{Event}
 use Rattle.acd_book.specs.declared.kept.Kept.{Kept}
-use Rattle.acd_book.specs.Content.{Content, kept_behind}
+use Rattle.acd_book.specs.Content.{Content, records_after}
 use Rattle.acd_book.specs.Memory.{stamp_of, number_of}
 use Rattle.acd_book.specs.Order.{IsOrdered}
 use Rattle.acd_desk.specs.declared.overlap.Cut.{Cut}
@@ -15,9 +15,9 @@ use Rattle.acd_desk.specs.AuditWith.{StandsInTime, HoldsArchive}
 -- an archive and a content that are compared: both in order
 pub record AreInOrder (a c : Content) : Type 0 where
   pub archive : StandsInTime a
-  pub own : IsOrdered c
+  pub current : IsOrdered c
 
--- the last stamp and the last event number that were left behind in the archive, by the content's first ones
+-- the last stamp and the last event number that were left in the archive, by the content's first ones
 abbrev pub cut_stamp : Content → Content → ℕ
 cut_stamp a c = cut_before stamp_of a.rows.last_stamp c.kept
 
@@ -28,29 +28,29 @@ cut_number a c = cut_before number_of a.rows.last_event c.events
 abbrev pub KeepsArchive : Content → Content → Type 0
 KeepsArchive a c = Begins stamp_of (cut_stamp a c) a.rows.last_stamp a.kept c.kept
 
-abbrev pub TellsArchive : Content → Content → Type 0
-TellsArchive a c = Begins number_of (cut_number a c) a.rows.last_event a.events c.events
+abbrev pub ReportsArchive : Content → Content → Type 0
+ReportsArchive a c = Begins number_of (cut_number a c) a.rows.last_event a.events c.events
 
 -- of two lists of one member at most: the first of one is that of the other too, it isn't, or there is none
 abbrev pub IsNextOf : {T : Type 0} → (T → ℕ) → List T → List T → Next → Type 0
-IsNextOf {T} f theirs own (Same place) = (x : T) × (xs : List T) × (ys : List T) × (theirs ≡ x ∷ xs) × (own ≡ x ∷ ys) × (place ≡ f x)
-IsNextOf {T} f theirs own (Other place) = (x : T) × (xs : List T) × (theirs ≡ x ∷ xs) × (own ≢ theirs)
-IsNextOf f theirs own Over = theirs ≡ []
+IsNextOf {T} f archived current (Same place) = (x : T) × (xs : List T) × (ys : List T) × (archived ≡ x ∷ xs) × (current ≡ x ∷ ys) × (place ≡ f x)
+IsNextOf {T} f archived current (Other place) = (x : T) × (xs : List T) × (archived ≡ x ∷ xs) × (current ≢ archived)
+IsNextOf f archived current Over = archived ≡ []
 
--- and the place of another one isn't behind its own
+-- and the place of another one isn't after that of this one
 abbrev pub IsOtherPlace : {T : Type 0} → (T → ℕ) → List T → Next → Type 0
-IsOtherPlace f theirs (Same place) = Unit {0}
-IsOtherPlace {T} f theirs (Other place) = (x : T) × (xs : List T) × (theirs ≡ x ∷ xs) × (place ≤ f x)
-IsOtherPlace f theirs Over = Unit {0}
+IsOtherPlace f archived (Same place) = Unit {0}
+IsOtherPlace {T} f archived (Other place) = (x : T) × (xs : List T) × (archived ≡ x ∷ xs) × (place ≤ f x)
+IsOtherPlace f archived Over = Unit {0}
 
 -- a member, where there is one, as a list
 abbrev pub listed : {T : Type 0} → Option T → List T
 listed None = []
 listed (Some x) = x ∷ []
 
--- what both have next above a stamp
+-- the next record of each above a stamp
 abbrev pub IsNextRecord : ℕ → Content → Content → Next → Type 0
-IsNextRecord stamp a c found = AreInOrder a c → IsNextOf stamp_of (kept_behind a.kept stamp 1) (kept_behind c.kept stamp 1) found × IsOtherPlace stamp_of (kept_behind a.kept stamp 1) found
+IsNextRecord stamp a c found = AreInOrder a c → IsNextOf stamp_of (records_after a.kept stamp 1) (records_after c.kept stamp 1) found × IsOtherPlace stamp_of (records_after a.kept stamp 1) found
 
 -- a place where they differ, or none where they don't, of what is asked above a cut
 abbrev pub IsOther : Type 0 → Option ℕ → Type 0
@@ -62,7 +62,7 @@ abbrev pub IsOtherUpTo : ℕ → Type 0 → Option ℕ → Type 0
 IsOtherUpTo last P None = P
 IsOtherUpTo last P (Some place) = (place ≤ last) × ¬ P
 
--- each event that was left behind is before each record that was carried over
+-- each event left in the archive comes before each record that was carried over
 abbrev pub IsCleanCut : Content → ℕ → ℕ → Type 0
 IsCleanCut a stamp number = (past carried : List Kept) (left reported : List Event) → IsSplit stamp_of stamp a.kept past carried → IsSplit number_of number a.events left reported
     → Every (λ (e : Event). Every (λ (k : Kept). e.moment < k.moment) carried) left
@@ -74,8 +74,8 @@ IsBefore (e ∷ es) number moment = e.number ≡ number → e.moment < moment
 
 -- the first of a list, where it isn't above the last place
 abbrev pub IsFirstUpTo : {T : Type 0} → (T → ℕ) → ℕ → List T → Option ℕ → Type 0
-IsFirstUpTo {T} f last own None = (x : T) (xs : List T) → own ≡ x ∷ xs → last < f x
-IsFirstUpTo {T} f last own (Some place) = (x : T) × (xs : List T) × (own ≡ x ∷ xs) × (f x ≤ last)
+IsFirstUpTo {T} f last current None = (x : T) (xs : List T) → current ≡ x ∷ xs → last < f x
+IsFirstUpTo {T} f last current (Some place) = (x : T) × (xs : List T) × (current ≡ x ∷ xs) × (f x ≤ last)
 
 -- the archive's counters
 pub record IsLast (a : Content) (last : Cut) : Type 0 where

@@ -9,15 +9,15 @@ use Rattle.acd_codec.specs.ReplyTexts.{outcome_status, reply_text}
 use Rattle.acd_book.specs.declared.kept.Kept.{Kept}
 use Rattle.acd_book.specs.Content.{Content}
 use Rattle.acd_desk.specs.Stands.{IsSound}
-use Rattle.acd_desk.specs.Tells.{requests_read}
+use Rattle.acd_desk.specs.ReadAnswers.{requests_read}
 
--- what it numbers is a call or a monitor
+-- its number is that of a call or a monitor
 abbrev pub IsOutcome : Outcome → Type 0
 IsOutcome (Done (answer.Call call)) = IsSerial call
 IsOutcome (Done (answer.Monitor monitor)) = IsSerial monitor
 IsOutcome _ = Unit {0}
 
--- what is kept of a request is a reply of the desk to it
+-- the record kept of a request is a reply of the desk to it
 pub record IsReplied (k : Kept) : Type 0 where
   pub outcome : Outcome
   pub formed : IsOutcome outcome
@@ -33,7 +33,7 @@ pub record IsFormed (k : Kept) : Type 0 where
 abbrev pub longest_page : ℕ
 longest_page = 600000
 
--- where what is kept are replies of the desk, a page is no longer
+-- where the kept records are replies of the desk, a page is no longer
 abbrev pub PagesAreShort : Type 0
 PagesAreShort = (c : Content) (after : ℕ) → c.rows.last_stamp < 2 ^ 64 → Every IsFormed c.kept → Every IsReplied c.kept
     → IfSome (requests_read c after) (λ (text : List ℕ). length text ≤ longest_page)

@@ -1,21 +1,21 @@
 -- Events that were read ahead.
 use Rattle.std.specs.Prelude.{◌≡◌, ◌⊎◌, ℕ, ◌≤◌, ◌<◌, length, Result, IfOk, OnOk, IsErrOf}
-use Rattle.acd_book.specs.Content.{Content, events_behind, Within, HasRisen}
+use Rattle.acd_book.specs.Content.{Content, events_after, Within, HasRisen}
 use Rattle.acd_book.specs.State.{BookState, IfHonest, BookStep, Unchanged}
 use Rattle.acd_book.specs.declared.fault.BookFault.{BookFault}
 use Rattle.acd_book.specs.declared.fault.BookFault.TheVariants.{Store}
-use Rattle.acd_desk.specs.Tells.{above}
+use Rattle.acd_desk.specs.ReadAnswers.{above}
 use Rattle.acd_desk.specs.declared.page.Page.{Page}
 
 -- a page of this content
 abbrev pub IsPageOf : Content → Page → Type 0
-IsPageOf c p = p.events.items ≡ events_behind c.events p.above p.limit
+IsPageOf c p = p.events.items ≡ events_after c.events p.above p.limit
 
 -- the first events above a number, so many, are on the page, or all that is left is
 abbrev pub Reaches : Page → ℕ → ℕ → Type 0
 Reaches p number count = (p.above ≤ number) × ((length p.events.items < p.limit) ⊎ (count ≤ length (above p.events.items number)))
 
--- a read of an open book, or none where what was read before tells it: then nothing tells whether the book is open
+-- a read of an open book, or none where an earlier read gives the answer: then nothing shows whether the book is open
 pub record ReadsIfOpen {A : Type 0} (old new : BookState) (result : Result A BookFault) (IsAnswer : Content → A → Type 0) : Type 0 where
   pub step : BookStep (IsErrOf result Store) old new
   pub unchanged : Unchanged old new
@@ -26,4 +26,4 @@ pub record ReadsIfOpen {A : Type 0} (old new : BookState) (result : Result A Boo
 
 -- a page of this content that has the first events above a number, so many
 abbrev pub Has : Content → Page → ℕ → ℕ → Type 0
-Has c p number count = IsPageOf c p × (events_behind p.events.items number count ≡ events_behind c.events number count)
+Has c p number count = IsPageOf c p × (events_after p.events.items number count ≡ events_after c.events number count)

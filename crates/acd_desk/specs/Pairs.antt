@@ -7,14 +7,14 @@ use Rattle.acd_book.specs.declared.fault.BookFault.TheVariants as book
 use Rattle.acd_desk.specs.declared.open_fault.OpenFault.{OpenFault}
 use Rattle.acd_desk.specs.declared.open_fault.OpenFault.TheVariants as open_fault
 use Rattle.acd_desk.specs.declared.pair.PairFault.{PairFault}
-use Rattle.acd_desk.specs.declared.pair.PairFault.TheVariants.{Own, Archive}
+use Rattle.acd_desk.specs.declared.pair.PairFault.TheVariants.{Current, Archive}
 use Rattle.acd_desk.specs.Opening.{by_book}
 use Rattle.acd_desk.specs.Pages.{ReadsIfOpen}
 
--- what was read of one of them, as what was read of both
-abbrev pub of_own : {T : Type 0} → Result T BookFault → Result T PairFault
-of_own (Ok found) = Ok found
-of_own (Err fault) = Err (Own fault)
+-- the answer of one of them, as the answer of both
+abbrev pub of_current : {T : Type 0} → Result T BookFault → Result T PairFault
+of_current (Ok found) = Ok found
+of_current (Err fault) = Err (Current fault)
 
 abbrev pub of_archive : {T : Type 0} → Result T BookFault → Result T PairFault
 of_archive (Ok found) = Ok found
@@ -31,19 +31,19 @@ by_opening (Err (open_fault.Rows rule)) = Err book.NoMemory
 by_opening (Err open_fault.NoMemory) = Err book.NoMemory
 by_opening (Err open_fault.Store) = Err book.Store
 
--- what reads of both are to one of them: where the other one told nothing, it has told no fault of the store
-abbrev pub own_part : {T : Type 0} → Result T PairFault → Result T BookFault
-own_part (Ok found) = Ok found
-own_part (Err (Own fault)) = Err fault
-own_part (Err (Archive fault)) = Err book.NoMemory
+-- the part of one of them in reads of both: where the other one answered nothing, it has read no fault of the store
+abbrev pub current_part : {T : Type 0} → Result T PairFault → Result T BookFault
+current_part (Ok found) = Ok found
+current_part (Err (Current fault)) = Err fault
+current_part (Err (Archive fault)) = Err book.NoMemory
 
 abbrev pub archive_part : {T : Type 0} → Result T PairFault → Result T BookFault
 archive_part (Ok found) = Ok found
-archive_part (Err (Own fault)) = Err book.NoMemory
+archive_part (Err (Current fault)) = Err book.NoMemory
 archive_part {T = T} (Err (Archive fault)) = by_opening {T = T} (Err fault)
 
 -- reads of both, the archive first, where `IsAnswer a c found` says that this is found in the contents a and c
 pub record ReadsBoth {T : Type 0} (old_archive new_archive old new : BookState) (result : Result T PairFault) (IsAnswer : Content → Content → T → Type 0) : Type 0 where
   pub archive : ReadsIfOpen old_archive new_archive (archive_part result) (λ (a : Content) (found : T). Unit {0})
-  pub own : ReadsIfOpen old new (own_part result) (λ (c : Content) (found : T). Unit {0})
+  pub current : ReadsIfOpen old new (current_part result) (λ (c : Content) (found : T). Unit {0})
   pub value : IfHonest old_archive new_archive (IfHonest old new (old_archive.is_open → old.is_open → IfOk result (IsAnswer old_archive.content old.content)))

@@ -1,4 +1,4 @@
--- What is prepared for a commit.
+-- A commit as it is prepared.
 use Rattle.std.specs.Prelude.{◌≡◌, List, length}
 use Rattle.acd_terms.specs.declared.rows.Rows.{Rows}
 use Rattle.acd_terms.specs.declared.event.Event.{Event}
@@ -9,7 +9,7 @@ use Rattle.acd_model.specs.declared.moves.Change.{Change}
 use Rattle.acd_book.specs.declared.kept.Kept.{Kept}
 use Rattle.acd_desk.specs.Firsts.{stepped, record_of}
 
--- the switch went from these rows to the next by an arrival, and its changes, events and record say so
+-- by an arrival the switch came from these rows to the next, and its changes, events and record say so
 pub record Prepared (rows : Rows) (a : Arrival) (changes : List Change) (events : List Event) (kept : Kept) (next : Rows) : Type 0 where
   pub next_is : next ≡ (stepped rows a).rows
   pub made : rows_made rows changes kept.stamp kept.moment (length events) ≡ next

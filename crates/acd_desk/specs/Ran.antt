@@ -1,4 +1,4 @@
--- What one call of a desk leaves, and what many calls leave, over any book.
+-- One call of a desk, and many calls, over any book: what they leave.
 use Rattle.std.specs.Prelude.{◌≡◌, ◌⊎◌, true, false, List, [], ◌∷◌, length, None}
 use Rattle.std.specs.List.{Contains}
 use Rattle.acd_terms.specs.Lists.{Every}
@@ -10,22 +10,22 @@ use Rattle.acd_desk.specs.declared.desk.Desk.{Desk}
 use Rattle.acd_desk.specs.declared.taken.Taken.{Taken}
 use Rattle.acd_desk.specs.declared.taken.Taken.TheVariants.{NoMemory, StoreFault}
 use Rattle.acd_desk.specs.Replies.{answer_in, after}
-use Rattle.acd_desk.specs.Served.{is_fault, is_reply, served, maybe_last, sent}
+use Rattle.acd_desk.specs.Accepted.{is_fault, is_reply, accepted, maybe_last, sent}
 use Rattle.acd_desk.specs.Stands.{IsSound, ran_after, replies, StopsAt}
 pub use Rattle.acd_desk.specs.Standing.{Standing, standing}
 use Rattle.acd_desk.specs.Standing.{InStep, Starts}
 use Rattle.acd_desk.specs.Laws.{KeepsLaws}
 use Rattle.acd_desk.specs.Leads.{Leads}
 
--- the desk had failed before, or its store has failed since
+-- the desk failed before, or its store has failed since
 abbrev pub IsCause : Standing → Standing → Type 0
 IsCause old new = (old.failed ≡ true) ⊎ HasRisen old.book.failures new.book.failures
 
--- the book has told what an honest one in step with its desk never tells
+-- the book has given an answer that an honest one in step with its desk never gives
 abbrev pub IsDeceived : Standing → Standing → Type 0
 IsDeceived old new = ¬ (new.book.is_clean × old.book.is_sound × InStep old)
 
--- what is said where the desk started well, and its book is clean after
+-- this is said where the desk started well, and its book is clean after
 abbrev pub IfStarted : Standing → Standing → Type 0 → Type 0
 IfStarted old new P = new.book.is_clean → Starts old → P
 
@@ -34,7 +34,7 @@ pub record DeskStep (Faulted Unloaded : Type 0) (old new : Standing) : Type 0 wh
   pub in_step : IfHonest old.book new.book (InStep old → InStep new)
   -- the desk fails where it answers storeFault, and nowhere else; once failed it stays so
   pub shuts : Faulted → new.failed ≡ true
-  pub tells : new.failed ≡ true → (old.failed ≡ true) ⊎ Faulted
+  pub answers : new.failed ≡ true → (old.failed ≡ true) ⊎ Faulted
   pub lasts : old.failed ≡ true → new.failed ≡ true
   -- it fails where a failure was counted, or where rows that an unloaded desk was given break a rule
   pub cause : new.failed ≡ true → IsCause old new ⊎ (Unloaded × IsDeceived old new)
@@ -55,7 +55,7 @@ pub record Took (old : Standing) (a : Arrival) (t : Taken) (new : Standing) : Ty
   -- it drops its switch where it answers noMemory, or has failed
   pub unloads : new.failed ≡ false → new.switch ≡ None → (old.switch ≡ None) ⊎ (t ≡ NoMemory)
 
--- behind a storeFault there are such answers alone
+-- after a storeFault there are such answers alone
 abbrev pub EndsIn : (Taken → Type 0) → List Taken → Type 0
 EndsIn P [] = Unit {0}
 EndsIn P (t ∷ ts) = (t ≡ StoreFault → Every P ts) × EndsIn P ts
@@ -66,17 +66,17 @@ IsFault t = is_fault t ≡ true
 abbrev pub IsStoreFault : Taken → Type 0
 IsStoreFault t = t ≡ StoreFault
 
--- the desk had no switch in memory at some time
+-- at some time the desk had no switch in memory
 abbrev pub WasUnloaded : Standing → List Taken → Type 0
 WasUnloaded old answers = (old.switch ≡ None) ⊎ Contains answers NoMemory
 
--- the last arrival was served, or there was none and the book was open
+-- the last arrival was accepted, or there was none and the book was open
 abbrev pub EndsUp : Standing → List Taken → Type 0
 EndsUp old [] = old.book.is_open
 EndsUp old (t ∷ []) = is_fault t ≡ false
 EndsUp old (_ ∷ t ∷ ts) = EndsUp old (t ∷ ts)
 
--- the book holds the run over the first arrivals of what was kept and served, and a reopening finds nothing else
+-- the book holds the run over the first arrivals of what was kept and accepted, and a reopening finds nothing else
 pub record Holds (start : Content) (list : List Arrival) (new : BookState) : Type 0 where
   pub content : new.content ≡ ran_after start list
   pub whole : IsSound new.content
@@ -88,22 +88,22 @@ pub record Ran (old : Standing) (arrivals : List Arrival) (answers : List Taken)
   pub even : length arrivals ≡ length answers
   pub step : BookStep (Contains answers StoreFault) old.book new.book
   pub desk : DeskStep (Contains answers StoreFault) (WasUnloaded old answers) old new
-  -- from any content that the desk is in step with they were taken in turn
+  -- the desk executed them in turn, from any content that it is in step with
   pub leads : IfHonest old.book new.book (old.book.is_open → InStep old → Leads old.book.content arrivals answers new.book)
-  -- each answer but the faults is that of the abstract desk, at its place in the list of what was kept and served
-  pub replies : IfStarted old new (sent answers ≡ replies old.book.content (served arrivals answers))
+  -- each answer but the faults is that of the abstract desk, at its place in the list of what was kept and accepted
+  pub replies : IfStarted old new (sent answers ≡ replies old.book.content (accepted arrivals answers))
   -- an open book holds the run over the first arrivals of that list, and a reopening finds nothing else
-  pub holds : IfStarted old new (new.book.is_open → Holds old.book.content (served arrivals answers) new.book)
-  -- the book is open behind an arrival that was served, so also where all were
+  pub holds : IfStarted old new (new.book.is_open → Holds old.book.content (accepted arrivals answers) new.book)
+  -- the book is open after an accepted arrival, so also where all were accepted
   pub up : IfHonest old.book new.book (EndsUp old answers → new.book.is_open)
   -- a book that was shut stays shut
   pub opened : IfHonest old.book new.book (new.book.is_open → old.book.is_open)
-  -- whatever a stop leaves is that run, or that with one more arrival, which came behind the last that was served
-  pub stops : IfStarted old new ((c : Content) → new.book.stops c → StopsAt old.book.content (served arrivals answers) (maybe_last arrivals answers) c)
+  -- whatever a stop leaves is that run, or that with one more arrival, which came after the last accepted one
+  pub stops : IfStarted old new ((c : Content) → new.book.stops c → StopsAt old.book.content (accepted arrivals answers) (maybe_last arrivals answers) c)
   pub sound_stops : IfStarted old new ((c : Content) → new.book.stops c → IsSound c)
-  -- over a book that was shut, or by a desk that had failed, no stop is added
+  -- over a book that was shut, or by a desk that failed before, no stop is added
   pub still : IfHonest old.book new.book ((¬ old.book.is_open) ⊎ (old.failed ≡ true) → Within new.book.stops old.book.stops)
-  -- behind a storeFault there are faults alone
+  -- after a storeFault there are faults alone
   pub later : EndsIn IsFault answers
   pub shut : old.failed ≡ true → Every IsFault answers
   pub unloads : new.failed ≡ false → new.switch ≡ None → WasUnloaded old answers

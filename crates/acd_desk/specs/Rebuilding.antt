@@ -1,4 +1,4 @@
--- What pages of executed requests tell of a run.
+-- A run rebuilt from pages of executed requests.
 use Rattle.std.specs.Prelude.{◌≡◌, ◌⊎◌, ℕ, List, [], ◌∷◌, ◌++◌, length, drop}
 use Rattle.acd_terms.specs.declared.rows.Limits.{Limits}
 use Rattle.acd_terms.specs.declared.command.Arrival.{Arrival}
@@ -6,7 +6,7 @@ use Rattle.acd_book.specs.declared.kept.Kept.{Kept}
 use Rattle.acd_book.specs.Content.{Content}
 use Rattle.acd_desk.specs.Firsts.{run}
 use Rattle.acd_desk.specs.Stands.{arrivals_of, IsSound, ran_after}
-use Rattle.acd_desk.specs.Tells.{requests_page}
+use Rattle.acd_desk.specs.ReadAnswers.{requests_page}
 
 -- the stamp of the last request that was read, or 0 where none was
 abbrev pub last_read : List Kept → ℕ
@@ -14,7 +14,7 @@ last_read [] = 0
 last_read (k ∷ []) = k.stamp
 last_read (_ ∷ k ∷ kept) = last_read (k ∷ kept)
 
--- what was read page by page, while the desk went on: each page is one of what the desk held then, from the stamp of the last request before
+-- pages that were read while the desk continued: each page is one of what the desk held then, from the stamp of the last request before
 pub data IsRead : Content → List Kept → Type 0 where
   nothing : (c : Content) → IsSound c → IsRead c []
   page : (c : Content) (read : List Kept) (more : List Arrival) → IsRead c read → IsRead (ran_after c more) (read ++ requests_page (ran_after c more) (last_read read))
@@ -23,11 +23,11 @@ pub data IsRead : Content → List Kept → Type 0 where
 abbrev pub IsAllRead : Content → List Kept → Type 0
 IsAllRead c read = (requests_page c (last_read read) ≡ []) ⊎ (last_read read ≡ c.rows.last_stamp)
 
--- what these requests make at their moments
+-- the result of these requests at their moments
 abbrev pub made_of : Limits → List Kept → Content
 made_of limits read = run limits (arrivals_of read)
 
--- what was read makes a beginning of the run
+-- the pages make a beginning of the run
 pub record Rebuilds (c : Content) (read : List Kept) : Type 0 where
   pub sound : IsSound (made_of c.rows.limits read)
   -- with the same stamps, moments and replies
@@ -37,6 +37,6 @@ pub record Rebuilds (c : Content) (read : List Kept) : Type 0 where
   -- and where all were read, it is the whole
   pub whole : IsAllRead c read → made_of c.rows.limits read ≡ c
 
--- what is read of a sound content, page by page, rebuilds it
+-- page by page, the reads of a sound content rebuild it
 abbrev pub PagesRebuild : Type 0
 PagesRebuild = (c : Content) (read : List Kept) → IsRead c read → Rebuilds c read

@@ -7,18 +7,18 @@ use Rattle.acd_terms.specs.Lists.{Every}
 use Rattle.acd_terms.specs.declared.command.Arrival.{Arrival}
 use Rattle.acd_terms.specs.declared.command.Request.{Request}
 use Rattle.acd_book.specs.declared.kept.Kept.{Kept}
-use Rattle.acd_book.specs.Content.{Content, kept_of, IsKeptAfter, events_behind}
+use Rattle.acd_book.specs.Content.{Content, kept_of, IsKeptAfter, events_after}
 use Rattle.acd_book.specs.Memory.{stamp_of, number_of}
 use Rattle.acd_book.specs.Order.{Rises, IsOrdered}
 use Rattle.acd_desk.specs.Firsts.{stepped, record_of, run}
 use Rattle.acd_desk.specs.Stands.{arrivals_of, IsSound}
-use Rattle.acd_desk.specs.declared.noted.Noted.{Noted}
+use Rattle.acd_desk.specs.declared.seen.SeenKeys.{SeenKeys}
 use Rattle.acd_desk.specs.declared.page.Page.{Page}
 use Rattle.acd_desk.specs.declared.replay.Course.{Course}
 use Rattle.acd_desk.specs.declared.replay.Step.{Step}
 use Rattle.acd_desk.specs.declared.replay.Step.TheVariants.{Replayed, Differs, Ended}
 use Rattle.acd_desk.specs.Audit.{AgreesBefore, IsFirstDifference}
-use Rattle.acd_desk.specs.Noting.{IsNoted}
+use Rattle.acd_desk.specs.KeyPlaces.{IsSeenKey}
 use Rattle.acd_desk.specs.Pages.{IsPageOf}
 
 -- the rows of its switch
@@ -29,7 +29,7 @@ rows_of r = r.loaded.switch.value
 abbrev pub again : Kept → Arrival
 again k = record { moment = k.moment; request = k.request }
 
--- the content is a run of its first kept requests, and what is left behind them
+-- the content is a run of its first kept requests, and then the rest
 pub record Splits (c r : Content) (kept_left : List Kept) (events_left : List Event) : Type 0 where
   pub is_run : r ≡ run c.rows.limits (arrivals_of r.kept)
   pub size : length r.kept ≡ r.rows.last_stamp
@@ -54,7 +54,7 @@ IsFirstOfKey c k = option_map stamp_of (kept_of c.kept k.request.requester k.req
 
 -- the events above the last one are first of all these
 abbrev pub HasNext : Content → Rows → List Event → Type 0
-HasNext c s events = events_behind c.events s.last_event (length events) ≡ events
+HasNext c s events = events_after c.events s.last_event (length events) ≡ events
 
 -- a record is the one that a step from these rows keeps of its request, and the step's events are there
 pub record Matches (c : Content) (s : Rows) (k : Kept) : Type 0 where
@@ -62,28 +62,28 @@ pub record Matches (c : Content) (s : Rows) (k : Kept) : Type 0 where
   pub first : IsFirstOfKey c k
   pub events : HasNext c s (stepped s (again k)).events
 
--- no event is left behind the last, and the tables are these
+-- no event is left after the last, and the tables are these
 abbrev pub IsEnd : Content → Rows → Type 0
-IsEnd c s = (events_behind c.events s.last_event 1 ≡ []) × (c.rows ≡ s)
+IsEnd c s = (events_after c.events s.last_event 1 ≡ []) × (c.rows ≡ s)
 
--- no record is left behind these rows, and no event, and the tables are these; or something is
+-- no record is left after these rows, and no event, and the tables are these; or something is
 abbrev pub IsAll : Content → Rows → Bool → Type 0
 IsAll c s true = IsKeptAfter c.kept s.last_stamp None × IsEnd c s
 IsAll c s false = ((k : Kept) × IsKeptAfter c.kept s.last_stamp (Some k)) ⊎ (IsKeptAfter c.kept s.last_stamp None × ¬ IsEnd c s)
 
--- the notes tell that no earlier record has the key of this one, where it isn't noted
-abbrev pub TellsKeys : Content → Noted → Kept → Type 0
-TellsKeys c keys k = ¬ IsNoted keys k.request → IsFirstOfKey c k
+-- if the key of this record wasn't seen, no earlier record has it
+abbrev pub FindsFirst : Content → SeenKeys → Kept → Type 0
+FindsFirst c keys k = ¬ IsSeenKey keys k.request → IsFirstOfKey c k
 
 -- so much is known of the content before a record is compared with what its request gives
-pub record Knows (c : Content) (keys : Noted) (p : Page) (k : Kept) : Type 0 where
-  pub tells : TellsKeys c keys k
+pub record Knows (c : Content) (keys : SeenKeys) (p : Page) (k : Kept) : Type 0 where
+  pub finds : FindsFirst c keys k
   pub page : IsPageOf c p
 
--- its switch replays the first records, their keys are noted, and its page is of the content
+-- its switch replays the first records, it has seen their keys, and its page is of the content
 pub record Goes (c : Content) (r : Course) : Type 0 where
   pub replays : Replays c (rows_of r)
-  pub noted : Every (λ (k : Kept). IsNoted r.keys k.request) (take (rows_of r).last_stamp c.kept)
+  pub seen : Every (λ (k : Kept). IsSeenKey r.keys k.request) (take (rows_of r).last_stamp c.kept)
   pub page : IsPageOf c r.page
 
 -- a replay begins with no record, or at limits that don't fit
@@ -91,10 +91,10 @@ abbrev pub BeginsReplay : Content → Option Course → Type 0
 BeginsReplay c None = IsFirstDifference c 1
 BeginsReplay c (Some first) = IsOrdered c → Goes c first
 
--- the key of a record more is noted, and the page is of the content
+-- the key of one more record was seen, and the page is of the content
 pub record GoesOn (c : Content) (r : Course) (k : Kept) (next : Course) : Type 0 where
-  pub own : IsNoted next.keys k.request
-  pub others : (other : Request) → IsNoted r.keys other → IsNoted next.keys other
+  pub itself : IsSeenKey next.keys k.request
+  pub others : (other : Request) → IsSeenKey r.keys other → IsSeenKey next.keys other
   pub page : IsPageOf c next.page
 
 -- a record is replayed, or it isn't what its request gives
@@ -102,7 +102,7 @@ abbrev pub IsReplayed : Content → Course → Kept → Option Course → Type 0
 IsReplayed c r k None = ¬ Matches c (rows_of r) k
 IsReplayed c r k (Some next) = Matches c (rows_of r) k × GoesOn c r k next
 
--- what a step of the replay from there comes to
+-- the result of a step of the replay from there
 abbrev pub IsStep : Content → Course → Step → Type 0
 IsStep c r (Replayed next) = Goes c r → Goes c next
 IsStep c r Differs = Goes c r → IsFirstDifference c ((rows_of r).last_stamp + 1)

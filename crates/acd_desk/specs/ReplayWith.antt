@@ -5,28 +5,28 @@ use Rattle.acd_terms.specs.declared.rows.Rows.{Rows}
 use Rattle.acd_book.specs.declared.kept.Kept.{Kept}
 use Rattle.acd_book.specs.Content.{Content, kept_of, IsKeptAfter}
 use Rattle.acd_desk.specs.declared.audit.Audit.{Audit}
-use Rattle.acd_desk.specs.declared.noted.Noted.{Noted}
+use Rattle.acd_desk.specs.declared.seen.SeenKeys.{SeenKeys}
 use Rattle.acd_desk.specs.declared.page.Page.{Page}
 use Rattle.acd_desk.specs.declared.replay.Course.{Course}
 use Rattle.acd_desk.specs.declared.replay.Step.{Step}
 use Rattle.acd_desk.specs.declared.replay.Step.TheVariants.{Replayed, Differs, Ended}
-use Rattle.acd_desk.specs.Noting.{IsNoted}
+use Rattle.acd_desk.specs.KeyPlaces.{IsSeenKey}
 use Rattle.acd_desk.specs.Pages.{IsPageOf}
-use Rattle.acd_desk.specs.Replay.{rows_of, TellsKeys, GoesOn}
+use Rattle.acd_desk.specs.Replay.{rows_of, FindsFirst, GoesOn}
 use Rattle.acd_desk.specs.WithArchive.{IsSoundWith}
 use Rattle.acd_desk.specs.AuditWith.{HoldsArchive, RunsTo, MatchesWith, IsDifferenceWith, IsAuditWith}
 use Rattle.acd_desk.specs.Overlap.{AreInOrder}
 
 -- so much is known of both before a record is compared with what its request gives
-pub record KnowsWith (a c : Content) (keys : Noted) (p : Page) (k : Kept) : Type 0 where
-  pub tells : kept_of a.kept k.request.requester k.request.invoke ≡ None → TellsKeys c keys k
+pub record KnowsWith (a c : Content) (keys : SeenKeys) (p : Page) (k : Kept) : Type 0 where
+  pub finds : kept_of a.kept k.request.requester k.request.invoke ≡ None → FindsFirst c keys k
   pub page : IsPageOf c p
 
--- its switch has replayed the first newer records, their keys are noted, and its page is of the content
+-- its switch has replayed the first newer records, it has seen their keys, and its page is of the content
 pub record GoesWith (a c : Content) (r : Course) : Type 0 where
   pub order : AreInOrder a c
   pub runs : RunsTo a c (rows_of r)
-  pub noted : Every (λ (k : Kept). IsNoted r.keys k.request) runs.runs.newer
+  pub seen : Every (λ (k : Kept). IsSeenKey r.keys k.request) runs.runs.newer
   pub page : IsPageOf c r.page
 
 -- a replay begins at the archive's rows
@@ -41,7 +41,7 @@ abbrev pub IsReplayedWith : Content → Content → Course → Kept → Option C
 IsReplayedWith a c r k None = ¬ MatchesWith a c (rows_of r) k
 IsReplayedWith a c r k (Some next) = MatchesWith a c (rows_of r) k × GoesOn c r k next
 
--- what a step of the replay from there comes to
+-- the result of a step of the replay from there
 abbrev pub IsStepWith : Content → Content → Course → Step → Type 0
 IsStepWith a c r (Replayed next) = GoesWith a c r → GoesWith a c next
 IsStepWith a c r Differs = GoesWith a c r → IsDifferenceWith a c ((rows_of r).last_stamp + 1)

@@ -1,4 +1,4 @@
--- What is answered to an arrival of a list, and what a desk does with one more.
+-- The answer to an arrival of a list, and what a desk does with one more.
 use Rattle.std.specs.Prelude.{◌≡◌, ◌≢◌, ◌⊎◌, Bool, true, false, cond, nat_lt, List, ◌∷◌, ◌++◌, Option, Some, None, is_some}
 use Rattle.acd_terms.specs.Lists.{Among}
 use Rattle.acd_terms.specs.declared.rows.Limits.{Limits}
@@ -15,7 +15,7 @@ use Rattle.acd_desk.specs.Firsts.{has_key, executed, firsts, run}
 unfoldable pub same_request : Request → Request → Bool
 same_request a b = (request.eq-value).it a b
 
--- what the record of its key answers to a request
+-- the answer that the record of its key gives to a request
 abbrev pub answer_of : Option Kept → Request → Taken
 answer_of None r = DeskFull
 answer_of (Some k) r = cond (same_request k.request r) (Reply k.status k.body) InvokeReused
@@ -27,12 +27,12 @@ answer_in c r = answer_of (kept_of c.kept r.requester r.invoke) r
 abbrev pub reply_to : Limits → List Arrival → Request → Taken
 reply_to limits list r = answer_in (run limits list) r
 
--- x and k stand at one place of the two lists
+-- x and k are at one place of the two lists
 abbrev pub StandTogether : List Arrival → List Kept → Arrival → Kept → Type 0
 StandTogether (a ∷ list) (r ∷ kept) x k = ((x ≡ a) × (k ≡ r)) ⊎ StandTogether list kept x k
 StandTogether _ _ x k = ⊥
 
--- the arrival stands in the first arrivals of the list, and the run keeps this of it
+-- the arrival is among the first arrivals of the list, and the run keeps this of it
 abbrev pub StandsFirst : Limits → List Arrival → Arrival → Kept → Type 0
 StandsFirst limits list a kept = StandTogether (firsts limits.requests list) (run limits list).kept a kept
 
@@ -41,19 +41,19 @@ pub record IsEarlier (before : List Arrival) (a earlier : Arrival) : Type 0 wher
   pub stands : Among earlier before
   pub key : is_key a.request.requester a.request.invoke earlier.request ≡ true
 
--- the answer to an arrival of a list, by what stands before it and behind it
-pub data IsReplyAt (limits : Limits) (before : List Arrival) (a : Arrival) (behind : List Arrival) : Taken → Type 0 where
-  -- it stands in the first arrivals: its own reply
-  own : (kept : Kept) → has_key before a.request.requester a.request.invoke ≡ false
-      → StandsFirst limits (before ++ a ∷ behind) a kept → IsReplyAt limits before a behind (Reply kept.status kept.body)
-  -- an earlier arrival of its key stands there, with the same request: the reply to that
+-- the answer to an arrival of a list, by the arrivals before it and the rest
+pub data IsReplyAt (limits : Limits) (before : List Arrival) (a : Arrival) (rest : List Arrival) : Taken → Type 0 where
+  -- it is among the first arrivals: the reply to itself
+  first_arrival : (kept : Kept) → has_key before a.request.requester a.request.invoke ≡ false
+      → StandsFirst limits (before ++ a ∷ rest) a kept → IsReplyAt limits before a rest (Reply kept.status kept.body)
+  -- an earlier arrival of its key is there, with the same request: the reply to that
   repeat : (earlier : Arrival) (kept : Kept) → IsEarlier before a earlier
-      → StandsFirst limits (before ++ a ∷ behind) earlier kept → earlier.request ≡ a.request → IsReplyAt limits before a behind (Reply kept.status kept.body)
+      → StandsFirst limits (before ++ a ∷ rest) earlier kept → earlier.request ≡ a.request → IsReplyAt limits before a rest (Reply kept.status kept.body)
   -- or with another one
   reused : (earlier : Arrival) (kept : Kept) → IsEarlier before a earlier
-      → StandsFirst limits (before ++ a ∷ behind) earlier kept → earlier.request ≢ a.request → IsReplyAt limits before a behind InvokeReused
-  -- no arrival of its key stands there
-  full : has_key (firsts limits.requests (before ++ a ∷ behind)) a.request.requester a.request.invoke ≡ false → IsReplyAt limits before a behind DeskFull
+      → StandsFirst limits (before ++ a ∷ rest) earlier kept → earlier.request ≢ a.request → IsReplyAt limits before a rest InvokeReused
+  -- no arrival of its key is there
+  full : has_key (firsts limits.requests (before ++ a ∷ rest)) a.request.requester a.request.invoke ≡ false → IsReplyAt limits before a rest DeskFull
 
 -- the content after one more arrival: where its key is new and the desk isn't full, that with it executed
 abbrev pub after : Content → Arrival → Content

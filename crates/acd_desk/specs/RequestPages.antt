@@ -1,4 +1,4 @@
--- A page of the requests that a desk has executed, as it is told.
+-- A page of the requests that a desk has executed, as text.
 use Rattle.std.specs.Prelude.{ℕ, List, ◌++◌, codes, decimal, flat_map}
 use Rattle.std.specs.List.{join_by}
 use Rattle.acd_codec.specs.RequestTexts.{request_text}
@@ -13,7 +13,7 @@ executed_text k =
     ++ (codes ",\"stamp\":" ++ (decimal k.stamp
     ++ (codes ",\"status\":" ++ (decimal k.status ++ codes "}")))))))))
 
--- requests behind another
+-- requests after another
 abbrev pub further_texts : List Kept → List ℕ
 further_texts kept = flat_map (λ (k : Kept). codes "," ++ executed_text k) kept
 

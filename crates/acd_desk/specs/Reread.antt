@@ -1,4 +1,4 @@
--- What a read of a desk's book leaves, where it gave an answer.
+-- A read of a desk's book that gave an answer: what it leaves.
 use Rattle.std.specs.Prelude.{◌≡◌, None}
 use Rattle.acd_book.specs.State.{IfHonest, BookStep, Unchanged}
 use Rattle.acd_desk.specs.Standing.{Standing, InStep}

@@ -1,4 +1,4 @@
--- What a session over a book leaves: a desk is opened, runs and is closed.
+-- A session over a book: a desk is opened, runs and is closed.
 use Rattle.std.specs.Prelude.{◌≡◌, false, List, [], ◌∷◌, length}
 use Rattle.std.specs.List.{Contains}
 use Rattle.acd_terms.specs.declared.command.Arrival.{Arrival}
@@ -11,42 +11,42 @@ use Rattle.acd_desk.specs.declared.open_fault.OpenFault.{OpenFault}
 use Rattle.acd_desk.specs.declared.open_fault.OpenFault.TheVariants as fault
 use Rattle.acd_desk.specs.declared.session.SessionFault.{SessionFault}
 use Rattle.acd_desk.specs.declared.session.SessionFault.TheVariants as session
-use Rattle.acd_desk.specs.Served.{is_fault, served, maybe_last, sent}
+use Rattle.acd_desk.specs.Accepted.{is_fault, accepted, maybe_last, sent}
 use Rattle.acd_desk.specs.Stands.{IsSound, replies, StopsAt}
 use Rattle.acd_desk.specs.Ran.{EndsIn, Holds}
 use Rattle.acd_desk.specs.Leads.{Leads}
 
--- what is said where the book was honest and its content sound
+-- this is said where the book was honest and its content sound
 abbrev pub IfWhole : BookState → BookState → Type 0 → Type 0
 IfWhole old new P = new.is_clean → old.is_sound → IsSound old.content → P
 
--- the last arrival was served, or there was none
-abbrev pub IsLastServed : List Taken → Type 0
-IsLastServed [] = Unit {0}
-IsLastServed (t ∷ []) = is_fault t ≡ false
-IsLastServed (_ ∷ t ∷ ts) = IsLastServed (t ∷ ts)
+-- the last arrival was accepted, or there was none
+abbrev pub IsLastAccepted : List Taken → Type 0
+IsLastAccepted [] = Unit {0}
+IsLastAccepted (t ∷ []) = is_fault t ≡ false
+IsLastAccepted (_ ∷ t ∷ ts) = IsLastAccepted (t ∷ ts)
 
--- the arrivals were taken in turn, and the book came back; of the answers behind a storeFault this is said
-pub record Session (Behind : Taken → Type 0) (old : BookState) (arrivals : List Arrival) (answers : List Taken) (new : BookState) : Type 0 where
+-- the desk answered the arrivals in turn, and the book came back; the answers after a storeFault have this property
+pub record Session (After : Taken → Type 0) (old : BookState) (arrivals : List Arrival) (answers : List Taken) (new : BookState) : Type 0 where
   pub even : length arrivals ≡ length answers
   -- no failure was counted but where a storeFault is among the answers
   pub step : BookStep (Contains answers StoreFault) old new
   -- the book was open, with rows that break no rule
   pub opened : IfHonest old new old.is_open
   pub accepts : IfHonest old new (BreaksNoRule old.content.rows)
-  -- from any content whose counters are up to its records they were taken in turn
+  -- the desk executed them in turn, from any content whose counters are up to its records
   pub leads : IfHonest old new (IsCounted old.content → Leads old.content arrivals answers new)
-  -- each answer but the faults is that of the abstract desk, at its place in the list of what was kept and served
-  pub replies : IfWhole old new (sent answers ≡ replies old.content (served arrivals answers))
+  -- each answer but the faults is that of the abstract desk, at its place in the list of what was kept and accepted
+  pub replies : IfWhole old new (sent answers ≡ replies old.content (accepted arrivals answers))
   -- an open book holds the run over the first arrivals of that list, and a reopening finds nothing else
-  pub holds : IfWhole old new (new.is_open → Holds old.content (served arrivals answers) new)
-  -- the book is open behind an arrival that was served, so also where all were
-  pub up : IfHonest old new (IsLastServed answers → new.is_open)
-  -- whatever a stop leaves is that run, or that with one more arrival, which came behind the last that was served
-  pub stops : IfWhole old new ((c : Content) → new.stops c → StopsAt old.content (served arrivals answers) (maybe_last arrivals answers) c)
+  pub holds : IfWhole old new (new.is_open → Holds old.content (accepted arrivals answers) new)
+  -- the book is open after an accepted arrival, so also where all were accepted
+  pub up : IfHonest old new (IsLastAccepted answers → new.is_open)
+  -- whatever a stop leaves is that run, or that with one more arrival, which came after the last accepted one
+  pub stops : IfWhole old new ((c : Content) → new.stops c → StopsAt old.content (accepted arrivals answers) (maybe_last arrivals answers) c)
   pub sound_stops : IfWhole old new ((c : Content) → new.stops c → IsSound c)
   -- a storeFault comes only where a failure was counted
-  pub later : EndsIn Behind answers
+  pub later : EndsIn After answers
   pub cause : IfWhole old new (Contains answers StoreFault → HasRisen old.failures new.failures)
 
 -- want of room for the answers is want of memory

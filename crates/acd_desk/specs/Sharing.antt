@@ -3,19 +3,19 @@ use Rattle.std.specs.Prelude.{◌≡◌, ℕ, ◌-◌, ◌≤◌, List, [], ◌�
 use Rattle.acd_terms.specs.Lists.{Every}
 use Rattle.acd_book.specs.Order.{Rises}
 
--- the list in two: what it has up to a number, and what it has above it
+-- the list in two: the part up to a number, and the part above it
 pub record IsSplit {T : Type 0} (f : T → ℕ) (n : ℕ) (xs past left : List T) : Type 0 where
   pub whole : xs ≡ past ++ left
   pub below : Every (λ (x : T). f x ≤ n) past
   pub above : Rises f n left
 
 -- one list begins with what another one has above a cut; the rest of it is above the other one's last number
-pub record Begins {T : Type 0} (f : T → ℕ) (cut last : ℕ) (theirs own : List T) : Type 0 where
+pub record Begins {T : Type 0} (f : T → ℕ) (cut last : ℕ) (archived current : List T) : Type 0 where
   pub past : List T
   pub carried : List T
   pub rest : List T
-  pub split : IsSplit f cut theirs past carried
-  pub mine : own ≡ carried ++ rest
+  pub split : IsSplit f cut archived past carried
+  pub mine : current ≡ carried ++ rest
   pub newer : Rises f last rest
 
 -- the number before the first, or the last number of the other one where there is no first, or it is beyond

@@ -1,4 +1,4 @@
--- What a sound content is, and what a run of the desk leaves.
+-- A sound content, and what a run of the desk leaves.
 use Rattle.std.specs.Prelude.{◌≡◌, ◌⊎◌, ◌≤◌, true, List, [], ◌∷◌, ◌++◌, map, length, None}
 use Rattle.std.specs.List.{Contains}
 use Rattle.acd_terms.specs.Limits.{limits_fit}
@@ -31,9 +31,9 @@ ran_after start list = run start.rows.limits (arrivals_of start.kept ++ list)
 abbrev pub replies : Content → List Arrival → List Taken
 replies start list = map (λ (a : Arrival). reply_to start.rows.limits (arrivals_of start.kept ++ list) a.request) list
 
--- what a reopening may find: that run, or that with one more of those that were not served
+-- a reopening may find that run, or that with one more of the arrivals that were not accepted
 abbrev pub StopsAt : Content → List Arrival → List Arrival → Content → Type 0
-StopsAt start served others c = (c ≡ ran_after start served) ⊎ ((a : Arrival) × Contains others a × (c ≡ ran_after start (served ++ a ∷ [])))
+StopsAt start accepted others c = (c ≡ ran_after start accepted) ⊎ ((a : Arrival) × Contains others a × (c ≡ ran_after start (accepted ++ a ∷ [])))
 
 -- no record has the key of the request
 abbrev pub IsNew : Content → Request → Type 0

@@ -1,4 +1,4 @@
--- When a content goes on from another one, which is its archive: what an audit with the archive has to find.
+-- A content that continues another one, which is its archive, and what an audit with the archive has to find.
 use Rattle.std.specs.Prelude.{◌≡◌, ◌<◌, List, ◌++◌}
 use Rattle.acd_terms.specs.Lists.{Every}
 use Rattle.acd_terms.specs.declared.event.Event.{Event}
@@ -8,7 +8,7 @@ use Rattle.acd_desk.specs.Stands.{arrivals_of, IsSound}
 use Rattle.acd_desk.specs.Leads.{led}
 use Rattle.acd_desk.specs.Carried.{Archive, together, joined, NoneSentAgain}
 
--- the archive in two: what was left behind, and what was carried over, with all events of its requests
+-- the archive in two: the part left there, and the part carried over, with all events of its requests
 pub record IsCut (a : Content) (left : Archive) (carried : Content) : Type 0 where
   pub whole : a ≡ together left carried
   pub events : Every (λ (e : Event). Every (λ (k : Kept). e.moment < k.moment) carried.kept) left.events
@@ -26,7 +26,7 @@ pub record IsSoundWith (a c : Content) : Type 0 where
 abbrev pub AuditsWithArchive : Type 0
 AuditsWithArchive = (a c : Content) (goes : IsSoundWith a c) → IsSound a → IsSound (together goes.left c)
 
--- where it was itself carried over, and is sound with its own archive, all three are, no request being sent again that this one has
+-- where it was itself carried over, and is sound with its archive, all three are, no request being sent again that this one has
 abbrev pub AuditsLinkByLink : Type 0
 AuditsLinkByLink = (p : Archive) (a c : Content) (goes : IsSoundWith a c) → IsSound (together p a) → NoneSentAgain p (arrivals_of goes.newer)
     → IsSound (together (joined p goes.left) c)

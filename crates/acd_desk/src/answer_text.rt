@@ -34,7 +34,7 @@ impl AnswerText {
         }
     }
 
-    /// Where this member of a request is faulty. It takes no memory.
+    /// The faulty member of a request. It takes no memory.
     pub fn malformed(member: Member) -> AnswerText
         ensures { said result ≡ malformed_said member }
     {
@@ -44,7 +44,7 @@ impl AnswerText {
         }
     }
 
-    /// The answer to a question, by what the desk told. It takes no memory.
+    /// The answer to a question, by what the desk read. It takes no memory.
     pub fn found(found: Result<Option<String>, DeskFault>) -> AnswerText
         ensures { said result ≡ found_said (seen found) }
     {
@@ -108,8 +108,8 @@ fn text_of(alloc: Global, request: &Request, taken: Taken) -> AnswerText
 }
 
 impl<B: Book> Desk<B> {
-    /// Takes one arrival, as [`Desk::take`] does, and answers it in text. Where the text of a rejection
-    /// finds no memory the answer is noMemory.
+    /// Executes one arrival, as [`Desk::take`] does, and answers it in text. Where the text of a rejection finds no
+    /// memory the answer is noMemory.
     pub fn take_text(&mut self, moment: u32, request: &Request) -> AnswerText
         ensures { SaysOf (standing B.Book self.old) (at moment request.now) (said result)
             (standing B.Book self.new) }

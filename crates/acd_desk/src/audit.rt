@@ -1,8 +1,8 @@
-//! The audit of a desk: what its book holds, against the replay of its kept requests.
+//! The audit of a desk: its book's content, against the replay of its kept requests.
 
 ghost use Rattle.acd_desk.specs.Standing.{book_of};
-ghost use Rattle.acd_desk.specs.Told.{DeskTold};
-ghost use Rattle.acd_desk.specs.Audit.{IsAudited, TellsSound};
+ghost use Rattle.acd_desk.specs.ReadDone.{DeskRead};
+ghost use Rattle.acd_desk.specs.Audit.{IsAudited, FindsSound};
 ghost use Rattle.acd_desk.specs.Pages.{ReadsIfOpen};
 ghost use Rattle.std.specs.Prelude.{◌≡◌};
 ghost use Rattle.acd_desk.specs.AuditedWith.{desk_part, archive_part, audit_fault, left_by_pair, IsAuditedWith};
@@ -17,13 +17,13 @@ use crate::working::Working;
 use acd_book::Book;
 use thiserror::Error;
 
-/// What an audit answers.
+/// The answer of an audit.
 #[derive(Clone, Copy, Debug, PartialEq, Eq)]
 pub enum Audit {
     /// All that is kept is what the kept requests give.
     Sound,
-    /// The first place in the kept list, from 1, whose record or events are not what the kept requests give;
-    /// or the place behind the list, where only the tables or events that belong to none are not.
+    /// The first place in the kept list, from 1, whose record or events are not what the kept requests give; or the
+    /// place after the list, where only the tables or events that belong to none are not.
     Differs(u64),
 }
 
@@ -42,10 +42,10 @@ impl<B: Book> Desk<B> {
     /// Runs the kept requests again, each at the moment that its record holds, and compares what they give
     /// with what the book holds. It changes nothing, and its memory doesn't grow with the number of requests.
     pub fn audit(&mut self) -> Result<Audit, DeskFault>
-        ensures told { DeskTold B.Book self.old self.new result (λ c found. Unit {0}) }
+        ensures read { DeskRead B.Book self.old self.new result (λ c found. Unit {0}) }
         ensures audited { IsAudited (B.state (book_of self.old))
             (B.state (book_of self.new)) result }
-        ensures sound { TellsSound (B.state (book_of self.old))
+        ensures sound { FindsSound (B.state (book_of self.old))
             (B.state (book_of self.new)) result }
     {
         if let Working::Failed = self.working {
@@ -57,10 +57,11 @@ impl<B: Book> Desk<B> {
         }
     }
 
-    /// The same of a desk that was carried over, with the archive that it goes on from: up to the archive's last stamp its records have to be
-    /// the archive's own, and what is newer is run again from the archive's state on. It changes nothing in either.
+    /// The same for a desk that was carried over, with the archive that it goes on from: up to the archive's last stamp
+    /// its records have to be those of the archive, and the newer ones are run again from the archive's state on. It
+    /// changes nothing in either.
     pub fn audit_with<A: Book>(&mut self, archive: &mut A) -> Result<Audit, AuditFault>
-        ensures told { DeskTold B.Book self.old self.new (desk_part result) (λ c found. Unit {0}) }
+        ensures read { DeskRead B.Book self.old self.new (desk_part result) (λ c found. Unit {0}) }
         ensures archive { ReadsIfOpen (A.state archive.old) (A.state archive.new)
             (archive_part result) (λ a found. Unit {0}) }
         ensures audited { IsAuditedWith (A.state archive.old) (A.state archive.new)
@@ -71,18 +72,18 @@ impl<B: Book> Desk<B> {
         }
         match audited_with(self.alloc, archive, &mut self.book) {
             Ok(audit) => Ok(audit),
-            Err(fault) => Err(self.told_not(fault)),
+            Err(fault) => Err(self.pair_failed(fault)),
         }
     }
 
-    // What a fault of either is to the audit: where the desk's store has failed, the desk has.
-    fn told_not(&mut self, fault: PairFault) -> AuditFault
+    // A fault of either as a fault of the audit: where the desk's store has failed, the desk has.
+    fn pair_failed(&mut self, fault: PairFault) -> AuditFault
         ensures fault { result ≡ audit_fault fault }
         ensures left { self.new
             ≡ record self.old { working = left_by_pair fault self.old.working } }
     {
         match fault {
-            PairFault::Own(fault) => AuditFault::Desk(self.failed(fault)),
+            PairFault::Current(fault) => AuditFault::Desk(self.failed(fault)),
             PairFault::Archive(fault) => AuditFault::Archive(fault),
         }
     }

@@ -6,7 +6,7 @@ ghost use Rattle.acd_desk.specs.Standing.{standing, book_of, holding, with_new_k
 ghost use Rattle.acd_terms.specs.Lists.{Every};
 ghost use Rattle.acd_desk.specs.Ran.{Took, DeskTook, DeskRan, HasFailed, EndsIn, IsStoreFault};
 ghost use Rattle.acd_desk.specs.Reread.{Reread};
-ghost use Rattle.acd_desk.specs.Told.{TellsNothing};
+ghost use Rattle.acd_desk.specs.ReadDone.{ReadFailed};
 ghost use Rattle.acd_desk.specs.Faults.{answer_to, fault_of, left_by};
 ghost use Rattle.acd_desk.specs.Opening.{Opened, Refused};
 ghost use Rattle.acd_desk.specs.Replies.{answer_of};
@@ -31,7 +31,7 @@ pub struct Desk<B: Book> {
 }
 
 impl<B: Book> Desk<B> {
-    // What a fault of the book is to the desk: where the store has failed, the desk has.
+    // A fault of the book as one of the desk: where the store has failed, the desk has.
     pub(crate) fn failed(&mut self, fault: BookFault) -> DeskFault
         ensures fault { result ≡ fault_of fault }
         ensures left { self.new ≡ record self.old { working = left_by fault self.old.working } }
@@ -60,7 +60,7 @@ impl<B: Book> Desk<B> {
         ensures loaded { MatchResult result
             (λ taken. Reread (standing B.Book self.old)
             (holding (standing B.Book self.new) taken.switch.value))
-            (λ fault. TellsNothing (standing B.Book self.old) fault (standing B.Book self.new)) }
+            (λ fault. ReadFailed (standing B.Book self.old) fault (standing B.Book self.new)) }
     {
         let rows = match self.book.rows() {
             Ok(rows) => rows,
@@ -72,13 +72,13 @@ impl<B: Book> Desk<B> {
         }
     }
 
-    // Takes the switch out of memory, or loads it. Where it isn't put back, the desk is unloaded.
+    // Moves the switch out of memory, or loads it. Where it isn't put back, the desk is unloaded.
     pub(crate) fn switch_out(&mut self) -> Result<LoadedSwitch, DeskFault>
         ensures out { OnOk result (self.new.working ≡ Working.Unloaded) }
         ensures loaded { MatchResult result
             (λ taken. Reread (standing B.Book self.old)
             (holding (standing B.Book self.new) taken.switch.value))
-            (λ fault. TellsNothing (standing B.Book self.old) fault (standing B.Book self.new)) }
+            (λ fault. ReadFailed (standing B.Book self.old) fault (standing B.Book self.new)) }
     {
         match mem::replace(&mut self.working, Working::Unloaded) {
             Working::Loaded(loaded) => Ok(loaded),
@@ -149,8 +149,8 @@ impl<B: Book> Desk<B> {
         self.answer(moment, request)
     }
 
-    /// Takes each arrival in turn. Where there is no room for the answers, nothing was executed. Behind a
-    /// storeFault nothing else is answered.
+    /// Executes the arrivals in turn. Where there is no room for the answers, nothing was executed. After a storeFault
+    /// nothing else is answered.
     pub fn run(&mut self, arrivals: &[Arrival]) -> Result<Vec<Taken>, AllocError>
         ensures ran { IfOk result (λ answers.
             DeskRan B.Book self.old arrivals.now answers.items self.new) }

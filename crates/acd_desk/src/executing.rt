@@ -45,7 +45,7 @@ pub(crate) fn executed(
     Ok((done, kept))
 }
 
-// What is kept of a request, by the counters of the switch after it.
+// The record kept of a request, by the counters of the switch after it.
 fn kept_record(stamp: u64, moment: u32, request: &Request, outcome: Outcome, body: Text) -> Kept
     ensures { result ≡ record (kept_at stamp moment request.now outcome) { body = body } }
 {

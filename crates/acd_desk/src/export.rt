@@ -2,8 +2,8 @@
 
 ghost use Rattle.std.specs.Prelude.{◌≡◌, ◌++◌, string_bytes};
 ghost use Rattle.acd_reports.specs.Export.{records_text};
-ghost use Rattle.acd_desk.specs.Told.{DeskTold};
-ghost use Rattle.acd_desk.specs.Tells.{told, export_read, Rise, above, records_left};
+ghost use Rattle.acd_desk.specs.ReadDone.{DeskRead};
+ghost use Rattle.acd_desk.specs.ReadAnswers.{text_read, export_read, Rise, above, records_left};
 
 use crate::desk::Desk;
 use crate::fault::DeskFault;
@@ -17,7 +17,7 @@ const PAGE: usize = 1000;
 impl<B: Book> Desk<B> {
     // It hasn't failed.
     fn still_works(&mut self) -> Result<(), DeskFault>
-        ensures { DeskTold B.Book self.old self.new result (λ c found. Unit {0}) }
+        ensures { DeskRead B.Book self.old self.new result (λ c found. Unit {0}) }
     {
         if let Working::Failed = self.working {
             return Err(DeskFault::StoreFault);
@@ -28,7 +28,7 @@ impl<B: Book> Desk<B> {
     // Writes the records of the first events above a number, and gives the number of the last one. Where it gives
     // none, there are no more.
     fn export_page(&mut self, export: &mut String, after: u64) -> Result<Option<u64>, DeskFault>
-        ensures { DeskTold B.Book self.old self.new result (λ c last. Rise 0 c.events
+        ensures { DeskRead B.Book self.old self.new result (λ c last. Rise 0 c.events
             → string_bytes export.new ++ records_left c.events last
             ≡ string_bytes export.old ++ records_text (above c.events after)) }
     {
@@ -44,8 +44,8 @@ impl<B: Book> Desk<B> {
     /// All events in CSV, in ascending number. There always is an export. Beside its text it holds a page of the
     /// events at a time.
     pub fn export(&mut self) -> Result<Option<String>, DeskFault>
-        ensures { DeskTold B.Book self.old self.new result (λ c text.
-            Rise 0 c.events → told text ≡ export_read c) }
+        ensures { DeskRead B.Book self.old self.new result (λ c text.
+            Rise 0 c.events → text_read text ≡ export_read c) }
     {
         self.still_works()?;
         let mut export = String::from_str(self.alloc, export_header())?;

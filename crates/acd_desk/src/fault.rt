@@ -1,4 +1,4 @@
-//! Why a desk tells nothing.
+//! Why a desk answers nothing.
 
 ghost use Rattle.std.specs.Prelude.{◌≡◌};
 

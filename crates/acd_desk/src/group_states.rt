@@ -1,4 +1,4 @@
-//! What a queue report shows of the groups, by the indexes of the tables.
+//! The groups as a queue report shows them, by the indexes of the tables.
 
 ghost use Rattle.std.specs.Prelude.{◌≡◌, filter, length, map, IfOk};
 ghost use Rattle.std.specs.List.Sorted.{IsStrictlySortedBy};
@@ -57,8 +57,8 @@ fn ringing_of(ringing: &[ConnectionRecord], group: DeviceId) -> usize
         .count()
 }
 
-// What is shown of a planned group, beside the offers that ring. One that isn't planned is refused as if there were no
-// memory.
+// The state of a planned group for the report, beside the offers that ring. A group that isn't planned is refused as if
+// there were no memory.
 fn group_state(
     tables: &Tables,
     ringing: &[ConnectionRecord],
@@ -97,7 +97,7 @@ fn states_of(
     Ok(states)
 }
 
-/// What is shown of each group. It goes through the groups, the calls that wait and the offers that ring.
+/// The state of each group for the report. It looks at the groups, the calls that wait and the offers that ring.
 pub(crate) fn group_states(alloc: Global, tables: &Tables) -> Result<Vec<GroupState>, AllocError>
     requires { BreaksNoRule tables.now }
     ensures { IfOk result (λ states. states.items ≡ map (state_of tables.now) tables.now.groups) }

@@ -1,5 +1,5 @@
-//! What holds of the abstract desk, whichever book keeps it. Each law is the contract of a function with
-//! an empty body, and is stated in `specs/`.
+//! Laws of the abstract desk, whichever book keeps it. Each law is the contract of a function with an empty body, and
+//! is stated in `specs/`.
 
 ghost use Rattle.acd_desk.specs.DeskLaws.{OneMoreArrival, AnswersByPlace, SoundKeepsLaws, EmptyIsSound, StaysSound, KeepsFirsts, EventsInOrder};
 ghost use Rattle.acd_desk.specs.Feeding.{AgainAddsNothing, FedHoldsTheLog, DesksAgree};
@@ -40,12 +40,12 @@ pub fn stays_sound()
     ensures { StaysSound }
 {}
 
-/// What is kept after a run is the first arrivals of the list, each at its executed moment.
+/// A run keeps the first arrivals of the list, each at its executed moment.
 pub fn keeps_firsts()
     ensures { KeepsFirsts }
 {}
 
-/// The events of a sound content stand in ascending number, each above 0.
+/// The events of a sound content are in ascending number, each above 0.
 pub fn events_in_order()
     ensures { EventsInOrder }
 {}
@@ -65,20 +65,20 @@ pub fn one_log_many_desks()
     ensures agree { DesksAgree }
 {}
 
-/// A content that was sound while an agent served one group and groups had no priority is sound.
+/// A content that was sound while an agent was in one group and groups had no priority is sound.
 pub fn old_sound_is_sound()
     ensures { OldSoundIsSound }
 {}
 
-/// What a sound content shows of connections, agents and figures is changed by the events above its last number to what each later one shows:
-/// who takes a snapshot and then follows the events misses none, and is told none twice.
+/// The events above a content's last number change what it shows of connections, agents and figures to what each later
+/// one shows: a client that gets a snapshot and then follows the events misses none, and gets none twice.
 pub fn snapshot_leads_on()
     ensures { SnapshotLeadsOn }
 {}
 
-/// What is read of a sound content page by page, each from the stamp of the last request of the one before, makes a beginning of the run:
-/// the same requests at the same moments, with the same replies. Where a page is empty, or the last stamp that was read is the
-/// last one, it makes the whole content.
+/// Reads of a sound content page by page, each from the stamp of the last request of the one before, make a beginning
+/// of the run: the same requests at the same moments, with the same replies. Where a page is empty, or the last stamp
+/// that was read is the last one, they make the whole content.
 pub fn pages_rebuild()
     ensures { PagesRebuild }
 {}
@@ -96,9 +96,9 @@ pub fn names_are_inert()
     ensures answers { AnswersIgnoreNames }
 {}
 
-/// Over a content whose older records lie in an archive, no request that these have being sent again, answers, rows, events and
-/// kept replies are those over both together; where both together are sound, they are the run of all that was ever kept, and what
-/// is left is sound with the archive. It may be carried over again, and a desk opens over it.
+/// Over a content whose older records are in an archive, no request that these have being sent again, answers, rows,
+/// events and kept replies are those over both together; where both together are sound, they are the run of all that
+/// was ever kept, and the rest is sound with the archive. It may be carried over again, and a desk opens over it.
 pub fn carried_goes_on()
     ensures on { CarriedGoesOn }
     ensures all { CarriedIsRunOfAll }
@@ -111,8 +111,8 @@ pub fn carried_runs<B: Book>()
     ensures { CarriedRuns B.Book }
 {}
 
-/// A content that goes on from a sound archive, with the archive's last records and what its newer requests make of the archive's
-/// state, is sound with it; of a chain of archives each goes on from the one before.
+/// A content that continues a sound archive, with the archive's last records and what its newer requests make of the
+/// archive's state, is sound with it; of a chain of archives each continues the one before.
 pub fn audits_with_archive()
     ensures one { AuditsWithArchive }
     ensures links { AuditsLinkByLink }

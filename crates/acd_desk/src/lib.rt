@@ -1,10 +1,10 @@
 //! The desk: it executes each request once, keeps its reply, and gives a repeat the kept one.
 //!
-//! [`Desk`] stands over any [`acd_book::Book`]. What it answers and leaves is what `specs/Firsts` and
-//! `specs/Replies` say: the abstract switch run once over each request's first arrival. [`Taken`] is an
-//! answer, an [`AnswerText`] says it in text, and [`OpenFault`] says why a book makes no desk. What it tells to a
-//! [`Question`] is what `specs/Tells` says, or a [`DeskFault`]. An [`Audit`] says whether all that its book holds is what
-//! the kept requests give, run again, or where it first differs (`specs/Audit`).
+//! [`Desk`] works over any [`acd_book::Book`]. `specs/Firsts` and `specs/Replies` say what it answers and leaves: the
+//! abstract switch run once over each request's first arrival. [`Taken`] is an answer, an [`AnswerText`] says it in
+//! text, and [`OpenFault`] says why a book makes no desk. `specs/ReadAnswers` says what it answers to a [`Question`], or it
+//! answers a [`DeskFault`]. An [`Audit`] says whether all that its book holds is what the kept requests give, run
+//! again, or where it first differs (`specs/Audit`).
 //!
 //! ```ignore
 //! let mut desk = Desk::open(alloc, MemoryBook::new(alloc, Limits::GREATEST))?;
@@ -24,7 +24,6 @@ mod fault;
 mod group_states;
 pub mod laws;
 mod newer;
-mod noted;
 mod open_fault;
 mod overlap;
 mod page;
@@ -35,6 +34,7 @@ mod replay;
 mod request_pages;
 mod requests;
 mod same;
+mod seen;
 mod session;
 mod table_reads;
 mod taken;

@@ -14,7 +14,7 @@ ghost use Rattle.acd_desk.specs.ReplayWith.{KnowsWith, BeginsWith, IsReplayedWit
 use crate::audit::Audit;
 use crate::open_fault::OpenFault;
 use crate::overlap::{Cut, other_place};
-use crate::pair::{PairFault, of_archive, of_opening, of_own};
+use crate::pair::{PairFault, of_archive, of_current, of_opening};
 use crate::replay::{Course, Step, coursed, is_all, is_whole, last_step, replayed};
 use crate::working::LoadedSwitch;
 use acd_book::{Book, BookFault, Kept};
@@ -39,7 +39,7 @@ fn replayed_with<A: Book, B: Book>(
     kept: &Kept,
 ) -> Result<Option<Course>, PairFault>
     requires { course.loaded.switch.value.last_stamp < course.loaded.switch.value.limits.requests }
-    ensures told { ReadsBoth (A.state archive.old) (A.state archive.new) (B.state book.old)
+    ensures read { ReadsBoth (A.state archive.old) (A.state archive.new) (B.state book.old)
         (B.state book.new) result (λ a c found. KnowsWith a c course.keys course.page kept.now
         → IsReplayedWith a c course kept.now found) }
     ensures stepped { IfOk result (λ found. IfSome found (λ next.
@@ -49,7 +49,7 @@ fn replayed_with<A: Book, B: Book>(
     if known {
         return Ok(None);
     }
-    of_own(replayed(alloc, book, course, kept))
+    of_current(replayed(alloc, book, course, kept))
 }
 
 // Replays the next record, where one is left.
@@ -60,12 +60,12 @@ fn next_newer<A: Book, B: Book>(
     course: Course,
 ) -> Result<Step, PairFault>
     requires { course.loaded.switch.value.last_stamp < course.loaded.switch.value.limits.requests }
-    ensures told { ReadsBoth (A.state archive.old) (A.state archive.new) (B.state book.old)
+    ensures read { ReadsBoth (A.state archive.old) (A.state archive.new) (B.state book.old)
         (B.state book.new) result (λ a c found. IsStepWith a c course found) }
     ensures counts { IfOk result (CountsOne course.loaded.switch.value) }
 {
-    let Some(kept) = of_own(book.kept_after(course.loaded.switch.last_stamp()))? else {
-        let whole = of_own(is_whole(book, &course.loaded.switch))?;
+    let Some(kept) = of_current(book.kept_after(course.loaded.switch.last_stamp()))? else {
+        let whole = of_current(is_whole(book, &course.loaded.switch))?;
         return Ok(last_step(whole));
     };
     match replayed_with(alloc, archive, book, course, &kept)? {
@@ -74,7 +74,7 @@ fn next_newer<A: Book, B: Book>(
     }
 }
 
-// The stamp behind the last one. The limit of requests is far below the end of its type.
+// The stamp after the last one. The limit of requests is far below the end of its type.
 fn next_stamp(loaded: &LoadedSwitch) -> u64
     ensures { result ≡ loaded.now.switch.value.last_stamp + 1 }
 {
@@ -101,7 +101,7 @@ fn audited_newer<A: Book, B: Book>(
             Step::Ended => return Ok(Audit::Sound),
         }
     }
-    let all = of_own(is_all(book, &course.loaded.switch))?;
+    let all = of_current(is_all(book, &course.loaded.switch))?;
     if all {
         Ok(Audit::Sound)
     } else {
@@ -135,8 +135,8 @@ fn last_of(loaded: &LoadedSwitch) -> Cut
     }
 }
 
-/// Compares the records of a book up to its archive's last stamp with the archive's own, and replays the newer ones from the archive's
-/// state on.
+/// Compares the records of a book up to its archive's last stamp with those of the archive, and replays the newer ones
+/// from the archive's state on.
 pub(crate) fn audited_with<A: Book, B: Book>(
     alloc: Global,
     archive: &mut A,

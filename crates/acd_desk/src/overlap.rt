@@ -1,8 +1,8 @@
-//! The records that a book has in common with the archive that it goes on from.
+//! The records that a book has in common with the archive that it continues.
 
 ghost use Rattle.std.specs.Prelude.{◌≡◌, ◌<◌, ◌≤◌, ◌∷◌, [], IfOk, IfSome, is_some};
 ghost use Rattle.std.specs.Bool.{Decides};
-ghost use Rattle.acd_book.specs.Content.{Content, kept_behind, events_behind};
+ghost use Rattle.acd_book.specs.Content.{Content, records_after, events_after};
 ghost use Rattle.acd_book.specs.Memory.{stamp_of, number_of};
 ghost use Rattle.acd_book.specs.Order.{IsOrdered};
 ghost use Rattle.acd_book.specs.State.{Reads};
@@ -10,16 +10,16 @@ ghost use Rattle.acd_desk.specs.Pages.{IsPageOf, ReadsIfOpen};
 ghost use Rattle.acd_desk.specs.Pairs.{ReadsBoth};
 ghost use Rattle.acd_desk.specs.Sharing.{cut_before};
 ghost use Rattle.acd_desk.specs.AuditWith.{StandsInTime, HoldsArchive};
-ghost use Rattle.acd_desk.specs.Overlap.{AreInOrder, cut_stamp, cut_number, KeepsArchive, TellsArchive, IsNextOf, IsNextRecord, IsOtherPlace, listed, IsOther, IsOtherUpTo, IsCleanCut, IsBefore, IsFirstUpTo, IsLast, earlier};
+ghost use Rattle.acd_desk.specs.Overlap.{AreInOrder, cut_stamp, cut_number, KeepsArchive, ReportsArchive, IsNextOf, IsNextRecord, IsOtherPlace, listed, IsOther, IsOtherUpTo, IsCleanCut, IsBefore, IsFirstUpTo, IsLast, earlier};
 
 use crate::page::Page;
-use crate::pair::{PairFault, of_archive, of_own};
+use crate::pair::{PairFault, of_archive, of_current};
 use crate::same::{are_same_events, is_same_kept};
 use acd_book::{Book, BookFault, Kept};
 use acd_terms::Event;
 use std::alloc::Global;
 
-/// What an archive and a book have next, above a place.
+/// The next record or event of an archive and of a book, above a place.
 #[derive(Clone, Copy)]
 pub(crate) enum Next {
     /// The same, at this place.
@@ -32,7 +32,7 @@ pub(crate) enum Next {
 
 // ---- the cut ----
 
-/// Where an archive was cut: the last stamp and the last event number that were left behind.
+/// The place where an archive was cut: the last stamp and the last event number that were left in it.
 #[derive(Clone, Copy)]
 pub(crate) struct Cut {
     pub(crate) stamp: u64,
@@ -59,7 +59,7 @@ fn number_before(events: &[Event], last: u64) -> u64
     }
 }
 
-// The last stamp that was left behind.
+// The last stamp that was left in the archive.
 fn cut_stamp<B: Book>(book: &mut B, last: u64) -> Result<u64, BookFault>
     ensures { Reads (B.state book.old) (B.state book.new) result
         (λ c found. IsOrdered c → found ≡ cut_before stamp_of last c.kept) }
@@ -68,7 +68,7 @@ fn cut_stamp<B: Book>(book: &mut B, last: u64) -> Result<u64, BookFault>
     Ok(stamp_before(&first, last))
 }
 
-// The last event number that was left behind.
+// The last event number that was left in the archive.
 fn cut_number<B: Book>(book: &mut B, last: u64) -> Result<u64, BookFault>
     ensures { Reads (B.state book.old) (B.state book.new) result
         (λ c found. IsOrdered c → found ≡ cut_before number_of last c.events) }
@@ -87,7 +87,7 @@ fn is_before(events: &[Event], number: u64, moment: u32) -> bool
     }
 }
 
-// Whether the last event that was left behind is before the first record that was carried over.
+// Whether the last event left in the archive is before the first record that was carried over.
 fn is_clean_cut<A: Book>(archive: &mut A, stamp: u64, number: u64) -> Result<bool, BookFault>
     ensures { Reads (A.state archive.old) (A.state archive.new) result
         (λ a found. StandsInTime a → number ≤ a.rows.last_event
@@ -102,25 +102,25 @@ fn is_clean_cut<A: Book>(archive: &mut A, stamp: u64, number: u64) -> Result<boo
 
 // ---- records ----
 
-// What both have next, where the archive has a record.
-fn next_of_own(kept: &Kept, own: &Option<Kept>) -> Next
-    ensures next { IsNextOf stamp_of (kept.now ∷ []) (listed own.now) result }
+// The next record of each, where the archive has one.
+fn next_of_current(kept: &Kept, current: &Option<Kept>) -> Next
+    ensures next { IsNextOf stamp_of (kept.now ∷ []) (listed current.now) result }
     ensures place { IsOtherPlace stamp_of (kept.now ∷ []) result }
 {
-    match own {
+    match current {
         Some(other) if is_same_kept(other, kept) => Next::Same(kept.stamp),
         Some(other) => Next::Other(kept.stamp.min(other.stamp)),
         None => Next::Other(kept.stamp),
     }
 }
 
-// What both have next, by their next records.
-fn next_of_records(theirs: &Option<Kept>, own: &Option<Kept>) -> Next
-    ensures next { IsNextOf stamp_of (listed theirs.now) (listed own.now) result }
-    ensures place { IsOtherPlace stamp_of (listed theirs.now) result }
+// The next of each, by their next records.
+fn next_of_records(archived: &Option<Kept>, current: &Option<Kept>) -> Next
+    ensures next { IsNextOf stamp_of (listed archived.now) (listed current.now) result }
+    ensures place { IsOtherPlace stamp_of (listed archived.now) result }
 {
-    match theirs {
-        Some(kept) => next_of_own(kept, own),
+    match archived {
+        Some(kept) => next_of_current(kept, current),
         None => Next::Over,
     }
 }
@@ -134,9 +134,9 @@ fn next_record<A: Book, B: Book>(
     ensures { ReadsBoth (A.state archive.old) (A.state archive.new) (B.state book.old)
         (B.state book.new) result (IsNextRecord stamp) }
 {
-    let theirs = of_archive(archive.kept_after(stamp))?;
-    let own = of_own(book.kept_after(stamp))?;
-    Ok(next_of_records(&theirs, &own))
+    let archived = of_archive(archive.kept_after(stamp))?;
+    let current = of_current(book.kept_after(stamp))?;
+    Ok(next_of_records(&archived, &current))
 }
 
 // The stamp of the first record, where it isn't above the last one.
@@ -153,7 +153,7 @@ fn stamp_up_to(records: &[Kept], last: u64) -> Option<u64>
 // The stamp of the book's next record, where it isn't above the last one.
 fn record_up_to<B: Book>(book: &mut B, stamp: u64, last: u64) -> Result<Option<u64>, BookFault>
     ensures { Reads (B.state book.old) (B.state book.new) result
-        (λ c found. IsFirstUpTo stamp_of last (kept_behind c.kept stamp 1) found
+        (λ c found. IsFirstUpTo stamp_of last (records_after c.kept stamp 1) found
         × IfSome found (λ place. place ≤ last)) }
 {
     let next = book.requests_after(stamp, 1)?;
@@ -176,7 +176,7 @@ fn other_record<A: Book, B: Book>(
         match next_record(archive, book, stamp)? {
             Next::Same(next) => stamp = next,
             Next::Other(place) => return Ok(Some(place)),
-            Next::Over => return of_own(record_up_to(book, stamp, last)),
+            Next::Over => return of_current(record_up_to(book, stamp, last)),
         }
     }
     Ok(None)
@@ -184,22 +184,22 @@ fn other_record<A: Book, B: Book>(
 
 // ---- events ----
 
-// What both have next, by their next events.
-fn next_of_events(theirs: &[Event], own: &[Event]) -> Next
-    ensures { IsNextOf number_of theirs.now own.now result }
+// The next of each, by their next events.
+fn next_of_events(archived: &[Event], current: &[Event]) -> Next
+    ensures { IsNextOf number_of archived.now current.now result }
 {
-    match theirs {
+    match archived {
         [] => Next::Over,
-        [event, ..] if are_same_events(own, theirs) => Next::Same(event.number),
+        [event, ..] if are_same_events(current, archived) => Next::Same(event.number),
         [event, ..] => Next::Other(u64::from(event.moment)),
     }
 }
 
-/// Events that were read ahead of an archive, and of the book that goes on from it.
+/// Events that were read ahead of an archive, and of the book that continues it.
 #[derive(Drop)]
 pub(crate) struct Pages {
     pub(crate) archive: Page,
-    pub(crate) own: Page,
+    pub(crate) current: Page,
 }
 
 // The next event of both.
@@ -212,14 +212,14 @@ fn next_event<A: Book, B: Book>(
 ) -> Result<Next, PairFault>
     ensures { ReadsBoth (A.state archive.old) (A.state archive.new) (B.state book.old)
         (B.state book.new) result
-        (λ a c found. IsPageOf a pages.old.archive → IsPageOf c pages.old.own
-        → IsPageOf a pages.new.archive × IsPageOf c pages.new.own
-        × IsNextOf number_of (events_behind a.events number 1) (events_behind c.events number 1)
+        (λ a c found. IsPageOf a pages.old.archive → IsPageOf c pages.old.current
+        → IsPageOf a pages.new.archive × IsPageOf c pages.new.current
+        × IsNextOf number_of (events_after a.events number 1) (events_after c.events number 1)
         found) }
 {
-    let theirs = of_archive(pages.archive.events_after(alloc, archive, number, 1))?;
-    let own = of_own(pages.own.events_after(alloc, book, number, 1))?;
-    Ok(next_of_events(&theirs, &own))
+    let archived = of_archive(pages.archive.events_after(alloc, archive, number, 1))?;
+    let current = of_current(pages.current.events_after(alloc, book, number, 1))?;
+    Ok(next_of_events(&archived, &current))
 }
 
 // The moment of the first event, where its number isn't above the last one.
@@ -235,7 +235,7 @@ fn moment_up_to(events: &[Event], last: u64) -> Option<u64>
 // The moment of the book's next event, where its number isn't above the last one.
 fn event_up_to<B: Book>(book: &mut B, number: u64, last: u64) -> Result<Option<u64>, BookFault>
     ensures { Reads (B.state book.old) (B.state book.new) result
-        (λ c found. IsFirstUpTo number_of last (events_behind c.events number 1) found) }
+        (λ c found. IsFirstUpTo number_of last (events_after c.events number 1) found) }
 {
     let next = book.events_after(number, 1)?;
     Ok(moment_up_to(&next, last))
@@ -251,18 +251,18 @@ fn other_event<A: Book, B: Book>(
 ) -> Result<Option<u64>, PairFault>
     ensures { ReadsBoth (A.state archive.old) (A.state archive.new) (B.state book.old)
         (B.state book.new) result (λ a c found. AreInOrder a c → last ≡ a.rows.last_event
-        → above ≡ cut_number a c → IsOther (TellsArchive a c) found) }
+        → above ≡ cut_number a c → IsOther (ReportsArchive a c) found) }
 {
     let mut pages = Pages {
         archive: Page::empty(alloc),
-        own: Page::empty(alloc),
+        current: Page::empty(alloc),
     };
     let mut number = above;
     for _ in above..last {
         match next_event(alloc, archive, book, &mut pages, number)? {
             Next::Same(next) => number = next,
             Next::Other(moment) => return Ok(Some(moment)),
-            Next::Over => return of_own(event_up_to(book, number, last)),
+            Next::Over => return of_current(event_up_to(book, number, last)),
         }
     }
     Ok(None)
@@ -270,7 +270,7 @@ fn other_event<A: Book, B: Book>(
 
 // The stamp of the archive's first record above this one that isn't before a moment, or the last one.
 fn stamp_at<A: Book>(archive: &mut A, above: u64, last: u64, moment: u64) -> Result<u64, BookFault>
-    ensures told { ReadsIfOpen (A.state archive.old) (A.state archive.new) result
+    ensures read { ReadsIfOpen (A.state archive.old) (A.state archive.new) result
         (λ a found. Unit {0}) }
     ensures within { IfOk result (λ found. found ≤ last) }
 {
@@ -289,8 +289,8 @@ fn stamp_at<A: Book>(archive: &mut A, above: u64, last: u64, moment: u64) -> Res
 
 // ---- both ----
 
-// The moment of the first event that the book hasn't as the archive has it; 0 where some of those of the first record that was carried
-// over were left behind.
+// The moment of the first event that the book hasn't as the archive has it; 0 where some events of the first carried
+// record were left in the archive.
 fn other_moment<A: Book, B: Book>(
     alloc: Global,
     archive: &mut A,
@@ -301,7 +301,7 @@ fn other_moment<A: Book, B: Book>(
     ensures { ReadsBoth (A.state archive.old) (A.state archive.new) (B.state book.old)
         (B.state book.new) result (λ a c found. AreInOrder a c → last ≡ a.rows.last_event
         → cut.number ≡ cut_number a c
-        → IsOther (IsCleanCut a cut.stamp cut.number × TellsArchive a c) found) }
+        → IsOther (IsCleanCut a cut.stamp cut.number × ReportsArchive a c) found) }
 {
     let clean = of_archive(is_clean_cut(archive, cut.stamp, cut.number))?;
     if !clean {
@@ -317,7 +317,7 @@ fn stamp_of_moment<A: Book>(
     last: u64,
     moment: Option<u64>,
 ) -> Result<Option<u64>, BookFault>
-    ensures told { ReadsIfOpen (A.state archive.old) (A.state archive.new) result
+    ensures read { ReadsIfOpen (A.state archive.old) (A.state archive.new) result
         (λ a found. Unit {0}) }
     ensures same { IfOk result (λ found. is_some found ≡ is_some moment) }
     ensures within { IfOk result (λ found. IfSome found (λ stamp. stamp ≤ last)) }
@@ -339,7 +339,7 @@ fn earlier(first: Option<u64>, second: Option<u64>) -> Option<u64>
     }
 }
 
-// Where the archive was cut, by what the book has first.
+// The place where the archive was cut, by the first records of the book.
 fn cut_of<B: Book>(book: &mut B, stamp: u64, number: u64) -> Result<Cut, BookFault>
     ensures { Reads (B.state book.old) (B.state book.new) result (λ c found. IsOrdered c
         → (found.stamp ≡ cut_before stamp_of stamp c.kept)
@@ -381,6 +381,6 @@ pub(crate) fn other_place<A: Book, B: Book>(
         (B.state book.new) result (λ a c found. AreInOrder a c → IsLast a last
         → IsOtherUpTo last.stamp (HoldsArchive a c) found) }
 {
-    let cut = of_own(cut_of(book, last.stamp, last.number))?;
+    let cut = of_current(cut_of(book, last.stamp, last.number))?;
     other_above(alloc, archive, book, cut, last)
 }

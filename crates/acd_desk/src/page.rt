@@ -1,10 +1,10 @@
 //! Events of a book that were read ahead, so that a replay reads a page for many requests.
 
 ghost use Rattle.std.specs.Prelude.{◌≡◌, ◌≤◌, length, true, IfOk};
-ghost use Rattle.acd_book.specs.Content.{Content, events_behind};
+ghost use Rattle.acd_book.specs.Content.{Content, events_after};
 ghost use Rattle.acd_book.specs.State.{Reads};
 ghost use Rattle.acd_desk.specs.Pages.{Has, IsPageOf, Reaches, ReadsIfOpen};
-ghost use Rattle.acd_desk.specs.Tells.{above};
+ghost use Rattle.acd_desk.specs.ReadAnswers.{above};
 
 use acd_book::{Book, BookFault};
 use acd_terms::Event;
@@ -38,7 +38,7 @@ impl Page {
         ensures { result ≡ true → Reaches self.now number count }
     {
         self.above <= number
-            && (self.events.len() < self.limit || has_behind(&self.events, number, count))
+            && (self.events.len() < self.limit || has_after(&self.events, number, count))
     }
 
     // Reads the next page, where this one doesn't reach so far.
@@ -63,10 +63,10 @@ impl Page {
     ) -> Result<Vec<Event>, BookFault>
         ensures { ReadsIfOpen (B.state book.old) (B.state book.new) result
             (λ c found. IsPageOf c self.old
-            → (found.items ≡ events_behind c.events number count) × IsPageOf c self.new) }
+            → (found.items ≡ events_after c.events number count) × IsPageOf c self.new) }
     {
         self.reach(book, number, count)?;
-        Ok(first_behind(alloc, &self.events, number, count)?)
+        Ok(first_after(alloc, &self.events, number, count)?)
     }
 }
 
@@ -84,7 +84,7 @@ fn read_page<B: Book>(book: &mut B, above: u64, limit: usize) -> Result<Page, Bo
 }
 
 // Whether so many of these are above a number.
-fn has_behind(events: &[Event], number: u64, count: usize) -> bool
+fn has_after(events: &[Event], number: u64, count: usize) -> bool
     ensures { result ≡ true → count ≤ length (above events.now number) }
 {
     let mut left = count;
@@ -100,13 +100,13 @@ fn has_behind(events: &[Event], number: u64, count: usize) -> bool
 }
 
 // The first of these above a number.
-fn first_behind(
+fn first_after(
     alloc: Global,
     events: &[Event],
     number: u64,
     count: usize,
 ) -> Result<Vec<Event>, AllocError>
-    ensures { IfOk result (λ found. found.items ≡ events_behind events.now number count) }
+    ensures { IfOk result (λ found. found.items ≡ events_after events.now number count) }
 {
     let mut found = Vec::with_capacity(alloc, count)?;
     for event in events {

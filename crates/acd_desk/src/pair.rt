@@ -1,43 +1,43 @@
 //! Reads of two books, of which one is the archive of the other one.
 
 ghost use Rattle.std.specs.Prelude.{◌≡◌};
-ghost use Rattle.acd_desk.specs.Pairs.{of_own, of_archive, of_opening};
+ghost use Rattle.acd_desk.specs.Pairs.{of_current, of_archive, of_opening};
 
 use crate::open_fault::OpenFault;
 use acd_book::BookFault;
 use std::alloc::AllocError;
 
-/// Why reads of both told nothing.
+/// Why reads of both answered nothing.
 #[derive(Clone, Copy, Debug, PartialEq, Eq)]
 pub(crate) enum PairFault {
     /// The book gave no answer.
-    Own(BookFault),
+    Current(BookFault),
     /// The archive gave none, or its rows break a rule.
     Archive(OpenFault),
 }
 
 impl From<AllocError> for PairFault {
-    ghost use Rattle.acd_desk.specs.declared.pair.PairFault.TheVariants.{Own};
+    ghost use Rattle.acd_desk.specs.declared.pair.PairFault.TheVariants.{Current};
     ghost use Rattle.acd_book.specs.declared.fault.BookFault.TheVariants.{NoMemory};
 
-    ghost from_gives = { λ _ fault. fault ≡ Own NoMemory };
+    ghost from_gives = { λ _ fault. fault ≡ Current NoMemory };
 
     fn from(_error: AllocError) -> PairFault {
-        PairFault::Own(BookFault::NoMemory)
+        PairFault::Current(BookFault::NoMemory)
     }
 }
 
-/// What was read of the book, as what was read of both.
-pub(crate) fn of_own<T>(read: Result<T, BookFault>) -> Result<T, PairFault>
-    ensures { result ≡ of_own read }
+/// The answer of the book, as the answer of both.
+pub(crate) fn of_current<T>(read: Result<T, BookFault>) -> Result<T, PairFault>
+    ensures { result ≡ of_current read }
 {
     match read {
         Ok(found) => Ok(found),
-        Err(fault) => Err(PairFault::Own(fault)),
+        Err(fault) => Err(PairFault::Current(fault)),
     }
 }
 
-/// What was read of the archive.
+/// The answer of the archive.
 pub(crate) fn of_archive<T>(read: Result<T, BookFault>) -> Result<T, PairFault>
     ensures { result ≡ of_archive read }
 {
@@ -47,7 +47,7 @@ pub(crate) fn of_archive<T>(read: Result<T, BookFault>) -> Result<T, PairFault>
     }
 }
 
-/// What opening the archive gave.
+/// The result of opening the archive.
 pub(crate) fn of_opening<T>(read: Result<T, OpenFault>) -> Result<T, PairFault>
     ensures { result ≡ of_opening read }
 {

@@ -1,8 +1,8 @@
-//! What may be asked of a desk.
+//! The questions to a desk.
 
 use acd_terms::{AgentId, DeviceId};
 
-/// What may be asked of a desk.
+/// A question to a desk.
 #[derive(Clone, Copy, Debug, PartialEq, Eq)]
 pub enum Question {
     /// An agent.
@@ -29,9 +29,9 @@ pub enum Question {
 
 impl Question {
     ghost use Rattle.std.specs.Prelude.{◌≡◌};
-    ghost use Rattle.acd_desk.specs.Tells.{is_plain};
+    ghost use Rattle.acd_desk.specs.ReadAnswers.{is_plain};
 
-    /// Whether what is told is plain text, as a report is, and not JSON.
+    /// Whether the answer is plain text, as a report is, and not JSON.
     pub fn is_plain(&self) -> bool
         ensures { result ≡ is_plain self.now }
     {

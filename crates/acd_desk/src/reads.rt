@@ -1,15 +1,15 @@
-//! What a desk tells: its reads.
+//! The reads of a desk.
 
 ghost use Rattle.std.specs.Prelude.{◌≡◌, Ok, length, Some, None, is_some, if◌then◌else◌};
 ghost use Rattle.std.specs.Fn.{FnOnceTakesAt, FnOnceReturnsAt};
 ghost use Rattle.acd_terms.specs.declared.rows.Rows.{Rows};
 ghost use Rattle.acd_model.specs.Rules.First.{BreaksNoRule};
 ghost use Rattle.acd_model.specs.Scans.{monitor_of};
-ghost use Rattle.acd_book.specs.Content.{events_behind, events_of_monitor};
+ghost use Rattle.acd_book.specs.Content.{events_after, events_of_monitor};
 ghost use Rattle.acd_desk.specs.Stands.{IsSound};
 ghost use Rattle.acd_desk.specs.Standing.{standing};
-ghost use Rattle.acd_desk.specs.Told.{DeskTold, DeskTells};
-ghost use Rattle.acd_desk.specs.Tells.{told, agent_read, call_read, device_read, queue_read, report_read, snapshot_read, page_read, events_read, history_read, monitor_read, page_size, requests_page, requests_read, told_of};
+ghost use Rattle.acd_desk.specs.ReadDone.{DeskRead, DeskReadText};
+ghost use Rattle.acd_desk.specs.ReadAnswers.{text_read, agent_read, call_read, device_read, queue_read, report_read, snapshot_read, page_read, events_read, history_read, monitor_read, page_size, requests_page, requests_read, question_read};
 
 use crate::desk::Desk;
 use crate::fault::DeskFault;
@@ -34,12 +34,12 @@ const HISTORY_PAGE: usize = 1000;
 // Executed requests in a page.
 const REQUESTS_PAGE: usize = 1000;
 
-#[tactic(auto, using(crate::proofs::Telling::told_made))]
+#[tactic(auto, using(crate::proofs::ReadsDone::read_made))]
 impl<B: Book> Desk<B> {
-    // What is read of the tables.
+    // A read of the tables.
     fn look<T, F: FnOnce(&Tables) -> T>(&mut self, reading: F) -> Result<T, DeskFault>
         requires { (rows : Rows) → BreaksNoRule rows → FnOnceTakesAt F.FnOnce reading rows }
-        ensures { DeskTold B.Book self.old self.new result
+        ensures { DeskRead B.Book self.old self.new result
             (λ c found. FnOnceReturnsAt F.FnOnce reading c.rows found) }
     {
         let loaded = self.switch_out()?;
@@ -49,12 +49,12 @@ impl<B: Book> Desk<B> {
     }
 
     // A text that is made of the tables.
-    fn tell<F: FnOnce(&Tables) -> Result<Option<String>, AllocError>>(
+    fn read_text<F: FnOnce(&Tables) -> Result<Option<String>, AllocError>>(
         &mut self,
         reading: F,
     ) -> Result<Option<String>, DeskFault>
         requires { (rows : Rows) → BreaksNoRule rows → FnOnceTakesAt F.FnOnce reading rows }
-        ensures { DeskTold B.Book self.old self.new result
+        ensures { DeskRead B.Book self.old self.new result
             (λ c text. FnOnceReturnsAt F.FnOnce reading c.rows (Ok text)) }
     {
         match self.look(reading)? {
@@ -65,77 +65,77 @@ impl<B: Book> Desk<B> {
 
     /// An agent in JSON: who it is, its state, and where it is logged on. None where no such agent is planned.
     pub fn agent(&mut self, agent: AgentId) -> Result<Option<String>, DeskFault>
-        ensures { DeskTells B.Book self.old self.new result (λ c. agent_read c.rows agent) }
+        ensures { DeskReadText B.Book self.old self.new result (λ c. agent_read c.rows agent) }
     {
         let alloc = self.alloc;
-        self.tell(|tables| agent_read(alloc, tables, agent))
+        self.read_text(|tables| agent_read(alloc, tables, agent))
     }
 
     /// A live call in JSON, with its connections. None where no live call has the number.
     pub fn call(&mut self, call: u64) -> Result<Option<String>, DeskFault>
-        ensures { DeskTells B.Book self.old self.new result (λ c. call_read c.rows call) }
+        ensures { DeskReadText B.Book self.old self.new result (λ c. call_read c.rows call) }
     {
         let alloc = self.alloc;
-        self.tell(|tables| call_read(alloc, tables, call))
+        self.read_text(|tables| call_read(alloc, tables, call))
     }
 
     /// A planned device in JSON: a group, or a station with its agent and connections. None where it isn't planned.
     pub fn device(&mut self, device: DeviceId) -> Result<Option<String>, DeskFault>
-        ensures { DeskTells B.Book self.old self.new result (λ c. device_read c.rows device) }
+        ensures { DeskReadText B.Book self.old self.new result (λ c. device_read c.rows device) }
     {
         let alloc = self.alloc;
-        self.tell(|tables| device_read(alloc, tables, device))
+        self.read_text(|tables| device_read(alloc, tables, device))
     }
 
     /// The queue of a group in JSON: the calls that wait by their places, and the eligible agents, longest ready
     /// first. None where the group isn't planned.
     pub fn queue(&mut self, group: DeviceId) -> Result<Option<String>, DeskFault>
-        ensures { DeskTells B.Book self.old self.new result (λ c. queue_read c.rows group) }
+        ensures { DeskReadText B.Book self.old self.new result (λ c. queue_read c.rows group) }
     {
         let alloc = self.alloc;
-        self.tell(|tables| queue_read(alloc, tables, group))
+        self.read_text(|tables| queue_read(alloc, tables, group))
     }
 
     /// The queue report at a moment (in seconds), or at the last executed one where that is later. It moves no
     /// moment. There always is one.
     pub fn report(&mut self, moment: u32) -> Result<Option<String>, DeskFault>
-        ensures { DeskTells B.Book self.old self.new result (λ c. report_read c.rows moment) }
+        ensures { DeskReadText B.Book self.old self.new result (λ c. report_read c.rows moment) }
     {
         let alloc = self.alloc;
-        self.tell(|tables| report_read(alloc, tables, moment))
+        self.read_text(|tables| report_read(alloc, tables, moment))
     }
 
     /// All agents, live calls, groups, monitors and stations in JSON, each list in ascending number, with the number of
     /// the last event and the moment of the last executed request. There always is one.
     pub fn snapshot(&mut self) -> Result<Option<String>, DeskFault>
-        ensures { DeskTells B.Book self.old self.new result (λ c. snapshot_read c.rows) }
+        ensures { DeskReadText B.Book self.old self.new result (λ c. snapshot_read c.rows) }
     {
         let alloc = self.alloc;
-        self.tell(|tables| snapshot_read(alloc, tables))
+        self.read_text(|tables| snapshot_read(alloc, tables))
     }
 }
 
-#[tactic(auto, using(crate::proofs::Telling::told_looked))]
+#[tactic(auto, using(crate::proofs::ReadsDone::read_looked))]
 impl<B: Book> Desk<B> {
     // The number of the last event.
     fn last_event(&mut self) -> Result<u64, DeskFault>
-        ensures { DeskTold B.Book self.old self.new result (λ c last. last ≡ c.rows.last_event) }
+        ensures { DeskRead B.Book self.old self.new result (λ c last. last ≡ c.rows.last_event) }
     {
         self.look(|tables| tables.last_event())
     }
 
     // The stamp of the last executed request.
     fn last_stamp(&mut self) -> Result<u64, DeskFault>
-        ensures { DeskTold B.Book self.old self.new result (λ c last. last ≡ c.rows.last_stamp) }
+        ensures { DeskRead B.Book self.old self.new result (λ c last. last ≡ c.rows.last_stamp) }
     {
         self.look(|tables| tables.last_stamp())
     }
 
-    /// How many requests were executed. A sound book keeps as many records, where none lie in an archive.
+    /// How many requests were executed. A sound book keeps as many records, unless an archive has some.
     pub fn executed(&mut self) -> Result<u64, DeskFault>
-        ensures kept { DeskTold B.Book self.old self.new result (λ c count.
+        ensures kept { DeskRead B.Book self.old self.new result (λ c count.
             IsSound c → count ≡ length c.kept) }
-        ensures last { DeskTold B.Book self.old self.new result (λ c count.
+        ensures last { DeskRead B.Book self.old self.new result (λ c count.
             count ≡ c.rows.last_stamp) }
     {
         self.last_stamp()
@@ -143,7 +143,7 @@ impl<B: Book> Desk<B> {
 
     // The number of the last event, where the monitor is running.
     fn last_event_for(&mut self, monitor: u64) -> Result<Option<u64>, DeskFault>
-        ensures { DeskTold B.Book self.old self.new result (λ c last.
+        ensures { DeskRead B.Book self.old self.new result (λ c last.
             last ≡ (if is_some (monitor_of c.rows monitor) then Some c.rows.last_event else None)) }
     {
         self.look(|tables| if tables.monitor(monitor).is_some() {
@@ -155,8 +155,8 @@ impl<B: Book> Desk<B> {
 
     // The first events above a number.
     pub(crate) fn first_events(&mut self, after: u64, limit: usize) -> Result<Vec<Event>, DeskFault>
-        ensures { DeskTold B.Book self.old self.new result (λ c found.
-            found.items ≡ events_behind c.events after limit) }
+        ensures { DeskRead B.Book self.old self.new result (λ c found.
+            found.items ≡ events_after c.events after limit) }
     {
         if let Working::Failed = self.working {
             return Err(DeskFault::StoreFault);
@@ -169,7 +169,7 @@ impl<B: Book> Desk<B> {
 
     // The first events of a running monitor above a number.
     fn first_watched(&mut self, monitor: u64, after: u64) -> Result<Vec<Event>, DeskFault>
-        ensures { DeskTold B.Book self.old self.new result (λ c found.
+        ensures { DeskRead B.Book self.old self.new result (λ c found.
             found.items ≡ events_of_monitor c monitor after page_size) }
     {
         if let Working::Failed = self.working {
@@ -183,7 +183,7 @@ impl<B: Book> Desk<B> {
 
     // The first executed requests above a stamp.
     fn first_requests(&mut self, after: u64) -> Result<Vec<Kept>, DeskFault>
-        ensures { DeskTold B.Book self.old self.new result (λ c found.
+        ensures { DeskRead B.Book self.old self.new result (λ c found.
             found.items ≡ requests_page c after) }
     {
         if let Working::Failed = self.working {
@@ -197,7 +197,7 @@ impl<B: Book> Desk<B> {
 
     // The first events above a number, so many at most, beside the number of the last one.
     fn page(&mut self, after: u64, size: usize) -> Result<Option<String>, DeskFault>
-        ensures { DeskTells B.Book self.old self.new result (λ c. page_read c after size) }
+        ensures { DeskReadText B.Book self.old self.new result (λ c. page_read c after size) }
     {
         let last = self.last_event()?;
         let events = self.first_events(after, size)?;
@@ -207,21 +207,21 @@ impl<B: Book> Desk<B> {
     /// A page of events in JSON: the first ones above a number, at most 100, beside the number of the last one.
     /// There always is one.
     pub fn events(&mut self, after: u64) -> Result<Option<String>, DeskFault>
-        ensures { DeskTells B.Book self.old self.new result (λ c. events_read c after) }
+        ensures { DeskReadText B.Book self.old self.new result (λ c. events_read c after) }
     {
         self.page(after, PAGE)
     }
 
-    /// The same with at most 1000 events, for those who follow from far behind.
+    /// The same with at most 1000 events, for those who follow from a long way back.
     pub fn history(&mut self, after: u64) -> Result<Option<String>, DeskFault>
-        ensures { DeskTells B.Book self.old self.new result (λ c. history_read c after) }
+        ensures { DeskReadText B.Book self.old self.new result (λ c. history_read c after) }
     {
         self.page(after, HISTORY_PAGE)
     }
 
     /// A page of the events at a monitor's device since it was started. None where no such monitor is running.
     pub fn monitor_events(&mut self, monitor: u64, after: u64) -> Result<Option<String>, DeskFault>
-        ensures { DeskTells B.Book self.old self.new result (λ c. monitor_read c monitor after) }
+        ensures { DeskReadText B.Book self.old self.new result (λ c. monitor_read c monitor after) }
     {
         let Some(last) = self.last_event_for(monitor)? else {
             return Ok(None);
@@ -234,16 +234,18 @@ impl<B: Book> Desk<B> {
     /// replies and statuses, beside the stamp of the last one. There always is one. It is JSON where the replies that are
     /// kept are.
     pub fn requests(&mut self, after: u64) -> Result<Option<String>, DeskFault>
-        ensures { DeskTells B.Book self.old self.new result (λ c. requests_read c after) }
+        ensures { DeskReadText B.Book self.old self.new result (λ c. requests_read c after) }
     {
         let last = self.last_stamp()?;
         let kept = self.first_requests(after)?;
         Ok(Some(requests_text(self.alloc, &kept, last)?))
     }
 
-    /// What is told to a question at a moment (in seconds), which counts for a report alone. None where there is no such thing.
+    /// The answer to a question at a moment (in seconds), which counts for a report alone. None where there is no such
+    /// thing.
     pub fn read(&mut self, moment: u32, question: Question) -> Result<Option<String>, DeskFault>
-        ensures { DeskTells B.Book self.old self.new result (λ c. told_of c moment question) }
+        ensures { DeskReadText B.Book self.old self.new
+            result (λ c. question_read c moment question) }
     {
         match question {
             Question::Agent(agent) => self.agent(agent),

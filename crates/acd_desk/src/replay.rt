@@ -2,7 +2,7 @@
 
 ghost use Rattle.std.specs.Prelude.{◌≡◌, ◌<◌, ◌≤◌, cond, true, [], Some, length, option_map, IfOk, IfSome, OnOk};
 ghost use Rattle.std.specs.Bool.{Decides};
-ghost use Rattle.acd_book.specs.Content.{Content, events_behind};
+ghost use Rattle.acd_book.specs.Content.{Content, events_after};
 ghost use Rattle.acd_book.specs.Memory.{stamp_of};
 ghost use Rattle.acd_book.specs.Order.{IsOrdered};
 ghost use Rattle.acd_book.specs.State.{Reads};
@@ -11,31 +11,31 @@ ghost use Rattle.acd_terms.specs.Rows.{empty_rows};
 ghost use Rattle.acd_model.specs.Rules.First.{BreaksNoRule};
 ghost use Rattle.acd_desk.specs.Firsts.{stepped};
 ghost use Rattle.acd_desk.specs.Audit.{IsAudit};
-ghost use Rattle.acd_desk.specs.Noting.{IsNoted};
+ghost use Rattle.acd_desk.specs.KeyPlaces.{IsSeenKey};
 ghost use Rattle.acd_desk.specs.Pages.{IsPageOf, ReadsIfOpen};
-ghost use Rattle.acd_desk.specs.Replay.{again, IsFirstOfKey, Matches, IsEnd, BeginsReplay, IsReplayed, IsStep, CountsOne, IsAll, Knows, TellsKeys};
+ghost use Rattle.acd_desk.specs.Replay.{again, IsFirstOfKey, Matches, IsEnd, BeginsReplay, IsReplayed, IsStep, CountsOne, IsAll, Knows, FindsFirst};
 
 use crate::audit::Audit;
 use crate::executing::executed;
-use crate::noted::Noted;
 use crate::page::Page;
 use crate::same::{are_same_events, are_same_rows, is_same_kept};
+use crate::seen::SeenKeys;
 use crate::working::LoadedSwitch;
 use acd_book::{Book, BookFault, Kept};
 use acd_switch::Switch;
 use acd_terms::{Event, Limits};
 use std::alloc::{AllocError, Global};
 
-/// How far a replay has come: the switch behind what it came past, the keys of that, and events that were
-/// read ahead.
+/// How far a replay has come: the switch after the records that it has replayed, the keys of these, and events that
+/// were read ahead.
 #[derive(Drop)]
 pub(crate) struct Course {
     pub(crate) loaded: LoadedSwitch,
-    pub(crate) keys: Noted,
+    pub(crate) keys: SeenKeys,
     pub(crate) page: Page,
 }
 
-/// What a step of a replay comes to.
+/// The result of a step of a replay.
 #[derive(Drop)]
 pub(crate) enum Step {
     /// The next record and its events are what its request gives.
@@ -65,10 +65,10 @@ fn is_first_of_key<B: Book>(book: &mut B, kept: &Kept) -> Result<bool, BookFault
     Ok(has_stamp(first, kept.stamp))
 }
 
-// The same. The book is asked where the key may be noted.
-fn is_new_key<B: Book>(book: &mut B, keys: &Noted, kept: &Kept) -> Result<bool, BookFault>
+// The same. The book is asked where the key may have been seen.
+fn is_new_key<B: Book>(book: &mut B, keys: &SeenKeys, kept: &Kept) -> Result<bool, BookFault>
     ensures { ReadsIfOpen (B.state book.old) (B.state book.new) result
-        (λ c found. TellsKeys c keys.now kept.now → Decides found (IsFirstOfKey c kept.now)) }
+        (λ c found. FindsFirst c keys.now kept.now → Decides found (IsFirstOfKey c kept.now)) }
 {
     if !keys.has(&kept.request) {
         return Ok(true);
@@ -86,7 +86,7 @@ fn has_events<B: Book>(
 ) -> Result<bool, BookFault>
     ensures { ReadsIfOpen (B.state book.old) (B.state book.new) result
         (λ c found. IsPageOf c page.old → IsPageOf c page.new
-        × Decides found (events_behind c.events last (length events.now) ≡ events.now)) }
+        × Decides found (events_after c.events last (length events.now) ≡ events.now)) }
 {
     let found = page.events_after(alloc, book, last, events.len())?;
     Ok(are_same_events(&found, events))
@@ -96,7 +96,7 @@ fn has_events<B: Book>(
 fn is_as_kept<B: Book>(
     alloc: Global,
     book: &mut B,
-    keys: &Noted,
+    keys: &SeenKeys,
     page: &mut Page,
     kept: &Kept,
     last: u64,
@@ -106,7 +106,7 @@ fn is_as_kept<B: Book>(
     ensures { ReadsIfOpen (B.state book.old) (B.state book.new) result
         (λ c found. Knows c keys.now page.old kept.now → IsPageOf c page.new
         × Decides found ((kept.now ≡ expected.now) × IsFirstOfKey c kept.now
-        × (events_behind c.events last (length events.now) ≡ events.now))) }
+        × (events_after c.events last (length events.now) ≡ events.now))) }
 {
     if !is_same_kept(kept, expected) {
         return Ok(false);
@@ -118,18 +118,18 @@ fn is_as_kept<B: Book>(
     has_events(alloc, book, page, last, events)
 }
 
-// Executes a kept request again, and tells whether its record and events are what it gives.
+// Executes a kept request again, and answers whether its record and events are what it gives.
 fn replays_as_kept<B: Book>(
     alloc: Global,
     book: &mut B,
     switch: &mut Switch,
-    keys: &Noted,
+    keys: &SeenKeys,
     page: &mut Page,
     kept: &Kept,
 ) -> Result<bool, BookFault>
     requires rules { BreaksNoRule switch.old }
     requires room { switch.old.last_stamp < switch.old.limits.requests }
-    ensures told { ReadsIfOpen (B.state book.old) (B.state book.new) result
+    ensures read { ReadsIfOpen (B.state book.old) (B.state book.new) result
         (λ c found. Knows c keys.now page.old kept.now
         → IsPageOf c page.new × Decides found (Matches c switch.old kept.now)) }
     ensures stepped { OnOk result (switch.new ≡ (stepped switch.old (again kept.now)).rows) }
@@ -141,7 +141,7 @@ fn replays_as_kept<B: Book>(
     is_as_kept(alloc, book, keys, page, kept, last, &expected, &done.events)
 }
 
-/// Replays a record: the course behind it, where the record and its events are what its request gives.
+/// Replays a record: the course after it, where the record and its events are what its request gives.
 pub(crate) fn replayed<B: Book>(
     alloc: Global,
     book: &mut B,
@@ -149,7 +149,7 @@ pub(crate) fn replayed<B: Book>(
     kept: &Kept,
 ) -> Result<Option<Course>, BookFault>
     requires { course.loaded.switch.value.last_stamp < course.loaded.switch.value.limits.requests }
-    ensures told { ReadsIfOpen (B.state book.old) (B.state book.new) result
+    ensures read { ReadsIfOpen (B.state book.old) (B.state book.new) result
         (λ c found. Knows c course.keys course.page kept.now → IsReplayed c course kept.now found) }
     ensures stepped { IfOk result (λ found. IfSome found (λ next.
         next.loaded.switch.value ≡ (stepped course.loaded.switch.value (again kept.now)).rows)) }
@@ -164,15 +164,15 @@ pub(crate) fn replayed<B: Book>(
     if !matches {
         return Ok(None);
     }
-    keys.note(&kept.request);
+    keys.insert(&kept.request);
     let loaded = LoadedSwitch { switch };
     Ok(Some(Course { loaded, keys, page }))
 }
 
-// Whether no event is left behind a number.
+// Whether no event is left after a number.
 fn has_ended<B: Book>(book: &mut B, last: u64) -> Result<bool, BookFault>
     ensures { Reads (B.state book.old) (B.state book.new) result
-        (λ c found. Decides found (events_behind c.events last 1 ≡ [])) }
+        (λ c found. Decides found (events_after c.events last 1 ≡ [])) }
 {
     let surplus = book.events_after(last, 1)?;
     Ok(surplus.is_empty())
@@ -188,7 +188,7 @@ fn has_tables<B: Book>(book: &mut B, switch: &Switch) -> Result<bool, BookFault>
     Ok(are_same_rows(&rows, &replayed))
 }
 
-/// Whether no event is left behind a replay, and the tables are those of the replay.
+/// Whether no event is left after a replay, and the tables are those of the replay.
 pub(crate) fn is_whole<B: Book>(book: &mut B, switch: &Switch) -> Result<bool, BookFault>
     ensures { Reads (B.state book.old) (B.state book.new) result
         (λ c found. Decides found (IsEnd c switch.now)) }
@@ -210,7 +210,7 @@ pub(crate) fn last_step(is_whole: bool) -> Step
 // Replays the next record, where one is left.
 fn next_step<B: Book>(alloc: Global, book: &mut B, course: Course) -> Result<Step, BookFault>
     requires { course.loaded.switch.value.last_stamp < course.loaded.switch.value.limits.requests }
-    ensures told { Reads (B.state book.old) (B.state book.new) result
+    ensures read { Reads (B.state book.old) (B.state book.new) result
         (λ c found. IsStep c course found) }
     ensures counts { IfOk result (CountsOne course.loaded.switch.value) }
 {
@@ -248,7 +248,7 @@ pub(crate) fn coursed(alloc: Global, loaded: LoadedSwitch) -> Result<Course, All
     ensures rows { IfOk result (λ first. first.loaded.switch.value ≡ loaded.switch.value) }
     ensures page { IfOk result (λ first. (c : Content) → IsPageOf c first.page) }
 {
-    let keys = Noted::none(alloc)?;
+    let keys = SeenKeys::none(alloc)?;
     let page = Page::empty(alloc);
     Ok(Course { loaded, keys, page })
 }
@@ -265,7 +265,7 @@ fn uncoursed(alloc: Global, limits: Limits) -> Result<Course, AllocError>
 
 // A course under the limits of the book, where they fit.
 fn begun<B: Book>(alloc: Global, book: &mut B) -> Result<Option<Course>, BookFault>
-    ensures told { Reads (B.state book.old) (B.state book.new) result
+    ensures read { Reads (B.state book.old) (B.state book.new) result
         (λ c found. BeginsReplay c found) }
     ensures empty { IfOk result (λ found. IfSome found (λ first.
         (first.loaded.switch.value.last_stamp ≡ 0)
@@ -279,9 +279,9 @@ fn begun<B: Book>(alloc: Global, book: &mut B) -> Result<Option<Course>, BookFau
     }
 }
 
-/// Replays the kept requests from an empty switch, record by record, and compares what they give with what is
-/// kept. Beside the tables it has one record and a page of events in memory at a time, and notes of keys that
-/// take no more where there are more of them.
+/// Replays the kept requests from an empty switch, record by record, and compares what they give with what is kept.
+/// Beside the tables it has one record and a page of events in memory at a time, and a record of the keys seen that has
+/// the same size however many there are.
 pub(crate) fn audited<B: Book>(alloc: Global, book: &mut B) -> Result<Audit, BookFault>
     ensures { Reads (B.state book.old) (B.state book.new) result
         (λ c found. IsOrdered c → IsAudit c found) }

@@ -27,7 +27,7 @@ fn put_executed(alloc: Global, page: &mut String, kept: &Kept) -> Result<(), All
     )
 }
 
-// Writes requests behind another.
+// Writes requests after another.
 fn put_further(alloc: Global, page: &mut String, kept: &[Kept]) -> Result<(), AllocError>
     ensures { OnOk result
         (string_bytes page.new ≡ string_bytes page.old ++ further_texts kept.now) }

@@ -1,4 +1,4 @@
-//! What is told of the tables of a desk.
+//! Reads of the tables of a desk.
 
 ghost use Rattle.std.specs.Prelude.{◌≡◌, ◌++◌, [], ◌∷◌, map, IfOk, OnOk};
 ghost use Rattle.std.specs.List.{cons_option, filter_map};
@@ -6,7 +6,7 @@ ghost use Rattle.std.specs.List.Sorted.{IsStrictlySortedBy};
 ghost use Rattle.acd_model.specs.Scans.{connection_of, connections_of};
 ghost use Rattle.acd_model.specs.Rules.First.{BreaksNoRule};
 ghost use Rattle.acd_tables.specs.Indexed.{pair_cmp};
-ghost use Rattle.acd_desk.specs.Tells.{told, agent_read, call_read, station_in, device_in, device_read, queue_read, report_read, live_call, snapshot_of, snapshot_read};
+ghost use Rattle.acd_desk.specs.ReadAnswers.{text_read, agent_read, call_read, station_in, device_in, device_read, queue_read, report_read, live_call, snapshot_of, snapshot_read};
 
 use crate::group_states::group_states;
 use acd_codec::{
@@ -25,7 +25,7 @@ pub(crate) fn agent_read(
     tables: &Tables,
     agent: AgentId,
 ) -> Result<Option<String>, AllocError>
-    ensures { IfOk result (λ text. told text ≡ agent_read tables.now agent) }
+    ensures { IfOk result (λ text. text_read text ≡ agent_read tables.now agent) }
 {
     match tables.agent(agent) {
         None => Ok(None),
@@ -33,8 +33,8 @@ pub(crate) fn agent_read(
     }
 }
 
-// A push of its own, for any type.
-fn note<T: Copy + Drop>(list: &mut Vec<T>, item: &T) -> Result<(), AllocError>
+// A separate push, for any type.
+fn push_copy<T: Copy + Drop>(list: &mut Vec<T>, item: &T) -> Result<(), AllocError>
     ensures { OnOk result (list.new.items ≡ list.old.items ++ item.now ∷ []) }
 {
     list.push(*item)?;
@@ -47,7 +47,7 @@ fn push_if<T: Copy + Drop>(list: &mut Vec<T>, item: &Option<T>) -> Result<(), Al
 {
     match item {
         None => Ok(()),
-        Some(item) => note(list, item),
+        Some(item) => push_copy(list, item),
     }
 }
 
@@ -69,7 +69,7 @@ pub(crate) fn call_read(
     call: u64,
 ) -> Result<Option<String>, AllocError>
     requires { BreaksNoRule tables.now }
-    ensures { IfOk result (λ text. told text ≡ call_read tables.now call) }
+    ensures { IfOk result (λ text. text_read text ≡ call_read tables.now call) }
 {
     match tables.call(call) {
         None => Ok(None),
@@ -111,7 +111,7 @@ pub(crate) fn device_read(
     tables: &Tables,
     device: DeviceId,
 ) -> Result<Option<String>, AllocError>
-    ensures { IfOk result (λ text. told text ≡ device_read tables.now device) }
+    ensures { IfOk result (λ text. text_read text ≡ device_read tables.now device) }
 {
     match device_in(tables, device)? {
         None => Ok(None),
@@ -133,7 +133,7 @@ fn waiting_in(
     let mut waiting = Vec::new(alloc);
     for (_, call) in queue {
         if let Some(connection) = tables.connection(*call, group) {
-            note(&mut waiting, &connection)?;
+            push_copy(&mut waiting, &connection)?;
         }
     }
     Ok(waiting)
@@ -157,7 +157,7 @@ pub(crate) fn queue_read(
     group: DeviceId,
 ) -> Result<Option<String>, AllocError>
     requires { BreaksNoRule tables.now }
-    ensures { IfOk result (λ text. told text ≡ queue_read tables.now group) }
+    ensures { IfOk result (λ text. text_read text ≡ queue_read tables.now group) }
 {
     let Some(queue) = tables.queue_of(group) else {
         return Ok(None);
@@ -177,7 +177,7 @@ pub(crate) fn report_read(
     moment: u32,
 ) -> Result<Option<String>, AllocError>
     requires { BreaksNoRule tables.now }
-    ensures { IfOk result (λ text. told text ≡ report_read tables.now moment) }
+    ensures { IfOk result (λ text. text_read text ≡ report_read tables.now moment) }
 {
     let states = group_states(alloc, tables)?;
     let report = groups_report(alloc, &states, moment.max(tables.last_moment()))?;
@@ -219,7 +219,7 @@ fn stations_in(
     Ok(seen)
 }
 
-#[tactic(auto, unfolding(crate::specs::Tells::snapshot_of))]
+#[tactic(auto, unfolding(crate::specs::ReadAnswers::snapshot_of))]
 fn snapshot_of(alloc: Global, tables: &Tables) -> Result<Snapshot, AllocError>
     requires { BreaksNoRule tables.now }
     ensures { IfOk result (λ s. s ≡ snapshot_of tables.now) }
@@ -240,7 +240,7 @@ fn snapshot_of(alloc: Global, tables: &Tables) -> Result<Snapshot, AllocError>
 
 pub(crate) fn snapshot_read(alloc: Global, tables: &Tables) -> Result<Option<String>, AllocError>
     requires { BreaksNoRule tables.now }
-    ensures { IfOk result (λ text. told text ≡ snapshot_read tables.now) }
+    ensures { IfOk result (λ text. text_read text ≡ snapshot_read tables.now) }
 {
     let snapshot = snapshot_of(alloc, tables)?;
     Ok(Some(snapshot_text(alloc, &snapshot)?))

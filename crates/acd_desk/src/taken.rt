@@ -1,4 +1,4 @@
-//! What a desk answers to an arrival.
+//! The answers of a desk to an arrival.
 
 use crate::fault::DeskFault;
 use acd_book::Text;

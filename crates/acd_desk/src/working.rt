@@ -1,4 +1,4 @@
-//! What a desk has in memory of its book.
+//! The state of its book that a desk has in memory.
 
 ghost use Rattle.std.specs.Prelude.{◌≡◌, IfOk, IfErr, OnOk};
 ghost use Rattle.acd_model.specs.Rules.First.{BreaksNoRule};
@@ -8,7 +8,7 @@ use acd_switch::{RowFault, Switch};
 use acd_terms::Rows;
 use std::alloc::{AllocError, Global};
 
-/// A switch whose rows break no rule. It goes out of the desk for each request, and so it is in a box.
+/// A switch whose rows break no rule. The desk moves it out for each request, and so it is in a box.
 #[derive(Drop)]
 pub(crate) struct LoadedSwitch {
     pub(crate) switch: Box<Switch>,
@@ -28,7 +28,7 @@ impl LoadedSwitch {
     }
 }
 
-/// What a desk has in memory.
+/// The state that a desk has in memory.
 #[derive(Drop)]
 pub(crate) enum Working {
     /// The state of the book.

@@ -1,4 +1,4 @@
--- What an input asks, by what was read of it.
+-- The question of an input, by the bytes read so far.
 use Rattle.std.proofs.Common.{◌≡◌, ℕ, ◌+◌, ◌-◌, ◌<◌, ◌≤◌, Bool, true, false, nat_le, List, [], ◌++◌, inl, inr, length, take, drop, Option, Some, None, Result, Ok, Err, MatchResult, refl, sym, ap, ◌∙◌, subst, arith, length-append, length-drop}
 use Rattle.std.specs.Io.KnownBytes.{Consumes, IsAtEnd}
 use Rattle.std.proofs.KnownBytes.{Consumes-trans, Consumes-whole}
@@ -22,16 +22,16 @@ use Rattle.acd_http.specs.declared.wanted.Wanted.TheVariants as want
 use Rattle.acd_terms.specs.declared.command.Request.{Request}
 use Rattle.acd_codec.specs.declared.member.Member.{Member}
 use Rattle.acd_http.proofs.Readings.{head_is, no_head_is}
-use Rattle.acd_http.proofs.SmallBodies.{any_behind, not_truncated, bodiless_is}
+use Rattle.acd_http.proofs.SmallBodies.{any_rest, not_truncated, bodiless_is}
 use Rattle.acd_io.proofs.Inputs.{input_begun}
 
 pub by_head : (input : List ℕ) (o : Option ℕ) (asked : Asked) → head_len (take 8192 input) ≡ o → AsksBy o input asked → Asks input asked
 unfolding Asks
 by_head input o asked e h = subst (λ (p : Option ℕ). AsksBy p input asked) (sym e) h
 
--- what a head asks, whatever follows it
-pub head_tells : (first left : Option (List ℕ)) (seen : List ℕ) (n : ℕ) (asked : Asked) → Consumes first left seen → head_len (take 8192 seen) ≡ Some n → ((behind : List ℕ) → HeadAsks (take n seen) behind asked) → IsAsked first asked
-head_tells first left seen n asked read e h =
+-- the question of a head, whatever follows it
+pub head_finds : (first left : Option (List ℕ)) (seen : List ℕ) (n : ℕ) (asked : Asked) → Consumes first left seen → head_len (take 8192 seen) ≡ Some n → ((rest : List ℕ) → HeadAsks (take n seen) rest asked) → IsAsked first asked
+head_finds first left seen n asked read e h =
     let more = input_begun first left seen read in
     let is = head_is 8192 n seen more.0 e in
     (seen ++ more.0, more.1, by_head (seen ++ more.0) (Some n) asked is.0 (subst (λ (l : List ℕ). HeadAsks l (drop n (seen ++ more.0)) asked) is.1 (h (drop n (seen ++ more.0)))))
@@ -61,24 +61,24 @@ too_large first left seen read none full =
 
 body_of : (now rest : List ℕ) (n len : ℕ) → n + len ≤ length now → body_in len (drop n (now ++ rest)) ≡ body_asks (reads_as (take len (drop n now)))
 body_of now rest n len whole =
-    let behind = drop-append-le n now rest (omega arith) in
-    let front : take len (drop n (now ++ rest)) ≡ take len (drop n now) = ap (take len) behind ∙ take-append-le len (drop n now) rest (omega (arith, length-drop n now)) in
+    let dropped = drop-append-le n now rest (omega arith) in
+    let front : take len (drop n (now ++ rest)) ≡ take len (drop n now) = ap (take len) dropped ∙ take-append-le len (drop n now) rest (omega (arith, length-drop n now)) in
     let size : len ≤ length (drop n (now ++ rest)) = omega (arith, length-drop n (now ++ rest), length-append now rest) in
     let enough : nat_le len (length (drop n (now ++ rest))) ≡ true = grind (arith, nat_tests) in
     rw enough (ap (λ (l : List ℕ). body_asks (reads_as l)) front)
 
 -- a body that has come whole
-pub body_tells : (first left : Option (List ℕ)) (seen : List ℕ) (n len : ℕ) (body : List ℕ) (asked : Asked) → Consumes first left seen → head_len (take 8192 seen) ≡ Some n → n + len ≤ length seen
-    → ((behind : List ℕ) → HeadAsks (take n seen) behind (body_in len behind)) → body ≡ take len (drop n seen) → asked ≡ body_asks (reads_as body) → IsAsked first asked
-body_tells first left seen n len body asked read e whole h is asks =
+pub body_finds : (first left : Option (List ℕ)) (seen : List ℕ) (n len : ℕ) (body : List ℕ) (asked : Asked) → Consumes first left seen → head_len (take 8192 seen) ≡ Some n → n + len ≤ length seen
+    → ((rest : List ℕ) → HeadAsks (take n seen) rest (body_in len rest)) → body ≡ take len (drop n seen) → asked ≡ body_asks (reads_as body) → IsAsked first asked
+body_finds first left seen n len body asked read e whole h is asks =
     let more = input_begun first left seen read in
     let front = head_is 8192 n seen more.0 e in
     let all = seen ++ more.0 in
-    let told : HeadAsks (take n all) (drop n all) (body_in len (drop n all)) = subst (λ (l : List ℕ). HeadAsks l (drop n all) (body_in len (drop n all))) front.1 (h (drop n all)) in
+    let here : HeadAsks (take n all) (drop n all) (body_in len (drop n all)) = subst (λ (l : List ℕ). HeadAsks l (drop n all) (body_in len (drop n all))) front.1 (h (drop n all)) in
     let same : body_in len (drop n all) ≡ asked = body_of seen more.0 n len whole ∙ sym (asks ∙ ap (λ (l : List ℕ). body_asks (reads_as l)) is) in
-    (all, more.1, by_head all (Some n) asked front.0 (subst (λ (a : Asked). HeadAsks (take n all) (drop n all) a) same told))
+    (all, more.1, by_head all (Some n) asked front.0 (subst (λ (a : Asked). HeadAsks (take n all) (drop n all) a) same here))
 
-short_asks : (seen : List ℕ) (n len : ℕ) → head_len (take 8192 seen) ≡ Some n → n ≤ length seen → length seen < n + len → ((behind : List ℕ) → HeadAsks (take n seen) behind (body_in len behind)) → Asks seen Truncated
+short_asks : (seen : List ℕ) (n len : ℕ) → head_len (take 8192 seen) ≡ Some n → n ≤ length seen → length seen < n + len → ((rest : List ℕ) → HeadAsks (take n seen) rest (body_in len rest)) → Asks seen Truncated
 short_asks seen n len e fits short h =
     let size : length (drop n seen) < len = omega (arith, length-drop n seen) in
     let less : nat_le len (length (drop n seen)) ≡ false = grind (arith, nat_tests) in
@@ -87,10 +87,10 @@ short_asks seen n len e fits short h =
 
 -- a body that is too short
 pub body_short : (first left : Option (List ℕ)) (seen : List ℕ) (n len : ℕ) → Consumes first left seen → head_len (take 8192 seen) ≡ Some n → n ≤ length seen → length seen < n + len → IsAtEnd left
-    → ((behind : List ℕ) → HeadAsks (take n seen) behind (body_in len behind)) → IsAsked first Truncated
+    → ((rest : List ℕ) → HeadAsks (take n seen) rest (body_in len rest)) → IsAsked first Truncated
 body_short first left seen n len read e fits short last h = (seen, consumed_all first left seen read last, short_asks seen n len e fits short h)
 
--- the head stays that of what was read, with more behind it
+-- the head stays that of what was read, with more after it
 pub head_stays : (was more now : List ℕ) (n : ℕ) → now ≡ was ++ more → IsHeadOf n was → (head_len (take 8192 now) ≡ Some n) × (take n was ≡ take n now) × (n ≤ length now)
 head_stays was more now n e h =
     let is = head_is 8192 n was more h.0 in
@@ -108,31 +108,31 @@ no_head first left seen h = elim (cases_lt (length seen) 8192) [
       subst (λ (x : Asked). IsAsked first x) (sym is) (too_large first left seen h.read h.head.0 full)
 ]
 
--- no head has ended; s is the slice of which the length was taken
-pub no_head_tells : (first left : Option (List ℕ)) (seen s : List ℕ) (found : Option ℕ) (a : Asked) → found ≡ None → s ≡ seen → Found found seen first left → a ≡ headless (length s) → IsAsked first a
-no_head_tells first left seen s found a none same h is =
+-- no head has ended; s is the slice whose length was measured
+pub no_head_finds : (first left : Option (List ℕ)) (seen s : List ℕ) (found : Option ℕ) (a : Asked) → found ≡ None → s ≡ seen → Found found seen first left → a ≡ headless (length s) → IsAsked first a
+no_head_finds first left seen s found a none same h is =
     subst (λ (x : Asked). IsAsked first x) (sym (is ∙ ap (λ (l : List ℕ). headless (length l)) same)) (no_head first left seen (subst (λ (o : Option ℕ). Found o seen first left) none h))
 
--- ---- what is known behind a head; s is the slice that was looked at
+-- ---- what is known after a head; s is the slice that was looked at
 
 wants_so : (head : List ℕ) (bodiless : Bool) (r : Result Wanted AllocError) (v w : Wanted) → IsHeadAsked head bodiless r → r ≡ Ok v → v ≡ w → IsSmall w × IsWanted head bodiless w
 wants_so head bodiless r v w h is same = subst (λ (x : Result Wanted AllocError). IsHeadAsked head bodiless x) (is ∙ ap Ok same) h
 
-pub known_tells : (first left : Option (List ℕ)) (seen s : List ℕ) (n : ℕ) (bodiless : Bool) (r : Result Wanted AllocError) (v w : Wanted) (a : Asked) → s ≡ seen → IsHeadOf n seen → IsHeadAsked (take n s) bodiless r → r ≡ Ok v → v ≡ w
-    → ((behind : List ℕ) → asked_by w bodiless behind ≡ a) → Consumes first left seen → IsAsked first a
-known_tells first left seen s n bodiless r v w a same h told is e asks read =
-    let wants = (wants_so (take n s) bodiless r v w told is e).1 in
-    head_tells first left seen n a read h.0 (λ behind. subst (λ (l : List ℕ). HeadAsks (take n l) behind a) same (subst (λ (x : Asked). HeadAsks (take n s) behind x) (asks behind) (wants behind)))
+pub known_finds : (first left : Option (List ℕ)) (seen s : List ℕ) (n : ℕ) (bodiless : Bool) (r : Result Wanted AllocError) (v w : Wanted) (a : Asked) → s ≡ seen → IsHeadOf n seen → IsHeadAsked (take n s) bodiless r → r ≡ Ok v → v ≡ w
+    → ((rest : List ℕ) → asked_by w bodiless rest ≡ a) → Consumes first left seen → IsAsked first a
+known_finds first left seen s n bodiless r v w a same h wanted is e asks read =
+    let wants = (wants_so (take n s) bodiless r v w wanted is e).1 in
+    head_finds first left seen n a read h.0 (λ rest. subst (λ (l : List ℕ). HeadAsks (take n l) rest a) same (subst (λ (x : Asked). HeadAsks (take n s) rest x) (asks rest) (wants rest)))
 
-pub unknown_tells : (first left : Option (List ℕ)) (seen s : List ℕ) (n : ℕ) (bodiless : Bool) (r : Result Wanted AllocError) (f : AllocError) → s ≡ seen → IsHeadOf n seen → IsHeadAsked (take n s) bodiless r → r ≡ Err f → Consumes first left seen
+pub unknown_finds : (first left : Option (List ℕ)) (seen s : List ℕ) (n : ℕ) (bodiless : Bool) (r : Result Wanted AllocError) (f : AllocError) → s ≡ seen → IsHeadOf n seen → IsHeadAsked (take n s) bodiless r → r ≡ Err f → Consumes first left seen
     → IsUnknown first left (unknown.NoMemory bodiless)
-unknown_tells first left seen s n bodiless r f same h told is read =
-    let unseen : IsHeadAsked (take n s) bodiless (Err f) = subst (λ (x : Result Wanted AllocError). IsHeadAsked (take n s) bodiless x) is told in
+unknown_finds first left seen s n bodiless r f same h wanted is read =
+    let unseen : IsHeadAsked (take n s) bodiless (Err f) = subst (λ (x : Result Wanted AllocError). IsHeadAsked (take n s) bodiless x) is wanted in
     let a = asked_by unseen.0 bodiless [] in (
       a,
       not_truncated unseen.0 bodiless unseen.1,
       bodiless_is unseen.0 bodiless unseen.1,
-      head_tells first left seen n a read h.0 (λ behind. subst (λ (l : List ℕ). HeadAsks (take n l) behind a) same (subst (λ (x : Asked). HeadAsks (take n s) behind x) (sym (any_behind unseen.0 bodiless behind unseen.1)) (unseen.2 behind))),
+      head_finds first left seen n a read h.0 (λ rest. subst (λ (l : List ℕ). HeadAsks (take n l) rest a) same (subst (λ (x : Asked). HeadAsks (take n s) rest x) (sym (any_rest unseen.0 bodiless rest unseen.1)) (unseen.2 rest))),
     )
 
 body_whole : (r : Result Request Member) → (body_asks r ≡ Truncated → ⊥)
@@ -145,38 +145,38 @@ not_bodiless (Err member) = refl
 
 -- a body that has come whole, and what its reading gave
 no_memory : (first left : Option (List ℕ)) (seen : List ℕ) (n len : ℕ) (body : List ℕ) → Consumes first left seen → head_len (take 8192 seen) ≡ Some n → n + len ≤ length seen
-    → ((behind : List ℕ) → HeadAsks (take n seen) behind (body_in len behind)) → body ≡ take len (drop n seen) → IsUnknown first left (unknown.NoMemory false)
+    → ((rest : List ℕ) → HeadAsks (take n seen) rest (body_in len rest)) → body ≡ take len (drop n seen) → IsUnknown first left (unknown.NoMemory false)
 no_memory first left seen n len body read e whole h is =
     let a = body_asks (reads_as body) in
-    (a, body_whole (reads_as body), not_bodiless (reads_as body), body_tells first left seen n len body a read e whole h is refl)
+    (a, body_whole (reads_as body), not_bodiless (reads_as body), body_finds first left seen n len body a read e whole h is refl)
 
-pub read_tells : (first left : Option (List ℕ)) (seen : List ℕ) (n len : ℕ) (body : List ℕ) (r : Result Asked Unknown) → Consumes first left seen → head_len (take 8192 seen) ≡ Some n → n + len ≤ length seen
-    → ((behind : List ℕ) → HeadAsks (take n seen) behind (body_in len behind)) → body ≡ take len (drop n seen)
+pub read_finds : (first left : Option (List ℕ)) (seen : List ℕ) (n len : ℕ) (body : List ℕ) (r : Result Asked Unknown) → Consumes first left seen → head_len (take 8192 seen) ≡ Some n → n + len ≤ length seen
+    → ((rest : List ℕ) → HeadAsks (take n seen) rest (body_in len rest)) → body ≡ take len (drop n seen)
     → MatchResult r (λ (a : Asked). a ≡ body_asks (reads_as body)) (λ (u : Unknown). u ≡ unknown.NoMemory false) → IsSeen first left r
-read_tells first left seen n len body (Ok a) read e whole h is told = body_tells first left seen n len body a read e whole h is told
-read_tells first left seen n len body (Err u) read e whole h is told = subst (λ (v : Unknown). IsUnknown first left v) (sym told) (no_memory first left seen n len body read e whole h is)
+read_finds first left seen n len body (Ok a) read e whole h is answer = body_finds first left seen n len body a read e whole h is answer
+read_finds first left seen n len body (Err u) read e whole h is answer = subst (λ (v : Unknown). IsUnknown first left v) (sym answer) (no_memory first left seen n len body read e whole h is)
 
-pub whole_tells : (first left later : Option (List ℕ)) (was s now s' : List ℕ) (n len : ℕ) (bodiless whole : Bool) (head : Result Wanted AllocError) (v : Wanted) (r : Result Asked Unknown) → s ≡ was → IsHeadOf n was → IsHeadAsked (take n s) bodiless head → head ≡ Ok v → v ≡ want.Body len → Consumes first left was
+pub whole_finds : (first left later : Option (List ℕ)) (was s now s' : List ℕ) (n len : ℕ) (bodiless whole : Bool) (head : Result Wanted AllocError) (v : Wanted) (r : Result Asked Unknown) → s ≡ was → IsHeadOf n was → IsHeadAsked (take n s) bodiless head → head ≡ Ok v → v ≡ want.Body len → Consumes first left was
     → whole ≡ true → BodyFound whole (n + len) was now left later → s' ≡ now
     → MatchResult r (λ (a : Asked). a ≡ body_asks (reads_as (take (n + len - n) (drop n s')))) (λ (u : Unknown). u ≡ unknown.NoMemory false) → IsSeen first later r
-whole_tells first left later was s now s' n len bodiless whole head v r same h asked so body read here found same' told =
+whole_finds first left later was s now s' n len bodiless whole head v r same h asked so body read here found same' answer =
     let is = (wants_so (take n s) bodiless head v (want.Body len) asked so body).1 in
     let stays = head_stays was found.more now n found.grown h in
     let ends : IsRead true (n + len) now later = subst (λ (b : Bool). IsRead b (n + len) now later) here found.end in
     let all = subst (λ (l : List ℕ). Consumes first later l) (sym found.grown) (Consumes-trans first left later was found.more read found.read) in
     let slice : take (n + len - n) (drop n s') ≡ take len (drop n now) = ap (λ (k : ℕ). take k (drop n s')) (omega arith) ∙ ap (λ (l : List ℕ). take len (drop n l)) same' in
-    read_tells first later now n len (take (n + len - n) (drop n s')) r all stays.0 ends
-    (λ behind. subst (λ (l : List ℕ). HeadAsks l behind (body_in len behind)) (ap (take n) same ∙ stays.1) (is behind)) slice told
+    read_finds first later now n len (take (n + len - n) (drop n s')) r all stays.0 ends
+    (λ rest. subst (λ (l : List ℕ). HeadAsks l rest (body_in len rest)) (ap (take n) same ∙ stays.1) (is rest)) slice answer
 
-pub part_tells : (first left later : Option (List ℕ)) (was s now : List ℕ) (n len : ℕ) (bodiless whole : Bool) (head : Result Wanted AllocError) (v : Wanted) → s ≡ was → IsHeadOf n was → IsHeadAsked (take n s) bodiless head → head ≡ Ok v → v ≡ want.Body len → Consumes first left was
+pub part_finds : (first left later : Option (List ℕ)) (was s now : List ℕ) (n len : ℕ) (bodiless whole : Bool) (head : Result Wanted AllocError) (v : Wanted) → s ≡ was → IsHeadOf n was → IsHeadAsked (take n s) bodiless head → head ≡ Ok v → v ≡ want.Body len → Consumes first left was
     → whole ≡ false → BodyFound whole (n + len) was now left later → IsAsked first Truncated
-part_tells first left later was s now n len bodiless whole head v same h asked so body read here found =
+part_finds first left later was s now n len bodiless whole head v same h asked so body read here found =
     let is = (wants_so (take n s) bodiless head v (want.Body len) asked so body).1 in
     let stays = head_stays was found.more now n found.grown h in
     let ends : IsRead false (n + len) now later = subst (λ (b : Bool). IsRead b (n + len) now later) here found.end in
     let all = subst (λ (l : List ℕ). Consumes first later l) (sym found.grown) (Consumes-trans first left later was found.more read found.read) in
     body_short first later now n len all stays.0 stays.2 ends.0 ends.1
-    (λ behind. subst (λ (l : List ℕ). HeadAsks l behind (body_in len behind)) (ap (take n) same ∙ stays.1) (is behind))
+    (λ rest. subst (λ (l : List ℕ). HeadAsks l rest (body_in len rest)) (ap (take n) same ∙ stays.1) (is rest))
 
 -- reading stopped within a body
 pub body_unasked : (first left later : Option (List ℕ)) (was s now : List ℕ) (n len : ℕ) (bodiless : Bool) (head : Result Wanted AllocError) (v : Wanted) → s ≡ was → IsHeadOf n was → IsHeadAsked (take n s) bodiless head → head ≡ Ok v → v ≡ want.Body len → Consumes first left was
@@ -185,4 +185,4 @@ body_unasked first left later was s now n len bodiless head v same h asked so bo
     let is = (wants_so (take n s) bodiless head v (want.Body len) asked so body).1 in
     let stays = head_stays was stops.more now n stops.grown h in
     let all = subst (λ (l : List ℕ). Consumes first later l) (sym stops.grown) (Consumes-trans first left later was stops.more read stops.read) in
-    (now, all, short_asks now n len stays.0 stays.2 stops.short (λ behind. subst (λ (l : List ℕ). HeadAsks l behind (body_in len behind)) (ap (take n) same ∙ stays.1) (is behind)))
+    (now, all, short_asks now n len stays.0 stays.2 stops.short (λ rest. subst (λ (l : List ℕ). HeadAsks l rest (body_in len rest)) (ap (take n) same ∙ stays.1) (is rest)))

@@ -1,4 +1,4 @@
--- That connections lead to the run of the requests that they brought.
+-- Connections lead to the run of the requests that they brought.
 use Rattle.std.proofs.Common.{◌≡◌, ℕ, List, [], ◌∷◌, ◌++◌, map, Ok, Err, refl, sym, ap, subst, ◌∙◌, inl, inr, append_assoc, append-nil}
 use Rattle.std.proofs.lemmas.List.{map-append}
 use Rattle.acd_terms.specs.declared.command.Arrival.{Arrival}
@@ -7,13 +7,13 @@ use Rattle.acd_desk.specs.declared.taken.Taken.{Taken}
 use Rattle.acd_desk.specs.Arrived.{at}
 use Rattle.acd_desk.specs.Standing.{Standing}
 use Rattle.acd_desk.specs.Attended.{Attended}
-use Rattle.acd_desk.proofs.Many.{Settles, ran_nothing, attended_ran, attended_more, attended_told}
+use Rattle.acd_desk.proofs.Many.{Settles, ran_nothing, attended_ran, attended_more, attended_read}
 use Rattle.acd_http.specs.declared.asked.Asked.{Asked}
 use Rattle.acd_http.specs.declared.asked.Asked.TheVariants as ask
-use Rattle.acd_http.specs.declared.serving.ExchangeFault.TheVariants.{Truncated, Read, Write, NoMemory}
-use Rattle.acd_desk.specs.Tells.{told_of}
+use Rattle.acd_http.specs.declared.exchanging.ExchangeFault.TheVariants.{Truncated, Read, Write, NoMemory}
+use Rattle.acd_desk.specs.ReadAnswers.{question_read}
 use Rattle.acd_http.specs.Exchanging.{AnswersAsked}
-use Rattle.acd_http.specs.Listening.{Outcome, ServedOne, ServesEach}
+use Rattle.acd_http.specs.Listening.{Outcome, AnsweredOne, AnsweredEach}
 use Rattle.acd_http.specs.Attending.{posted, posted_by, all_posted, LeadsToTheRun}
 
 abbrev arrived : Arrival × Taken → Arrival
@@ -23,7 +23,7 @@ abbrev answered : Arrival × Taken → Taken
 answered p = p.1
 
 module _ {D : Type 0} (stands : D → Standing) (settles : (d : D) → Settles (stands d)) where
-  -- the arrivals of a list behind others, and their answers behind others
+  -- the arrivals of a list after others, and their answers after others
   abbrev So : D → List Arrival → List Taken → List (Arrival × Taken) → D → Type 0
   So s l ts more e = Attended (stands s) (l ++ map arrived more) (ts ++ map answered more) (stands e)
 
@@ -37,14 +37,14 @@ module _ {D : Type 0} (stands : D → Standing) (settles : (d : D) → Settles (
   one_more s d e l ts moment (ask.Arrival r) out (inl a) h = attended_more (stands s) (stands d) (stands e) l ts (at moment r) a.0 (settles e) h a.2
   one_more s d e l ts moment (ask.Arrival r) out (inr a) h = none_more s d e l ts a.2 h
   one_more s d e l ts moment (ask.Look wanted bodiless) out (inl a) h =
-      none_more s e e l ts refl (attended_told (stands s) (stands d) (stands e) l ts a.0 (λ (c : Content) (text : _). text ≡ told_of c moment wanted) h a.2)
+      none_more s e e l ts refl (attended_read (stands s) (stands d) (stands e) l ts a.0 (λ (c : Content) (text : _). text ≡ question_read c moment wanted) h a.2)
   one_more s d e l ts moment (ask.Look wanted bodiless) out (inr a) h = none_more s d e l ts a.2 h
   one_more s d e l ts moment (ask.Refused why bodiless) out (inl a) h = none_more s d e l ts a.1 h
   one_more s d e l ts moment (ask.Refused why bodiless) out (inr a) h = none_more s d e l ts a.2 h
   one_more s d e l ts moment ask.Truncated out (inl a) h = absurd a
   one_more s d e l ts moment ask.Truncated out (inr a) h = none_more s d e l ts a.2 h
 
-  one_connection : (s d e : D) (l : List Arrival) (ts : List Taken) (x : Outcome) (v : ServedOne stands d x e) → Attended (stands s) l ts (stands d) → So s l ts (posted_by stands d x e v) e
+  one_connection : (s d e : D) (l : List Arrival) (ts : List Taken) (x : Outcome) (v : AnsweredOne stands d x e) → Attended (stands s) l ts (stands d) → So s l ts (posted_by stands d x e v) e
   one_connection s d e l ts (Ok u) v h = one_more s d e l ts v.moment v.asked v.reply v.answers h
   one_connection s d e l ts (Err Write) v h = one_more s d e l ts v.moment v.asked v.reply v.answers h
   one_connection s d e l ts (Err Truncated) v h = none_more s d e l ts v h
@@ -54,7 +54,7 @@ module _ {D : Type 0} (stands : D → Standing) (settles : (d : D) → Settles (
   joined : {A : Type 0} (f : Arrival × Taken → A) (l : List A) (p q : List (Arrival × Taken)) → ((l ++ map f p) ++ map f q) ≡ (l ++ map f (p ++ q))
   joined f l p q = append_assoc l (map f p) (map f q) ∙ ap (λ (m : List _). l ++ m) (sym (map-append f p q))
 
-  on_and_on : (s d e : D) (l : List Arrival) (ts : List Taken) (xs : List Outcome) (h : ServesEach stands d xs e) → Attended (stands s) l ts (stands d) → So s l ts (all_posted stands d xs e h) e
+  on_and_on : (s d e : D) (l : List Arrival) (ts : List Taken) (xs : List Outcome) (h : AnsweredEach stands d xs e) → Attended (stands s) l ts (stands d) → So s l ts (all_posted stands d xs e h) e
   on_and_on s d e l ts [] h before = none_more s d e l ts h before
   on_and_on s d e l ts (x ∷ xs) h before =
       let p = posted_by stands d x h.0 h.1 in

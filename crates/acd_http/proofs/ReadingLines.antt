@@ -1,40 +1,40 @@
--- What is written for a line that reads, and that lines lead to the run of the requests among them.
+-- The text written for a line that reads; and lines lead to the run of the requests among them.
 use Rattle.std.proofs.Common.{◌≡◌, ◌⊎◌, inl, inr, ℕ, List, [], ◌∷◌, ◌++◌, map, Bool, Option, Result, Ok, Err, String, IfOk, OnErr, refl, sym, ap, subst, ◌∙◌, append_assoc, append-nil}
 use Rattle.std.proofs.lemmas.List.{map-append}
 use Rattle.acd_terms.specs.declared.command.Arrival.{Arrival}
 use Rattle.acd_book.specs.Content.{Content}
 use Rattle.acd_desk.specs.declared.taken.Taken.{Taken}
 use Rattle.acd_desk.specs.Arrived.{at}
-use Rattle.acd_desk.specs.Served.{served}
+use Rattle.acd_desk.specs.Accepted.{accepted}
 use Rattle.acd_desk.specs.Leads.{led}
 use Rattle.acd_desk.specs.Ran.{Standing}
 use Rattle.acd_desk.proofs.Leading.{sound_led}
 use Rattle.acd_desk.specs.Attended.{Attended}
-use Rattle.acd_desk.proofs.Many.{Settles, ran_nothing, attended_ran, attended_more, attended_told}
-use Rattle.acd_desk.specs.Told.{Told}
-use Rattle.acd_desk.specs.Tells.{told, told_of, is_plain}
+use Rattle.acd_desk.proofs.Many.{Settles, ran_nothing, attended_ran, attended_more, attended_read}
+use Rattle.acd_desk.specs.ReadDone.{ReadDone}
+use Rattle.acd_desk.specs.ReadAnswers.{text_read, question_read, is_plain}
 use Rattle.acd_desk.specs.declared.question.Question.{Question}
 use Rattle.acd_desk.specs.AnswerTexts.{seen}
 use Rattle.acd_desk.specs.declared.fault.DeskFault.{DeskFault}
 use Rattle.acd_desk.specs.declared.fault.DeskFault.TheVariants as fault
-use Rattle.acd_desk.proofs.Telling.{told_seen, told_no_memory}
+use Rattle.acd_desk.proofs.ReadsDone.{read_seen, read_no_memory}
 use Rattle.acd_codec.specs.declared.fault.FixedAnswer.TheVariants as fixed
 use Rattle.acd_lines.specs.Answers.{fixed_line}
 use Rattle.acd_lines.specs.Input.{no_moment, too_long, faulty, arrival, text_of}
-use Rattle.acd_http.specs.ReadingLines.{ReadingLine, plain, get, reading_line_of, told_line, Tells, IsTold, ReadingAnswers, asked_by, all_asked, ServesReads, arrivals_of, answers_of, LinesLeadToTheRun, ReadsTellOfTheContent, ReadsTellOfTheRun}
+use Rattle.acd_http.specs.ReadingLines.{ReadingLine, plain, get, reading_line_of, found_line, AnswersRead, IsReadAnswer, ReadingAnswers, asked_by, all_asked, AnswersReads, arrivals_of, answers_of, LinesLeadToTheRun, ReadsAnswerByTheContent, ReadsAnswerByTheRun}
 
--- what the desk told, or noMemory in its place
-pub tells_look : {D Z : Type 0} (stands : D → Standing) (d e : D) (moment : ℕ) (question : Question) (as_text : Bool) (found : Result (Option (String Z)) DeskFault) (out : List ℕ) → as_text ≡ is_plain question
-    → (out ≡ told_line as_text (seen found)) ⊎ (OnErr found ⊥ × (out ≡ fixed_line fixed.NoMemory))
-    → Told (stands d) (stands e) found (λ (c : Content) (text : Option (String Z)). told text ≡ told_of c moment question) → Tells stands d moment (Ok question) out e
-tells_look {D} {Z} stands d e moment question as_text found out same (inl is) h =
-    inr (seen found, is ∙ ap (λ (b : Bool). told_line b (seen found)) same, told_seen (stands d) (stands e) found (λ (c : Content). told_of c moment question) h)
-tells_look {D} {Z} stands d e moment question as_text (Ok text) out same (inr lost) h = inr (
+-- the desk's answer, or noMemory in its place
+pub answers_look : {D Z : Type 0} (stands : D → Standing) (d e : D) (moment : ℕ) (question : Question) (as_text : Bool) (found : Result (Option (String Z)) DeskFault) (out : List ℕ) → as_text ≡ is_plain question
+    → (out ≡ found_line as_text (seen found)) ⊎ (OnErr found ⊥ × (out ≡ fixed_line fixed.NoMemory))
+    → ReadDone (stands d) (stands e) found (λ (c : Content) (text : Option (String Z)). text_read text ≡ question_read c moment question) → AnswersRead stands d moment (Ok question) out e
+answers_look {D} {Z} stands d e moment question as_text found out same (inl is) h =
+    inr (seen found, is ∙ ap (λ (b : Bool). found_line b (seen found)) same, read_seen (stands d) (stands e) found (λ (c : Content). question_read c moment question) h)
+answers_look {D} {Z} stands d e moment question as_text (Ok text) out same (inr lost) h = inr (
   Err fault.NoMemory,
   lost.1,
-  told_no_memory (stands d) (stands e) text (λ (c : Content) (x : Option (String Z)). told x ≡ told_of c moment question) (λ (c : Content) (x : Option (List ℕ)). x ≡ told_of c moment question) h,
+  read_no_memory (stands d) (stands e) text (λ (c : Content) (x : Option (String Z)). text_read x ≡ question_read c moment question) (λ (c : Content) (x : Option (List ℕ)). x ≡ question_read c moment question) h,
 )
-tells_look {D} {Z} stands d e moment question as_text (Err why) out same (inr lost) h = absurd lost.0
+answers_look {D} {Z} stands d e moment question as_text (Err why) out same (inr lost) h = absurd lost.0
 
 -- ---- lines lead to the run
 
@@ -45,7 +45,7 @@ abbrev answered : Arrival × Taken → Taken
 answered p = p.1
 
 module _ {D : Type 0} (stands : D → Standing) (settles : (d : D) → Settles (stands d)) where
-  -- the arrivals of a list behind others, and their answers behind others
+  -- the arrivals of a list after others, and their answers after others
   abbrev So : D → List Arrival → List Taken → List (Arrival × Taken) → D → Type 0
   So s l ts more e = Attended (stands s) (l ++ map arrived more) (ts ++ map answered more) (stands e)
 
@@ -62,12 +62,12 @@ module _ {D : Type 0} (stands : D → Standing) (settles : (d : D) → Settles (
   one_more s d e l ts (get moment (Err why)) out a h = none_more s d e l ts a.1 h
   one_more s d e l ts (get moment (Ok question)) out (inl a) h = none_more s d e l ts a.1 h
   one_more s d e l ts (get moment (Ok question)) out (inr a) h =
-      none_more s e e l ts refl (attended_told (stands s) (stands d) (stands e) l ts a.0 (λ (c : Content) (text : _). text ≡ told_of c moment question) h a.2)
+      none_more s e e l ts refl (attended_read (stands s) (stands d) (stands e) l ts a.0 (λ (c : Content) (text : _). text ≡ question_read c moment question) h a.2)
 
   joined : {A : Type 0} (f : Arrival × Taken → A) (l : List A) (p q : List (Arrival × Taken)) → ((l ++ map f p) ++ map f q) ≡ (l ++ map f (p ++ q))
   joined f l p q = append_assoc l (map f p) (map f q) ∙ ap (λ (m : List _). l ++ m) (sym (map-append f p q))
 
-  on_and_on : (s d e : D) (l : List Arrival) (ts : List Taken) (pieces outs : List (List ℕ)) (h : ServesReads stands d pieces outs e) → Attended (stands s) l ts (stands d) → So s l ts (all_asked stands d pieces outs e h) e
+  on_and_on : (s d e : D) (l : List Arrival) (ts : List Taken) (pieces outs : List (List ℕ)) (h : AnswersReads stands d pieces outs e) → Attended (stands s) l ts (stands d) → So s l ts (all_asked stands d pieces outs e h) e
   on_and_on s d e l ts [] [] h before = none_more s d e l ts h before
   on_and_on s d e l ts [] (o ∷ os) h before = absurd h
   on_and_on s d e l ts (piece ∷ pieces) [] h before = absurd h
@@ -81,24 +81,24 @@ module _ {D : Type 0} (stands : D → Standing) (settles : (d : D) → Settles (
   pub lines_lead_to_the_run : LinesLeadToTheRun stands
   lines_lead_to_the_run d e pieces outs h = on_and_on d d e [] [] pieces outs h (attended_ran (stands d) (stands d) [] [] (ran_nothing (stands d) (settles d)))
 
-  -- what was found is told of the content
-  found_told : (c : Content) (moment : ℕ) (question : Question) (out : List ℕ) (found : Result (Option (List ℕ)) DeskFault) → out ≡ told_line (is_plain question) found → IfOk found (λ (text : Option (List ℕ)). text ≡ told_of c moment question) → IsTold c moment question out
-  found_told c moment question out (Ok text) is h = inl (is ∙ ap (λ (x : Option (List ℕ)). told_line (is_plain question) (Ok x)) h)
-  found_told c moment question out (Err fault.NoMemory) is h = inr (inl is)
-  found_told c moment question out (Err fault.StoreFault) is h = inr (inr is)
+  -- the content gives what was found
+  found_answers : (c : Content) (moment : ℕ) (question : Question) (out : List ℕ) (found : Result (Option (List ℕ)) DeskFault) → out ≡ found_line (is_plain question) found → IfOk found (λ (text : Option (List ℕ)). text ≡ question_read c moment question) → IsReadAnswer c moment question out
+  found_answers c moment question out (Ok text) is h = inl (is ∙ ap (λ (x : Option (List ℕ)). found_line (is_plain question) (Ok x)) h)
+  found_answers c moment question out (Err fault.NoMemory) is h = inr (inl is)
+  found_answers c moment question out (Err fault.StoreFault) is h = inr (inr is)
 
-  pub reads_tell_of_the_content : ReadsTellOfTheContent stands
-  reads_tell_of_the_content d e f pieces outs h moment question out (inl a) = λ clean sound first step opened. inr (inl a.0)
-  reads_tell_of_the_content d e f pieces outs h moment question out (inr a) =
+  pub reads_answer_by_the_content : ReadsAnswerByTheContent stands
+  reads_answer_by_the_content d e f pieces outs h moment question out (inl a) = λ clean sound first step opened. inr (inl a.0)
+  reads_answer_by_the_content d e f pieces outs h moment question out (inr a) =
       let run = lines_lead_to_the_run d e pieces outs h in
       λ clean sound first step opened.
       let before = a.2.step.clean clean in
-      found_told (led (stands d).book.content (served (arrivals_of stands d pieces outs e h) (answers_of stands d pieces outs e h))) moment question out a.0 a.1
-      (subst (λ (c : Content). IfOk a.0 (λ (text : Option (List ℕ)). text ≡ told_of c moment question)) ((run.leads before sound first step).content opened)
+      found_answers (led (stands d).book.content (accepted (arrivals_of stands d pieces outs e h) (answers_of stands d pieces outs e h))) moment question out a.0 a.1
+      (subst (λ (c : Content). IfOk a.0 (λ (text : Option (List ℕ)). text ≡ question_read c moment question)) ((run.leads before sound first step).content opened)
       (a.2.value clean (run.sound before sound) (run.in_step before sound step) opened))
 
-  pub reads_tell_of_the_run : ReadsTellOfTheRun stands
-  reads_tell_of_the_run d e f pieces outs h moment question out answer = λ clean starts opened.
-      subst (λ (c : Content). IsTold c moment question out)
-      (sound_led (stands d).book.content (served (arrivals_of stands d pieces outs e h) (answers_of stands d pieces outs e h)) starts.3)
-      (reads_tell_of_the_content d e f pieces outs h moment question out answer clean starts.0 starts.1 starts.2 opened)
+  pub reads_answer_by_the_run : ReadsAnswerByTheRun stands
+  reads_answer_by_the_run d e f pieces outs h moment question out answer = λ clean starts opened.
+      subst (λ (c : Content). IsReadAnswer c moment question out)
+      (sound_led (stands d).book.content (accepted (arrivals_of stands d pieces outs e h) (answers_of stands d pieces outs e h)) starts.3)
+      (reads_answer_by_the_content d e f pieces outs h moment question out answer clean starts.0 starts.1 starts.2 opened)

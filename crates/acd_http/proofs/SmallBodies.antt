@@ -89,10 +89,10 @@ small_wanted h = small h.minor (method_of h.method) h.target (fields_of h)
 
 -- ---- what a head asks
 
-pub any_behind : (w : Wanted) (bodiless : Bool) (behind : List ℕ) → is_body w ≡ false → asked_by w bodiless [] ≡ asked_by w bodiless behind
-any_behind (want.Refused why) bodiless behind e = refl
-any_behind (want.Look lookup) bodiless behind e = refl
-any_behind (want.Body n) bodiless behind e = absurd (true≢false e)
+pub any_rest : (w : Wanted) (bodiless : Bool) (rest : List ℕ) → is_body w ≡ false → asked_by w bodiless [] ≡ asked_by w bodiless rest
+any_rest (want.Refused why) bodiless rest e = refl
+any_rest (want.Look lookup) bodiless rest e = refl
+any_rest (want.Body n) bodiless rest e = absurd (true≢false e)
 
 pub not_truncated : (w : Wanted) (bodiless : Bool) → is_body w ≡ false → (asked_by w bodiless [] ≡ Truncated → ⊥)
 not_truncated (want.Refused why) bodiless e h = cc
@@ -104,20 +104,20 @@ bodiless_is (want.Refused why) bodiless e = refl
 bodiless_is (want.Look lookup) bodiless e = refl
 bodiless_is (want.Body n) bodiless e = absurd (true≢false e)
 
-unless_long : (b : Bool) (head behind : List ℕ) (asked : Asked) → b ≡ false → ReadAsks head behind asked → AsksUnless b head behind asked
-unless_long true head behind asked e h = absurd (true≢false e)
-unless_long false head behind asked e h = h
+unless_long : (b : Bool) (head rest : List ℕ) (asked : Asked) → b ≡ false → ReadAsks head rest asked → AsksUnless b head rest asked
+unless_long true head rest asked e h = absurd (true≢false e)
+unless_long false head rest asked e h = h
 
 pub head_seen : (head : List ℕ) (bodiless : Bool) (r : Result Wanted AllocError) → nat_lt 33 (lines_in head) ≡ false → IsHeadRead head (Some (bodiless, r)) → IsHeadAsked head bodiless r
 head_seen head bodiless (Ok w) few h = (
   subst IsSmall (sym h.3) (small_wanted h.0),
-  λ behind. unless_long (nat_lt 33 (lines_in head)) head behind (asked_by w bodiless behind) few
-      (inr (h.0, h.1, ap (λ (x : Wanted). asked_by x bodiless behind) h.3 ∙ ap (λ (b : Bool). asked_by (wanted_of h.0) b behind) h.2)),
+  λ rest. unless_long (nat_lt 33 (lines_in head)) head rest (asked_by w bodiless rest) few
+      (inr (h.0, h.1, ap (λ (x : Wanted). asked_by x bodiless rest) h.3 ∙ ap (λ (b : Bool). asked_by (wanted_of h.0) b rest) h.2)),
 )
 head_seen head bodiless (Err e) few h = (
   wanted_of h.0,
   h.3,
-  λ behind. unless_long (nat_lt 33 (lines_in head)) head behind (asked_by (wanted_of h.0) bodiless behind) few (inr (h.0, h.1, ap (λ (b : Bool). asked_by (wanted_of h.0) b behind) h.2)),
+  λ rest. unless_long (nat_lt 33 (lines_in head)) head rest (asked_by (wanted_of h.0) bodiless rest) few (inr (h.0, h.1, ap (λ (b : Bool). asked_by (wanted_of h.0) b rest) h.2)),
 )
 
 pub few_lines : (head : List ℕ) (n : ℕ) → n ≡ lines_in head → n ≤ 33 → nat_lt 33 (lines_in head) ≡ false

@@ -4,7 +4,7 @@ use Rattle.std.proofs.lemmas.List.{drop_all, take_all, take_more}
 use Rattle.acd_http.specs.declared.head.Place.{Place}
 use Rattle.acd_http.specs.Head.{lines_from, is_empty_at, place_after}
 use Rattle.acd_http.specs.declared.head.Place.TheVariants.{Start}
-use Rattle.acd_http.specs.Target.{begins_path, from_path, before_mark, behind_mark}
+use Rattle.acd_http.specs.Target.{begins_path, from_path, before_mark, after_mark}
 
 at : (bytes : List ℕ) (i : ℕ) → i < length bytes → drop i bytes ≡ get_or bytes i 0 ∷ drop (i + 1) bytes
 at bytes i h = rw (drop-cons bytes i 0, add-one) refl
@@ -48,9 +48,9 @@ pub before_here : (bytes : List ℕ) (i : ℕ) → i < length bytes → get_or b
 unfolding before_mark
 before_here bytes i h e = ap before_mark (at bytes i h ∙ ap (λ (x : ℕ). x ∷ drop (i + 1) bytes) e)
 
-pub behind_here : (bytes : List ℕ) (i : ℕ) → i < length bytes → get_or bytes i 0 ≡ 63 → behind_mark (drop i bytes) ≡ drop (i + 1) bytes
-unfolding behind_mark
-behind_here bytes i h e = ap behind_mark (at bytes i h ∙ ap (λ (x : ℕ). x ∷ drop (i + 1) bytes) e)
+pub after_here : (bytes : List ℕ) (i : ℕ) → i < length bytes → get_or bytes i 0 ≡ 63 → after_mark (drop i bytes) ≡ drop (i + 1) bytes
+unfolding after_mark
+after_here bytes i h e = ap after_mark (at bytes i h ∙ ap (λ (x : ℕ). x ∷ drop (i + 1) bytes) e)
 
 pub before_later : (bytes : List ℕ) (i : ℕ) → i < length bytes → (get_or bytes i 0 ≡ 63 → ⊥) → take (i + 1) bytes ++ before_mark (drop (i + 1) bytes) ≡ take i bytes ++ before_mark (drop i bytes)
 unfolding before_mark
@@ -59,17 +59,17 @@ before_later bytes i h other =
     let here : before_mark (drop i bytes) ≡ x ∷ before_mark (drop (i + 1) bytes) = ap before_mark (at bytes i h) ∙ (rw (ne_eqb x 63 other) refl) in
     ap (λ (l : List ℕ). l ++ before_mark (drop (i + 1) bytes)) (take_more bytes i 0 h) ∙ append_assoc (take i bytes) (x ∷ []) (before_mark (drop (i + 1) bytes)) ∙ ap (λ (l : List ℕ). take i bytes ++ l) (sym here)
 
-pub behind_later : (bytes : List ℕ) (i : ℕ) → i < length bytes → (get_or bytes i 0 ≡ 63 → ⊥) → behind_mark (drop (i + 1) bytes) ≡ behind_mark (drop i bytes)
-unfolding behind_mark
-behind_later bytes i h other = sym (ap behind_mark (at bytes i h) ∙ (rw (ne_eqb (get_or bytes i 0) 63 other) refl))
+pub after_later : (bytes : List ℕ) (i : ℕ) → i < length bytes → (get_or bytes i 0 ≡ 63 → ⊥) → after_mark (drop (i + 1) bytes) ≡ after_mark (drop i bytes)
+unfolding after_mark
+after_later bytes i h other = sym (ap after_mark (at bytes i h) ∙ (rw (ne_eqb (get_or bytes i 0) 63 other) refl))
 
 pub before_end : (bytes : List ℕ) (i : ℕ) → length bytes ≤ i → take i bytes ++ before_mark (drop i bytes) ≡ bytes
 unfolding before_mark
 before_end bytes i h = ap (λ (l : List ℕ). l ++ before_mark (drop i bytes)) (take_all i bytes h) ∙ ap (λ (l : List ℕ). bytes ++ before_mark l) (drop_all i bytes h) ∙ append-nil bytes
 
-pub behind_end : (bytes : List ℕ) (i : ℕ) → length bytes ≤ i → behind_mark (drop i bytes) ≡ []
-unfolding behind_mark
-behind_end bytes i h = ap behind_mark (drop_all i bytes h)
+pub after_end : (bytes : List ℕ) (i : ℕ) → length bytes ≤ i → after_mark (drop i bytes) ≡ []
+unfolding after_mark
+after_end bytes i h = ap after_mark (drop_all i bytes h)
 
 pub to_end : (bytes : List ℕ) (i : ℕ) → i ≤ length bytes → take (length bytes - i) (drop i bytes) ≡ drop i bytes
 to_end bytes i h = take_all (length bytes - i) (drop i bytes) (omega (arith, length-drop i bytes))

@@ -1,4 +1,4 @@
--- What the bytes of a connection ask.
+-- The question that the bytes of a connection ask.
 use Rattle.std.specs.Prelude.{◌≡◌, ◌≢◌, ◌⊎◌, ℕ, ◌≤◌, List, length, take, drop, Bool, true, false, nat_lt, nat_le, if◌then◌else◌, Option, Some, None, Result, Ok, Err, MatchResult}
 use Rattle.std.specs.Io.KnownBytes.{Consumes}
 use Rattle.httparse.specs.Grammar.{RequestHead}
@@ -25,26 +25,26 @@ body_asks (Err member) = Refused (refused.Body member) false
 
 -- so many bytes of what follows the head are the body
 abbrev pub body_in : ℕ → List ℕ → Asked
-body_in len behind = if nat_le len (length behind) then body_asks (reads_as (take len behind)) else Truncated
+body_in len rest = if nat_le len (length rest) then body_asks (reads_as (take len rest)) else Truncated
 
--- what a head wants, with the bytes behind it
+-- what a head asks for, with the bytes after it
 abbrev pub asked_by : Wanted → Bool → List ℕ → Asked
-asked_by (want.Refused why) bodiless behind = Refused why bodiless
-asked_by (want.Look question) bodiless behind = Look question bodiless
-asked_by (want.Body len) bodiless behind = body_in len behind
+asked_by (want.Refused why) bodiless rest = Refused why bodiless
+asked_by (want.Look question) bodiless rest = Look question bodiless
+asked_by (want.Body len) bodiless rest = body_in len rest
 
 -- a head that can't be read is refused, and one that can asks what it wants
 abbrev pub ReadAsks : List ℕ → List ℕ → Asked → Type 0
-ReadAsks head behind asked = (IsUnread head × (asked ≡ Refused (refused.Malformed part.Head) false))
-    ⊎ ((h : RequestHead) × IsWhole head h × (asked ≡ asked_by (wanted_of h) (has_no_body h) behind))
+ReadAsks head rest asked = (IsUnread head × (asked ≡ Refused (refused.Malformed part.Head) false))
+    ⊎ ((h : RequestHead) × IsWhole head h × (asked ≡ asked_by (wanted_of h) (has_no_body h) rest))
 
 -- a head of more than 33 lines is too large
 abbrev pub AsksUnless : Bool → List ℕ → List ℕ → Asked → Type 0
-AsksUnless true head behind asked = asked ≡ Refused refused.HeadTooLarge false
-AsksUnless false head behind asked = ReadAsks head behind asked
+AsksUnless true head rest asked = asked ≡ Refused refused.HeadTooLarge false
+AsksUnless false head rest asked = ReadAsks head rest asked
 
 abbrev pub HeadAsks : List ℕ → List ℕ → Asked → Type 0
-HeadAsks head behind asked = AsksUnless (nat_lt 33 (lines_in head)) head behind asked
+HeadAsks head rest asked = AsksUnless (nat_lt 33 (lines_in head)) head rest asked
 
 -- a head that hasn't ended within 8192 bytes is too large, if so many came
 abbrev pub headless : ℕ → Asked
@@ -54,7 +54,7 @@ abbrev pub AsksBy : Option ℕ → List ℕ → Asked → Type 0
 AsksBy None input asked = asked ≡ headless (length input)
 AsksBy (Some n) input asked = HeadAsks (take n input) (drop n input) asked
 
--- what these bytes ask
+-- the question of these bytes
 unfoldable pub Asks : List ℕ → Asked → Type 0
 Asks input asked = AsksBy (head_len (take 8192 input)) input asked
 
@@ -66,9 +66,9 @@ is_bodiless (Arrival request) = false
 
 -- for private clauses: a head wants this, whatever follows it
 abbrev pub IsWanted : List ℕ → Bool → Wanted → Type 0
-IsWanted head bodiless w = (behind : List ℕ) → HeadAsks head behind (asked_by w bodiless behind)
+IsWanted head bodiless w = (rest : List ℕ) → HeadAsks head rest (asked_by w bodiless rest)
 
--- what a head was seen to want; it wants no body where there was no memory to see it
+-- the question of a head, as it was read; it asks for no body where there was no memory to read it
 abbrev pub IsHeadAsked : List ℕ → Bool → Result Wanted AllocError → Type 0
 IsHeadAsked head bodiless (Ok w) = IsSmall w × IsWanted head bodiless w
 IsHeadAsked head bodiless (Err e) = (w : Wanted) × (is_body w ≡ false) × IsWanted head bodiless w
@@ -80,7 +80,7 @@ IsHeadOf len input = (head_len (take 8192 input) ≡ Some len) × (len ≤ 8192)
 abbrev pub IsAsked : Option (List ℕ) → Asked → Type 0
 IsAsked known asked = (input : List ℕ) × IsInput known input × Asks input asked
 
--- what was read of the input, up to where reading stopped, asks nothing yet
+-- the bytes read of the input, up to where reading stopped, ask nothing yet
 abbrev pub IsUnasked : Option (List ℕ) → Option (List ℕ) → Type 0
 IsUnasked known left = (read : List ℕ) × Consumes known left read × Asks read Truncated
 
@@ -89,6 +89,6 @@ abbrev pub IsUnknown : Option (List ℕ) → Option (List ℕ) → Unknown → T
 IsUnknown known left unknown.Stopped = IsUnasked known left
 IsUnknown known left (unknown.NoMemory bodiless) = (asked : Asked) × (asked ≢ Truncated) × (bodiless ≡ is_bodiless asked) × IsAsked known asked
 
--- what a reader's bytes ask, as far as it was seen
+-- the question of a reader's bytes, as far as they were read
 abbrev pub IsSeen : Option (List ℕ) → Option (List ℕ) → Result Asked Unknown → Type 0
 IsSeen known left result = MatchResult result (IsAsked known) (IsUnknown known left)

@@ -8,9 +8,9 @@ use Rattle.acd_desk.specs.Standing.{Standing}
 use Rattle.acd_desk.specs.Attended.{Attended}
 use Rattle.acd_http.specs.declared.asked.Asked.{Asked}
 use Rattle.acd_http.specs.declared.asked.Asked.TheVariants as ask
-use Rattle.acd_http.specs.declared.serving.ExchangeFault.TheVariants.{Truncated, Read, Write, NoMemory}
+use Rattle.acd_http.specs.declared.exchanging.ExchangeFault.TheVariants.{Truncated, Read, Write, NoMemory}
 use Rattle.acd_http.specs.Exchanging.{AnswersAsked}
-use Rattle.acd_http.specs.Listening.{Outcome, ServedOne, ServesEach}
+use Rattle.acd_http.specs.Listening.{Outcome, AnsweredOne, AnsweredEach}
 
 module _ {D : Type 0} (stands : D → Standing) where
   -- the request that was asked, and what the desk answered to it, where it came so far
@@ -22,7 +22,7 @@ module _ {D : Type 0} (stands : D → Standing) where
   posted moment d ask.Truncated out e h = []
 
   -- by one connection
-  abbrev pub posted_by : (d : D) (x : Outcome) (e : D) → ServedOne stands d x e → List (Arrival × Taken)
+  abbrev pub posted_by : (d : D) (x : Outcome) (e : D) → AnsweredOne stands d x e → List (Arrival × Taken)
   posted_by d (Ok u) e v = posted v.moment d v.asked v.reply e v.answers
   posted_by d (Err Write) e v = posted v.moment d v.asked v.reply e v.answers
   posted_by d (Err Truncated) e v = []
@@ -30,10 +30,10 @@ module _ {D : Type 0} (stands : D → Standing) where
   posted_by d (Err NoMemory) e v = []
 
   -- by one connection after another
-  abbrev pub all_posted : (d : D) (xs : List Outcome) (e : D) → ServesEach stands d xs e → List (Arrival × Taken)
+  abbrev pub all_posted : (d : D) (xs : List Outcome) (e : D) → AnsweredEach stands d xs e → List (Arrival × Taken)
   all_posted d [] e h = []
   all_posted d (x ∷ xs) e h = posted_by d x h.0 h.1 ++ all_posted h.0 xs e h.2
 
   abbrev pub LeadsToTheRun : Type 0
-  LeadsToTheRun = (d e : D) (xs : List Outcome) (h : ServesEach stands d xs e)
+  LeadsToTheRun = (d e : D) (xs : List Outcome) (h : AnsweredEach stands d xs e)
       → Attended (stands d) (map (λ (p : Arrival × Taken). p.0) (all_posted d xs e h)) (map (λ (p : Arrival × Taken). p.1) (all_posted d xs e h)) (stands e)

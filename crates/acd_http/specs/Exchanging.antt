@@ -1,4 +1,4 @@
--- What is written for what was asked, and what the desk is after it.
+-- The text written in answer to a question, and the desk after it.
 use Rattle.std.specs.Prelude.{◌≡◌, ◌≢◌, ◌⊎◌, ℕ, List, [], ◌∷◌, Bool, false, if◌then◌else◌, Option, Some, None, Result, Ok, Err, IfErr, OnOk}
 use Rattle.acd_terms.specs.declared.command.Request.{Request}
 use Rattle.acd_codec.specs.declared.fault.FixedAnswer.{FixedAnswer}
@@ -10,8 +10,8 @@ use Rattle.acd_desk.specs.declared.question.Question.{Question}
 use Rattle.acd_desk.specs.AnswerTexts.{Said, said, fixed_said, taken_said, found_said}
 use Rattle.acd_desk.specs.Arrived.{at}
 use Rattle.acd_desk.specs.Ran.{Standing, Took, Ran}
-use Rattle.acd_desk.specs.Told.{Told}
-use Rattle.acd_desk.specs.Tells.{told_of, is_plain}
+use Rattle.acd_desk.specs.ReadDone.{ReadDone}
+use Rattle.acd_desk.specs.ReadAnswers.{question_read, is_plain}
 use Rattle.std.specs.Io.KnownBytes.{Appends}
 use Rattle.acd_io.specs.Read.{IsInput}
 use Rattle.acd_io.specs.Sent.{Breaks}
@@ -22,8 +22,8 @@ use Rattle.acd_http.specs.declared.reply.Kind.TheVariants.{Json, Plain}
 use Rattle.acd_http.specs.declared.asked.Asked.{Asked}
 use Rattle.acd_http.specs.declared.asked.Asked.TheVariants as ask
 use Rattle.acd_http.specs.declared.answer.Reply.{Reply}
-use Rattle.acd_http.specs.declared.serving.ExchangeFault.{ExchangeFault}
-use Rattle.acd_http.specs.declared.serving.ExchangeFault.TheVariants as fault
+use Rattle.acd_http.specs.declared.exchanging.ExchangeFault.{ExchangeFault}
+use Rattle.acd_http.specs.declared.exchanging.ExchangeFault.TheVariants as fault
 use Rattle.acd_http.specs.Refusing.{refused_said, refused_allow}
 use Rattle.acd_http.specs.Replying.{reply_bytes}
 use Rattle.acd_http.specs.Asking.{Asks, IsAsked, IsUnasked, is_bodiless}
@@ -45,18 +45,18 @@ abbrev pub taken_reply : Request → Taken → List ℕ
 taken_reply r t = json_reply false (taken_said r t)
 
 -- the report alone is plain text
-abbrev pub kind_told : Question → Kind
-kind_told question = if is_plain question then Plain else Json
+abbrev pub kind_of : Question → Kind
+kind_of question = if is_plain question then Plain else Json
 
--- what is told where nothing was found is JSON
+-- the answer is JSON where nothing was found
 abbrev pub kind_found : Kind → Result (Option (List ℕ)) DeskFault → Kind
 kind_found kind (Ok (Some text)) = kind
 kind_found kind (Ok None) = Json
 kind_found kind (Err why) = Json
 
 -- the reply to a read
-abbrev pub told_reply : Bool → Kind → Result (Option (List ℕ)) DeskFault → List ℕ
-told_reply bodiless kind found = reply_bytes bodiless (found_said found).status (kind_found kind found) None (found_said found).body
+abbrev pub found_reply : Bool → Kind → Result (Option (List ℕ)) DeskFault → List ℕ
+found_reply bodiless kind found = reply_bytes bodiless (found_said found).status (kind_found kind found) None (found_said found).body
 
 -- the bytes of a reply
 abbrev pub reply_out : Bool → Reply → List ℕ
@@ -68,7 +68,7 @@ module _ {D : Type 0} (stands : D → Standing) (moment : ℕ) where
   Replies d ask.Truncated out e = ⊥
   Replies d (ask.Refused why bodiless) out e = (out ≡ refused_reply bodiless why) × (e ≡ d)
   Replies d (ask.Look question bodiless) out e =
-      (found : Result (Option (List ℕ)) DeskFault) × (out ≡ told_reply bodiless (kind_told question) found) × Told (stands d) (stands e) found (λ (c : Content) (text : Option (List ℕ)). text ≡ told_of c moment question)
+      (found : Result (Option (List ℕ)) DeskFault) × (out ≡ found_reply bodiless (kind_of question) found) × ReadDone (stands d) (stands e) found (λ (c : Content) (text : Option (List ℕ)). text ≡ question_read c moment question)
   Replies d (ask.Arrival r) out e =
       (t : Taken) × (out ≡ taken_reply r t) × Took (stands d) (at moment r) t (stands e) × Ran (stands d) (at moment r ∷ []) (t ∷ []) (stands e)
 
@@ -76,7 +76,7 @@ module _ {D : Type 0} (stands : D → Standing) (moment : ℕ) where
   abbrev pub AnswersAsked : D → Asked → List ℕ → D → Type 0
   AnswersAsked d asked out e = Replies d asked out e ⊎ ((asked ≢ ask.Truncated) × (out ≡ fixed_reply (is_bodiless asked) fixed.NoMemory) × (e ≡ d))
 
-  -- Something was asked and answered, and the reply went out as is said.
+  -- Something was asked and answered, and the reply was sent as is said.
   pub record Exchanged (known : Option (List ℕ)) (d e : D) (WentOut : List ℕ → Type 0) : Type 0 where
     pub input : List ℕ
     pub asked : Asked
@@ -86,20 +86,20 @@ module _ {D : Type 0} (stands : D → Standing) (moment : ℕ) where
     pub answers : AnswersAsked d asked reply e
     pub out : WentOut reply
 
-  -- what is so behind a fault
+  -- the state after a fault
   abbrev pub StoppedBy : Streams → D → D → ExchangeFault → Type 0
   -- a beginning of the reply was written, and not all
-  StoppedBy io d e fault.Write = Exchanged io.had d e (Breaks io.before io.behind)
+  StoppedBy io d e fault.Write = Exchanged io.old_input d e (Breaks io.old_output io.new_output)
   -- the input ends before the request does
-  StoppedBy io d e fault.Truncated = IsAsked io.had ask.Truncated × io.unwritten × (e ≡ d)
-  -- what was read of the request is not all of it
-  StoppedBy io d e fault.Read = IsUnasked io.had io.left × io.unwritten × (e ≡ d)
+  StoppedBy io d e fault.Truncated = IsAsked io.old_input ask.Truncated × io.unwritten × (e ≡ d)
+  -- the bytes read are not the whole request
+  StoppedBy io d e fault.Read = IsUnasked io.old_input io.left × io.unwritten × (e ≡ d)
   -- nothing was read
   StoppedBy io d e fault.NoMemory = Untouched io × (e ≡ d)
 
   -- how an exchange ended: without a fault the whole reply was written
   pub record ExchangeDone (io : Streams) (d e : D) (result : Result (Unit {0}) ExchangeFault) : Type 0 where
-    pub whole : OnOk result (Exchanged io.had d e (Appends io.before io.behind))
+    pub whole : OnOk result (Exchanged io.old_input d e (Appends io.old_output io.new_output))
     pub cause : IfErr result (StoppedBy io d e)
 
   -- for private clauses

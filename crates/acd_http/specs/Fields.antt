@@ -30,7 +30,7 @@ abbrev pub length_of : Option ℕ → Length
 length_of None = Faulty
 length_of (Some n) = if nat_lt 4096 n then TooLarge else Given n
 
--- what the value of a Content-Length field says
+-- the value of a Content-Length field, as a length
 abbrev pub length_by : List ℕ → Length
 length_by value = length_of (number_up_to value)
 
@@ -38,7 +38,7 @@ abbrev pub length_or_none : Option (List ℕ) → Length
 length_or_none None = Absent
 length_or_none (Some value) = length_by value
 
--- what all Content-Length fields say
+-- the length that all Content-Length fields give
 unfoldable pub length_in : List (List ℕ × List ℕ) → Length
 length_in fields = if nat_lt 1 (count_named (codes "content-length") fields) then Faulty else length_or_none (first_named (codes "content-length") fields)
 

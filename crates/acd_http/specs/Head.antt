@@ -1,4 +1,4 @@
--- Where the head of a request ends, and how many lines it has.
+-- The end of the head of a request, and how many lines it has.
 use Rattle.std.specs.Prelude.{ℕ, suc, ◌+◌, List, [], ◌∷◌, Bool, true, false, ◌==◌, if◌then◌else◌, Option, Some, None, option_map}
 use Rattle.acd_http.specs.declared.head.Place.{Place}
 use Rattle.acd_http.specs.declared.head.Place.TheVariants.{Start, Return, Other}
@@ -9,13 +9,13 @@ is_empty_at Start = true
 is_empty_at Return = true
 is_empty_at Other = false
 
--- the place behind a byte that is no line feed
+-- the place after a byte that is no line feed
 abbrev pub place_after : Place → ℕ → Place
 place_after Start x = if x == 13 then Return else Other
 place_after Return x = Other
 place_after Other x = Other
 
--- The length up to and with the first empty line behind one that isn't empty. `some` tells whether one has come that isn't, and the place is that in the line.
+-- The length up to and with the first empty line after one that isn't empty. `some` says whether one has come that isn't, and the place is that in the line.
 unfoldable pub head_from : Bool → Place → List ℕ → Option ℕ
 head_from some place [] = None
 head_from some place (x ∷ xs) =

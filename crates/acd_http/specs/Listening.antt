@@ -1,9 +1,9 @@
--- What serving connections, one after another, leaves.
+-- The state after connections were answered, one after another.
 use Rattle.std.specs.Prelude.{◌≡◌, ◌⊎◌, ℕ, suc, length, true, false, List, [], ◌∷◌, ◌++◌, Option, Some, None, Result, Ok, Err, codes, decimal}
 use Rattle.acd_desk.specs.Ran.{Standing}
 use Rattle.acd_http.specs.declared.asked.Asked.{Asked}
-use Rattle.acd_http.specs.declared.serving.ExchangeFault.{ExchangeFault}
-use Rattle.acd_http.specs.declared.serving.ExchangeFault.TheVariants.{Truncated, Read, Write, NoMemory}
+use Rattle.acd_http.specs.declared.exchanging.ExchangeFault.{ExchangeFault}
+use Rattle.acd_http.specs.declared.exchanging.ExchangeFault.TheVariants.{Truncated, Read, Write, NoMemory}
 use Rattle.acd_http.specs.Asking.{Asks}
 use Rattle.acd_http.specs.Exchanging.{AnswersAsked}
 
@@ -17,7 +17,7 @@ fault_text Read = codes "read"
 fault_text Write = codes "write"
 fault_text NoMemory = codes "no memory"
 
--- the line that tells the fault of a connection, where it had one
+-- the line that reports the fault of a connection, if there was one
 unfoldable pub outcome_line : ℕ → Outcome → List ℕ
 outcome_line number (Ok u) = []
 outcome_line number (Err fault) = codes "acd: connection " ++ decimal number ++ codes ": " ++ fault_text fault ++ codes "\n"
@@ -38,43 +38,43 @@ module _ {D : Type 0} (stands : D → Standing) where
     pub answers : AnswersAsked stands moment d asked reply e
 
   -- one connection: it was answered, or the desk is as it was
-  abbrev pub ServedOne : D → Outcome → D → Type 0
-  ServedOne d (Ok u) e = Visited d e
-  ServedOne d (Err Write) e = Visited d e
-  ServedOne d (Err Truncated) e = e ≡ d
-  ServedOne d (Err Read) e = e ≡ d
-  ServedOne d (Err NoMemory) e = e ≡ d
+  abbrev pub AnsweredOne : D → Outcome → D → Type 0
+  AnsweredOne d (Ok u) e = Visited d e
+  AnsweredOne d (Err Write) e = Visited d e
+  AnsweredOne d (Err Truncated) e = e ≡ d
+  AnsweredOne d (Err Read) e = e ≡ d
+  AnsweredOne d (Err NoMemory) e = e ≡ d
 
   -- one connection after another
-  abbrev pub ServesEach : D → List Outcome → D → Type 0
-  ServesEach d [] e = e ≡ d
-  ServesEach d (x ∷ xs) e = (f : D) × ServedOne d x f × ServesEach f xs e
+  abbrev pub AnsweredEach : D → List Outcome → D → Type 0
+  AnsweredEach d [] e = e ≡ d
+  AnsweredEach d (x ∷ xs) e = (f : D) × AnsweredOne d x f × AnsweredEach f xs e
 
-  -- so many connections were served, and their lines went out as is said
-  pub record ServedAll (many : ℕ) (d e : D) (WentOut : List ℕ → Type 0) : Type 0 where
+  -- so many connections were answered, and their lines were written as is said
+  pub record AnsweredAll (many : ℕ) (d e : D) (WentOut : List ℕ → Type 0) : Type 0 where
     pub outcomes : List Outcome
     pub count : length outcomes ≡ many
-    pub serves : ServesEach d outcomes e
+    pub answered : AnsweredEach d outcomes e
     pub out : WentOut (outcome_lines 1 outcomes)
 
   -- each of them by a desk that hadn't failed
-  abbrev pub EachWell : (d : D) (xs : List Outcome) (e : D) → ServesEach d xs e → Type 0
+  abbrev pub EachWell : (d : D) (xs : List Outcome) (e : D) → AnsweredEach d xs e → Type 0
   EachWell d [] e h = Unit {0}
   EachWell d (x ∷ xs) e h = ((stands d).failed ≡ false) × EachWell h.0 xs e h.2
 
-  -- so many connections were served, each by a desk that hadn't failed, and their lines went out as is said
-  pub record ServedWell (many : ℕ) (d e : D) (WentOut : List ℕ → Type 0) : Type 0 where
+  -- so many connections were answered, each by a desk that hadn't failed, and their lines were written as is said
+  pub record AnsweredWell (many : ℕ) (d e : D) (WentOut : List ℕ → Type 0) : Type 0 where
     pub outcomes : List Outcome
     pub count : length outcomes ≡ many
-    pub serves : ServesEach d outcomes e
-    pub well : EachWell d outcomes e serves
+    pub answered : AnsweredEach d outcomes e
+    pub well : EachWell d outcomes e answered
     pub out : WentOut (outcome_lines 1 outcomes)
 
-  -- connections were served until the desk had failed, or as many as 64 bits count
-  abbrev pub ServedUntilFailed : D → D → (List ℕ → Type 0) → Type 0
-  ServedUntilFailed d e WentOut = (many : ℕ) × ServedWell many d e WentOut × (((stands e).failed ≡ true) ⊎ (many ≡ 18446744073709551615))
+  -- connections were answered until the desk failed, or as many as 64 bits count
+  abbrev pub AnsweredUntilFailed : D → D → (List ℕ → Type 0) → Type 0
+  AnsweredUntilFailed d e WentOut = (many : ℕ) × AnsweredWell many d e WentOut × (((stands e).failed ≡ true) ⊎ (many ≡ 18446744073709551615))
 
-  -- so many, or until the desk had failed
-  abbrev pub ServedFor : Option ℕ → D → D → (List ℕ → Type 0) → Type 0
-  ServedFor (Some many) d e WentOut = ServedAll many d e WentOut
-  ServedFor None d e WentOut = ServedUntilFailed d e WentOut
+  -- so many, or until the desk failed
+  abbrev pub AnsweredFor : Option ℕ → D → D → (List ℕ → Type 0) → Type 0
+  AnsweredFor (Some many) d e WentOut = AnsweredAll many d e WentOut
+  AnsweredFor None d e WentOut = AnsweredUntilFailed d e WentOut

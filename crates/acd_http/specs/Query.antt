@@ -5,7 +5,7 @@ use Rattle.std.specs.Str.Lossy.{utf8_lossy}
 use Rattle.form_urlencoded.specs.Form.{raw_pairs, decode}
 use Rattle.acd_io.specs.Digits.{number_up_to}
 
--- the text that a name or a value of a form stands for
+-- the text that a name or a value of a form represents
 abbrev pub text : List ℕ → List ℕ
 text bytes = utf8_lossy (decode bytes)
 

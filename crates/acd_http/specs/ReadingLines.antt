@@ -11,19 +11,19 @@ use Rattle.acd_desk.specs.declared.desk.Desk.{Desk}
 use Rattle.acd_desk.specs.declared.fault.DeskFault.{DeskFault}
 use Rattle.acd_desk.specs.declared.taken.Taken.{Taken}
 use Rattle.acd_desk.specs.Arrived.{at}
-use Rattle.acd_desk.specs.Served.{served}
+use Rattle.acd_desk.specs.Accepted.{accepted}
 use Rattle.acd_desk.specs.Stands.{ran_after}
 use Rattle.acd_desk.specs.Leads.{led}
 use Rattle.acd_desk.specs.Standing.{InStep}
 use Rattle.acd_desk.specs.Ran.{Standing, standing, IfStarted}
 use Rattle.acd_desk.specs.Attended.{Attended}
-use Rattle.acd_desk.specs.Told.{Told}
-use Rattle.acd_desk.specs.Tells.{told_of, is_plain}
+use Rattle.acd_desk.specs.ReadDone.{ReadDone}
+use Rattle.acd_desk.specs.ReadAnswers.{question_read, is_plain}
 use Rattle.acd_desk.specs.declared.question.Question.{Question}
 use Rattle.acd_desk.specs.AnswerTexts.{found_said}
 use Rattle.acd_lines.specs.Input.{Line, no_moment, too_long, faulty, arrival, request_read, asked, text_of}
 use Rattle.acd_lines.specs.Answers.{Answers, line_text, fixed_line}
-use Rattle.acd_lines.specs.Parts.{Serves, InTurn}
+use Rattle.acd_lines.specs.Parts.{AnswersEach, InTurn}
 use Rattle.acd_http.specs.declared.refused.Refused.{Refused}
 use Rattle.acd_http.specs.Refusing.{refused_said}
 use Rattle.acd_http.specs.Lookups.{target_looked}
@@ -33,48 +33,48 @@ pub data ReadingLine : Type 0 where
   plain : Line → ReadingLine
   get : ℕ → Result Question Refused → ReadingLine
 
--- what stands behind a moment begins as a read does
+-- the text after a moment begins as a read does
 abbrev pub is_read : List ℕ → Bool
 is_read text = nat_le 4 (length text) && bytes_eq (take 4 text) (codes "GET ")
 
 abbrev pub text_asked : ℕ → List ℕ → ReadingLine
 text_asked moment text = if is_read text then get moment (target_looked (drop 4 text)) else plain (request_read moment text)
 
--- what a line is
+-- the meaning of a line
 abbrev pub reading_line_of : List ℕ → ReadingLine
 reading_line_of text = asked (plain no_moment) (plain too_long) text_asked text
 
 abbrev pub refused_line : Refused → List ℕ
 refused_line why = line_text (refused_said why)
 
--- a report is told as a JSON text
-abbrev pub json_told : Bool → List ℕ → List ℕ
-json_told as_text text = if as_text then quoted text else text
+-- a report is printed as a JSON text
+abbrev pub as_json : Bool → List ℕ → List ℕ
+as_json as_text text = if as_text then quoted text else text
 
 abbrev pub json_found : Bool → Result (Option (List ℕ)) DeskFault → Result (Option (List ℕ)) DeskFault
-json_found as_text (Ok (Some text)) = Ok (Some (json_told as_text text))
+json_found as_text (Ok (Some text)) = Ok (Some (as_json as_text text))
 json_found as_text (Ok None) = Ok None
 json_found as_text (Err why) = Err why
 
 -- the answer line to a read
-abbrev pub told_line : Bool → Result (Option (List ℕ)) DeskFault → List ℕ
-told_line as_text found = line_text (found_said (json_found as_text found))
+abbrev pub found_line : Bool → Result (Option (List ℕ)) DeskFault → List ℕ
+found_line as_text found = line_text (found_said (json_found as_text found))
 
--- what is told of a content to a read, or that it can't be told
-abbrev pub IsTold : Content → ℕ → Question → List ℕ → Type 0
-IsTold c moment question out = (out ≡ told_line (is_plain question) (Ok (told_of c moment question))) ⊎ (out ≡ fixed_line fixed.NoMemory) ⊎ (out ≡ fixed_line fixed.StoreFault)
+-- the answer of a content to a read, or that it can't be given
+abbrev pub IsReadAnswer : Content → ℕ → Question → List ℕ → Type 0
+IsReadAnswer c moment question out = (out ≡ found_line (is_plain question) (Ok (question_read c moment question))) ⊎ (out ≡ fixed_line fixed.NoMemory) ⊎ (out ≡ fixed_line fixed.StoreFault)
 
 module _ {D : Type 0} (stands : D → Standing) where
   -- a read changes nothing; there may be no memory to see what it asks
-  abbrev pub Tells : D → ℕ → Result Question Refused → List ℕ → D → Type 0
-  Tells d moment (Err why) out e = ((out ≡ refused_line why) ⊎ (out ≡ fixed_line fixed.NoMemory)) × (e ≡ d)
-  Tells d moment (Ok question) out e = ((out ≡ fixed_line fixed.NoMemory) × (e ≡ d))
-      ⊎ ((found : Result (Option (List ℕ)) DeskFault) × (out ≡ told_line (is_plain question) found) × Told (stands d) (stands e) found (λ (c : Content) (text : Option (List ℕ)). text ≡ told_of c moment question))
+  abbrev pub AnswersRead : D → ℕ → Result Question Refused → List ℕ → D → Type 0
+  AnswersRead d moment (Err why) out e = ((out ≡ refused_line why) ⊎ (out ≡ fixed_line fixed.NoMemory)) × (e ≡ d)
+  AnswersRead d moment (Ok question) out e = ((out ≡ fixed_line fixed.NoMemory) × (e ≡ d))
+      ⊎ ((found : Result (Option (List ℕ)) DeskFault) × (out ≡ found_line (is_plain question) found) × ReadDone (stands d) (stands e) found (λ (c : Content) (text : Option (List ℕ)). text ≡ question_read c moment question))
 
   -- the desk, a line, what is written for it, and the desk after it
   abbrev pub ReadingAnswers : D → ReadingLine → List ℕ → D → Type 0
   ReadingAnswers d (plain line) out e = Answers stands d line out e
-  ReadingAnswers d (get moment wanted) out e = Tells d moment wanted out e
+  ReadingAnswers d (get moment wanted) out e = AnswersRead d moment wanted out e
 
   -- the request that a line asked for, and what the desk answered to it
   abbrev pub asked_by : (d : D) (line : ReadingLine) (out : List ℕ) (e : D) → ReadingAnswers d line out e → List (Arrival × Taken)
@@ -85,37 +85,37 @@ module _ {D : Type 0} (stands : D → Standing) where
   asked_by d (get moment wanted) out e h = []
 
   -- each line is answered by the desk that the earlier ones left
-  abbrev pub ServesReads : D → List (List ℕ) → List (List ℕ) → D → Type 0
-  ServesReads d pieces outs e = Serves reading_line_of ReadingAnswers d pieces outs e
+  abbrev pub AnswersReads : D → List (List ℕ) → List (List ℕ) → D → Type 0
+  AnswersReads d pieces outs e = AnswersEach reading_line_of ReadingAnswers d pieces outs e
 
   -- by one line after another
-  abbrev pub all_asked : (d : D) (pieces outs : List (List ℕ)) (e : D) → ServesReads d pieces outs e → List (Arrival × Taken)
+  abbrev pub all_asked : (d : D) (pieces outs : List (List ℕ)) (e : D) → AnswersReads d pieces outs e → List (Arrival × Taken)
   all_asked d [] [] e h = []
   all_asked d [] (out ∷ outs) e h = []
   all_asked d (piece ∷ pieces) [] e h = []
   all_asked d (piece ∷ pieces) (out ∷ outs) e h = asked_by d (reading_line_of (text_of piece)) out h.0 h.1 ++ all_asked h.0 pieces outs e h.2
 
-  abbrev pub arrivals_of : (d : D) (pieces outs : List (List ℕ)) (e : D) → ServesReads d pieces outs e → List Arrival
+  abbrev pub arrivals_of : (d : D) (pieces outs : List (List ℕ)) (e : D) → AnswersReads d pieces outs e → List Arrival
   arrivals_of d pieces outs e h = map (λ (p : Arrival × Taken). p.0) (all_asked d pieces outs e h)
 
-  abbrev pub answers_of : (d : D) (pieces outs : List (List ℕ)) (e : D) → ServesReads d pieces outs e → List Taken
+  abbrev pub answers_of : (d : D) (pieces outs : List (List ℕ)) (e : D) → AnswersReads d pieces outs e → List Taken
   answers_of d pieces outs e h = map (λ (p : Arrival × Taken). p.1) (all_asked d pieces outs e h)
 
   -- lines leave the desk as a run of the requests among them leaves it, whatever was read between these
   abbrev pub LinesLeadToTheRun : Type 0
-  LinesLeadToTheRun = (d e : D) (pieces outs : List (List ℕ)) (h : ServesReads d pieces outs e)
+  LinesLeadToTheRun = (d e : D) (pieces outs : List (List ℕ)) (h : AnswersReads d pieces outs e)
       → Attended (stands d) (arrivals_of d pieces outs e h) (answers_of d pieces outs e h) (stands e)
 
-  -- a read behind lines is told of what the requests among them made of the content, where the book is open, or answers a fault
-  abbrev pub ReadsTellOfTheContent : Type 0
-  ReadsTellOfTheContent = (d e f : D) (pieces outs : List (List ℕ)) (h : ServesReads d pieces outs e) (moment : ℕ) (question : Question) (out : List ℕ) → ReadingAnswers e (get moment (Ok question)) out f
+  -- a read after lines gives what the requests among them made of the content, where the book is open, or answers a fault
+  abbrev pub ReadsAnswerByTheContent : Type 0
+  ReadsAnswerByTheContent = (d e f : D) (pieces outs : List (List ℕ)) (h : AnswersReads d pieces outs e) (moment : ℕ) (question : Question) (out : List ℕ) → ReadingAnswers e (get moment (Ok question)) out f
       → IfHonest (stands d).book (stands f).book ((stands d).book.is_open → InStep (stands d) → (stands e).book.is_open
-      → IsTold (led (stands d).book.content (served (arrivals_of d pieces outs e h) (answers_of d pieces outs e h))) moment question out)
+      → IsReadAnswer (led (stands d).book.content (accepted (arrivals_of d pieces outs e h) (answers_of d pieces outs e h))) moment question out)
 
   -- which is their run, where it was sound
-  abbrev pub ReadsTellOfTheRun : Type 0
-  ReadsTellOfTheRun = (d e f : D) (pieces outs : List (List ℕ)) (h : ServesReads d pieces outs e) (moment : ℕ) (question : Question) (out : List ℕ) → ReadingAnswers e (get moment (Ok question)) out f
-      → IfStarted (stands d) (stands f) ((stands e).book.is_open → IsTold (ran_after (stands d).book.content (served (arrivals_of d pieces outs e h) (answers_of d pieces outs e h))) moment question out)
+  abbrev pub ReadsAnswerByTheRun : Type 0
+  ReadsAnswerByTheRun = (d e f : D) (pieces outs : List (List ℕ)) (h : AnswersReads d pieces outs e) (moment : ℕ) (question : Question) (out : List ℕ) → ReadingAnswers e (get moment (Ok question)) out f
+      → IfStarted (stands d) (stands f) ((stands e).book.is_open → IsReadAnswer (ran_after (stands d).book.content (accepted (arrivals_of d pieces outs e h) (answers_of d pieces outs e h))) moment question out)
 
 -- lines and the reads among them were answered in turn, from one desk over a book to another
 abbrev pub ReadInTurn : {B : Type 0} → Ghosts B → Desk B → Desk B → List (List ℕ) → List (List ℕ) → Type 0

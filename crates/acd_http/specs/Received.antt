@@ -1,4 +1,4 @@
--- For private clauses: what was read so far of an input.
+-- For private clauses: the bytes read so far of an input.
 use Rattle.std.specs.Prelude.{◌≡◌, ℕ, ◌<◌, ◌≤◌, List, [], ◌++◌, length, take, Bool, true, false, Option, Some, None, Result, MatchResult}
 use Rattle.std.specs.Io.KnownBytes.{Consumes, IsAtEnd, Keeps}
 use Rattle.acd_io.specs.declared.sending.Stopped.{Stopped}
@@ -29,7 +29,7 @@ pub record StopsInHead (now : List ℕ) (old new : Option (List ℕ)) : Type 0 w
   pub none : head_len (take 8192 now) ≡ None
   pub short : length now < 8192
 
--- what reading a head came to
+-- the result of reading a head
 abbrev pub HeadRead : List ℕ → Option (List ℕ) → Option (List ℕ) → Result (Option ℕ) Stopped → Type 0
 HeadRead now old new result = MatchResult result (λ found. Found found now old new) (λ _. StopsInHead now old new)
 
@@ -39,13 +39,13 @@ pub record BodyFound (whole : Bool) (len : ℕ) (was now : List ℕ) (old new : 
   pub grown : now ≡ was ++ more
   pub end : IsRead whole len now new
 
--- reading stopped before so many bytes had come
+-- reading stopped before so many bytes came
 pub record StopsInBody (len : ℕ) (was now : List ℕ) (old new : Option (List ℕ)) : Type 0 where
   pub more : List ℕ
   pub read : Consumes old new more
   pub grown : now ≡ was ++ more
   pub short : length now < len
 
--- what reading a body came to
+-- the result of reading a body
 abbrev pub BodyRead : ℕ → List ℕ → List ℕ → Option (List ℕ) → Option (List ℕ) → Result Bool Stopped → Type 0
 BodyRead len was now old new result = MatchResult result (λ whole. BodyFound whole len was now old new) (λ _. StopsInBody len was now old new)

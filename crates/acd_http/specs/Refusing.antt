@@ -1,4 +1,4 @@
--- What is answered to a request that the desk doesn't see.
+-- The answer to a request that the desk doesn't see.
 use Rattle.std.specs.Prelude.{ℕ, List, ◌++◌, codes, Option, Some, None}
 use Rattle.acd_codec.specs.declared.fault.FixedAnswer.TheVariants as fixed
 use Rattle.acd_desk.specs.AnswerTexts.{Said, fixed_said, malformed_said}
@@ -28,7 +28,7 @@ refused_said (MethodNotAllowed allow) = fixed_said fixed.MethodNotAllowed
 refused_said LengthRequired = fixed_said fixed.LengthRequired
 refused_said BodyTooLarge = fixed_said fixed.BodyTooLarge
 
--- what the Allow field tells, which 405 alone has
+-- the value of the Allow field, which 405 alone has
 abbrev pub refused_allow : Refused → Option Allow
 refused_allow HeadTooLarge = None
 refused_allow (Malformed part) = None

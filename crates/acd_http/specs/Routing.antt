@@ -47,7 +47,7 @@ table =
     (add (codes "/agents/{id}") Agent
     (add (codes "/csta") Services []))))))))))
 
--- where a path leads, as matchit matches it
+-- the route of a path, as matchit matches it
 abbrev pub matched : List ℕ → Option Route
 matched path = option_map (λ r. r.value) (first table path)
 

@@ -16,15 +16,15 @@ unfoldable pub from_path : List ℕ → List ℕ
 from_path [] = []
 from_path (x ∷ xs) = if begins_path x then x ∷ xs else from_path xs
 
--- what stands before the first question mark
+-- the part before the first question mark
 unfoldable pub before_mark : List ℕ → List ℕ
 before_mark [] = []
 before_mark (x ∷ xs) = if x == 63 then [] else x ∷ before_mark xs
 
--- what stands behind it
-unfoldable pub behind_mark : List ℕ → List ℕ
-behind_mark [] = []
-behind_mark (x ∷ xs) = if x == 63 then xs else behind_mark xs
+-- the rest after it
+unfoldable pub after_mark : List ℕ → List ℕ
+after_mark [] = []
+after_mark (x ∷ xs) = if x == 63 then xs else after_mark xs
 
 abbrev pub or_root : List ℕ → List ℕ
 or_root [] = 47 ∷ []
@@ -35,4 +35,4 @@ unfoldable pub path_of : List ℕ → List ℕ
 path_of target = if is_absolute target then or_root (before_mark (from_path (drop 7 target))) else before_mark target
 
 unfoldable pub query_of : List ℕ → List ℕ
-query_of target = if is_absolute target then behind_mark (from_path (drop 7 target)) else behind_mark target
+query_of target = if is_absolute target then after_mark (from_path (drop 7 target)) else after_mark target

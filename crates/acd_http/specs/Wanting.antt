@@ -1,4 +1,4 @@
--- What a head that has come whole asks for.
+-- The request of a head that has come whole.
 use Rattle.std.specs.Prelude.{◌≡◌, ℕ, ◌≤◌, List, [], length, map, Bool, true, false, if◌then◌else◌, codes, Option, Some, None, Result, Ok, Err, MatchResult}
 use Rattle.std.specs.Str.{bytes_eq}
 use Rattle.httparse.specs.Grammar.{RequestHead, ReadsRequest}
@@ -61,7 +61,7 @@ abbrev pub or_refused : Option Refused → Wanted → Wanted
 or_refused (Some why) wanted = want.Refused why
 or_refused None wanted = wanted
 
--- what a request asks for: the tests of its fields come first, then its method, its route and its length
+-- the request of a head: the tests of its fields come first, then its method, its route and its length
 unfoldable pub wants : ℕ → Option Method → List ℕ → List (List ℕ × List ℕ) → Wanted
 wants minor method target fields = or_refused (fields_refused minor fields) (by_method method target (length_in fields))
 
@@ -94,7 +94,7 @@ IsSmall (want.Body n) = n ≤ 4096
 IsSmall (want.Refused why) = Unit {0}
 IsSmall (want.Look question) = Unit {0}
 
--- for private clauses: what was read of a head; it wants no body where there was no memory to see what it wants
+-- for private clauses: a head as it was read; it asks for no body where there was no memory to read it
 abbrev pub IsHeadRead : List ℕ → Option (Bool × Result Wanted AllocError) → Type 0
 IsHeadRead head None = IsUnread head
 IsHeadRead head (Some read) = (h : RequestHead) × IsWhole head h × (read.0 ≡ has_no_body h) × MatchResult read.1 (λ (w : Wanted). w ≡ wanted_of h) (λ (e : AllocError). is_body (wanted_of h) ≡ false)

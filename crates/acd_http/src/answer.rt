@@ -7,15 +7,15 @@ ghost use Rattle.acd_http.specs.declared.asked.Asked.{Asked};
 ghost use Rattle.acd_http.specs.Exchanging.{reply_out, json_reply, fixed_reply, refused_reply, Replies, Answered};
 
 use crate::asked::Asked;
+use crate::reads::found_reply;
 use crate::refused::{Allow, Refused};
 use crate::reply::Kind;
-use crate::telling::told_reply;
 use acd_book::Book;
 use acd_codec::FixedAnswer;
 use acd_desk::{AnswerText, Desk};
 use acd_terms::Request;
 
-/// A reply: what is said in it, in which form, and what its Allow field tells, where it has one.
+/// A reply: its text, the form of that, and the value of its Allow field, if it has one.
 #[derive(Drop)]
 pub(crate) struct Reply {
     pub(crate) answer: AnswerText,
@@ -66,7 +66,7 @@ pub(crate) fn answered<B: Book>(desk: &mut Desk<B>, moment: u32, asked: Asked) -
     match asked {
         Asked::Truncated => None,
         Asked::Refused(why, _) => Some(refused(why)),
-        Asked::Look(question, _) => Some(told_reply(desk, moment, question)),
+        Asked::Look(question, _) => Some(found_reply(desk, moment, question)),
         Asked::Arrival(request) => Some(arrival(desk, moment, &request)),
     }
 }

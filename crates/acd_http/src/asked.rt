@@ -1,4 +1,4 @@
-//! What the bytes of a connection ask.
+//! The question that the bytes of a connection ask.
 
 ghost use Rattle.std.specs.Prelude.{◌≡◌, ℕ, List, [], false, MatchResult, Option};
 ghost use Rattle.std.specs.Io.KnownBytes.{Consumes};
@@ -17,8 +17,8 @@ use acd_terms::Request;
 use std::alloc::{AllocError, Global};
 use std::io::Read;
 
-/// What the bytes of a connection ask. Its second part says whether the reply goes out without its body, as it
-/// does to HEAD.
+/// The question that the bytes of a connection ask. Its second part says whether the reply is sent without its body, as
+/// it is to HEAD.
 #[derive(Clone, Copy, Debug, PartialEq, Eq)]
 pub enum Asked {
     /// The input ends before the request does.
@@ -35,7 +35,7 @@ impl Asked {
     ghost use Rattle.std.specs.Prelude.{◌≡◌};
     ghost use Rattle.acd_http.specs.Asking.{is_bodiless};
 
-    /// Whether the reply goes out without its body.
+    /// Whether the reply is sent without its body.
     pub(crate) fn is_bodiless(&self) -> bool
         ensures { result ≡ is_bodiless self.now }
     {
@@ -56,7 +56,7 @@ pub(crate) enum Unknown {
     NoMemory(bool),
 }
 
-// What an input of this length asks in which no head ends.
+// The question of an input of this length in which no head ends.
 #[tactic(auto, using(std::proofs::lemmas::Bool::Decides::nat_tests))]
 fn headless(len: usize) -> Asked
     ensures { result ≡ headless len }
@@ -68,7 +68,7 @@ fn headless(len: usize) -> Asked
     }
 }
 
-// What a body that has come whole asks.
+// The question of a body that has come whole.
 fn body_asked(alloc: Global, body: &[u8]) -> Result<Asked, Unknown>
     ensures { MatchResult result (λ asked. asked ≡ body_asks (reads_as body.now))
         (λ unknown. unknown ≡ Unknown.NoMemory false) }
@@ -80,8 +80,8 @@ fn body_asked(alloc: Global, body: &[u8]) -> Result<Asked, Unknown>
     }
 }
 
-// The head has come whole, and has this length. `first` is what the reader had at the beginning.
-fn asked_behind<R: Read>(
+// The head has come whole, and has this length. `first` is what the reader held at the beginning.
+fn asked_after_head<R: Read>(
     alloc: Global,
     routes: &Routes,
     reader: &mut R,
@@ -118,7 +118,7 @@ pub(crate) fn asked_by<R: Read>(
 {
     let mut calls = most_calls();
     match read_head(reader, &mut calls, input) {
-        Ok(Some(len)) => asked_behind(alloc, routes, reader, &mut calls, input, len),
+        Ok(Some(len)) => asked_after_head(alloc, routes, reader, &mut calls, input, len),
         Ok(None) => Ok(headless(input.as_slice().len())),
         Err(Stopped) => Err(Unknown::Stopped),
     }

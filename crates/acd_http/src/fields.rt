@@ -10,7 +10,7 @@ use crate::refused::{Part, Refused};
 use acd_io::number_up_to;
 use httparse::spans::HeaderSpan;
 
-/// What the Content-Length fields of a head say.
+/// The length that the Content-Length fields of a head give.
 #[derive(Clone, Copy, Debug, PartialEq, Eq)]
 pub(crate) enum Length {
     /// There is none.
@@ -80,7 +80,7 @@ fn is_host_fine(minor: u8, hosts: usize) -> bool
     hosts == 1 || (minor == 0 && hosts == 0)
 }
 
-// What one Content-Length field says.
+// The length that one Content-Length field gives.
 #[tactic(auto, using(std::proofs::lemmas::Bool::Decides::nat_tests))]
 fn length_by(value: &[u8]) -> Length
     ensures { result ≡ length_by value.now }
@@ -97,7 +97,7 @@ fn length_by(value: &[u8]) -> Length
     }
 }
 
-/// What the Content-Length fields say.
+/// The length that the Content-Length fields give.
 #[tactic(auto, unfolding(crate::specs::Fields::length_in))]
 pub(crate) fn length_in(buf: &[u8], headers: &[HeaderSpan]) -> Length
     requires { All (IsHeaderWithin (length buf.now)) headers.now }

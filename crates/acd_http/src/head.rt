@@ -1,16 +1,16 @@
-//! Where the head of a request ends, and how many lines it has.
+//! The end of the head of a request, and how many lines it has.
 
 ghost use Rattle.std.specs.Prelude.{◌≡◌, ◌≤◌, length};
 ghost use Rattle.acd_http.specs.Head.{head_len, lines_in};
 
-/// Where in a line the next byte stands.
+/// The place of the next byte in its line.
 #[derive(Clone, Copy, Debug, PartialEq, Eq)]
 pub(crate) enum Place {
     /// At its start.
     Start,
-    /// Behind one carriage return, which is all of it so far.
+    /// After one carriage return, which is all of it so far.
     Return,
-    /// Behind more than that.
+    /// After more than that.
     Other,
 }
 
@@ -44,8 +44,7 @@ impl Place {
     }
 }
 
-/// The length of the head, where it has come whole: up to and with the first empty line behind one that
-/// isn't empty.
+/// The length of the head, where it has come whole: up to and with the first empty line after one that isn't empty.
 pub(crate) fn head_len(bytes: &[u8]) -> Option<usize>
     ensures { result ≡ head_len bytes.now }
 {

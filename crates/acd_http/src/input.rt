@@ -1,4 +1,4 @@
-//! What was read of a connection.
+//! The bytes read of a connection.
 
 ghost use Rattle.std.specs.Prelude.{◌≡◌, ◌<◌, ◌≤◌, ◌+◌, ◌++◌, [], length, IfOk, OnOk};
 ghost use Rattle.acd_http.specs.Received.{Filled};
@@ -14,7 +14,7 @@ const ROOM: usize = 16_384;
 /// How many bytes are read at once.
 const CHUNK: usize = 4096;
 
-/// What was read so far. Its room never grows.
+/// The bytes read so far. Their room never grows.
 #[derive(Drop)]
 pub(crate) struct Input {
     bytes: Vec<u8>,

@@ -1,9 +1,9 @@
-//! What holds of the definitions. Each law is the contract of a function with an empty body.
+//! Laws of the definitions. Each law is the contract of a function with an empty body.
 
 ghost use Rattle.acd_desk.specs.Standing.{standing};
 ghost use Rattle.acd_http.specs.Laws.{AsksOneThing, AsksByABeginning, PhrasesAreCanonical};
 ghost use Rattle.acd_http.specs.Attending.{LeadsToTheRun};
-ghost use Rattle.acd_http.specs.ReadingLines.{LinesLeadToTheRun, ReadsTellOfTheContent, ReadsTellOfTheRun};
+ghost use Rattle.acd_http.specs.ReadingLines.{LinesLeadToTheRun, ReadsAnswerByTheContent, ReadsAnswerByTheRun};
 
 use acd_book::Book;
 
@@ -12,7 +12,7 @@ pub fn asks_one_thing()
     ensures { AsksOneThing }
 {}
 
-/// What bytes ask, they ask whatever follows them, where they aren't truncated.
+/// Bytes ask the same question whatever follows them, where they aren't truncated.
 pub fn asks_by_a_beginning()
     ensures { AsksByABeginning }
 {}
@@ -22,16 +22,17 @@ pub fn phrases_are_canonical()
     ensures { PhrasesAreCanonical }
 {}
 
-/// Connections that were served one after another leave the desk as a run of the requests that they brought leaves it, whatever was
-/// read between them: each reply is the abstract desk's at its place, and so is what the book holds, and what a stop leaves of it.
+/// Connections that were answered one after another leave the desk as a run of the requests that they brought leaves
+/// it, whatever was read between them: each reply is that of the abstract desk at its place, and so is what the book
+/// holds, and what a stop leaves of it.
 pub fn connections_lead_to_the_run<B: Book>()
     ensures { LeadsToTheRun (standing B.Book) }
 {}
 
-/// Lines leave the desk as a run of the requests among them leaves it, whatever was read between these; and a read tells of the run
-/// of the requests before it, by the definitions that a GET of its target is answered by.
-pub fn reads_tell_of_the_run<B: Book>()
+/// Lines leave the desk as a run of the requests among them leaves it, whatever was read between these; and a read
+/// answers from the run of the requests before it, by the same definitions as a GET of its target.
+pub fn reads_answer_by_the_run<B: Book>()
     ensures run { LinesLeadToTheRun (standing B.Book) }
-    ensures content { ReadsTellOfTheContent (standing B.Book) }
-    ensures told { ReadsTellOfTheRun (standing B.Book) }
+    ensures content { ReadsAnswerByTheContent (standing B.Book) }
+    ensures reads { ReadsAnswerByTheRun (standing B.Book) }
 {}

@@ -1,13 +1,13 @@
-//! Connections of a listener, served one after the other.
+//! Connections of a listener, answered one after the other.
 
 ghost use Rattle.std.specs.Prelude.{◌≡◌, ◌≢◌, ◌≤◌, ℕ, List, ◌++◌, min, length, Option, Err};
 ghost use Rattle.acd_io.specs.Sent.{WasSent};
 ghost use Rattle.acd_desk.specs.Ran.{standing};
-ghost use Rattle.acd_http.specs.Listening.{ServedOne, ServedAll, ServedUntilFailed, fault_text, outcome_line};
+ghost use Rattle.acd_http.specs.Listening.{AnsweredOne, AnsweredAll, AnsweredUntilFailed, fault_text, outcome_line};
 
+use crate::exchanging::{ExchangeFault, exchange};
 use crate::head_text::HeadText;
 use crate::routes::Routes;
-use crate::serving::{ExchangeFault, exchange};
 use acd_book::Book;
 use acd_desk::Desk;
 use acd_io::{Stopped, most_calls, send};
@@ -18,13 +18,13 @@ use std::net::{TcpListener, TcpStream};
 use std::time::{Clock, SystemTime, UNIX_EPOCH};
 use thiserror::Error;
 
-/// Why serving did less than it was to do.
+/// Why fewer connections were answered than was asked for.
 #[derive(Clone, Copy, Debug, PartialEq, Eq, Error)]
 pub enum ServeFault {
     /// There was no memory for the routes. No connection was accepted.
     #[error("no memory")]
     NoMemory,
-    /// A line could not be written, and none behind it was. All connections were served.
+    /// A line could not be written, and none after it was. All connections were answered.
     #[error("write")]
     Write,
 }
@@ -66,14 +66,14 @@ fn take_rest(stream: &TcpStream) {
 }
 
 // The moment is that at which the connection was accepted.
-fn serve_stream<B: Book, C: Clock>(
+fn answer_stream<B: Book, C: Clock>(
     clock: &C,
     alloc: Global,
     routes: &Routes,
     stream: &TcpStream,
     desk: &mut Desk<B>,
 ) -> Result<(), ExchangeFault>
-    ensures { ServedOne (standing B.Book) desk.old result desk.new }
+    ensures { AnsweredOne (standing B.Book) desk.old result desk.new }
 {
     let moment = moment_now(clock);
     let mut reader = stream;
@@ -81,20 +81,20 @@ fn serve_stream<B: Book, C: Clock>(
     exchange(alloc, routes, desk, moment, &mut reader, &mut writer)
 }
 
-// Waits for a connection and serves it. It is closed behind it.
-fn serve_next<B: Book, C: Clock>(
+// Waits for a connection, answers it and then closes it.
+fn answer_next<B: Book, C: Clock>(
     clock: &C,
     alloc: Global,
     routes: &Routes,
     listener: &TcpListener,
     desk: &mut Desk<B>,
 ) -> Result<(), ExchangeFault>
-    ensures { ServedOne (standing B.Book) desk.old result desk.new }
+    ensures { AnsweredOne (standing B.Book) desk.old result desk.new }
 {
     let Ok((stream, _)) = listener.accept() else {
         return Err(ExchangeFault::Read);
     };
-    let outcome = serve_stream(clock, alloc, routes, &stream, desk);
+    let outcome = answer_stream(clock, alloc, routes, &stream, desk);
     take_rest(&stream);
     outcome
 }
@@ -127,7 +127,7 @@ fn fault_line(number: u64, fault: ExchangeFault) -> HeadText
 
 // Writes the line of a connection, where there is one.
 #[tactic(auto, unfolding(crate::specs::Listening::outcome_line))]
-fn note<E: Write>(
+fn print_outcome<E: Write>(
     errors: &mut E,
     number: u64,
     outcome: Result<(), ExchangeFault>,
@@ -145,24 +145,24 @@ fn note<E: Write>(
     }
 }
 
-// Where a line before it could not be written, it isn't.
-fn note_behind<E: Write>(
-    noted: Result<(), Stopped>,
+// Writes the line, unless a line before it could not be written.
+fn print_next<E: Write>(
+    printed: Result<(), Stopped>,
     errors: &mut E,
     number: u64,
     outcome: Result<(), ExchangeFault>,
 ) -> Result<(), Stopped>
     ensures { (first : Option (List ℕ)) (text : List ℕ)
-        → WasSent noted first (E.contents errors.old) text
+        → WasSent printed first (E.contents errors.old) text
         → WasSent result first (E.contents errors.new) (text ++ outcome_line number outcome) }
 {
-    noted?;
-    note(errors, number, outcome)
+    printed?;
+    print_outcome(errors, number, outcome)
 }
 
-/// Serves so many connections, one after the other, each by an [`exchange`] at the clock's moment, and closes them.
+/// Answers so many connections, one after the other, each by an [`exchange`] at the clock's moment, and closes them.
 /// The fault of a connection is a line, `acd: connection N: truncated`, where N counts them from 1; where none could be
-/// accepted the word is `read`. After a fault the next one is served.
+/// accepted the word is `read`. After a fault the next one is answered.
 pub fn serve_on<B: Book, C: Clock, E: Write>(
     clock: &C,
     alloc: Global,
@@ -172,8 +172,8 @@ pub fn serve_on<B: Book, C: Clock, E: Write>(
     errors: &mut E,
 ) -> Result<(), ServeFault>
     // the lines were written or, where one of them could not be, a beginning of them and not all
-    ensures served { result ≢ Err ServeFault.NoMemory
-        → ServedAll (standing B.Book) connections desk.old desk.new
+    ensures answered { result ≢ Err ServeFault.NoMemory
+        → AnsweredAll (standing B.Book) connections desk.old desk.new
         (WasSent result (E.contents errors.old) (E.contents errors.new)) }
     ensures memory { result ≡ Err ServeFault.NoMemory
         → (desk.new ≡ desk.old) × (errors.new ≡ errors.old) }
@@ -181,19 +181,19 @@ pub fn serve_on<B: Book, C: Clock, E: Write>(
     let Ok(routes) = Routes::new(alloc) else {
         return Err(ServeFault::NoMemory);
     };
-    let mut noted = Ok(());
+    let mut printed = Ok(());
     for before in 0..connections {
-        let outcome = serve_next(clock, alloc, &routes, listener, desk);
-        noted = note_behind(noted, errors, before + 1, outcome);
+        let outcome = answer_next(clock, alloc, &routes, listener, desk);
+        printed = print_next(printed, errors, before + 1, outcome);
     }
-    match noted {
+    match printed {
         Ok(()) => Ok(()),
         Err(Stopped) => Err(ServeFault::Write),
     }
 }
 
-// Serves connections until the desk has failed.
-fn serve_while_well<B: Book, C: Clock, E: Write>(
+// Answers connections until the desk has failed.
+fn answer_while_well<B: Book, C: Clock, E: Write>(
     clock: &C,
     alloc: Global,
     routes: &Routes,
@@ -201,22 +201,22 @@ fn serve_while_well<B: Book, C: Clock, E: Write>(
     desk: &mut Desk<B>,
     errors: &mut E,
 ) -> Result<(), Stopped>
-    ensures { ServedUntilFailed (standing B.Book) desk.old desk.new
+    ensures { AnsweredUntilFailed (standing B.Book) desk.old desk.new
         (WasSent result (E.contents errors.old) (E.contents errors.new)) }
 {
-    let mut noted = Ok(());
+    let mut printed = Ok(());
     for before in 0..u64::MAX {
         if desk.has_failed() {
-            return noted;
+            return printed;
         }
-        let outcome = serve_next(clock, alloc, routes, listener, desk);
-        noted = note_behind(noted, errors, before + 1, outcome);
+        let outcome = answer_next(clock, alloc, routes, listener, desk);
+        printed = print_next(printed, errors, before + 1, outcome);
     }
-    noted
+    printed
 }
 
-/// Serves connections as [`serve_on`] does, until the desk has failed: the connection in which it did is the last.
-/// Its number of connections has 64 bits, and where it is at its end no more are served.
+/// Answers connections as [`serve_on`] does, until the desk has failed: the connection in which it did is the last. Its
+/// number of connections has 64 bits; at the greatest one it stops.
 pub fn serve_until_failed<B: Book, C: Clock, E: Write>(
     clock: &C,
     alloc: Global,
@@ -225,8 +225,8 @@ pub fn serve_until_failed<B: Book, C: Clock, E: Write>(
     errors: &mut E,
 ) -> Result<(), ServeFault>
     // the lines were written or, where one of them could not be, a beginning of them and not all
-    ensures served { result ≢ Err ServeFault.NoMemory
-        → ServedUntilFailed (standing B.Book) desk.old desk.new
+    ensures answered { result ≢ Err ServeFault.NoMemory
+        → AnsweredUntilFailed (standing B.Book) desk.old desk.new
         (WasSent result (E.contents errors.old) (E.contents errors.new)) }
     ensures memory { result ≡ Err ServeFault.NoMemory
         → (desk.new ≡ desk.old) × (errors.new ≡ errors.old) }
@@ -234,7 +234,7 @@ pub fn serve_until_failed<B: Book, C: Clock, E: Write>(
     let Ok(routes) = Routes::new(alloc) else {
         return Err(ServeFault::NoMemory);
     };
-    match serve_while_well(clock, alloc, &routes, listener, desk, errors) {
+    match answer_while_well(clock, alloc, &routes, listener, desk, errors) {
         Ok(()) => Ok(()),
         Err(Stopped) => Err(ServeFault::Write),
     }

@@ -1,7 +1,7 @@
-//! What a GET or HEAD looks up.
+//! The question of a GET or HEAD.
 
 ghost use Rattle.std.specs.Prelude.{◌≡◌, ◌-◌, IfOk, length, take, drop, option_map, codes};
-ghost use Rattle.acd_http.specs.Lookups.{behind, before, is_serial, serial_of, agent_in, device_in, monitor_in, look_up, target_looked, found_or, paged};
+ghost use Rattle.acd_http.specs.Lookups.{rest_of, before, is_serial, serial_of, agent_in, device_in, monitor_in, look_up, target_looked, found_or, paged};
 
 use crate::query::after_of;
 use crate::refused::{Allow, Part, Refused};
@@ -15,8 +15,8 @@ use std::alloc::{AllocError, Global};
 /// How many digits a call or a monitor has at most.
 const SERIAL_DIGITS: usize = 10;
 
-fn behind<'p>(path: &'p [u8], front: &[u8]) -> &'p [u8]
-    ensures { result.now ≡ behind front.now path.now }
+fn rest_of<'p>(path: &'p [u8], front: &[u8]) -> &'p [u8]
+    ensures { result.now ≡ rest_of front.now path.now }
 {
     &path[front.len().min(path.len())..]
 }
@@ -56,25 +56,25 @@ fn serial_of(digits: &[u8]) -> Option<u64>
 fn agent_in(path: &[u8]) -> Option<AgentId>
     ensures { result ≡ agent_in path.now }
 {
-    AgentId::read(behind(path, b"/agents/")).ok()
+    AgentId::read(rest_of(path, b"/agents/")).ok()
 }
 
 fn device_in(path: &[u8], front: &[u8]) -> Option<DeviceId>
     ensures { result ≡ device_in front.now path.now }
 {
-    DeviceId::read(behind(path, front)).ok()
+    DeviceId::read(rest_of(path, front)).ok()
 }
 
 fn call_in(path: &[u8]) -> Option<u64>
-    ensures { result ≡ serial_of (behind (codes "/calls/") path.now) }
+    ensures { result ≡ serial_of (rest_of (codes "/calls/") path.now) }
 {
-    serial_of(behind(path, b"/calls/"))
+    serial_of(rest_of(path, b"/calls/"))
 }
 
 fn monitor_in(path: &[u8]) -> Option<u64>
     ensures { result ≡ monitor_in path.now }
 {
-    serial_of(before(behind(path, b"/monitors/"), b"/events"))
+    serial_of(before(rest_of(path, b"/monitors/"), b"/events"))
 }
 
 fn found_or(question: Option<Question>) -> Result<Question, Refused>
@@ -95,7 +95,7 @@ fn paged(question: Option<Question>) -> Result<Question, Refused>
     }
 }
 
-// What a read looks up. A malformed `after` is answered before an identifier that isn't well formed.
+// The question of a read. A malformed `after` is answered before an identifier that isn't well formed.
 fn look_up(
     alloc: Global,
     route: Option<Route>,
@@ -127,7 +127,7 @@ fn look_up(
 }
 
 impl Routes {
-    /// What a GET of the target looks up, or how it is refused.
+    /// The question of a GET of the target, or how it is refused.
     pub fn look_up(
         &self,
         alloc: Global,

@@ -6,7 +6,7 @@ ghost use Rattle.acd_desk.specs.AnswerTexts.{seen};
 ghost use Rattle.acd_lines.specs.Answers.{answered_text, fixed_line};
 ghost use Rattle.acd_lines.specs.Lines.{LinesDone, streams};
 ghost use Rattle.acd_http.specs.Lookups.{target_looked};
-ghost use Rattle.acd_http.specs.ReadingLines.{is_read, json_told, told_line, Tells, ReadInTurn};
+ghost use Rattle.acd_http.specs.ReadingLines.{is_read, as_json, found_line, AnswersRead, ReadInTurn};
 
 use crate::routes::Routes;
 use acd_book::Book;
@@ -16,9 +16,9 @@ use acd_lines::{Answering, LinesFault, Requests, answer_lines};
 use std::alloc::{AllocError, Global};
 use std::io::{Read, Write};
 
-// What was told as JSON.
-fn json_told(alloc: Global, is_plain: bool, text: String) -> Result<String, AllocError>
-    ensures { IfOk result (λ s. string_bytes s ≡ json_told is_plain (string_bytes text)) }
+// The answer as JSON.
+fn as_json(alloc: Global, is_plain: bool, text: String) -> Result<String, AllocError>
+    ensures { IfOk result (λ s. string_bytes s ≡ as_json is_plain (string_bytes text)) }
 {
     if is_plain {
         quoted(alloc, text.as_str())
@@ -29,17 +29,17 @@ fn json_told(alloc: Global, is_plain: bool, text: String) -> Result<String, Allo
 
 // The text of a report as JSON takes memory, and where there is none the answer is noMemory.
 fn text_line(alloc: Global, is_plain: bool, text: String) -> AnswerText
-    ensures { (answered_text result ≡ told_line is_plain (Ok (Some (string_bytes text))))
+    ensures { (answered_text result ≡ found_line is_plain (Ok (Some (string_bytes text))))
         ⊎ (answered_text result ≡ fixed_line FixedAnswer.NoMemory) }
 {
-    match json_told(alloc, is_plain, text) {
+    match as_json(alloc, is_plain, text) {
         Ok(body) => AnswerText::found(Ok(Some(body))),
         Err(AllocError) => AnswerText::fixed(FixedAnswer::NoMemory),
     }
 }
 
-fn told_line(alloc: Global, is_plain: bool, found: Result<Option<String>, DeskFault>) -> AnswerText
-    ensures { (answered_text result ≡ told_line is_plain (seen found))
+fn found_line(alloc: Global, is_plain: bool, found: Result<Option<String>, DeskFault>) -> AnswerText
+    ensures { (answered_text result ≡ found_line is_plain (seen found))
         ⊎ (OnErr found ⊥ × (answered_text result ≡ fixed_line FixedAnswer.NoMemory)) }
 {
     match found {
@@ -50,15 +50,15 @@ fn told_line(alloc: Global, is_plain: bool, found: Result<Option<String>, DeskFa
 }
 
 fn look<B: Book>(alloc: Global, desk: &mut Desk<B>, moment: u32, question: Question) -> AnswerText
-    ensures { Tells (standing B.Book) desk.old moment (Ok question) (answered_text result)
+    ensures { AnswersRead (standing B.Book) desk.old moment (Ok question) (answered_text result)
         desk.new }
 {
     let is_plain = question.is_plain();
     let found = desk.read(moment, question);
-    told_line(alloc, is_plain, found)
+    found_line(alloc, is_plain, found)
 }
 
-// What a GET of the target answers.
+// The answer to a GET of the target.
 fn answer_read<B: Book>(
     alloc: Global,
     routes: &Routes,
@@ -66,7 +66,7 @@ fn answer_read<B: Book>(
     moment: u32,
     target: &[u8],
 ) -> AnswerText
-    ensures { Tells (standing B.Book) desk.old moment (target_looked target.now)
+    ensures { AnswersRead (standing B.Book) desk.old moment (target_looked target.now)
         (answered_text result) desk.new }
 {
     match routes.look_up(alloc, target) {
@@ -140,9 +140,10 @@ impl<B: Book> Answering<B> for RequestsAndReads {
     }
 }
 
-/// Answers lines as [`acd_lines::lines`] does, and reads among them: behind its moment stand `GET`, a space and the target of
-/// an HTTP request. Its answer line is the status, a space and the body, a report as a JSON text, by the desk that the
-/// lines before it left; it changes nothing. Where `ends` says so nothing more is read once the desk has failed.
+/// Answers lines as [`acd_lines::lines`] does, and reads among them: in a read the moment is followed by `GET`, a space
+/// and the target of an HTTP request. Its answer line is the status, a space and the body, a report as a JSON text, by
+/// the desk that the lines before it left; it changes nothing. Where `ends` says so nothing more is read once the desk
+/// has failed.
 pub fn lines_with_reads<B: Book, R: Read, W: Write>(
     alloc: Global,
     desk: &mut Desk<B>,

@@ -69,7 +69,7 @@ impl Refused {
     ghost use Rattle.acd_desk.specs.AnswerTexts.{said};
     ghost use Rattle.acd_http.specs.Refusing.{refused_said, refused_allow};
 
-    /// What is answered. It takes no memory.
+    /// The answer. It takes no memory.
     pub fn answer(self) -> AnswerText
         ensures { said result ≡ refused_said self }
     {
@@ -88,7 +88,7 @@ impl Refused {
         }
     }
 
-    /// What the Allow field of the reply tells, where it has one.
+    /// The value of the reply's Allow field, if it has one.
     pub(crate) fn allow(self) -> Option<Allow>
         ensures { result ≡ refused_allow self }
     {

@@ -8,7 +8,7 @@ use crate::refused::Allow;
 use acd_desk::Question;
 use itoa::Buffer;
 
-/// What a body is.
+/// The kind of a body.
 #[derive(Clone, Copy, Debug, PartialEq, Eq)]
 pub(crate) enum Kind {
     Json,
@@ -17,11 +17,11 @@ pub(crate) enum Kind {
 
 impl Kind {
     ghost use Rattle.std.specs.Prelude.{◌≡◌};
-    ghost use Rattle.acd_http.specs.Exchanging.{kind_told};
+    ghost use Rattle.acd_http.specs.Exchanging.{kind_of};
 
-    /// Of what is told to a question.
+    /// Of the answer to a question.
     pub(crate) fn of(question: &Question) -> Kind
-        ensures { result ≡ kind_told question.now }
+        ensures { result ≡ kind_of question.now }
     {
         if question.is_plain() {
             Kind::Plain

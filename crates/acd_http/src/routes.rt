@@ -6,7 +6,7 @@ ghost use Rattle.acd_http.specs.Routing.{add, table, matched, route_of};
 use matchit::{InsertError, Router};
 use std::alloc::Global;
 
-/// Where a path leads: to the services, or to a read.
+/// The route of a path: to the services, or to a read.
 #[derive(Clone, Copy, Debug, PartialEq, Eq)]
 pub(crate) enum Route {
     Services,
@@ -73,7 +73,7 @@ impl Routes {
         Ok(Routes { router })
     }
 
-    /// Where a path leads. Its bytes are compared as they are.
+    /// The route of a path. Its bytes are compared as they are.
     pub(crate) fn route_of(&self, path: &[u8]) -> Option<Route>
         ensures { result ≡ route_of path.now }
     {

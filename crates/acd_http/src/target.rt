@@ -3,7 +3,7 @@
 ghost use Rattle.std.specs.Prelude.{◌≡◌, map, take, codes};
 ghost use Rattle.std.specs.Char.{to_ascii_lowercase};
 ghost use Rattle.std.specs.Str.{bytes_eq};
-ghost use Rattle.acd_http.specs.Target.{is_absolute, begins_path, from_path, or_root, before_mark, behind_mark, path_of, query_of};
+ghost use Rattle.acd_http.specs.Target.{is_absolute, begins_path, from_path, or_root, before_mark, after_mark, path_of, query_of};
 
 /// How an absolute target begins.
 const SCHEME: &[u8] = b"http://";
@@ -33,10 +33,10 @@ fn from_path(bytes: &[u8]) -> &[u8]
     b""
 }
 
-// What stands before the first question mark, and what stands behind it.
+// The part before the first question mark, and the part after it.
 fn split_at_mark(bytes: &[u8]) -> (&[u8], &[u8])
     ensures before { result.0.now ≡ before_mark bytes.now }
-    ensures behind { result.1.now ≡ behind_mark bytes.now }
+    ensures after { result.1.now ≡ after_mark bytes.now }
 {
     for i in 0..bytes.len() {
         if bytes[i] == b'?' {

@@ -1,4 +1,4 @@
-//! What a head asks for.
+//! The request of a head.
 
 ghost use Rattle.std.specs.Prelude.{◌≡◌, ℕ, ◌≤◌, length, map, All, IfOk, OnErr, false};
 ghost use Rattle.httparse.specs.Grammar.{RequestHead};
@@ -18,7 +18,7 @@ use httparse::Status;
 use httparse::spans::{EMPTY_HEADER_SPAN, HeaderSpan, parse_request};
 use std::alloc::{AllocError, Global};
 
-/// What a head asks for.
+/// The request of a head.
 #[derive(Clone, Copy, Debug, PartialEq, Eq)]
 pub(crate) enum Wanted {
     Refused(Refused),
@@ -46,7 +46,7 @@ fn by_length(length: Length) -> Wanted
     }
 }
 
-// What a POST asks for.
+// The request of a POST.
 fn posted(route: Option<Route>, length: Length) -> Wanted
     ensures { result ≡ posted route length }
 {
@@ -62,7 +62,7 @@ fn posted(route: Option<Route>, length: Length) -> Wanted
     }
 }
 
-// What a method asks of a target.
+// The request of a method for a target.
 fn by_method(
     alloc: Global,
     routes: &Routes,
@@ -86,7 +86,7 @@ fn by_method(
     }
 }
 
-// What a request asks for, by its method, its target and its fields.
+// The request of a head, by its method, its target and its fields.
 #[tactic(auto, unfolding(crate::specs::Wanting::wants))]
 fn wants(
     alloc: Global,
@@ -109,8 +109,8 @@ fn wants(
     }
 }
 
-// What a head that has come whole asks for, and whether its method is HEAD; there may be no memory to see it. None where the
-// bytes aren't a head.
+// The request of a head that has come whole, and whether its method is HEAD; there may be no memory to read it. None
+// where the bytes aren't a head.
 fn read_request_head(
     alloc: Global,
     routes: &Routes,
@@ -137,8 +137,8 @@ fn read_request_head(
 /// How many lines of a head aren't empty, at most: the request line and the fields.
 const LINES: usize = 33;
 
-/// Whether the reply to a head that has come whole goes out without its body, and what the head asks for; there may be no
-/// memory to see it.
+/// Whether the reply to a head that has come whole is sent without its body, and the request of the head; there may be
+/// no memory to read it.
 pub(crate) fn head_asked(
     alloc: Global,
     routes: &Routes,

@@ -50,7 +50,7 @@ passes_same_front a c v h = record { sent = h.sent; whole = append-nil v ∙ h.w
 pub passes_nothing : (a : Option (List ℕ)) (v : List ℕ) → Passes a a v (v ++ [])
 passes_nothing a v = record { sent = []; whole = append-nil v; written = Appends-nil a }
 
--- what waits was written, and then a text
+-- the waiting bytes were written, and then a text
 pub passes_sent : (a b c : Option (List ℕ)) (v w text : List ℕ) → Passes a b [] v → Appends b c text → w ≡ [] → Passes a c w (v ++ text)
 passes_sent a b c v w text h sent none = record {
   sent = v ++ text;
@@ -84,7 +84,7 @@ breaks_then a b c v w x y h k = record {
   written = Appends-trans a b c h.sent k.front h.written k.written;
 }
 
--- what waits behind a text was written too
+-- what waits after a text was written too
 pub passes_out : (a b c : Option (List ℕ)) (w text : List ℕ) → Passes a b w text → Passes b c [] w → Passes a c [] text
 passes_out a b c w text h k = record {
   sent = h.sent ++ k.sent;
@@ -101,7 +101,7 @@ breaks_out a b c w text h k = record {
   written = Appends-trans a b c h.sent k.front h.written k.written;
 }
 
--- nothing waits behind a text
+-- nothing waits after a text
 pub passes_whole : (a c : Option (List ℕ)) (text : List ℕ) → Passes a c [] text → Appends a c text
 passes_whole a c text h = subst (Appends a c) (sym (h.whole ∙ append-nil h.sent)) h.written
 
@@ -116,9 +116,9 @@ so_of (Ok v) P P' Q Q' f g h = f h
 so_of (Err e) P P' Q Q' f g h = g h
 
 -- a text was written, and then another or a beginning of it
-pub sent_behind : {E : Type 0} (r : Result (Unit {0}) E) (a b c : Option (List ℕ)) (xs ys : List ℕ) → Appends a b xs → WasSent r b c ys → WasSent r a c (xs ++ ys)
-sent_behind (Ok u) a b c xs ys h k = Appends-trans a b c xs ys h k
-sent_behind (Err e) a b c xs ys h k = record {
+pub sent_after : {E : Type 0} (r : Result (Unit {0}) E) (a b c : Option (List ℕ)) (xs ys : List ℕ) → Appends a b xs → WasSent r b c ys → WasSent r a c (xs ++ ys)
+sent_after (Ok u) a b c xs ys h k = Appends-trans a b c xs ys h k
+sent_after (Err e) a b c xs ys h k = record {
   front = xs ++ k.front;
   rest = k.rest;
   short = k.short;
@@ -126,6 +126,6 @@ sent_behind (Err e) a b c xs ys h k = record {
   written = Appends-trans a b c xs k.front h k.written;
 }
 
--- the writer stopped at a text, and none was written behind it
+-- the writer stopped at a text, and none was written after it
 pub sent_first : {E : Type 0} (r : Result (Unit {0}) E) (x : E) (a c : Option (List ℕ)) (xs ys : List ℕ) → IsErrAnd r (λ e. e ≡ x) → Breaks a c xs → WasSent r a c (xs ++ ys)
 sent_first r x a c xs ys is h = stopped r x (λ _. Appends a c (xs ++ ys)) (Breaks a c (xs ++ ys)) is (breaks_front a c xs ys h)

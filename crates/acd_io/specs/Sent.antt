@@ -1,4 +1,4 @@
--- What was written, and what waits to be written.
+-- The bytes that were written, and those that wait to be written.
 use Rattle.std.specs.Prelude.{◌≡◌, ℕ, ◌<◌, List, ◌++◌, length, Option, Result, MatchResult}
 use Rattle.std.specs.Io.KnownBytes.{Appends}
 

@@ -3,7 +3,7 @@
 ghost use Rattle.std.specs.Prelude.{◌≡◌, ◌≤◌, min, IfSome};
 ghost use Rattle.acd_io.specs.Digits.{number_up_to};
 
-/// What a number is cut to.
+/// The limit to which a number is cut.
 const GREATEST: u64 = 1_000_000_000_000_000;
 
 fn cut(number: u64) -> u64

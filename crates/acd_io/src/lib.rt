@@ -1,5 +1,6 @@
-//! What lines and HTTP share, over any reader and any writer: bytes are sent whole ([`send`]), a call that was interrupted is made again
-//! ([`retried`]) up to a number of calls ([`most_calls`]), and digits are read as a number ([`number_up_to`]).
+//! The parts that lines and HTTP share, over any reader and any writer: bytes are sent whole ([`send`]), a call that
+//! was interrupted is made again ([`retried`]) up to a number of calls ([`most_calls`]), and digits are read as a
+//! number ([`number_up_to`]).
 #![tactic(auto)]
 
 mod calls;

@@ -1,4 +1,5 @@
--- What stands at a destination, what a rule of a connection speaks of, and the rules where only the connections change, or only the agents.
+-- The connection at a destination, the rules' conditions on a connection, and the rules where only the connections change, or only the
+-- agents.
 use Rattle.std.proofs.Common.{◌≡◌, ℕ, inl, inr, Bool, true, false, ◌&&◌, ◌||◌, Option, Some, None, refl, ◌∙◌, arith, ◌+◌, ◌≤◌, not, List, sym, ap, subst}
 use Rattle.std.specs.Prelude.{◌==◌, is_some}
 use Rattle.std.proofs.lemmas.Bool.{and_parts, and_from, not-true, or_right, or_left, and_right, eqb-true}
@@ -9,7 +10,7 @@ use Rattle.acd_lemmas.proofs.Facts.{Bare, GroupColumn, IsCaller, StandsAt, Conne
 use Rattle.acd_lemmas.proofs.Lists.{none_counted, fewer, one, counted, both_fewer}
 use Rattle.acd_terms.specs.declared.command.Turn.{Turn}
 
--- what stands at a destination
+-- the connection at a destination
 pub record Arrived (s : Rows) (c d : ℕ) (y : ConnectionRecord) : Type 0 where
   pub call : y.call ≡ c
   pub device : y.device ≡ d
@@ -91,7 +92,7 @@ pub rule_same : (s t : Rows) → ((d : ℕ) → is_group t d ≡ is_group s d) �
     → (IsCaller (call_of s x.call) x.device → IsCaller (call_of t x.call) x.device) → ConnectionRule s x → ConnectionRule t x
 rule_same s t g h x f r = rule_more s t (λ d e. h d ∙ e) (λ d e. g d ∙ e) x f (λ e. rw (g x.device, h x.device) e) r
 
--- what new connections must keep
+-- the conditions that new connections keep
 pub record ConnectionsKeep (loose : ℕ → Bool) (s : Rows) (xs : List ConnectionRecord) : Type 0 where
   pub sorted : IsAscending connection_order xs
   pub rules : Every (ConnectionRule s) xs
@@ -125,7 +126,7 @@ with_connections loose s xs r h = record {
   free = h.free;
 }
 
--- what new agents must keep
+-- the conditions that new agents keep
 pub record AgentsKeep (loose : ℕ → Bool) (s : Rows) (agents : List AgentRecord) : Type 0 where
   pub sorted : IsAscending agent_order agents
   pub rules : Every (AgentRule s) agents
@@ -154,7 +155,7 @@ with_agents p q s agents r f h = record {
   free = λ d e. r.free d (f d e);
 }
 
--- where only a counts for q, of what implies it a counts alone
+-- where only a counts for q, a alone counts for whatever implies q
 pub lone : {X : Type 0} (p q : X → Bool) (xs : List X) (a : X) → ((x : X) → p x ≡ true → q x ≡ true) → Among a xs → q a ≡ true → count q xs ≤ 1 → count p xs ≡ one (p a)
 lone p q xs a f among here l =
     let m = fewer p q f xs in
@@ -173,7 +174,7 @@ pub one_le : (b : Bool) → one b ≤ 1
 one_le true = omega arith
 one_le false = omega arith
 
--- where none stands at d, one more there leaves one at most at each device
+-- where none is at d, one more there leaves one at most at each device
 pub most_one : (p : ℕ → ConnectionRecord → Bool) (xs : List ConnectionRecord) (d e : ℕ) → count (p d) xs ≡ 0 → count (p e) xs ≤ 1 → one (d == e) + count (p e) xs ≤ 1
 most_one p xs d e none l =
     (elim (d == e) as (λ b. (d == e) ≡ b → one b + count (p e) xs ≤ 1) [
@@ -181,7 +182,7 @@ most_one p xs d e none l =
       | false ↦ λ q. omega (arith, l)
     ]) refl
 
--- where a call comes
+-- the destination of a call
 
 pub arrived_live : (s : Rows) (c d e : ℕ) (y : ConnectionRecord) → Arrived s c d y → count (live_at e) s.connections ≤ 1 → one (live_at e y) + count (live_at e) s.connections ≤ 1
 arrived_live s c d e y a l =
@@ -199,7 +200,7 @@ arrived_hold s c d e y a h l =
       | false ↦ λ q. h (let f : one (alerting_at e y) ≡ 0 = ap one q in omega (arith, f, l))
     ]) refl
 
--- at most one is open after it, where none of the call is, or the one that goes
+-- at most one is open after it, where none of the call is, or the one that ends
 pub arrived_open : (s : Rows) (c d n : ℕ) (y : ConnectionRecord) (o : Bool) → Arrived s c d y → count (open_of n) s.connections ≤ 1 → count (open_of c) s.connections ≤ one o
     → one (open_of n y) + count (open_of n) s.connections ≤ 1 + one (o && c == n)
 arrived_open s c d n y o a l most =

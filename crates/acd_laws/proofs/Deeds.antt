@@ -1,4 +1,4 @@
--- What a service does, as deeds: the one walk over refusals; and the rounds of a step.
+-- The effect of a service, as deeds: the one walk over refusals; and the rounds of a step.
 use Rattle.std.proofs.Common.{◌≡◌, ◌≤◌, arith, Bool, true, false, Option, Some, None, refl, ℕ, ◌⊎◌, inl, inr, not, ◌&&◌, ◌||◌, cond, List, [], ◌∷◌, length, ◌∙◌, ap, subst, sym, Err}
 use Rattle.std.specs.Option.{ok_or}
 use Rattle.acd_lemmas.proofs.Words.{Rows, AgentRecord, CallRecord, ConnectionRecord, Pending, Command, Move, Offer, Refusal, Requested, Served, is_null, is_working_after_call, state_wanted, is_in, is_initiated, is_alerting, is_connected, is_hold, is_queued, agent_of, call_of, connection_of, is_group, is_station, is_planned, agent_at, other_of, is_live_at, is_occupied, silent, group_of, Every, GroupRecord, is_distributed}
@@ -25,7 +25,7 @@ use Rattle.acd_model.specs.Distribution.{offer_at}
 use Rattle.acd_model.specs.Tick.{return_to, rest_moves, tick}
 use Rattle.acd_model.specs.declared.moves.Change.TheVariants.{PutGroup, PutStation, PutAgent, PutMonitor, RemoveMonitor}
 use Rattle.acd_lemmas.proofs.Lists.{none_from, some_from}
-use Rattle.acd_lemmas.proofs.State.{found_key, own_key, agent_own, group_key}
+use Rattle.acd_lemmas.proofs.State.{found_key, connection_itself, agent_itself, group_key}
 use Rattle.acd_laws.specs.FigureLaws.{regroups, group_given}
 use Rattle.acd_laws.proofs.Offers.Distributing.{Offering}
 use Rattle.acd_terms.specs.declared.command.Turn.{Turn}
@@ -55,13 +55,13 @@ pub record Free (s : Rows) (x : ConnectionRecord) (to : ℕ) : Type 0 where
   pub planned : is_planned s to ≡ true
   pub apart : connection_of s x.call to ≡ None
 
--- what distribution and tick do, once or more in a step
+-- the effect of distribution and tick, once or more in a step
 pub data Round (s : Rows) (turn : Turn) : List Move → Type 0 where
   offers : (o : Offer) (x : ConnectionRecord) (a : AgentRecord) (d : ℕ) → Offering s o x a d → Round s turn (offer_at turn.moment (Some x) (Some d))
   returns : (x : ConnectionRecord) (g : ℕ) → connection_of s x.call x.device ≡ Some x → is_alerting x.state ≡ true → x.group ≡ Some g → Round s turn (return_to s turn x (Some g))
   rests : (a : AgentRecord) → agent_of s a.agent ≡ Some a → is_working_after_call a.state ≡ true → Round s turn (rest_moves turn a)
 
--- what a service does, with what its tests established
+-- the effect of a service, with what its tests established
 pub data Deed (s : Rows) (turn : Turn) : List Move → Type 0 where
   nothing : Deed s turn []
   adds_group : (device : ℕ) (name : List ℕ) (ring wrap : ℕ) → is_used s device ≡ false → nat_le s.limits.groups (length s.groups) ≡ false → Deed s turn (silent (PutGroup (new_group device name ring wrap)) ∷ [])
@@ -90,12 +90,13 @@ pub data Deed (s : Rows) (turn : Turn) : List Move → Type 0 where
   waits : (a : AgentRecord) (wanted : Pending) → agent_of s a.agent ≡ Some a → is_null a.state ≡ false → is_occupied s a ≡ true → Deed s turn (wait_for a (Some wanted) ∷ [])
   goes : (a : AgentRecord) (wanted : Pending) → agent_of s a.agent ≡ Some a → is_null a.state ≡ false → is_occupied s a ≡ false → Deed s turn (go_from turn a a.station (state_wanted wanted) ∷ [])
 
--- what setGroupPriority and changeGroup do: no deeds, so that these commands alone change a planned group's record
+-- the effect of setGroupPriority and changeGroup: no deeds, so that these commands alone change a planned group's
+-- record
 pub data Regroups (s : Rows) (c : Command) : List Move → Type 0 where
   refuses : (device : ℕ) → regroups c ≡ Some device → group_of s device ≡ None → Regroups s c []
   puts : (device : ℕ) (g : GroupRecord) → regroups c ≡ Some device → group_of s device ≡ Some g → Regroups s c (silent (PutGroup (group_given c g)) ∷ [])
 
--- what it puts is the same group, with the same figures
+-- the record put is the same group, with the same figures
 
 pub given_device : (c : Command) (g : GroupRecord) → (group_given c g).device ≡ g.device
 given_device (SetGroupPriority device priority) g = refl
@@ -113,7 +114,7 @@ given_priority (ChangeGroup device name ring wrap) g l = l
 given_priority _ g l = l
 
 pub given_planned : (s : Rows) (c : Command) (device : ℕ) (g : GroupRecord) → group_of s device ≡ Some g → is_group s (group_given c g).device ≡ true
-given_planned s c device g own = ap (is_group s) (given_device c g ∙ group_key s device g own) ∙ ap is_some own
+given_planned s c device g found = ap (is_group s) (given_device c g ∙ group_key s device g found) ∙ ap is_some found
 
 -- the walk over refusals
 
@@ -131,7 +132,7 @@ party : {s : Rows} {turn : Turn} {call device : ℕ} (r q : Refusal) (rest : Cal
     → ((p : Party s) → p.x.call ≡ call → p.x.device ≡ device → DeedBy s turn (rest p.about p.x)) → DeedBy s turn (ok_or (call_of s call) r >>= (λ c. ok_or (connection_of s call device) q >>= rest c))
 party {s} {turn} {call} {device} r q rest h = with _ _ (λ c ec. with _ _ (λ x ex.
     let key = found_key s call device x ex in
-    h (record { about = c; x = x; live = ap (call_of s) key.0 ∙ ec; found = own_key s call device x ex }) key.0 key.1))
+    h (record { about = c; x = x; live = ap (call_of s) key.0 ∙ ec; found = connection_itself s call device x ex }) key.0 key.1))
 
 apart_if : {T : Type 0} (o : Option T) → is_some o ≡ false → o ≡ None
 apart_if o new = none_from o (λ z e. cc (new, ap is_some e))
@@ -220,7 +221,7 @@ deed_log_on : (s : Rows) (turn : Turn) (agent device : ℕ) (groups : List ℕ) 
 unfolding log_on
 deed_log_on s turn agent device groups =
     with _ _ (λ a ea. unless _ _ (λ null. unless _ _ (λ _. unless _ _ (λ station. unless _ _ (λ taken. passes (all_groups s groups) _ (λ all. unless _ _ (λ choice.
-    logs_on a device groups (agent_own s agent a ea) (not-false (is_null a.state) null) (not-false (is_station s device) station) (apart_if (agent_at s device) taken)
+    logs_on a device groups (agent_itself s agent a ea) (not-false (is_null a.state) null) (not-false (is_station s device) station) (apart_if (agent_at s device) taken)
     (not-false (is_choice groups) choice, all_are_groups s groups all))))))))
 
 either : {s : Rows} {turn : Turn} (b : Bool) (v w : Served) → (b ≡ true → DeedBy s turn v) → (b ≡ false → DeedBy s turn w) → DeedBy s turn (cond b v w)
@@ -231,8 +232,8 @@ deed_change_state : (s : Rows) (turn : Turn) (agent : ℕ) (wanted : Pending) �
 unfolding change_state
 deed_change_state s turn agent wanted =
     with _ _ (λ a ea. unless _ _ (λ seated.
-    either (is_occupied s a) _ _ (λ busy. waits a wanted (agent_own s agent a ea) seated busy) (λ free.
-    either (is_in a.state wanted) _ _ (λ _. nothing) (λ _. goes a wanted (agent_own s agent a ea) seated free))))
+    either (is_occupied s a) _ _ (λ busy. waits a wanted (agent_itself s agent a ea) seated busy) (λ free.
+    either (is_in a.state wanted) _ _ (λ _. nothing) (λ _. goes a wanted (agent_itself s agent a ea) seated free))))
 
 deed_set_agent_state : (s : Rows) (turn : Turn) (agent : ℕ) (q : Requested) → DeedBy s turn (set_agent_state s turn agent q)
 deed_set_agent_state s turn agent (requested.LoggedOn device groups) = deed_log_on s turn agent device groups
@@ -256,7 +257,7 @@ deed_reject_call s turn call device = party _ _ _ (λ p _ _. unless _ _ (λ stat
 
 deed_change_agent : (s : Rows) (turn : Turn) (agent : ℕ) (name : List ℕ) → DeedBy s turn (change_agent s agent name)
 unfolding change_agent
-deed_change_agent s turn agent name = with _ _ (λ a ea. renames a name (agent_own s agent a ea))
+deed_change_agent s turn agent name = with _ _ (λ a ea. renames a name (agent_itself s agent a ea))
 
 -- a planned device that is a group gets what the command gives
 regroups_of : (s : Rows) (c : Command) (device : ℕ) → regroups c ≡ Some device
@@ -271,7 +272,7 @@ regroups_of s c device it = by (group_of s device) refl
     by None e = by_refusal (λ (v : Served). Regroups s c (moves_of v)) (not (is_station s device)) UnknownDevice (ok_or None NotGroup >>= put) (λ _. refuses device it e) (λ _. refuses device it e)
     by (Some g) e = puts device g it e
 
--- what a command does: a deed or what tick does, or what is done to a planned group's record
+-- the effect of a command: a deed or a tick, or a change of a planned group's record
 pub deed_of_serve : (s : Rows) (turn : Turn) (c : Command)
     → ((regroups c ≡ None) × (DeedBy s turn (serve s turn c) ⊎ (moves_of (serve s turn c) ≡ tick s turn))) ⊎ Regroups s c (moves_of (serve s turn c))
 unfolding set_group_priority change_group

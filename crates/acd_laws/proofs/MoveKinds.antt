@@ -1,4 +1,4 @@
--- What an agent's move and an arrival are, and what each change leaves.
+-- An agent's move and an arrival, and what each change leaves.
 use Rattle.std.proofs.Common.{◌≡◌, ℕ, Bool, true, false, cond, Option, Some, None, refl, ◌∙◌, ap, List, [], ◌∷◌}
 use Rattle.std.specs.Prelude.{◌==◌}
 use Rattle.std.proofs.lemmas.Bool.{cond-false}
@@ -22,15 +22,16 @@ pub record Reseated (turn : Turn) (a b : AgentRecord) : Type 0 where
   pub stamp : b.stamp ≡ turn.stamp
   pub since : b.since ≡ turn.moment
 
--- a move of an agent of whom K holds: none, one to another name or pending state, which nothing tells, or one to another state
+-- a move of an agent of whom K holds: none, one to another name or pending state, which nothing reports, or one to another
+-- state
 pub data AgentMove (K : AgentRecord → Type 0) (turn : Turn) : Move → Type 0 where
   stays : AgentMove K turn no_move
   remains : (a : AgentRecord) (name : List ℕ) (pending : Option Pending) → K a → AgentMove K turn (silent (PutAgent (record a { name = name; pending = pending })))
-  tells : (a b : AgentRecord) (d : ℕ) → K a → Reseated turn a b → AgentMove K turn (reported (PutAgent b) (state_report b.state b.agent d))
+  reports : (a b : AgentRecord) (d : ℕ) → K a → Reseated turn a b → AgentMove K turn (reported (PutAgent b) (state_report b.state b.agent d))
 
 pub goes_from : (K : AgentRecord → Type 0) (turn : Turn) (a : AgentRecord) (o : Option ℕ) (st : AgentState) → K a → AgentMove K turn (go_from turn a o st)
 goes_from K turn a None st h = stays
-goes_from K turn a (Some d) st h = tells a (in_state st turn a) d h (record { agent = refl; station = refl; stamp = refl; since = refl })
+goes_from K turn a (Some d) st h = reports a (in_state st turn a) d h (record { agent = refl; station = refl; stamp = refl; since = refl })
 
 either : (K : AgentRecord → Type 0) (turn : Turn) (b : Bool) (x : Move) → AgentMove K turn x → AgentMove K turn (cond b x no_move)
 either K turn true x h = h
@@ -40,7 +41,7 @@ releases_agent : (K : AgentRecord → Type 0) (turn : Turn) (d : ℕ) (o : Optio
 releases_agent K turn d None how h = stays
 releases_agent K turn d (Some a) how h = by (release_of how a.pending)
   where
-    by : (to : Release) → AgentMove K turn (released turn a d to)
+    by : (next : Release) → AgentMove K turn (released turn a d next)
     by Stays = remains a a.name None (h a refl)
     by (Goes st) = goes_from K turn a (Some d) st (h a refl)
 
@@ -50,7 +51,7 @@ releases K s turn x how h = either K turn (is_distributed x) _ (releases_agent K
 
 occupies_agent : (K : AgentRecord → Type 0) (turn : Turn) (d : ℕ) (o : Option AgentRecord) → ((a : AgentRecord) → o ≡ Some a → K a) → AgentMove K turn (busy_agent turn o d)
 occupies_agent K turn d None h = stays
-occupies_agent K turn d (Some a) h = tells a (record a { state = A.Busy; stamp = turn.stamp; since = turn.moment }) d (h a refl) (record { agent = refl; station = refl; stamp = refl; since = refl })
+occupies_agent K turn d (Some a) h = reports a (record a { state = A.Busy; stamp = turn.stamp; since = turn.moment }) d (h a refl) (record { agent = refl; station = refl; stamp = refl; since = refl })
 
 pub occupies : (K : AgentRecord → Type 0) (s : Rows) (turn : Turn) (x : ConnectionRecord) → ((a : AgentRecord) → agent_at s x.device ≡ Some a → K a) → AgentMove K turn (occupy s turn x)
 unfolding occupy
@@ -76,18 +77,18 @@ released_by s turn x how = releases Anyone s turn x how (λ _ _. tt)
 pub occupied_by : (s : Rows) (turn : Turn) (x : ConnectionRecord) → AgentMove Anyone turn (occupy s turn x)
 occupied_by s turn x = occupies Anyone s turn x (λ _ _. tt)
 
--- what it leaves
+-- the part that it leaves
 
 pub agent_connections : {K : AgentRecord → Type 0} (turn : Turn) (t : Rows) (x : Move) → AgentMove K turn x → (changed t x.change).connections ≡ t.connections
 unfolding with_agent
 agent_connections turn t x stays = refl
 agent_connections turn t x (remains _ _ _ _) = refl
-agent_connections turn t x (tells a b d _ _) = refl
+agent_connections turn t x (reports a b d _ _) = refl
 
 pub agent_others : (turn : Turn) (n : ℕ) (t : Rows) (x : Move) → AgentMove (λ a. (a.agent == n) ≡ false) turn x → agent_of (changed t x.change) n ≡ agent_of t n
 agent_others turn n t x stays = refl
 agent_others turn n t x (remains a name pending h) = agent_put t (record a { name = name; pending = pending }) n ∙ cond-false (a.agent == n) _ _ h
-agent_others turn n t x (tells a b d h r) = agent_put t b n ∙ cond-false (b.agent == n) _ _ (ap (λ v. v == n) r.agent ∙ h)
+agent_others turn n t x (reports a b d h r) = agent_put t b n ∙ cond-false (b.agent == n) _ _ (ap (λ v. v == n) r.agent ∙ h)
 
 pub data Arrival (s : Rows) (turn : Turn) (call to : ℕ) (why : Cause) : Move → Type 0 where
   queues : is_group s to ≡ true → Arrival s turn call to why (reported (PutConnection (queueing call to (Some turn.stamp) (Some turn.moment))) (Queued call to why))
@@ -103,7 +104,7 @@ arrival_of s turn call to why = at (is_group s to) (is_idle s to) refl
     at false true e = alerts
     at false false e = fails
 
--- what a change leaves as it is
+-- the part that a change leaves as it is
 
 abbrev pub LeavesConnections : Change → Type 0
 LeavesConnections (PutConnection x) = ⊥

@@ -112,7 +112,7 @@ left_keeps loose v a b d r there station vacant l =
     })
 
 -- the agent of a distributed connection
-pub record Serves (s : Rows) (x : ConnectionRecord) (a : AgentRecord) : Type 0 where
+pub record Attends (s : Rows) (x : ConnectionRecord) (a : AgentRecord) : Type 0 where
   pub at_station : agent_at s x.device ≡ Some a
   pub there : agent_of s a.agent ≡ Some a
   pub station : a.station ≡ Some x.device
@@ -132,9 +132,9 @@ alerting_or_answered s x rule e = cases x.state rule.0 (and_parts (is_some x.gro
     cases S.Initiated c g q = absurd (cc (rw c.1 at g))
     cases S.Fail c g q = absurd (cc (rw c.1 at g))
 
-pub serving : (s : Rows) (x : ConnectionRecord) → Rules s → Among x s.connections → is_distributed x ≡ true → (a : AgentRecord) × Serves s x a
+pub attending : (s : Rows) (x : ConnectionRecord) → Rules s → Among x s.connections → is_distributed x ≡ true → (a : AgentRecord) × Attends s x a
 unfolding agent_at
-serving s x r among e =
+attending s x r among e =
     let rule = every_among (ConnectionRule s) s.connections x r.connections among in
     let d : ℕ = x.device in
     let g : is_some x.group ≡ true = (and_parts (is_some x.group) (not (is_queued x.state)) e).0 in
@@ -165,8 +165,8 @@ serving s x r among e =
 pub record Ends (x : ConnectionRecord) (how : Ending) : Type 0 where
   pub stays : is_distributed x ≡ true → (w : Option Pending) → release_of how w ≡ Stays → is_alerting x.state ≡ true
 
-left_by : (v : Rows) (a : AgentRecord) (to : Release) (turn : Turn) (d : ℕ) → AgentRule v a → IsPlannedStation v a.station × ArePlannedGroups v a.groups → (to ≡ Stays → is_busy a.state ≡ false) → NotBusy to
-    → (b : AgentRecord) × ((released turn a d to).change ≡ PutAgent b) × Left v a b
+left_by : (v : Rows) (a : AgentRecord) (next : Release) (turn : Turn) (d : ℕ) → AgentRule v a → IsPlannedStation v a.station × ArePlannedGroups v a.groups → (next ≡ Stays → is_busy a.state ≡ false) → NotBusy next
+    → (b : AgentRecord) × ((released turn a d next).change ≡ PutAgent b) × Left v a b
 left_by v a Stays turn d rule seat idle n = (record a { pending = None }, refl, record { agent = refl; rule = left_pending v a a.state rule; station = λ e q. q; not_busy = idle refl; settled = refl })
 left_by v a (Goes st) turn d rule seat idle n = (in_state st turn a, refl, left_state v a st turn n seat)
 
@@ -196,14 +196,14 @@ not_and true = refl
 not_and false = refl
 
 -- s is the state before the service, v the one in which the agent is released
-pub after_release : (loose : ℕ → Bool) (s v : Rows) (x : ConnectionRecord) (how : Ending) (turn : Turn) → RulesBut loose v → ((a : AgentRecord) → Serves s x a → agent_of v a.agent ≡ Some a) → Rules s → Among x s.connections
+pub after_release : (loose : ℕ → Bool) (s v : Rows) (x : ConnectionRecord) (how : Ending) (turn : Turn) → RulesBut loose v → ((a : AgentRecord) → Attends s x a → agent_of v a.agent ≡ Some a) → Rules s → Among x s.connections
     → (is_distributed x ≡ true → count (is_distributed_at x.device) v.connections ≡ 0) → Ends x how
     → RulesBut (λ e. loose e && not (is_distributed x && (x.device == e))) (changed v (release s turn x how).change)
 unfolding release
 after_release loose s v x how turn r kept rs among vacant ends =
     (elim (is_distributed x) as (λ b. is_distributed x ≡ b → RulesBut (λ e. loose e && not (b && (x.device == e))) (changed v (cond b (release_agent turn (agent_at s x.device) x.device how) no_move).change)) [
       | true ↦ λ e.
-          let h = serving s x rs among e in
+          let h = attending s x rs among e in
           released_agent loose v (agent_at s x.device) h.0 x how turn r h.1.at_station (kept h.0 h.1) h.1.station (vacant e)
           (λ n. rw (ready_is h.0.state (h.1.ready (ends.stays e h.0.pending n))) refl)
       | false ↦ λ e. loosen loose (λ e. loose e && not false) v (λ e q. not_and (loose e) ∙ q) (λ e q. not_and (loose e) ∙ q) r

@@ -1,4 +1,5 @@
--- What the rules bound, and that every step keeps them (`step_keeps_rules`, `run_keeps_rules`, `rules_bound`, `rules_leave_room`, `rules_are_kept_within`; all laws together).
+-- The bounds that the rules give, and that every step keeps them (`step_keeps_rules`, `run_keeps_rules`, `rules_bound`, `rules_leave_room`, `rules_are_kept_within`; all laws
+-- together).
 pub mod RulesAll
 pub mod RulesKept
 pub mod BoundsStep

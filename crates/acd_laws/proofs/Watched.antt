@@ -1,6 +1,6 @@
--- What the reports tell a watcher (`step_keeps_watched`, `run_is_watched`, `run_tells_no_more`).
+-- What the reports give a watcher (`step_keeps_watched`, `run_is_watched`, `run_reports_no_more`).
 pub mod WatchedRuns
 pub mod SoundDeeds
 pub mod SoundMoves
-pub mod Told
+pub mod Reported
 pub mod Order

@@ -17,7 +17,7 @@ use Rattle.acd_laws.specs.PlacedLaws.{NamesNoLaterCall}
 use Rattle.acd_laws.specs.BalanceLaws.{IsBalanced}
 use Rattle.acd_laws.specs.OfferLaws.{LeavesNoOffer}
 use Rattle.acd_laws.specs.FigureLaws.{KeepsFigures}
-use Rattle.acd_laws.specs.WatchedLaws.{TellsNoMore}
+use Rattle.acd_laws.specs.WatchedLaws.{ReportsNoMore}
 
 pub record LawsHold (s : Rows) (events : List Event) : Type 0 where
   -- the rows break no rule
@@ -29,12 +29,13 @@ pub record LawsHold (s : Rows) (events : List Event) : Type 0 where
   pub one_offer : HasOneOffer s
   -- no group has both a waiting call and an eligible agent
   pub no_offer : LeavesNoOffer s
-  -- what entered a group waits, rings, was answered, was abandoned or was moved, and its figures are counted from all events
+  -- each entry into a group waits, rings, was answered, was abandoned or was moved, and its figures are counted from all
+  -- events
   pub balanced : IsBalanced s events
   pub figures : KeepsFigures s events
-  -- the reports alone tell a watcher the connections, the agents and the queues, and no more
+  -- the reports alone give a watcher the connections, the agents and the queues, and no more
   pub watched : IsWatched s events
-  pub no_more : TellsNoMore s events
+  pub no_more : ReportsNoMore s events
 
 -- a step keeps them all, while a request more is allowed
 abbrev pub StepKeepsLaws : Type 0

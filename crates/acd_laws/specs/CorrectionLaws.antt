@@ -1,4 +1,4 @@
--- What changeGroup and changeAgent change, and nothing else.
+-- The changes of changeGroup and changeAgent, and nothing else.
 use Rattle.std.specs.Prelude.{ℕ, ◌≡◌, List, [], Some}
 use Rattle.acd_terms.specs.Numbers.{Agent, Device, Moment, Seconds}
 use Rattle.acd_terms.specs.declared.rows.Rows.{Rows}
@@ -19,7 +19,8 @@ pub record LeadsTo (s : Rows) (moment : Moment) (command : Command) (after : Row
   pub events : (step s moment command).events ≡ []
   pub rows : (step s moment command).rows ≡ with_last after (next_stamp s) (executed_moment s moment) s.last_event
 
--- three fields of a planned group's record, and one of a planned agent's: what isn't planned is refused
+-- three fields of a planned group's record, and one of a planned agent's: a command for one that isn't planned is
+-- refused
 pub record ChangesOnly (s : Rows) (moment : Moment) : Type 0 where
   pub group : (device : Device) (name : List ℕ) (ring wrap : Seconds) (g : GroupRecord) → group_of s device ≡ Some g
       → LeadsTo s moment (ChangeGroup device name ring wrap) (with_group s (record g { name = name; ring = ring; wrap = wrap }))

@@ -15,11 +15,11 @@ unnamed_group g = record g { name = [] }
 abbrev pub unnamed_agent : AgentRecord → AgentRecord
 unnamed_agent a = record a { name = [] }
 
--- the rows with every name taken out, and all else as it is
+-- the rows with every name removed, and all else as it is
 unfoldable pub unnamed : Rows → Rows
 unnamed s = record s { groups = map unnamed_group s.groups; agents = map unnamed_agent s.agents }
 
--- the command with its name taken out: four have one
+-- the command with its name removed: four have one
 abbrev pub unnamed_command : Command → Command
 unnamed_command (AddGroup device name ring wrap) = AddGroup device [] ring wrap
 unnamed_command (AddAgent agent name) = AddAgent agent []
@@ -47,7 +47,7 @@ pub record SameRunsButNames (a b : AfterRun) : Type 0 where
 
 -- Take any two rows that differ in names alone, and any two lists of commands at moments that differ in names alone, and run the one list from
 -- the one rows, the other from the other. Then each command has the outcome of the other list's at its place, the events are the same, each
--- with its number and moment, and the rows behind the runs differ in names alone.
+-- with its number and moment, and the rows after the runs differ in names alone.
 abbrev pub NamesAreInert : Type 0
 NamesAreInert = (s t : Rows) (xs ys : List TimedCommand) → SameRowsButNames s t → SameCommandsButNames xs ys → SameRunsButNames (run s xs) (run t ys)
 

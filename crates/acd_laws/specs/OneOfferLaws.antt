@@ -1,4 +1,4 @@
--- No agent has two distributed calls, and each distributed connection stands where its agent is logged on.
+-- No agent has two distributed calls, and each distributed connection is where its agent is logged on.
 use Rattle.std.specs.Prelude.{List}
 use Rattle.acd_terms.specs.Rows.{empty_rows}
 use Rattle.acd_terms.specs.Numbers.{Moment}

@@ -1,4 +1,4 @@
--- Where each call stands, how often it was cleared, and which calls events name.
+-- The place of each call, how often it was cleared, and which calls events name.
 use Rattle.std.specs.Prelude.{◌≡◌, ℕ, ◌<◌, ◌≤◌, ◌&&◌, nat_le, List, ◌++◌, Option, Some, None, is_none, if◌then◌else◌}
 use Rattle.acd_terms.specs.Lists.{Every}
 use Rattle.acd_terms.specs.Rows.{empty_rows}
@@ -47,7 +47,7 @@ abbrev pub StepPlaces : Type 0
 StepPlaces = (s : Rows) (events : List Event) (moment : Moment) (command : Command) → BreaksNoRule s → KeepsClearings s events
     → IsPlaced (step s moment command).rows (events ++ (step s moment command).events)
 
--- where each call stands in one of the three ways, and no event names a later call, each stands in one of them after a step, with its events added
+-- where each call is in one of the three places, and no event names a later call, each is in one of them after a step, with its events added
 abbrev pub StepKeepsPlaces : Type 0
 StepKeepsPlaces = (s : Rows) (events : List Event) (moment : Moment) (command : Command) → BreaksNoRule s → NamesNoLaterCall s events → IsPlaced s events
     → IsPlaced (step s moment command).rows (events ++ (step s moment command).events)
@@ -55,7 +55,7 @@ StepKeepsPlaces = (s : Rows) (events : List Event) (moment : Moment) (command : 
 abbrev pub RunIsPlaced : Type 0
 RunIsPlaced = (limits : Limits) (commands : List TimedCommand) → IsPlaced (run (empty_rows limits) commands).rows (run (empty_rows limits) commands).events
 
--- the three ways in which a call may stand exclude one another, so that just one of them holds
+-- the three places in which a call may be exclude one another, so that just one of them holds
 abbrev pub PlacesExclude : Type 0
 PlacesExclude = (s : Rows) (events : List Event) (call : CallId) → (IsCleared s events call → IsWaiting s events call → ⊥)
     × (IsCleared s events call → IsAtDevices s events call → ⊥) × (IsWaiting s events call → IsAtDevices s events call → ⊥)

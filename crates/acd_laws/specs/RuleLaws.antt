@@ -28,7 +28,7 @@ pub record FiguresWithin (s : Rows) (g : GroupRecord) : Type 0 where
   pub moved : g.figures.moved ≤ g.figures.entered
   pub waited : g.figures.waited ≤ g.figures.answered * s.last_moment
 
--- what the rules bound
+-- the bounds that the rules give
 pub record IsWithinBounds (s : Rows) : Type 0 where
   pub requests : s.limits.requests ≤ 1000000000
   pub last_stamp : s.last_stamp ≤ s.limits.requests

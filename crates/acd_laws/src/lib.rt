@@ -1,4 +1,4 @@
-//! Laws over the abstract switch: what holds after every step, and after every run from the empty state.
+//! Laws over the abstract switch, after every step, and after every run from the empty state.
 //!
 //! Each law is the contract of a function with an empty body. The laws are stated in `specs/`, over the
 //! definitions of `acd_terms` that the switch itself is proved by. A law of a step is one of rows that break no rule,
@@ -10,7 +10,7 @@ ghost use Rattle.acd_laws.specs.RefusalLaws.{RefusalChangesNothing};
 ghost use Rattle.acd_laws.specs.CorrectionLaws.{ChangesChangeOnly};
 ghost use Rattle.acd_laws.specs.RejectLaws.{RejectsAsATick};
 ghost use Rattle.acd_laws.specs.FigureLaws.{StepKeepsFigures, RunKeepsFigures, StepAddsFigures};
-ghost use Rattle.acd_laws.specs.WatchedLaws.{StepKeepsWatched, RunIsWatched, RunTellsNoMore};
+ghost use Rattle.acd_laws.specs.WatchedLaws.{StepKeepsWatched, RunIsWatched, RunReportsNoMore};
 ghost use Rattle.acd_laws.specs.BalanceLaws.{StepBalances, RunIsBalanced};
 ghost use Rattle.acd_laws.specs.OfferLaws.{FindsTheDistribution, RulesAreKeptWithin, StepLeavesNoOffer, RunLeavesNoOffer};
 ghost use Rattle.acd_laws.specs.PlacedLaws.{StepNamesNoLaterCall, RunNamesNoLaterCall, StepKeepsClearings, StepPlaces, StepKeepsPlaces, RunIsPlaced, PlacesExclude};
@@ -74,20 +74,21 @@ pub fn rejects_as_a_tick()
     ensures { RejectsAsATick }
 {}
 
-/// What the reports tell a watcher of rows that break no rule, and no more, they tell of the next state with the reports of the step.
+/// What the reports give a watcher of rows that break no rule, and no more, they give of the next state with the
+/// reports of the step.
 pub fn step_keeps_watched()
     ensures { StepKeepsWatched }
 {}
 
-/// After every run the reports alone tell the connections at planned devices, the agents' states and the order of each queue, in which each
-/// call that waits or rings has its entry.
+/// After every run the reports alone give the connections at planned devices, the agents' states and the order of each
+/// queue, in which each call that waits or rings has its entry.
 pub fn run_is_watched()
     ensures { RunIsWatched }
 {}
 
-/// After every run the reports tell nothing of external callers, and no entry is later than the last event.
-pub fn run_tells_no_more()
-    ensures { RunTellsNoMore }
+/// After every run the reports give nothing of external callers, and no entry is later than the last event.
+pub fn run_reports_no_more()
+    ensures { RunReportsNoMore }
 {}
 
 /// Where rows break no rule, and each group's figures add up, they add up after the step.
@@ -157,7 +158,7 @@ pub fn run_is_placed()
     ensures { RunIsPlaced }
 {}
 
-/// A call stands in one way at most: cleared, waiting in a queue, or at devices.
+/// A call is in one place at most: cleared, waiting in a queue, or at devices.
 pub fn places_exclude()
     ensures { PlacesExclude }
 {}
@@ -187,7 +188,8 @@ pub fn rules_leave_room()
     ensures { RulesLeaveRoom }
 {}
 
-/// What the changes of a step make of rows that break no rule, with the counters of the request and its events, is the rows after it.
+/// The changes of a step make of rows that break no rule, with the counters of the request and its events, the rows
+/// after it.
 pub fn step_makes_its_changes()
     ensures { StepMakesItsChanges }
 {}

@@ -1,4 +1,4 @@
--- What changes leave of rows.
+-- Changes of rows: what they leave.
 use Rattle.std.proofs.Common.{◌≡◌, true, List, [], ◌∷◌, refl, ◌∙◌, ◌≤◌, arith}
 use Rattle.std.proofs.lemmas.Bool.Decides.{nat_tests}
 use Rattle.acd_terms.specs.Limits.{limits_fit}

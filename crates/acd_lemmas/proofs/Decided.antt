@@ -14,7 +14,7 @@ use Rattle.acd_terms.specs.Groups.{is_choice}
 use Rattle.acd_terms.specs.declared.state.AgentState.TheVariants as A
 use Rattle.acd_model.specs.Offers.{HasNoOffer}
 use Rattle.acd_model.specs.Rules.Occupied.{keeps_offer, keeps_balance, is_empty}
-use Rattle.acd_model.specs.Rules.Counters.{keeps_counters, is_moment_or_none, is_own_place, is_offered_after, is_timed, is_countable}
+use Rattle.acd_model.specs.Rules.Counters.{keeps_counters, is_moment_or_none, is_unique_place, is_offered_after, is_timed, is_countable}
 use Rattle.acd_lemmas.specs.Orders.{Orders}
 use Rattle.acd_lemmas.proofs.Facts.{IsPlannedStation, ArePlannedGroups, SeatedAs, AgentRule, CallRule, seated_at, Sizes, AgentTimed, IsPlace, IsMoment, IsAfter, ConnectionTimed, at_place, Timed, OnePlace, Monitored, IsCountedUpTo, AddsUp}
 use Rattle.acd_lemmas.proofs.Lists.{find_passes, find_among, any_found, any_some, every_among, every_from, some_counted, all_true, all_from, some_from, some_is, after_lower}
@@ -184,7 +184,7 @@ calls_decided s = every (λ (c : CallRecord). like (holds (is_planned s c.called
 agent_timed : (s : Rows) (a : AgentRecord) → Decides (nat_le 1 a.stamp && nat_le a.stamp s.last_stamp && nat_le a.since s.last_moment) (AgentTimed s.last_stamp s.last_moment a)
 agent_timed s a = like (within 1 a.stamp and within a.stamp s.last_stamp and within a.since s.last_moment) (λ p. record { above = p.0.0; stamp = p.0.1; since = p.1 }) (λ h. ((h.above, h.stamp), h.since))
 
-place_decided : (s : Rows) (o : Option ℕ) → Decides (is_own_place s o) (IsPlace s.last_stamp o × ((p : ℕ) → o ≡ Some p → count (at_place p) s.connections ≤ 1))
+place_decided : (s : Rows) (o : Option ℕ) → Decides (is_unique_place s o) (IsPlace s.last_stamp o × ((p : ℕ) → o ≡ Some p → count (at_place p) s.connections ≤ 1))
 place_decided s None = (λ _. (tt, λ p e. absurd (cc (e))), λ _. refl)
 place_decided s (Some n) = like (within 1 n and within n s.last_stamp and within (count (at_place n) s.connections) 1)
     (λ h. ((h.0.0, h.0.1), λ p e. subst (λ v. count (at_place v) s.connections ≤ 1) (some_is n p e) h.1)) (λ h. ((h.0.0, h.0.1), h.1 n refl))
@@ -201,7 +201,7 @@ timed_decided : (s : Rows) (x : ConnectionRecord) → Decides (is_timed s x) (Co
 timed_decided s x = like (place_decided s x.place and moment_decided s x.queued and moment_decided s x.offered and after_decided x.queued x.offered)
     (λ p. (record { place = p.0.0.0.0; queued = p.0.0.1; offered = p.0.1; order = p.1 }, p.0.0.0.1)) (λ h. ((((h.0.place, h.1), h.0.queued), h.0.offered), h.0.order))
 
--- what is counted as answered, abandoned or moved is so of what entered, where the figures add up
+-- the calls counted as answered, abandoned or moved are so of the entries, where the figures add up
 countable_decided : (s : Rows) (g : GroupRecord) → AddsUp s g → Decides (is_countable s g) (IsCountedUpTo s.last_stamp s.last_moment g)
 countable_decided s g b = like
     (within g.figures.entered s.last_stamp and within g.figures.answered g.figures.entered and within g.figures.abandoned g.figures.entered and within g.figures.moved g.figures.entered

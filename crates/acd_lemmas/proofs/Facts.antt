@@ -68,7 +68,7 @@ abbrev pub IsCaller : Option CallRecord → ℕ → Type 0
 IsCaller None device = ⊥
 IsCaller (Some c) device = c.caller ≡ device
 
--- the devices at which a state may stand
+-- the devices at which a connection in a state may be
 abbrev pub StandsAt : Rows → ConnectionRecord → ConnectionState → Type 0
 StandsAt s x Queued = is_group s x.device ≡ true
 StandsAt s x Initiated = (is_station s x.device ≡ true) × IsCaller (call_of s x.call) x.device
@@ -79,7 +79,7 @@ StandsAt s x _ = is_station s x.device ≡ true
 abbrev pub ConnectionRule : Rows → ConnectionRecord → Type 0
 ConnectionRule s x = HasColumns x x.state × GroupColumn s x.group × StandsAt s x x.state
 
--- what is counted beside what the rules count
+-- the counts beside those of the rules
 abbrev pub ringing_at : ℕ → ConnectionRecord → Bool
 ringing_at device x = is_alerting x.state && is_some x.group && x.device == device
 

@@ -1,4 +1,4 @@
--- Lists of records in ascending key: what is found by a key in any of them, also after a record was put or removed.
+-- Lists of records in ascending key: look-ups by a key in any of them, also after a record was put or removed.
 use Rattle.std.proofs.Common.{◌≡◌, ℕ, ◌+◌, Bool, true, false, not, ◌||◌, cond, List, Some, None, refl, sym, ◌∙◌, ap, eq-eqb, arith}
 use Rattle.std.specs.Prelude.{◌==◌, is_some, find, filter}
 use Rattle.std.specs.List.{list_any}
@@ -19,7 +19,7 @@ cmp_self m n e = grind (arith, nat_tests)
 pub key_is : (m n : ℕ) → is_eq (nat_cmp m n) ≡ (n == m)
 key_is m n = both_ways (is_eq (nat_cmp m n)) (n == m) (λ e. eq-eqb n m (sym (cmp_equal m n (eq_is (nat_cmp m n) e)))) (λ e. is_eq_of (nat_cmp m n) (cmp_self m n (sym (eqb-true n m e))))
 
--- records with a key: how two stand, where a record stands to a key, and whether it has that key
+-- records with a key: how two compare, how a record compares with a key, and whether it has that key
 pub record Keyed (T K : Type 0) : Type 0 where
   pub order : T → T → Ordering
   pub at : K → T → Ordering
@@ -27,7 +27,7 @@ pub record Keyed (T K : Type 0) : Type 0 where
   pub key : T → K
   pub total : IsTotalOrder order
   pub test : (k : K) (x : T) → is_eq (at k x) ≡ has k x
-  pub own : (x : T) → has (key x) x ≡ true
+  pub itself : (x : T) → has (key x) x ≡ true
   pub equal : (k : K) (x y : T) → has k x ≡ true → has k y ≡ true → order x y ≡ Equal
   pub same : (k : K) (x y : T) → order x y ≡ Equal → has k y ≡ has k x
 
@@ -40,7 +40,7 @@ by_number f = record {
   key = f;
   total = on_total f nat_cmp_total;
   test = λ k x. key_is k (f x);
-  own = λ x. eqb_self (f x);
+  itself = λ x. eqb_self (f x);
   equal = λ k x y p q. cmp_self (f x) (f y) (eqb-true (f x) k p ∙ sym (eqb-true (f y) k q));
   same = λ k x y e. ap (λ v. v == k) (sym (cmp_equal (f x) (f y) e));
 }
@@ -58,8 +58,8 @@ module _ {T K : Type 0} (r : Keyed T K) (xs : List T) where
   pub found_has : (k : K) (x : T) → find_by (r.at k) xs ≡ Some x → r.has k x ≡ true
   found_has k x e = find_passes (r.has k) xs x (sym (find_is k) ∙ e)
 
-  pub found_own : IsAscending r.order xs → (x : T) → Among x xs → find_by (r.at (r.key x)) xs ≡ Some x
-  found_own h x i = find_is (r.key x) ∙ find_found r.order (r.has (r.key x)) x (r.own x) (λ y q. r.equal (r.key x) y x q (r.own x)) xs h i
+  pub found_itself : IsAscending r.order xs → (x : T) → Among x xs → find_by (r.at (r.key x)) xs ≡ Some x
+  found_itself h x i = find_is (r.key x) ∙ find_found r.order (r.has (r.key x)) x (r.itself x) (λ y q. r.equal (r.key x) y x q (r.itself x)) xs h i
 
   pub found_put : (x : T) (k : K) → find_by (r.at k) (put_by (r.order x) xs x) ≡ cond (r.has k x) (Some x) (find_by (r.at k) xs)
   found_put x k =
@@ -82,10 +82,10 @@ module _ {T K : Type 0} (r : Keyed T K) (xs : List T) where
       ]) f
 
   pub counted_new : (p : T → Bool) (x : T) → find_by (r.at (r.key x)) xs ≡ None → count p (put_by (r.order x) xs x) ≡ one (p x) + count p xs
-  counted_new p x e = count-put_new r.order (r.has (r.key x)) p x (λ y q. r.same (r.key x) x y q ∙ r.own x) xs (sym (find_is (r.key x)) ∙ e)
+  counted_new p x e = count-put_new r.order (r.has (r.key x)) p x (λ y q. r.same (r.key x) x y q ∙ r.itself x) xs (sym (find_is (r.key x)) ∙ e)
 
   pub counted_old : (p : T → Bool) (x z : T) → IsAscending r.order xs → find_by (r.at (r.key x)) xs ≡ Some z → count p (put_by (r.order x) xs x) + one (p z) ≡ one (p x) + count p xs
-  counted_old p x z h e = count-put_old r.order r.total (r.has (r.key x)) p x (λ y q. r.same (r.key x) x y q ∙ r.own x) (λ y q. r.equal (r.key x) x y (r.own x) q) xs h z (sym (find_is (r.key x)) ∙ e)
+  counted_old p x z h e = count-put_old r.order r.total (r.has (r.key x)) p x (λ y q. r.same (r.key x) x y q ∙ r.itself x) (λ y q. r.equal (r.key x) x y (r.itself x) q) xs h z (sym (find_is (r.key x)) ∙ e)
 
 pub eq_key : (m n : ℕ) → is_eq (nat_cmp m n) ≡ (m == n)
 eq_key m n = both_ways (is_eq (nat_cmp m n)) (m == n) (λ e. eq-eqb m n (cmp_equal m n (eq_is (nat_cmp m n) e))) (λ e. is_eq_of (nat_cmp m n) (cmp_self m n (eqb-true m n e)))

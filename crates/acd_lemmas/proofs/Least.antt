@@ -1,7 +1,7 @@
--- The least pair of a list, and the group of a list that is served first.
+-- The least pair of a list, and the group of a list that precedes the others.
 use Rattle.std.proofs.Common.{◌≡◌, ℕ, inl, inr, true, false, cond, List, [], ◌∷◌, Some, None, refl, sym, ◌∙◌, ap, ap₂, subst, arith, map}
 use Rattle.std.proofs.lemmas.Bool.Decides.{nat_tests}
-use Rattle.acd_model.specs.Choice.{pair_lt, lesser, least_from, is_served_before, sooner, first_served}
+use Rattle.acd_model.specs.Choice.{pair_lt, lesser, least_from, precedes, sooner, foremost}
 use Rattle.acd_model.specs.Offers.{IsLeast, FindsLeast}
 use Rattle.acd_lemmas.proofs.Lists.{some_is}
 use Rattle.acd_lemmas.proofs.Words.{GroupRecord, Among}
@@ -22,7 +22,7 @@ pair_same p q e f =
     let second : p.1 ≡ q.1 = grind (arith, nat_tests) in
     ap₂ (λ a b. (a, b)) first second
 
--- what is least of a list with one of two before it, the lesser, is least of the list with both
+-- the least of a list with one of two before it, the lesser, is the least of the list with both
 least_with : (b p q : ℕ × ℕ) (ps : List (ℕ × ℕ)) → IsLeast q (lesser (Some b) p ∷ ps) → IsLeast q (b ∷ p ∷ ps)
 least_with b p q ps h =
     (elim (pair_lt p b) as (λ v. pair_lt p b ≡ v → IsLeast q (cond v p b ∷ ps) → IsLeast q (b ∷ p ∷ ps)) [
@@ -45,7 +45,7 @@ least_with b p q ps h =
       }
     ]) refl h
 
--- a least one is found of what begins with a pair
+-- a list that begins with a pair has a least one
 found_from : (b : ℕ × ℕ) (ps : List (ℕ × ℕ)) → (q : ℕ × ℕ) × ((least_from (Some b) ps ≡ Some q) × IsLeast q (b ∷ ps))
 found_from b [] = (b, (refl, record { there = inl refl; least = λ r a. elim a [ inl w ↦ subst (λ z. pair_lt z b ≡ false) (sym w) (pair_itself b) | inr c ↦ absurd c ] }))
 found_from b (p ∷ ps) =
@@ -78,29 +78,29 @@ finds_least ps = record {
   none = (none_of ps, λ e. ap (least_from None) e);
 }
 
--- the group that is served first
+-- the group that precedes the others
 
-before_itself : (g : GroupRecord) → is_served_before g g ≡ false
+before_itself : (g : GroupRecord) → precedes g g ≡ false
 before_itself g = grind (arith, nat_tests)
 
-before_one_way : (g h : GroupRecord) → is_served_before g h ≡ true → is_served_before h g ≡ false
+before_one_way : (g h : GroupRecord) → precedes g h ≡ true → precedes h g ≡ false
 before_one_way g h e = grind (arith, nat_tests)
 
-before_chain : (f g h : GroupRecord) → is_served_before f g ≡ false → is_served_before g h ≡ false → is_served_before f h ≡ false
+before_chain : (f g h : GroupRecord) → precedes f g ≡ false → precedes g h ≡ false → precedes f h ≡ false
 before_chain f g h d e = grind (arith, nat_tests)
 
--- it is one of them, and none of them is served before it
-pub record IsServedFirst (g : GroupRecord) (gs : List GroupRecord) : Type 0 where
+-- it is one of them, and none of them precedes it
+pub record IsForemost (g : GroupRecord) (gs : List GroupRecord) : Type 0 where
   pub there : Among g gs
-  pub first : (h : GroupRecord) → Among h gs → is_served_before h g ≡ false
+  pub first : (h : GroupRecord) → Among h gs → precedes h g ≡ false
 
-with_sooner : (b p q : GroupRecord) (gs : List GroupRecord) → IsServedFirst q (sooner (Some b) p ∷ gs) → IsServedFirst q (b ∷ p ∷ gs)
+with_sooner : (b p q : GroupRecord) (gs : List GroupRecord) → IsForemost q (sooner (Some b) p ∷ gs) → IsForemost q (b ∷ p ∷ gs)
 with_sooner b p q gs h =
-    (elim (is_served_before p b) as (λ v. is_served_before p b ≡ v → IsServedFirst q (cond v p b ∷ gs) → IsServedFirst q (b ∷ p ∷ gs)) [
+    (elim (precedes p b) as (λ v. precedes p b ≡ v → IsForemost q (cond v p b ∷ gs) → IsForemost q (b ∷ p ∷ gs)) [
       | true ↦ λ e g. record {
         there = inr g.there;
         first = λ r a. elim a [
-          | inl w ↦ subst (λ (z : GroupRecord). is_served_before z q ≡ false) (sym w) (before_chain b p q (before_one_way p b e) (g.first p (inl refl)))
+          | inl w ↦ subst (λ (z : GroupRecord). precedes z q ≡ false) (sym w) (before_chain b p q (before_one_way p b e) (g.first p (inl refl)))
           | inr c ↦ g.first r c
         ];
       }
@@ -109,21 +109,21 @@ with_sooner b p q gs h =
         first = λ r a. elim a [
           | inl w ↦ g.first r (inl w)
           | inr c ↦ elim c [
-            | inl w ↦ subst (λ (z : GroupRecord). is_served_before z q ≡ false) (sym w) (before_chain p b q e (g.first b (inl refl)))
+            | inl w ↦ subst (λ (z : GroupRecord). precedes z q ≡ false) (sym w) (before_chain p b q e (g.first b (inl refl)))
             | inr d ↦ g.first r (inr d)
           ]
         ];
       }
     ]) refl h
 
-served_from : (b : GroupRecord) (gs : List GroupRecord) → (q : GroupRecord) × ((first_served (Some b) gs ≡ Some q) × IsServedFirst q (b ∷ gs))
-served_from b [] = (b, (refl, record { there = inl refl; first = λ r a. elim a [ inl w ↦ subst (λ (z : GroupRecord). is_served_before z b ≡ false) (sym w) (before_itself b) | inr c ↦ absurd c ] }))
-served_from b (p ∷ gs) = let f = served_from (sooner (Some b) p) gs in (f.0, (f.1.0, with_sooner b p f.0 gs f.1.1))
+foremost_from : (b : GroupRecord) (gs : List GroupRecord) → (q : GroupRecord) × ((foremost (Some b) gs ≡ Some q) × IsForemost q (b ∷ gs))
+foremost_from b [] = (b, (refl, record { there = inl refl; first = λ r a. elim a [ inl w ↦ subst (λ (z : GroupRecord). precedes z b ≡ false) (sym w) (before_itself b) | inr c ↦ absurd c ] }))
+foremost_from b (p ∷ gs) = let f = foremost_from (sooner (Some b) p) gs in (f.0, (f.1.0, with_sooner b p f.0 gs f.1.1))
 
-pub none_served : (gs : List GroupRecord) → first_served None gs ≡ None → gs ≡ []
-none_served [] e = refl
-none_served (g ∷ gs) e = let f = served_from g gs in absurd (cc (f.1.0, e))
+pub none_foremost : (gs : List GroupRecord) → foremost None gs ≡ None → gs ≡ []
+none_foremost [] e = refl
+none_foremost (g ∷ gs) e = let f = foremost_from g gs in absurd (cc (f.1.0, e))
 
-pub served_is : (gs : List GroupRecord) (g : GroupRecord) → first_served None gs ≡ Some g → IsServedFirst g gs
-served_is [] g e = absurd (cc (e))
-served_is (x ∷ gs) g e = let f = served_from x gs in subst (λ v. IsServedFirst v (x ∷ gs)) (some_is f.0 g (sym f.1.0 ∙ e)) f.1.1
+pub foremost_is : (gs : List GroupRecord) (g : GroupRecord) → foremost None gs ≡ Some g → IsForemost g gs
+foremost_is [] g e = absurd (cc (e))
+foremost_is (x ∷ gs) g e = let f = foremost_from x gs in subst (λ v. IsForemost v (x ∷ gs)) (some_is f.0 g (sym f.1.0 ∙ e)) f.1.1

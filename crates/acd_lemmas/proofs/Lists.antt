@@ -335,7 +335,7 @@ among-remove_other at [] z a e = absurd a
 among-remove_other at (y ∷ ys) z (inl q) e = rw (← q, e) (inl refl)
 among-remove_other at (y ∷ ys) z (inr a) e = elim (is_eq (at y)) as (λ b. Among z (cond b ys (y ∷ remove_by at ys))) [ true ↦ a | false ↦ inr (among-remove_other at ys z a e) ]
 
--- what is counted
+-- the counted records
 
 pub counted : {X : Type 0} (p : X → Bool) (xs : List X) (x : X) → Among x xs → p x ≡ true → 1 ≤ count p xs
 counted p [] x a e = absurd a
@@ -426,7 +426,7 @@ some_from (Some x) e = (x, refl)
 pub some_is : {X : Type 0} (x y : X) → Some x ≡ Some y → x ≡ y
 some_is x y e = cc
 
--- what stands in a list after a put, or under a map, and what a look-up finds of it
+-- the members of a list after a put, or under a map, and what a look-up finds of it
 
 pub among_put : {T : Type 0} (at : T → Ordering) (r : T) (xs : List T) (z : T) → Among z (put_by at xs r) → (z ≡ r) ⊎ Among z xs
 among_put at r [] z (inl e) = inl e
@@ -438,7 +438,7 @@ among_put at r (x ∷ xs) z a =
       | Greater ↦ λ b. elim b [ inl e ↦ inr (inl e) | inr w ↦ elim (among_put at r xs z w) [ inl e ↦ inl e | inr v ↦ inr (inr v) ] ]
     ]) a
 
--- a filter that finds none finds none behind a put of what doesn't pass
+-- a filter that finds none finds none after a put of what doesn't pass
 pub filter_put : {X : Type 0} (p : X → Bool) (at : X → Ordering) (r : X) (xs : List X) → filter p xs ≡ [] → p r ≡ false → filter p (put_by at xs r) ≡ []
 filter_put p at r xs e fails = filter_none p (put_by at xs r) (λ z a. elim (among_put at r xs z a) [ inl q ↦ ap p q ∙ fails | inr old ↦ none_filtered p xs e z old ])
 

@@ -1,4 +1,4 @@
--- What is found, put and kept in a list whose records are rewritten in a way that no test sees, and what is made of the one that is found.
+-- Look-ups, puts and filters in a list whose records are rewritten in a way that no test sees, and what is made of the record found.
 use Rattle.std.proofs.Common.{◌≡◌, Bool, true, false, cond, List, [], ◌∷◌, Option, Some, None, refl, ap, map}
 use Rattle.std.specs.Prelude.{filter, find, option_map}
 use Rattle.std.specs.declared.cmp.Ordering.{Ordering}
@@ -7,7 +7,7 @@ use Rattle.std.specs.Ordering.{is_eq, match_ordering}
 use Rattle.acd_lemmas.proofs.Words.{find_by, put_by}
 
 module _ {T S : Type 0} (f : T → S) where
-  -- by a key: where a rewritten record stands to it, the record does
+  -- by a key: a rewritten record compares with it as the record does
   pub find_by-map : (at : S → Ordering) (by : T → Ordering) → ((x : T) → at (f x) ≡ by x) → (xs : List T) → find_by at (map f xs) ≡ option_map f (find_by by xs)
   find_by-map at by h [] = refl
   find_by-map at by h (x ∷ xs) =

@@ -268,9 +268,9 @@ same_rows a b h =
 
 pub events_decided : (a b : List Event) (r : Bool) → r ≡ pointwise ((event_eq.eq-value).it) a b → Decides r (a ≡ b)
 events_decided a b r h = (
-  λ told. same_list ((event_eq.eq-value).it) same_event a b (sym h ∙ told),
+  λ found. same_list ((event_eq.eq-value).it) same_event a b (sym h ∙ found),
   λ same. h ∙ ap (λ (x : List Event). pointwise ((event_eq.eq-value).it) x b) same ∙ (lists_equiv event_laws.laws-law).refl b,
 )
 
 pub rows_decided : (a b : Rows) (r : Bool) → r ≡ (rows_eq.eq-value).it a b → Decides r (a ≡ b)
-rows_decided a b r h = (λ told. same_rows a b (sym h ∙ told), λ same. h ∙ ap (λ (x : Rows). (rows_eq.eq-value).it x b) same ∙ (rows_laws.laws-law).refl b)
+rows_decided a b r h = (λ found. same_rows a b (sym h ∙ found), λ same. h ∙ ap (λ (x : Rows). (rows_eq.eq-value).it x b) same ∙ (rows_laws.laws-law).refl b)

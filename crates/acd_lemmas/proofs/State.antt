@@ -1,4 +1,4 @@
--- What the look-ups of a state answer after each change, and what the rules of rows tell of a record that is found.
+-- The answers of a state's look-ups after each change, and what the rules of rows say of a record that a look-up finds.
 use Rattle.std.proofs.Common.{◌≡◌, ℕ, Bool, true, false, ◌&&◌, ◌||◌, cond, List, Option, Some, None, refl, sym, ◌∙◌, ap, subst, map, eq-eqb, ◌+◌, ◌<◌, ◌≤◌, not, arith}
 use Rattle.std.specs.Prelude.{◌==◌, is_some, find, option_map}
 use Rattle.std.specs.List.{list_any}
@@ -11,7 +11,7 @@ use Rattle.acd_lemmas.proofs.Words.{Rows, GroupRecord, StationRecord, AgentRecor
 use Rattle.acd_model.specs.Figures.{counting}
 use Rattle.acd_lemmas.proofs.Lists.{eq_is, is_eq_of, one, find_passes, find_among, filter_among, count-removed, every_among, counted, none_from, some_is}
 use Rattle.acd_lemmas.proofs.MappedLists.{find_by-map, of-option_map}
-use Rattle.acd_lemmas.proofs.Keyed.{Keyed, by_number, cmp_equal, cmp_self, find_is, some_is_any, found_among, found_has, found_own, found_put, some_put, found_left, eqb_swap, counted_new, counted_old, others_left}
+use Rattle.acd_lemmas.proofs.Keyed.{Keyed, by_number, cmp_equal, cmp_self, find_is, some_is_any, found_among, found_has, found_itself, found_put, some_put, found_left, eqb_swap, counted_new, counted_old, others_left}
 use Rattle.acd_lemmas.proofs.Facts.{Rules, CallRule, ConnectionRule, seated_at, two_if}
 use Rattle.acd_lemmas.proofs.Numbers.{then_equal}
 
@@ -62,7 +62,7 @@ by_connection = record {
   key = λ x. (x.call, x.device);
   total = connections_total;
   test = λ k x. connection_key k.0 k.1 x;
-  own = λ x. is_of_self x.call x.device x refl refl;
+  itself = λ x. is_of_self x.call x.device x refl refl;
   equal = λ k x y p q. let f = is_of_true k.0 k.1 x p in let g = is_of_true k.0 k.1 y q in order_same x y (f.0 ∙ sym g.0) (f.1 ∙ sym g.1);
   same = λ k x y e. let h = order_equal x y e in rw (h.0, h.1) refl;
 }
@@ -143,10 +143,10 @@ unfolding agent_of
 agent_key s n a e = eqb-true a.agent n (found_has by_agent s.agents n a e)
 
 -- an agent that is found by its number has that number
-pub agent_own : (s : Rows) (n : ℕ) (a : AgentRecord) → agent_of s n ≡ Some a → agent_of s a.agent ≡ Some a
-agent_own s n a e = subst (λ v. agent_of s v ≡ Some a) (sym (agent_key s n a e)) e
+pub agent_itself : (s : Rows) (n : ℕ) (a : AgentRecord) → agent_of s n ≡ Some a → agent_of s a.agent ≡ Some a
+agent_itself s n a e = subst (λ v. agent_of s v ≡ Some a) (sym (agent_key s n a e)) e
 
--- a group that is found stands in the list, and has the number
+-- a group that a look-up finds is in the list, and has the number
 pub group_among : (s : Rows) (n : ℕ) (g : GroupRecord) → group_of s n ≡ Some g → Among g s.groups
 unfolding group_of
 group_among s n g e = found_among by_group s.groups n g e
@@ -158,12 +158,12 @@ group_key s n g e = eqb-true g.device n (found_has by_group s.groups n g e)
 -- a group of the list is found under its number
 pub group_found : (s : Rows) → IsAscending group_order s.groups → (g : GroupRecord) → Among g s.groups → group_of s g.device ≡ Some g
 unfolding group_of
-group_found s h g i = found_own by_group s.groups h g i
+group_found s h g i = found_itself by_group s.groups h g i
 
 -- an agent of the list is found under its number
 pub agent_found : (s : Rows) → IsAscending agent_order s.agents → (a : AgentRecord) → Among a s.agents → agent_of s a.agent ≡ Some a
 unfolding agent_of
-agent_found s h a i = found_own by_agent s.agents h a i
+agent_found s h a i = found_itself by_agent s.agents h a i
 
 -- calls
 
@@ -185,7 +185,7 @@ call_key s n c e = eqb-true c.call n (found_has by_call s.calls n c e)
 
 pub call_found : (s : Rows) → IsAscending call_order s.calls → (c : CallRecord) → Among c s.calls → call_of s c.call ≡ Some c
 unfolding call_of
-call_found s h c i = found_own by_call s.calls h c i
+call_found s h c i = found_itself by_call s.calls h c i
 
 -- connections
 
@@ -202,13 +202,13 @@ pub at_remove : (s : Rows) (a b c d : ℕ) → IsAscending connection_order s.co
 unfolding without_connection connection_of
 at_remove s a b c d h = left_at s.connections h a b c d
 
--- the key under which a connection is found is its own
+-- the key under which a connection is found is that connection's
 pub found_key : (s : Rows) (c d : ℕ) (x : ConnectionRecord) → connection_of s c d ≡ Some x → (x.call ≡ c) × (x.device ≡ d)
 unfolding connection_of
 found_key s c d x e = is_of_true c d x (found_has by_connection s.connections (c, d) x e)
 
-pub own_key : (s : Rows) (c d : ℕ) (x : ConnectionRecord) → connection_of s c d ≡ Some x → connection_of s x.call x.device ≡ Some x
-own_key s c d x e = let k = found_key s c d x e in
+pub connection_itself : (s : Rows) (c d : ℕ) (x : ConnectionRecord) → connection_of s c d ≡ Some x → connection_of s x.call x.device ≡ Some x
+connection_itself s c d x e = let k = found_key s c d x e in
     subst (λ v. connection_of s v x.device ≡ Some x) (sym k.0) (subst (λ v. connection_of s c v ≡ Some x) (sym k.1) e)
 
 pub connection_among : (s : Rows) (c d : ℕ) (x : ConnectionRecord) → connection_of s c d ≡ Some x → Among x s.connections
@@ -218,7 +218,7 @@ connection_among s c d x e = found_among by_connection s.connections (c, d) x e
 -- a connection of the list is found under its key
 pub connection_found : (s : Rows) → IsAscending connection_order s.connections → (x : ConnectionRecord) → Among x s.connections → connection_of s x.call x.device ≡ Some x
 unfolding connection_of
-connection_found s h x i = found_own by_connection s.connections h x i
+connection_found s h x i = found_itself by_connection s.connections h x i
 
 pub put_other : (s : Rows) (x : ConnectionRecord) (c d : ℕ) → ((x.call ≡ c) → (x.device ≡ d) → ⊥) → connection_of (with_connection s x) c d ≡ connection_of s c d
 put_other s x c d h = at_put s x c d ∙ cond-false (is_of c d x) (Some x) (connection_of s c d) (false_from_ne_true (is_of c d x) (λ e. let k = is_of_true c d x e in h k.0 k.1))
@@ -231,7 +231,7 @@ removed_other s a b c d o h = at_remove s a b c d o ∙ cond-false (a == c && b 
 pub still_none : (s : Rows) (a b c d : ℕ) → IsAscending connection_order s.connections → connection_of s c d ≡ None → connection_of (without_connection s a b) c d ≡ None
 still_none s a b c d o e = at_remove s a b c d o ∙ rw e (elim (a == c && b == d) as (λ v. cond {A = Option ConnectionRecord} v None None ≡ None) [ true ↦ refl | false ↦ refl ])
 
--- what the rules of rows tell of a record that is found
+-- what the rules of rows say of a record that is found
 
 -- a connection of the list is found under its key
 pub connection_there : (s : Rows) → Rules s → (x : ConnectionRecord) → Among x s.connections → connection_of s x.call x.device ≡ Some x
@@ -320,6 +320,6 @@ pub count_agent : (p : AgentRecord → Bool) (s : Rows) (a z : AgentRecord) → 
 unfolding agent_of
 count_agent p s a z h e = counted_old by_agent s.agents p a z h e
 
--- what is left after a removal
+-- the rest after a removal
 pub left_among : (s : Rows) (a b : ℕ) → IsAscending connection_order s.connections → (z : ConnectionRecord) → Among z (remove_by (at_connection a b) s.connections) → Among z s.connections × (not (is_of a b z) ≡ true)
 left_among s a b h z i = filter_among (λ x. not (is_of a b x)) s.connections z (subst (Among z) (others_left by_connection s.connections h (a, b)) i)

@@ -1,4 +1,4 @@
--- The words that most laws use: types, each declared in a module of its own, and those of lists, states, scans, writes, moves and rules.
+-- The words that most laws use: types, each declared in a separate module, and those of lists, states, scans, writes, moves and rules.
 pub use Rattle.acd_terms.specs.declared.rows.Rows.{Rows}
 pub use Rattle.acd_terms.specs.declared.rows.Limits.{Limits}
 pub use Rattle.acd_terms.specs.declared.rows.Rule.{Rule}

@@ -64,7 +64,7 @@ unfolding cut
 filter_open [] h = refl
 filter_open (x ∷ part) h = rw (cut_open (x ∷ part) h (omega arith)) (rw (no_last (x ∷ part) h) refl)
 
--- what stands behind the last line feed is no whole line
+-- the rest after the last line feed is no whole line
 pub whole_of : (seen part : List ℕ) (pieces : List (List ℕ)) → ((rest : List ℕ) → cut (seen ++ rest) ≡ pieces ++ cut (part ++ rest)) → list_all (ends_with_byte 10) pieces ≡ true → has_none 10 part ≡ true → whole_lines seen ≡ pieces
 whole_of seen part pieces cuts ended open_part =
     let all : cut seen ≡ pieces ++ cut part = ap cut (sym (append-nil seen)) ∙ cuts [] ∙ ap (λ (l : List ℕ). pieces ++ cut l) (append-nil part) in

@@ -11,15 +11,15 @@ use Rattle.acd_lines.proofs.Weaker.{picked_so, answered_so, all_are_first}
 -- `T d e` says how lines were answered from d to e
 module _ {D : Type 0} (stands : D → Standing) (T : D → D → List (List ℕ) → List (List ℕ) → Type 0) (ends : Bool) (io : Streams) (d e : D) where
   -- the whole input was answered
-  pub done_whole : LinesAnswered (AllLines io.had) (T d e) (Appends io.before io.behind) → LinesDone stands T ends io d e (Ok tt)
-  done_whole h = record { all = λ well. h; first = picked_so (AllLines io.had) (FirstLines io.had) (T d e) (Appends io.before io.behind) (all_are_first io.had) h; begun = tt; cause = tt }
+  pub done_whole : LinesAnswered (AllLines io.old_input) (T d e) (Appends io.old_output io.new_output) → LinesDone stands T ends io d e (Ok tt)
+  done_whole h = record { all = λ well. h; first = picked_so (AllLines io.old_input) (FirstLines io.old_input) (T d e) (Appends io.old_output io.new_output) (all_are_first io.old_input) h; begun = tt; cause = tt }
 
   -- the desk failed, which was to end it
-  pub done_failed : ends ≡ true → (stands e).failed ≡ true → LinesAnswered (FirstLines io.had) (T d e) (Appends io.before io.behind) → LinesDone stands T ends io d e (Ok tt)
+  pub done_failed : ends ≡ true → (stands e).failed ≡ true → LinesAnswered (FirstLines io.old_input) (T d e) (Appends io.old_output io.new_output) → LinesDone stands T ends io d e (Ok tt)
   done_failed asked failed h = record { all = λ well. absurd (true≢false (sym failed ∙ well asked)); first = h; begun = tt; cause = tt }
 
   -- a fault ended it
-  pub done_by : (r : Result (Unit {0}) LinesFault) (x given : LinesFault) → IsErrAnd r (λ y. y ≡ x) → x ≡ given → LinesAnswered (FirstLines io.had) (T d e) (Begins io.before io.behind) → EndedBy T io d e given → LinesDone stands T ends io d e r
+  pub done_by : (r : Result (Unit {0}) LinesFault) (x given : LinesFault) → IsErrAnd r (λ y. y ≡ x) → x ≡ given → LinesAnswered (FirstLines io.old_input) (T d e) (Begins io.old_output io.new_output) → EndedBy T io d e given → LinesDone stands T ends io d e r
   done_by (Ok u) x given is same h why = absurd is
   done_by (Err y) x given is same h why = record { all = tt; first = tt; begun = h; cause = subst (EndedBy T io d e) (sym (is ∙ same)) why }
 

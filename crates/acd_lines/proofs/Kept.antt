@@ -7,7 +7,7 @@ use Rattle.std.proofs.lemmas.Bool.{cases_lt}
 use Rattle.std.specs.Cmp.Derive.{both_true}
 use Rattle.std.specs.Bool.{if◌then◌else◌}
 use Rattle.std.specs.Io.BufRead.{ends_with_byte, strip_last}
-use Rattle.acd_lines.specs.Input.{has_none, number_of, asked_behind, asked}
+use Rattle.acd_lines.specs.Input.{has_none, number_of, asked_at, asked}
 use Rattle.acd_lines.proofs.Splits.{divides}
 use Rattle.acd_lines.proofs.Moments.{number_long, moment_none, moment_split}
 
@@ -17,7 +17,7 @@ kept_more zero part more = refl
 kept_more (suc n) [] more = refl
 kept_more (suc n) (x ∷ part) more = ap (λ (l : List ℕ). x ∷ l) (kept_more n part more)
 
--- what is put behind what is kept
+-- what is put after what is kept
 pub kept_room : (n : ℕ) (kept more : List ℕ) (count : ℕ) → length kept ≤ n → count ≡ n - length kept → kept ++ take count more ≡ take n (kept ++ more)
 kept_room n [] more count room is = ap (λ (k : ℕ). take k more) (omega arith)
 kept_room zero (x ∷ kept) more count room is = absurd (omega arith)
@@ -31,7 +31,8 @@ take_room room count more within all = elim (cases_lt count room) [
 
 -- ---- a long line is as its beginning
 
--- what a text asks for goes by its first 4108 bytes: a moment has at most ten, and of what stands behind it no more than 4096 are read
+-- the first 4108 bytes of a text decide what it asks for: a moment has at most ten, and of the rest after it no more than 4096 are
+-- read
 abbrev pub ByFront : {L : Type 0} → (List ℕ → L) → Type 0
 ByFront asks = (base u v : List ℕ) → 4107 < length base → asks (base ++ u) ≡ asks (base ++ v)
 
@@ -39,13 +40,13 @@ pub short_or_none : (front : List ℕ) → (length front ≤ 10) ⊎ (number_of 
 short_or_none front = elim (cases_lt 10 (length front)) [ inl long ↦ inr (number_long front long) | inr short ↦ inl short ]
 
 module _ {L : Type 0} (unmarked long : L) (read : ℕ → List ℕ → L) where
-  line_split : (front behind : List ℕ) → has_none 32 front ≡ true → asked unmarked long read (front ++ 32 ∷ behind) ≡ asked_behind unmarked long read (option_map (λ n. (n, behind)) (number_of front))
+  line_split : (front rest : List ℕ) → has_none 32 front ≡ true → asked unmarked long read (front ++ 32 ∷ rest) ≡ asked_at unmarked long read (option_map (λ n. (n, rest)) (number_of front))
   unfolding asked
-  line_split front behind h = ap (asked_behind unmarked long read) (moment_split (front ++ 32 ∷ behind) front behind refl h)
+  line_split front rest h = ap (asked_at unmarked long read) (moment_split (front ++ 32 ∷ rest) front rest refl h)
 
   line_open : (text : List ℕ) → has_none 32 text ≡ true → asked unmarked long read text ≡ unmarked
   unfolding asked
-  line_open text h = ap (asked_behind unmarked long read) (moment_none text h)
+  line_open text h = ap (asked_at unmarked long read) (moment_none text h)
 
   -- a long text with no space in its front
   line_unmarked : (base u : List ℕ) → 10 < length base → has_none 32 base ≡ true → asked unmarked long read (base ++ u) ≡ unmarked
@@ -55,21 +56,21 @@ module _ {L : Type 0} (unmarked long : L) (read : ℕ → List ℕ → L) where
         let whole : base ++ u ≡ (base ++ one.0) ++ 32 ∷ one.1 = ap (λ (l : List ℕ). base ++ l) one.2 ∙ sym (append_assoc base one.0 (32 ∷ one.1)) in
         let size = length-append base one.0 in
         let no = number_long (base ++ one.0) (omega arith) in
-        ap (asked unmarked long read) whole ∙ line_split (base ++ one.0) one.1 (list_all-append _ base one.0 ∙ both_true none one.3) ∙ ap (λ o. asked_behind unmarked long read (option_map (λ n. (n, one.1)) o)) no
+        ap (asked unmarked long read) whole ∙ line_split (base ++ one.0) one.1 (list_all-append _ base one.0 ∙ both_true none one.3) ∙ ap (λ o. asked_at unmarked long read (option_map (λ n. (n, one.1)) o)) no
   ]
 
-  -- a text that is long behind its space, or has no moment
+  -- a text that is long after its space, or has no moment
   abbrev long_line : Option ℕ → L
   long_line None = unmarked
   long_line (Some n) = long
 
-  behind_long : (o : Option ℕ) (behind : List ℕ) → 4096 < length behind → asked_behind unmarked long read (option_map (λ n. (n, behind)) o) ≡ long_line o
-  behind_long None behind h = refl
-  behind_long (Some n) behind h = rw (lt-ltb 4096 (length behind) h) refl
+  long_rest : (o : Option ℕ) (rest : List ℕ) → 4096 < length rest → asked_at unmarked long read (option_map (λ n. (n, rest)) o) ≡ long_line o
+  long_rest None rest h = refl
+  long_rest (Some n) rest h = rw (lt-ltb 4096 (length rest) h) refl
 
   line_of_front : (front b u : List ℕ) → 4107 < length (front ++ 32 ∷ b) → has_none 32 front ≡ true → asked unmarked long read (front ++ 32 ∷ (b ++ u)) ≡ long_line (number_of front)
   line_of_front front b u big none = line_split front (b ++ u) none ∙ elim (short_or_none front) [
-    | inl short ↦ behind_long (number_of front) (b ++ u) (omega (arith, length-append b u, length-append front (32 ∷ b)))
+    | inl short ↦ long_rest (number_of front) (b ++ u) (omega (arith, length-append b u, length-append front (32 ∷ b)))
     | inr nothing ↦ rw nothing refl
   ]
 

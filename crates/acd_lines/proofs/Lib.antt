@@ -5,6 +5,6 @@ pub mod Cuts
 pub mod Reaching
 pub mod Weaker
 pub mod Turns
-pub mod Telling
+pub mod RunsInTurn
 pub mod Endings
 pub mod Plans

@@ -56,6 +56,6 @@ pub moment_none : (text : List ℕ) → has_none 32 text ≡ true → moment_of 
 unfolding moment_of
 moment_none text h = ap moment_before (split_none 32 text h)
 
-pub moment_split : (text front behind : List ℕ) → text ≡ front ++ 32 ∷ behind → has_none 32 front ≡ true → moment_of text ≡ option_map (λ n. (n, behind)) (number_of front)
+pub moment_split : (text front rest : List ℕ) → text ≡ front ++ 32 ∷ rest → has_none 32 front ≡ true → moment_of text ≡ option_map (λ n. (n, rest)) (number_of front)
 unfolding moment_of
-moment_split text front behind e h = ap moment_of e ∙ ap moment_before (split_first 32 front behind h)
+moment_split text front rest e h = ap moment_of e ∙ ap moment_before (split_first 32 front rest h)

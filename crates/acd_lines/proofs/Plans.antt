@@ -43,7 +43,7 @@ pub take_whole : (i : ℕ) (rs : List Request) → length rs ≤ i → take i rs
 take_whole i rs h = grind (arith, common_steps)
 
 module _ {D : Type 0} (stands : D → Standing) (settles : (d : D) → Settles (stands d)) where
-  -- none was taken
+  -- none was executed
   pub imports_none : (d : D) (a : Option (List ℕ)) (waiting : List ℕ) → waiting ≡ [] → Imports stands d [] d a a waiting
   imports_none d a waiting none = record {
     taken = [];
@@ -53,7 +53,7 @@ module _ {D : Type 0} (stands : D → Standing) (settles : (d : D) → Settles (
     out = subst (λ (w : List ℕ). Passes a a w []) (sym none) (passes_nothing a []);
   }
 
-  -- one more was taken
+  -- one more was executed
   one_more : (d mid e : D) (rs : List Request) (outs : List (List ℕ)) (r : Request) (out : List ℕ) → HasImported stands d mid rs outs → Answers stands mid (arrival 0 r) out e → HasImported stands d e (rs ++ r ∷ []) (outs ++ out ∷ [])
   one_more d mid e rs outs r out h answer = (
     h.0 ++ answer.0 ∷ [],
@@ -83,7 +83,7 @@ module _ {D : Type 0} (stands : D → Standing) (settles : (d : D) → Settles (
     out = subst (Breaks a c) (sym (text_more h.answers stopped.0)) (breaks_then a b c [] waiting (concat h.answers) stopped.0 h.out stopped.2);
   }
 
-  -- all were taken, and what waited was written
+  -- all were executed, and the waiting bytes were written
   pub imports_out : (d e : D) (rs all : List Request) (a b c : Option (List ℕ)) (waiting : List ℕ) → rs ≡ all → Imports stands d rs e a b waiting → Passes b c [] waiting → Imports stands d all e a c []
   imports_out d e rs all a b c waiting is h out = record {
     taken = h.taken;
@@ -93,7 +93,7 @@ module _ {D : Type 0} (stands : D → Standing) (settles : (d : D) → Settles (
     out = passes_out a b c waiting (concat h.answers) h.out out;
   }
 
-  -- the writer stopped behind them
+  -- the writer stopped after them
   pub import_stopped_out : (d e : D) (all : List Request) (n : ℕ) (a b c : Option (List ℕ)) (waiting : List ℕ) → Imports stands d (take n all) e a b waiting → Breaks b c waiting → ImportStops stands d all e a c
   import_stopped_out d e all n a b c waiting h stopped = record {
     taken = h.taken;
@@ -103,6 +103,6 @@ module _ {D : Type 0} (stands : D → Standing) (settles : (d : D) → Settles (
     out = breaks_out a b c waiting (concat h.answers) h.out stopped;
   }
 
-  -- nothing waits behind them
-  pub import_told : (d e : D) (rs : List Request) (a c : Option (List ℕ)) → Imports stands d rs e a c [] → LinesAnswered (AllRequests rs) (HasImported stands d e) (Appends a c)
-  import_told d e rs a c h = out_so (AllRequests rs) (HasImported stands d e) (Passes a c []) (Appends a c) (passes_whole a c) h
+  -- nothing waits after them
+  pub import_written : (d e : D) (rs : List Request) (a c : Option (List ℕ)) → Imports stands d rs e a c [] → LinesAnswered (AllRequests rs) (HasImported stands d e) (Appends a c)
+  import_written d e rs a c h = out_so (AllRequests rs) (HasImported stands d e) (Passes a c []) (Appends a c) (passes_whole a c) h

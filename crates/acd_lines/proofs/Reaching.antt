@@ -7,7 +7,7 @@ use Rattle.std.proofs.lemmas.List.Folds.{concat-append, list_all-append}
 use Rattle.std.specs.Io.BufRead.{ends_with_byte}
 use Rattle.acd_lines.specs.Input.{cut, text_of, has_none}
 use Rattle.acd_lines.specs.Output.{whole_lines}
-use Rattle.acd_lines.specs.Parts.{Serves, ServesText, ServesSome, Reached}
+use Rattle.acd_lines.specs.Parts.{AnswersEach, AnsweredAs, FirstAnswered, Reached}
 use Rattle.acd_lines.proofs.Cuts.{cut_line, cut_open, ends_in_feed, whole_of}
 
 concat_one : (outs : List (List ℕ)) (out : List ℕ) → concat outs ++ out ≡ concat (outs ++ out ∷ [])
@@ -15,11 +15,11 @@ concat_one outs out = ap (λ (l : List ℕ). concat outs ++ l) (sym (append-nil 
 
 module _ {S L : Type 0} (asks : List ℕ → L) (A : S → L → List ℕ → S → Type 0) where
   -- one line more
-  pub serves_more : (s : S) (pieces outs : List (List ℕ)) (mid : S) (piece out : List ℕ) (t : S) → Serves asks A s pieces outs mid → A mid (asks (text_of piece)) out t → Serves asks A s (pieces ++ piece ∷ []) (outs ++ out ∷ []) t
-  serves_more s [] [] mid piece out t h a = (t, subst (λ (n : S). A n (asks (text_of piece)) out t) h a, refl)
-  serves_more s [] (o ∷ os) mid piece out t h a = absurd h
-  serves_more s (p ∷ ps) [] mid piece out t h a = absurd h
-  serves_more s (p ∷ ps) (o ∷ os) mid piece out t h a = (h.0, h.1, serves_more h.0 ps os mid piece out t h.2 a)
+  pub answers_more : (s : S) (pieces outs : List (List ℕ)) (mid : S) (piece out : List ℕ) (t : S) → AnswersEach asks A s pieces outs mid → A mid (asks (text_of piece)) out t → AnswersEach asks A s (pieces ++ piece ∷ []) (outs ++ out ∷ []) t
+  answers_more s [] [] mid piece out t h a = (t, subst (λ (n : S). A n (asks (text_of piece)) out t) h a, refl)
+  answers_more s [] (o ∷ os) mid piece out t h a = absurd h
+  answers_more s (p ∷ ps) [] mid piece out t h a = absurd h
+  answers_more s (p ∷ ps) (o ∷ os) mid piece out t h a = (h.0, h.1, answers_more h.0 ps os mid piece out t h.2 a)
 
   pub reached_bytes : (s : S) (seen part written : List ℕ) (t : S) (bytes : List ℕ) → has_none 10 bytes ≡ true → Reached asks A s seen part written t → Reached asks A s (seen ++ bytes) (part ++ bytes) written t
   reached_bytes s seen part written t bytes none h = record {
@@ -28,7 +28,7 @@ module _ {S L : Type 0} (asks : List ℕ → L) (A : S → L → List ℕ → S 
     cuts = λ rest. ap cut (append_assoc seen bytes rest) ∙ h.cuts (bytes ++ rest) ∙ ap (λ (l : List ℕ). h.pieces ++ cut l) (sym (append_assoc part bytes rest));
     ended = h.ended;
     no_feed = list_all-append (λ x. not (x == 10)) part bytes ∙ both_true h.no_feed none;
-    serves = h.serves;
+    answered = h.answered;
     whole = h.whole;
   }
 
@@ -43,46 +43,46 @@ module _ {S L : Type 0} (asks : List ℕ → L) (A : S → L → List ℕ → S 
     cuts = line_cuts s seen part written mid h;
     ended = list_all-append (ends_with_byte 10) h.pieces ((part ++ 10 ∷ []) ∷ []) ∙ both_true h.ended (rw (ends_in_feed part) refl);
     no_feed = refl;
-    serves = serves_more s h.pieces h.outs mid (part ++ 10 ∷ []) out t h.serves a;
+    answered = answers_more s h.pieces h.outs mid (part ++ 10 ∷ []) out t h.answered a;
     whole = ap (λ (l : List ℕ). l ++ out) h.whole ∙ concat_one h.outs out;
   }
 
-  -- what was read up to now
-  pub read_reached : (s : S) (seen part written : List ℕ) (t : S) → Reached asks A s seen part written t → ServesText asks A s (whole_lines seen) written t
+  -- the bytes read up to now
+  pub read_reached : (s : S) (seen part written : List ℕ) (t : S) → Reached asks A s seen part written t → AnsweredAs asks A s (whole_lines seen) written t
   read_reached s seen part written t h = record {
     outs = h.outs;
-    serves = subst (λ l. Serves asks A s l h.outs t) (sym (whole_of seen part h.pieces h.cuts h.ended h.no_feed)) h.serves;
+    answered = subst (λ l. AnswersEach asks A s l h.outs t) (sym (whole_of seen part h.pieces h.cuts h.ended h.no_feed)) h.answered;
     whole = h.whole;
   }
 
-  -- a fault behind whole lines
-  pub some_reached : (s : S) (seen part written more : List ℕ) (t : S) → Reached asks A s seen part written t → ServesSome asks A s (seen ++ more) written t
+  -- a fault after whole lines
+  pub some_reached : (s : S) (seen part written more : List ℕ) (t : S) → Reached asks A s seen part written t → FirstAnswered asks A s (seen ++ more) written t
   some_reached s seen part written more t h = (
     length h.pieces,
     record {
       outs = h.outs;
-      serves = subst (λ l. Serves asks A s l h.outs t) (sym (ap (take (length h.pieces)) (h.cuts more) ∙ take_at h.pieces _ _ refl)) h.serves;
+      answered = subst (λ l. AnswersEach asks A s l h.outs t) (sym (ap (take (length h.pieces)) (h.cuts more) ∙ take_at h.pieces _ _ refl)) h.answered;
       whole = h.whole;
     },
   )
 
   -- the end of the input
-  pub all_ended : (s : S) (seen written : List ℕ) (t : S) → Reached asks A s seen [] written t → ServesText asks A s (cut seen) written t
+  pub all_ended : (s : S) (seen written : List ℕ) (t : S) → Reached asks A s seen [] written t → AnsweredAs asks A s (cut seen) written t
   unfolding cut
   all_ended s seen written t h = record {
     outs = h.outs;
-    serves = subst (λ l. Serves asks A s l h.outs t) (sym (ap cut (sym (append-nil seen)) ∙ h.cuts [] ∙ append-nil h.pieces)) h.serves;
+    answered = subst (λ l. AnswersEach asks A s l h.outs t) (sym (ap cut (sym (append-nil seen)) ∙ h.cuts [] ∙ append-nil h.pieces)) h.answered;
     whole = h.whole;
   }
 
   open_cut : (s : S) (seen part written : List ℕ) (t : S) → (h : Reached asks A s seen part written t) → 0 < length part → cut seen ≡ h.pieces ++ part ∷ []
   open_cut s seen part written t h some = ap cut (sym (append-nil seen)) ∙ h.cuts [] ∙ ap (λ l. h.pieces ++ l) (ap cut (append-nil part) ∙ cut_open part h.no_feed some)
 
-  -- the end of the input behind a last line with no line feed
+  -- the end of the input after a last line with no line feed
   pub all_open : (s : S) (seen part written : List ℕ) (mid : S) (out : List ℕ) (t : S) → Reached asks A s seen part written mid → 0 < length part → A mid (asks (text_of part)) out t
-      → ServesText asks A s (cut seen) (written ++ out) t
+      → AnsweredAs asks A s (cut seen) (written ++ out) t
   all_open s seen part written mid out t h some a = record {
     outs = h.outs ++ out ∷ [];
-    serves = subst (λ l. Serves asks A s l (h.outs ++ out ∷ []) t) (sym (open_cut s seen part written mid h some)) (serves_more s h.pieces h.outs mid part out t h.serves a);
+    answered = subst (λ l. AnswersEach asks A s l (h.outs ++ out ∷ []) t) (sym (open_cut s seen part written mid h some)) (answers_more s h.pieces h.outs mid part out t h.answered a);
     whole = ap (λ (l : List ℕ). l ++ out) h.whole ∙ concat_one h.outs out;
   }

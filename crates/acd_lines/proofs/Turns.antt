@@ -10,7 +10,7 @@ use Rattle.acd_io.proofs.Inputs.{input_begun}
 use Rattle.acd_io.specs.declared.sending.Stopped.{Stopped}
 use Rattle.acd_io.specs.Sent.{Passes, Breaks, Begins}
 use Rattle.acd_lines.specs.Outgoing.{Outgoing}
-use Rattle.acd_lines.specs.Parts.{ServesSome, Reached, AnsweredSoFar, LineDone, LineStops, Feeds, Stops, FeedStops, Finishes, FinishStops, InTurn, ServesText, LineServed, text_kept}
+use Rattle.acd_lines.specs.Parts.{FirstAnswered, Reached, AnsweredSoFar, LineDone, LineStops, Feeds, Stops, FeedStops, Finishes, FinishStops, InTurn, AnsweredAs, AnswerPushed, text_kept}
 use Rattle.acd_io.proofs.Sends.{breaks_front, passes_same_front, passes_nothing, passes_then, breaks_then, passes_out, breaks_out, begins_so, passes_whole}
 use Rattle.acd_lines.specs.Output.{whole_lines}
 use Rattle.acd_lines.specs.Lines.{LinesAnswered, AllLines, FirstLines, EndedLines}
@@ -24,18 +24,18 @@ line_text_of : {L : Type 0} (asks : List ℕ → L) → ByFront asks → (m : �
 line_text_of {L} asks by_front m part kept end big e =
     ap (λ (l : List ℕ). asks (strip_last 13 l)) (ap (λ (l : List ℕ). take (m + 1) (l ++ end)) e ∙ kept_more (m + 1) part end) ∙ kept_strip asks by_front m (part ++ end) big ∙ ap asks (sym (text_line (part ++ end)))
 
--- what is read up to a line feed
+-- the bytes read up to a line feed
 up_to_feed : (seen end : List ℕ) → seen ++ (end ++ 10 ∷ []) ≡ (seen ++ end) ++ 10 ∷ []
 up_to_feed seen end = sym (append_assoc seen end (10 ∷ []))
 
--- what was taken of a chunk, and what is left of it behind a line
-pub behind_line : (chunk front rest end behind : List ℕ) → chunk ≡ front ++ rest → rest ≡ end ++ 10 ∷ behind → chunk ≡ (front ++ (end ++ 10 ∷ [])) ++ behind
-behind_line chunk front rest end behind e f =
-    e ∙ ap (λ (l : List ℕ). front ++ l) (f ∙ sym (append_assoc end (10 ∷ []) behind)) ∙ sym (append_assoc front (end ++ 10 ∷ []) behind)
+-- the part of a chunk that was used, and the rest after a line
+pub past_line : (chunk front rest end new_rest : List ℕ) → chunk ≡ front ++ rest → rest ≡ end ++ 10 ∷ new_rest → chunk ≡ (front ++ (end ++ 10 ∷ [])) ++ new_rest
+past_line chunk front rest end new_rest e f =
+    e ∙ ap (λ (l : List ℕ). front ++ l) (f ∙ sym (append_assoc end (10 ∷ []) new_rest)) ∙ sym (append_assoc front (end ++ 10 ∷ []) new_rest)
 
-pub seen_line : (seen chunk front rest end behind : List ℕ) → chunk ≡ front ++ rest → rest ≡ end ++ 10 ∷ behind → seen ++ chunk ≡ ((seen ++ front) ++ (end ++ 10 ∷ [])) ++ behind
-seen_line seen chunk front rest end behind e f =
-    ap (λ (l : List ℕ). seen ++ l) (behind_line chunk front rest end behind e f) ∙ sym (append_assoc seen (front ++ (end ++ 10 ∷ [])) behind) ∙ ap (λ (l : List ℕ). l ++ behind) (sym (append_assoc seen front (end ++ 10 ∷ [])))
+pub seen_line : (seen chunk front rest end new_rest : List ℕ) → chunk ≡ front ++ rest → rest ≡ end ++ 10 ∷ new_rest → seen ++ chunk ≡ ((seen ++ front) ++ (end ++ 10 ∷ [])) ++ new_rest
+seen_line seen chunk front rest end new_rest e f =
+    ap (λ (l : List ℕ). seen ++ l) (past_line chunk front rest end new_rest e f) ∙ sym (append_assoc seen (front ++ (end ++ 10 ∷ [])) new_rest) ∙ ap (λ (l : List ℕ). l ++ new_rest) (sym (append_assoc seen front (end ++ 10 ∷ [])))
 
 pub seen_chunk : (seen chunk front rest : List ℕ) → chunk ≡ front ++ rest → (seen ++ front) ++ rest ≡ seen ++ chunk
 seen_chunk seen chunk front rest e = append_assoc seen front rest ∙ ap (λ (l : List ℕ). seen ++ l) (sym e)
@@ -60,7 +60,7 @@ module _ {S L : Type 0} (asks : List ℕ → L) (by_front : ByFront asks) (A : S
     part = [];
     answers = [];
     keeps = e ∙ nothing_kept n;
-    reached = record { pieces = []; outs = []; cuts = λ rest. refl; ended = refl; no_feed = refl; serves = refl; whole = refl };
+    reached = record { pieces = []; outs = []; cuts = λ rest. refl; ended = refl; no_feed = refl; answered = refl; whole = refl };
     passes = subst (λ (w : List ℕ). Passes a a w []) (sym f) (passes_nothing a []);
   }
 
@@ -83,8 +83,8 @@ module _ {S L : Type 0} (asks : List ℕ → L) (by_front : ByFront asks) (A : S
       subst (λ (l : List ℕ). Reached asks A s l [] (earlier ++ (h.answers ++ out)) t) (sym (up_to_feed seen end)) (subst (λ (w : List ℕ). Reached asks A s ((seen ++ end) ++ 10 ∷ []) [] w t) (append_assoc earlier h.answers out) reached)
 
   -- the same line
-  pub served_same : (s : S) (line line' : L) (t : S) (r : Result (Unit {0}) Stopped) (out : Outgoing) → line ≡ line' → LineServed A s line t r out → LineServed A s line' t r out
-  served_same s line line' t r out e h = (h.0, subst (λ (l : L). A s l h.0 t) e h.1, h.2)
+  pub pushed_same : (s : S) (line line' : L) (t : S) (r : Result (Unit {0}) Stopped) (out : Outgoing) → line ≡ line' → AnswerPushed A s line t r out → AnswerPushed A s line' t r out
+  pushed_same s line line' t r out e h = (h.0, subst (λ (l : L). A s l h.0 t) e h.1, h.2)
 
   -- a line ended, and was answered
   pub step_line : (m : ℕ) (s : S) (seen kept kept' earlier before waiting waiting' : List ℕ) (mid t : S) (a b c : Option (List ℕ)) (end : List ℕ) → 4107 < m → AnsweredSoFar asks A (m + 1) s seen kept earlier before waiting mid a b → has_none 10 end ≡ true
@@ -128,7 +128,7 @@ module _ {S L : Type 0} (asks : List ℕ → L) (by_front : ByFront asks) (A : S
     passes = h.passes;
   }
 
-  -- what waits was written
+  -- the waiting bytes were written
   pub stands_out : (n : ℕ) (s : S) (seen kept earlier before waiting waiting' : List ℕ) (t : S) (a b c : Option (List ℕ)) → AnsweredSoFar asks A n s seen kept earlier before waiting t a b → Passes b c [] waiting → waiting' ≡ [] → AnsweredSoFar asks A n s seen kept earlier before waiting' t a c
   stands_out n s seen kept earlier before waiting waiting' t a b c h out none = record {
     part = h.part;
@@ -144,20 +144,20 @@ module _ {S L : Type 0} (asks : List ℕ → L) (by_front : ByFront asks) (A : S
   stop_line m s seen whole kept earlier before waiting mid t a b c end left big h none stopped is_whole =
       let out = h.answers ++ stopped.0 in
       let reached = line_reached m s seen kept earlier before waiting mid t a b end stopped.0 big h none stopped.1 in
-      let served = λ (more : List ℕ). some_reached asks A s (seen ++ (end ++ 10 ∷ [])) [] (earlier ++ out) (left ++ more) t reached in (
+      let done = λ (more : List ℕ). some_reached asks A s (seen ++ (end ++ 10 ∷ [])) [] (earlier ++ out) (left ++ more) t reached in (
         out,
-        λ more. subst (λ (l : List ℕ). ServesSome asks A s l (earlier ++ out) t) (sym (ap (λ (l : List ℕ). l ++ more) is_whole ∙ append_assoc (seen ++ (end ++ 10 ∷ [])) left more)) (served more),
+        λ more. subst (λ (l : List ℕ). FirstAnswered asks A s l (earlier ++ out) t) (sym (ap (λ (l : List ℕ). l ++ more) is_whole ∙ append_assoc (seen ++ (end ++ 10 ∷ [])) left more)) (done more),
         breaks_then a b c before waiting h.answers stopped.0 h.passes stopped.2,
       )
 
-  -- the writer stopped behind the lines
+  -- the writer stopped after the lines
   pub stop_out : (n : ℕ) (s : S) (seen kept earlier before waiting : List ℕ) (t : S) (a b c : Option (List ℕ)) → AnsweredSoFar asks A n s seen kept earlier before waiting t a b → Breaks b c waiting → Stops asks A s seen earlier t a c before
   stop_out n s seen kept earlier before waiting t a b c h out =
       (h.answers, λ more. some_reached asks A s seen h.part (earlier ++ h.answers) more t h.reached, breaks_out a b c waiting (before ++ h.answers) h.passes out)
 
   -- ---- a chunk
 
-  -- none of it was taken
+  -- none of it was used
   pub feed_none : (mid : S) (kept : List ℕ) (a : Option (List ℕ)) (before : List ℕ) → Feeds asks A mid mid kept kept [] a a before before
   feed_none mid kept a before = λ s seen part answers is reached. stands_first 4109 s seen part kept answers before mid a is reached
 
@@ -169,12 +169,12 @@ module _ {S L : Type 0} (asks : List ℕ → L) (by_front : ByFront asks) (A : S
       (step_line 4108 s (seen ++ front) kept' kept'' answers before waiting waiting' now t a b c end (lit< tt) (feeds s seen part answers is reached) none done empty)
 
   -- the writer stopped at it
-  pub feed_stops : (mid now t : S) (kept kept' chunk front rest end behind : List ℕ) (a b c : Option (List ℕ)) (before waiting : List ℕ) → Feeds asks A mid now kept kept' front a b before waiting → has_none 10 end ≡ true
-      → LineStops A now (asks (text_kept kept' end)) t b c waiting → chunk ≡ front ++ rest → rest ≡ end ++ 10 ∷ behind → FeedStops asks A mid t kept chunk a c before
-  feed_stops mid now t kept kept' chunk front rest end behind a b c before waiting feeds none stopped e f = λ s seen part answers is reached.
-      stop_line 4108 s (seen ++ front) (seen ++ chunk) kept' answers before waiting now t a b c end behind (lit< tt) (feeds s seen part answers is reached) none stopped (seen_line seen chunk front rest end behind e f)
+  pub feed_stops : (mid now t : S) (kept kept' chunk front rest end new_rest : List ℕ) (a b c : Option (List ℕ)) (before waiting : List ℕ) → Feeds asks A mid now kept kept' front a b before waiting → has_none 10 end ≡ true
+      → LineStops A now (asks (text_kept kept' end)) t b c waiting → chunk ≡ front ++ rest → rest ≡ end ++ 10 ∷ new_rest → FeedStops asks A mid t kept chunk a c before
+  feed_stops mid now t kept kept' chunk front rest end new_rest a b c before waiting feeds none stopped e f = λ s seen part answers is reached.
+      stop_line 4108 s (seen ++ front) (seen ++ chunk) kept' answers before waiting now t a b c end new_rest (lit< tt) (feeds s seen part answers is reached) none stopped (seen_line seen chunk front rest end new_rest e f)
 
-  -- what stands behind its last line
+  -- the rest after its last line
   pub feed_rest : (mid now : S) (kept kept' kept'' chunk front rest : List ℕ) (a b : Option (List ℕ)) (before waiting : List ℕ) → Feeds asks A mid now kept kept' front a b before waiting → has_none 10 rest ≡ true → kept'' ≡ take 4109 (kept' ++ rest) → chunk ≡ front ++ rest
       → Feeds asks A mid now kept kept'' chunk a b before waiting
   feed_rest mid now kept kept' kept'' chunk front rest a b before waiting feeds none is_kept e = λ s seen part answers is reached.
@@ -193,13 +193,13 @@ module _ {S L : Type 0} (asks : List ℕ → L) (by_front : ByFront asks) (A : S
   -- ---- the end of the input
 
   -- it ends in a line feed, or is empty
-  pub end_empty : (m : ℕ) (s : S) (seen part answers : List ℕ) (t : S) (kept : List ℕ) → kept ≡ take (m + 1) part → length kept ≡ 0 → Reached asks A s seen part answers t → ServesText asks A s (cut seen) (answers ++ []) t
+  pub end_empty : (m : ℕ) (s : S) (seen part answers : List ℕ) (t : S) (kept : List ℕ) → kept ≡ take (m + 1) part → length kept ≡ 0 → Reached asks A s seen part answers t → AnsweredAs asks A s (cut seen) (answers ++ []) t
   end_empty m s seen part answers t kept e none h =
       let nothing : part ≡ [] = no_part (m + 1) part (omega arith) (ap length (sym e) ∙ none) in
-      subst (λ (w : List ℕ). ServesText asks A s (cut seen) w t) (sym (append-nil answers)) (all_ended asks A s seen answers t (subst (λ (l : List ℕ). Reached asks A s seen l answers t) nothing h))
+      subst (λ (w : List ℕ). AnsweredAs asks A s (cut seen) w t) (sym (append-nil answers)) (all_ended asks A s seen answers t (subst (λ (l : List ℕ). Reached asks A s seen l answers t) nothing h))
 
   -- a last line without one
-  pub end_line : (m : ℕ) (s : S) (seen part answers kept : List ℕ) (mid : S) (out : List ℕ) (t : S) → 4107 < m → kept ≡ take (m + 1) part → 0 < length kept → Reached asks A s seen part answers mid → A mid (asks kept) out t → ServesText asks A s (cut seen) (answers ++ out) t
+  pub end_line : (m : ℕ) (s : S) (seen part answers kept : List ℕ) (mid : S) (out : List ℕ) (t : S) → 4107 < m → kept ≡ take (m + 1) part → 0 < length kept → Reached asks A s seen part answers mid → A mid (asks kept) out t → AnsweredAs asks A s (cut seen) (answers ++ out) t
   end_line m s seen part answers kept mid out t big e some h answered =
       let line = ap asks e ∙ kept_line asks by_front m part big ∙ ap asks (sym (text_open part h.no_feed)) in
       all_open asks A s seen part answers mid out t h (omega (arith, ap length e, length-take (m + 1) part)) (subst (λ (l : L). A mid l out t) line answered)
@@ -212,7 +212,7 @@ module _ {S L : Type 0} (asks : List ℕ → L) (by_front : ByFront asks) (A : S
   finish_empty_stops mid kept b c before none begun = λ s seen part answers is reached.
       ([], end_empty 4108 s seen part answers mid kept is none reached, breaks_front b c before [] begun)
 
-  last_line : (mid t s : S) (seen part answers kept text out : List ℕ) → 0 < length kept → text ≡ kept → A mid (asks text) out t → kept ≡ take 4109 part → Reached asks A s seen part answers mid → ServesText asks A s (cut seen) (answers ++ out) t
+  last_line : (mid t s : S) (seen part answers kept text out : List ℕ) → 0 < length kept → text ≡ kept → A mid (asks text) out t → kept ≡ take 4109 part → Reached asks A s seen part answers mid → AnsweredAs asks A s (cut seen) (answers ++ out) t
   last_line mid t s seen part answers kept text out some same answered is reached =
       end_line 4108 s seen part answers kept mid out t (lit< tt) is some reached (subst (λ (l : List ℕ). A mid (asks l) out t) same answered)
 
@@ -241,14 +241,14 @@ module _ {S L : Type 0} (asks : List ℕ → L) (by_front : ByFront asks) (A : S
     passes = passes_then a b c [] waiting waiting' h.answers k.answers h.passes k.passes;
   }
 
-  -- these lines were answered, and the answers went out so
-  answered_by : (P : List (List ℕ) → Type 0) (W : List ℕ → Type 0) (s t : S) (pieces : List (List ℕ)) (text : List ℕ) → P pieces → ServesText asks A s pieces text t → W text → LinesAnswered P (InTurn asks A s t) W
-  answered_by P W s t pieces text picked served out = record { taken = pieces; answers = served.outs; picked = picked; answered = served.serves; out = subst W served.whole out }
+  -- these lines were answered, and the answers were written so
+  answered_by : (P : List (List ℕ) → Type 0) (W : List ℕ → Type 0) (s t : S) (pieces : List (List ℕ)) (text : List ℕ) → P pieces → AnsweredAs asks A s pieces text t → W text → LinesAnswered P (InTurn asks A s t) W
+  answered_by P W s t pieces text picked done out = record { taken = pieces; answers = done.outs; picked = picked; answered = done.answered; out = subst W done.whole out }
 
   pub some_short : (known : Option (List ℕ)) (s t : S) (a c : Option (List ℕ)) → LinesAnswered (FirstLines known) (InTurn asks A s t) (Breaks a c) → LinesAnswered (FirstLines known) (InTurn asks A s t) (Begins a c)
   some_short known s t a c h = out_so (FirstLines known) (InTurn asks A s t) (Breaks a c) (Begins a c) (begins_so a c) h
 
-  pub all_done : (n : ℕ) (s : S) (seen kept waiting : List ℕ) (mid t : S) (a b c known : Option (List ℕ)) → (h : AnsweredSoFar asks A n s seen kept [] [] waiting mid a b) → IsInput known seen → (out : List ℕ) × ServesText asks A s (cut seen) (h.answers ++ out) t × Passes b c [] (waiting ++ out)
+  pub all_done : (n : ℕ) (s : S) (seen kept waiting : List ℕ) (mid t : S) (a b c known : Option (List ℕ)) → (h : AnsweredSoFar asks A n s seen kept [] [] waiting mid a b) → IsInput known seen → (out : List ℕ) × AnsweredAs asks A s (cut seen) (h.answers ++ out) t × Passes b c [] (waiting ++ out)
       → LinesAnswered (AllLines known) (InTurn asks A s t) (Appends a c)
   all_done n s seen kept waiting mid t a b c known h input done =
       answered_by (AllLines known) (Appends a c) s t (cut seen) (h.answers ++ done.0) (seen, input, refl) done.1 (passes_whole a c (h.answers ++ done.0) (passes_then a b c [] waiting [] h.answers done.0 h.passes done.2))
@@ -261,7 +261,7 @@ module _ {S L : Type 0} (asks : List ℕ → L) (by_front : ByFront asks) (A : S
       answered_by (FirstLines p) (Appends a b) s t (take some.0 (cut (seen ++ more.0))) h.answers (seen ++ more.0, some.0, more.1, refl) some.1 (passes_whole a b h.answers (subst (λ (w : List ℕ). Passes a b w h.answers) none h.passes))
 
   -- the writer stopped at the end of the input
-  pub end_stopped : (n : ℕ) (s : S) (seen kept waiting : List ℕ) (mid t : S) (a b c known : Option (List ℕ)) → (h : AnsweredSoFar asks A n s seen kept [] [] waiting mid a b) → IsInput known seen → (out : List ℕ) × ServesText asks A s (cut seen) (h.answers ++ out) t × Breaks b c (waiting ++ out)
+  pub end_stopped : (n : ℕ) (s : S) (seen kept waiting : List ℕ) (mid t : S) (a b c known : Option (List ℕ)) → (h : AnsweredSoFar asks A n s seen kept [] [] waiting mid a b) → IsInput known seen → (out : List ℕ) × AnsweredAs asks A s (cut seen) (h.answers ++ out) t × Breaks b c (waiting ++ out)
       → LinesAnswered (FirstLines known) (InTurn asks A s t) (Breaks a c)
   end_stopped n s seen kept waiting mid t a b c known h input done =
       answered_by (FirstLines known) (Breaks a c) s t (cut seen) (h.answers ++ done.0) (all_are_first known (cut seen) (seen, input, refl)) done.1 (breaks_then a b c [] waiting h.answers done.0 h.passes done.2)

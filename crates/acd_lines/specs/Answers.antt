@@ -1,4 +1,4 @@
--- What is written for one line, and what becomes of the desk.
+-- The text written for one line, and what becomes of the desk.
 use Rattle.std.specs.Prelude.{◌≡◌, ◌⊎◌, ℕ, List, ◌∷◌, ◌++◌, [], decimal}
 use Rattle.acd_terms.specs.declared.command.Request.{Request}
 use Rattle.acd_codec.specs.declared.member.Member.{Member}

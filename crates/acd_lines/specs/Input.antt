@@ -10,7 +10,7 @@ use Rattle.acd_codec.specs.declared.member.Member.{Member}
 use Rattle.acd_codec.specs.Reading.{reads_as}
 use Rattle.acd_desk.specs.Arrived.{at}
 
--- x goes onto the first piece
+-- x is put before the first piece
 abbrev pub onto : ℕ → List (List ℕ) → List (List ℕ)
 onto x [] = (x ∷ []) ∷ []
 onto x (p ∷ ps) = (x ∷ p) ∷ ps
@@ -28,7 +28,7 @@ text_of piece = if ends_with_byte 10 piece then strip_last 13 (strip_last 10 pie
 abbrev pub has_none : ℕ → List ℕ → Bool
 has_none byte text = list_all (λ x. not (x == byte)) text
 
--- what stands before the first such byte, and what stands behind it
+-- the part before the first such byte, and the part after it
 abbrev pub split_once : ℕ → List ℕ → Option (List ℕ × List ℕ)
 split_once byte text = if nat_lt (position_or_len (λ x. x == byte) text) (length text) then Some (before_first (λ x. x == byte) text, after_first (λ x. x == byte) text) else None
 
@@ -44,11 +44,12 @@ abbrev pub moment_before : Option (List ℕ × List ℕ) → Option (ℕ × List
 moment_before None = None
 moment_before (Some p) = option_map (λ n. (n, p.1)) (number_of p.0)
 
--- the moment of a line, which stands before its first space, and what stands behind that
+-- the moment of a line, before its first space, and the rest after that
 unfoldable pub moment_of : List ℕ → Option (ℕ × List ℕ)
 moment_of text = moment_before (split_once 32 text)
 
--- what a line is: without a moment, with JSON longer than is read, with faulty JSON, or a request that comes in at a moment
+-- the kinds of a line: without a moment, with JSON longer than is read, with faulty JSON, or a request that comes in at a
+-- moment
 pub data Line : Type 0 where
   no_moment : Line
   too_long : Line
@@ -59,19 +60,19 @@ abbrev pub line_read : ℕ → Result Request Member → Line
 line_read moment (Ok request) = arrival moment request
 line_read moment (Err member) = faulty member
 
--- what the text of a line asks for: the moment is looked at first, then the length of what follows it, and then that
-abbrev pub asked_behind : {L : Type 0} → L → L → (ℕ → List ℕ → L) → Option (ℕ × List ℕ) → L
-asked_behind unmarked long read None = unmarked
-asked_behind unmarked long read (Some p) = if nat_lt 4096 (length p.1) then long else read p.0 p.1
+-- the question of a line's text: the moment is looked at first, then the length of what follows it, and then that
+abbrev pub asked_at : {L : Type 0} → L → L → (ℕ → List ℕ → L) → Option (ℕ × List ℕ) → L
+asked_at unmarked long read None = unmarked
+asked_at unmarked long read (Some p) = if nat_lt 4096 (length p.1) then long else read p.0 p.1
 
 unfoldable pub asked : {L : Type 0} → L → L → (ℕ → List ℕ → L) → List ℕ → L
-asked unmarked long read text = asked_behind unmarked long read (moment_of text)
+asked unmarked long read text = asked_at unmarked long read (moment_of text)
 
--- the request behind a moment
+-- the request after a moment
 abbrev pub request_read : ℕ → List ℕ → Line
 request_read moment json = line_read moment (reads_as json)
 
--- what a line is
+-- the kind of a line
 abbrev pub line_of : List ℕ → Line
 line_of text = asked no_moment too_long request_read text
 

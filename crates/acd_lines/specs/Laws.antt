@@ -1,4 +1,4 @@
--- What lines that ask for services alone leave.
+-- Lines that ask for services alone: what they leave.
 use Rattle.std.specs.Prelude.{ℕ, List}
 use Rattle.acd_book.specs.declared.book.Book.{Ghosts}
 use Rattle.acd_desk.specs.declared.desk.Desk.{Desk}

@@ -22,42 +22,42 @@ module _ {S L : Type 0} (Answers : S → L → List ℕ → S → Type 0) where
   LineStops s line t old new before = (out : List ℕ) × Answers s line out t × Breaks old new (before ++ out)
 
   -- a line was answered, and its answer was pushed: by how that ended, the one or the other
-  abbrev pub LineServed : S → L → S → Result (Unit {0}) Stopped → Outgoing → Type 0
-  LineServed s line t result out = (text : List ℕ) × Answers s line text t × Pushed result out text
+  abbrev pub AnswerPushed : S → L → S → Result (Unit {0}) Stopped → Outgoing → Type 0
+  AnswerPushed s line t result out = (text : List ℕ) × Answers s line text t × Pushed result out text
 
 module _ {S L : Type 0} (asks : List ℕ → L) (Answers : S → L → List ℕ → S → Type 0) where
   -- the lines are answered in order, each by the desk that the earlier ones left
-  abbrev pub Serves : S → List (List ℕ) → List (List ℕ) → S → Type 0
-  Serves s [] [] t = t ≡ s
-  Serves s [] (out ∷ outs) t = ⊥
-  Serves s (piece ∷ pieces) [] t = ⊥
-  Serves s (piece ∷ pieces) (out ∷ outs) t = (mid : S) × Answers s (asks (text_of piece)) out mid × Serves mid pieces outs t
+  abbrev pub AnswersEach : S → List (List ℕ) → List (List ℕ) → S → Type 0
+  AnswersEach s [] [] t = t ≡ s
+  AnswersEach s [] (out ∷ outs) t = ⊥
+  AnswersEach s (piece ∷ pieces) [] t = ⊥
+  AnswersEach s (piece ∷ pieces) (out ∷ outs) t = (mid : S) × Answers s (asks (text_of piece)) out mid × AnswersEach mid pieces outs t
 
   -- from one desk to another
   abbrev pub InTurn : S → S → List (List ℕ) → List (List ℕ) → Type 0
-  InTurn s t pieces outs = Serves s pieces outs t
+  InTurn s t pieces outs = AnswersEach s pieces outs t
 
   -- these lines were answered, by this text
-  pub record ServesText (s : S) (pieces : List (List ℕ)) (text : List ℕ) (t : S) : Type 0 where
+  pub record AnsweredAs (s : S) (pieces : List (List ℕ)) (text : List ℕ) (t : S) : Type 0 where
     pub outs : List (List ℕ)
-    pub serves : Serves s pieces outs t
+    pub answered : AnswersEach s pieces outs t
     pub whole : text ≡ concat outs
 
   -- the first lines of an input were
-  abbrev pub ServesSome : S → List ℕ → List ℕ → S → Type 0
-  ServesSome s input text t = (n : ℕ) × ServesText s (take n (cut input)) text t
+  abbrev pub FirstAnswered : S → List ℕ → List ℕ → S → Type 0
+  FirstAnswered s input text t = (n : ℕ) × AnsweredAs s (take n (cut input)) text t
 
-  -- the whole lines of seen were answered, and part is what came behind them
+  -- the whole lines of seen were answered, and part is what came after them
   pub record Reached (s : S) (seen part answers : List ℕ) (t : S) : Type 0 where
     pub pieces : List (List ℕ)
     pub outs : List (List ℕ)
     pub cuts : (rest : List ℕ) → cut (seen ++ rest) ≡ pieces ++ cut (part ++ rest)
     pub ended : list_all (ends_with_byte 10) pieces ≡ true
     pub no_feed : has_none 10 part ≡ true
-    pub serves : Serves s pieces outs t
+    pub answered : AnswersEach s pieces outs t
     pub whole : answers ≡ concat outs
 
-  -- So far: earlier answers, and those behind them. What waited before, and these, were written but for what waits. At most n bytes of a line are kept.
+  -- So far: earlier answers, and those after them. What waited before, and these, were written but for what waits. At most n bytes of a line are kept.
   pub record AnsweredSoFar (n : ℕ) (s : S) (seen kept earlier before waiting : List ℕ) (t : S) (old new : Option (List ℕ)) : Type 0 where
     pub part : List ℕ
     pub answers : List ℕ
@@ -72,39 +72,39 @@ module _ {S L : Type 0} (asks : List ℕ → L) (Answers : S → L → List ℕ 
 
   -- the writer stopped, and some lines were answered of each input that begins with these bytes
   abbrev pub Stops : S → List ℕ → List ℕ → S → Option (List ℕ) → Option (List ℕ) → List ℕ → Type 0
-  Stops s seen answers t old new before = (out : List ℕ) × ((more : List ℕ) → ServesSome s (seen ++ more) (answers ++ out) t) × Breaks old new (before ++ out)
+  Stops s seen answers t old new before = (out : List ℕ) × ((more : List ℕ) → FirstAnswered s (seen ++ more) (answers ++ out) t) × Breaks old new (before ++ out)
 
   abbrev pub FeedStops : S → S → List ℕ → List ℕ → Option (List ℕ) → Option (List ℕ) → List ℕ → Type 0
   FeedStops mid t kept bytes old new before = (s : S) (seen part answers : List ℕ) → kept ≡ take 4109 part → Reached s seen part answers mid → Stops s (seen ++ bytes) answers t old new before
 
-  -- more bytes were taken, and nothing waits; or the writer stopped
+  -- more bytes were used, and nothing waits; or the writer stopped
   abbrev pub Fed : S → S → List ℕ → List ℕ → List ℕ → Result (Unit {0}) Stopped → Outgoing → Type 0
   Fed mid t kept kept' bytes result out =
-      MatchResult result (λ _. (out.waits ≡ []) × Feeds mid t kept kept' bytes out.before out.behind out.waited out.waits) (λ _. FeedStops mid t kept bytes out.before out.behind out.waited)
+      MatchResult result (λ _. (out.waits ≡ []) × Feeds mid t kept kept' bytes out.old_output out.new_output out.waited out.waits) (λ _. FeedStops mid t kept bytes out.old_output out.new_output out.waited)
 
   -- the input is at its end
   abbrev pub Finishes : S → S → List ℕ → Option (List ℕ) → Option (List ℕ) → List ℕ → Type 0
   Finishes mid t kept old new before = (s : S) (seen part answers : List ℕ) → kept ≡ take 4109 part → Reached s seen part answers mid
-      → (out : List ℕ) × ServesText s (cut seen) (answers ++ out) t × Passes old new [] (before ++ out)
+      → (out : List ℕ) × AnsweredAs s (cut seen) (answers ++ out) t × Passes old new [] (before ++ out)
 
   abbrev pub FinishStops : S → S → List ℕ → Option (List ℕ) → Option (List ℕ) → List ℕ → Type 0
   FinishStops mid t kept old new before = (s : S) (seen part answers : List ℕ) → kept ≡ take 4109 part → Reached s seen part answers mid
-      → (out : List ℕ) × ServesText s (cut seen) (answers ++ out) t × Breaks old new (before ++ out)
+      → (out : List ℕ) × AnsweredAs s (cut seen) (answers ++ out) t × Breaks old new (before ++ out)
 
   -- it was answered to its end, or the writer stopped
   abbrev pub Finished : S → S → List ℕ → Result (Unit {0}) Stopped → Outgoing → Type 0
-  Finished mid t kept result out = MatchResult result (λ _. Finishes mid t kept out.before out.behind out.waited) (λ _. FinishStops mid t kept out.before out.behind out.waited)
+  Finished mid t kept result out = MatchResult result (λ _. Finishes mid t kept out.old_output out.new_output out.waited) (λ _. FinishStops mid t kept out.old_output out.new_output out.waited)
 
 module _ {D : Type 0} (stands : D → Standing) where
   -- a desk has run over the requests of a plan
   abbrev pub HasImported : D → D → List Request → List (List ℕ) → Type 0
   HasImported d e requests outs = RequestsAnswered (λ (arrivals : List Arrival) (answers : List Taken). Ran (stands d) arrivals answers (stands e)) requests outs
 
-  -- they were taken, and their answers were written but for what waits
+  -- they were executed, and their answers were written but for what waits
   abbrev pub Imports : D → List Request → D → Option (List ℕ) → Option (List ℕ) → List ℕ → Type 0
   Imports d requests e old new waiting = LinesAnswered (AllRequests requests) (HasImported d e) (Passes old new waiting)
 
-  -- the writer stopped, and some of them were taken
+  -- the writer stopped, and some of them were executed
   abbrev pub ImportStops : D → List Request → D → Option (List ℕ) → Option (List ℕ) → Type 0
   ImportStops d requests e old new = LinesAnswered (FirstRequests requests) (HasImported d e) (Breaks old new)
 

@@ -1,4 +1,4 @@
-//! What lines ask for, and how that is answered.
+//! The questions of lines, and how they are answered.
 
 ghost use Rattle.std.specs.Prelude.{◌≡◌, ℕ, List};
 ghost use Rattle.acd_codec.specs.declared.member.Member.TheVariants as members;
@@ -14,14 +14,14 @@ use acd_codec::{FixedAnswer, Member, RequestReader};
 use acd_desk::{AnswerText, Desk};
 use std::alloc::Global;
 
-// How many bytes behind a moment are read at most.
+// How many bytes after a moment are read at most.
 const LONGEST: usize = 4096;
 
-/// What the lines of an input may ask of a desk.
+/// The questions to a desk that the lines of an input may ask.
 pub trait Answering<B: Book> {
     ghost Asked: { Type 0 };
 
-    // what is asked for by a line without a moment, by one that is longer than is read, and by what stands behind a moment
+    // what a line without a moment asks for, one that is longer than is read, and the rest after a moment
     ghost unmarked: { Asked };
 
     ghost long: { Asked };
@@ -31,7 +31,7 @@ pub trait Answering<B: Book> {
     // the desk, what was asked of it, the answer line, and the desk after it
     ghost answers: { DeskOver B → Asked → List ℕ → DeskOver B → Type 0 };
 
-    /// The answer to what stands behind a moment, in at most 4096 bytes.
+    /// The answer to the text after a moment, in at most 4096 bytes.
     fn answer(&mut self, alloc: Global, desk: &mut Desk<B>, moment: u32, text: &[u8]) -> AnswerText
         ensures { answers desk.old (read moment text.now) (answered_text result) desk.new };
 
@@ -52,13 +52,13 @@ pub(crate) fn answer_line<B: Book, A: Answering<B>>(
     ensures { A.answers desk.old (asked A.unmarked A.long A.read text.now) (answered_text result)
         desk.new }
 {
-    let Some((moment, behind)) = moment_of(text) else {
+    let Some((moment, rest)) = moment_of(text) else {
         return AnswerText::malformed(Member::Moment);
     };
-    if behind.len() > LONGEST {
+    if rest.len() > LONGEST {
         return AnswerText::fixed(FixedAnswer::BodyTooLarge);
     }
-    lines.answer(alloc, desk, moment, behind)
+    lines.answer(alloc, desk, moment, rest)
 }
 
 /// Requests, and nothing else.

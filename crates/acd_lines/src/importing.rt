@@ -6,12 +6,12 @@ ghost use Rattle.acd_lines.specs.Input.{arrival};
 ghost use Rattle.acd_lines.specs.Answers.{Answers};
 ghost use Rattle.acd_lines.specs.Lines.{PlanAnswered, HasRun};
 ghost use Rattle.acd_lines.specs.Outgoing.{outgoing};
-ghost use Rattle.acd_lines.specs.Parts.{LineServed};
+ghost use Rattle.acd_lines.specs.Parts.{AnswerPushed};
 
 use crate::answer::execute;
 use crate::fault::LinesFault;
 use crate::outbox::Outbox;
-use crate::serve::push_answer;
+use crate::respond::push_answer;
 use acd_book::Book;
 use acd_desk::Desk;
 use acd_io::Stopped;
@@ -20,13 +20,13 @@ use std::alloc::{AllocError, Global};
 use std::io::Write;
 
 // Answers a request of the plan.
-fn serve_request<B: Book, W: Write>(
+fn answer_request<B: Book, W: Write>(
     desk: &mut Desk<B>,
     outbox: &mut Outbox,
     writer: &mut W,
     request: &Request,
 ) -> Result<(), Stopped>
-    ensures { LineServed (Answers (standing B.Book)) desk.old (arrival 0 request.now) desk.new
+    ensures { AnswerPushed (Answers (standing B.Book)) desk.old (arrival 0 request.now) desk.new
         result (outgoing W.contents writer.old writer.new outbox.old outbox.new) }
 {
     let answered = execute(desk, 0, request);
@@ -34,7 +34,7 @@ fn serve_request<B: Book, W: Write>(
 }
 
 // Answers all of them.
-fn serve_requests<B: Book, W: Write>(
+fn answer_requests<B: Book, W: Write>(
     desk: &mut Desk<B>,
     outbox: &mut Outbox,
     writer: &mut W,
@@ -45,7 +45,7 @@ fn serve_requests<B: Book, W: Write>(
         result (W.contents writer.old) (W.contents writer.new) }
 {
     for request in requests {
-        serve_request(desk, outbox, writer, request)?;
+        answer_request(desk, outbox, writer, request)?;
     }
     outbox.flush(writer)
 }
@@ -69,6 +69,6 @@ pub fn import<B: Book, W: Write>(
         Ok(outbox) => outbox,
         Err(AllocError) => Outbox::unbuffered(alloc),
     };
-    serve_requests(desk, &mut outbox, writer, requests)?;
+    answer_requests(desk, &mut outbox, writer, requests)?;
     Ok(())
 }

@@ -1,4 +1,4 @@
-//! What holds of the definitions. The law is the contract of a function with an empty body.
+//! Laws of the definitions. The law is the contract of a function with an empty body.
 
 ghost use Rattle.acd_lines.specs.Laws.{RequestsRun};
 

@@ -1,7 +1,7 @@
-//! Requests in lines, replies in lines: [`lines`] answers each line that it reads over a desk,
-//! [`lines_until_failed`] does so until the desk fails, and [`import`] takes the requests of a plan. A
-//! [`LinesFault`] says why not all were answered. What else lines may ask is an [`Answering`]; [`answer_lines`]
-//! answers such lines. [`laws`] says what requests leave.
+//! Requests in lines, replies in lines: [`lines`] answers each line that it reads over a desk, [`lines_until_failed`]
+//! does so until the desk fails, and [`import`] executes the requests of a plan. A [`LinesFault`] says why not all were
+//! answered. What else lines may ask is an [`Answering`]; [`answer_lines`] answers such lines. [`laws`] says what
+//! requests leave.
 //!
 //! ```ignore
 //! let mut desk = Desk::open(alloc, book)?;
@@ -17,7 +17,7 @@ pub mod laws;
 mod moment;
 mod outbox;
 mod partial;
-mod serve;
+mod respond;
 mod session;
 mod split;
 

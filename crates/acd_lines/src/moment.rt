@@ -19,7 +19,7 @@ fn number_of(digits: &[u8]) -> Option<u32>
     u32::try_from(number).ok()
 }
 
-/// The moment, and what stands behind its space.
+/// The moment, and the rest after its space.
 pub(crate) fn moment_of(text: &[u8]) -> Option<(u32, &[u8])>
     ensures { option_map (λ p. (p.0, p.1.now)) result ≡ moment_of text.now }
 {

@@ -10,8 +10,7 @@ use std::io::Write;
 /// How many bytes wait at most.
 const ROOM: usize = 65_536;
 
-/// Bytes that wait to be written. Its room never grows: where a text doesn't fit, what waits goes
-/// out first.
+/// Bytes that wait to be written. Its room never grows: where a text doesn't fit, the waiting bytes are written first.
 #[derive(Drop)]
 pub(crate) struct Outbox {
     waiting: Vec<u8>,
@@ -28,7 +27,7 @@ impl Outbox {
         })
     }
 
-    /// One in which nothing waits: each text goes out at once. It takes no memory.
+    /// One in which nothing waits: each text is written at once. It takes no memory.
     pub(crate) fn unbuffered(alloc: Global) -> Outbox
         ensures { result.waiting.items ≡ [] }
     {
@@ -38,7 +37,7 @@ impl Outbox {
         }
     }
 
-    /// The text goes behind what waits. A text that is longer than the room goes out at once.
+    /// Adds the text after what waits. A text that is longer than the room is written at once.
     pub(crate) fn push<W: Write>(&mut self, writer: &mut W, text: &[u8]) -> Result<(), Stopped>
         ensures { Pushed result (outgoing W.contents writer.old writer.new self.old self.new)
             text.now }

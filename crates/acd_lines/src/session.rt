@@ -10,7 +10,7 @@ use crate::answering::{Answering, Requests};
 use crate::fault::LinesFault;
 use crate::outbox::Outbox;
 use crate::partial::Partial;
-use crate::serve::{feed, finish};
+use crate::respond::{feed, finish};
 use acd_book::Book;
 use acd_desk::Desk;
 use acd_io::{most_calls, retried};
@@ -20,7 +20,7 @@ use std::io::{Read, Write};
 /// How many bytes are read at once.
 const CHUNK: usize = 65_536;
 
-/// Answers lines until the input is at its end or, where `ends` says so, the desk has failed: what each of them asks is
+/// Answers lines until the input is at its end or, where `ends` says so, the desk has failed: the question of each is
 /// answered in turn, by the desk that the earlier ones left.
 pub fn answer_lines<B: Book, A: Answering<B>, R: Read, W: Write>(
     alloc: Global,
@@ -62,10 +62,9 @@ pub fn answer_lines<B: Book, A: Answering<B>, R: Read, W: Write>(
     Err(LinesFault::Read)
 }
 
-/// Writes one answer line for each line that is read. The answers to the lines that have ended are
-/// written before more is read, those of one read together. No more than 4109 bytes of a line are held
-/// behind a read. Calls that are interrupted are made again. Want of memory in a line is its answer, and
-/// so is a store that fails.
+/// Writes one answer line for each line that is read. The answers to the lines that have ended are written before more
+/// is read, those of one read together. No more than 4109 bytes of a line are held after a read. Calls that are
+/// interrupted are made again. Want of memory in a line is its answer, and so is a store that fails.
 pub fn lines<B: Book, R: Read, W: Write>(
     alloc: Global,
     desk: &mut Desk<B>,
@@ -86,8 +85,8 @@ pub fn lines<B: Book, R: Read, W: Write>(
     )
 }
 
-/// The same, but once the desk has failed nothing more is read: the lines of the read in which a
-/// storeFault was answered are the last. Whether that ended them [`Desk::has_failed`] tells.
+/// The same, but once the desk has failed nothing more is read: the lines of the read in which a storeFault was
+/// answered are the last. [`Desk::has_failed`] answers whether that ended them.
 pub fn lines_until_failed<B: Book, R: Read, W: Write>(
     alloc: Global,
     desk: &mut Desk<B>,

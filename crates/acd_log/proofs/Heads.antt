@@ -1,4 +1,4 @@
--- What a head says of the pages of its log.
+-- The size of the pages of a log, by its head.
 use Rattle.std.proofs.Common.{◌≡◌, ◌≢◌, ◌↔◌, ℕ, ◌≤◌, List, length, Option, Some, None, is_some, IsSome, IfSome, sym, refl, ◌∙◌, ap, subst}
 use Rattle.std.proofs.lemmas.Bool.{false≢true}
 use Rattle.sqlite_wal.specs.declared.page_size.PageSize.{PageSize}
@@ -27,14 +27,14 @@ unreadable r log n valid is none page h =
 damaged_in : (page : ℕ) (log : List ℕ) → IsReadable page log → IsDamaged log → IsDamagedIn page log
 damaged_in page log h damaged = subst (λ (p : ℕ). IsDamagedIn p log) (sym damaged.1.head.size ∙ h.head.size) damaged.2
 
-pub told_in : (page : ℕ) (log : List ℕ) (told : Ending) → IsReadable page log → (told ≡ Early) ↔ IsDamagedIn page log → told ≢ Headless → IsEndingOf log told
-told_in page log told h early head = record {
+pub found_in : (page : ℕ) (log : List ℕ) (ending : Ending) → IsReadable page log → (ending ≡ Early) ↔ IsDamagedIn page log → ending ≢ Headless → IsEndingOf log ending
+found_in page log ending h early head = record {
   early = (λ is. (page, h, early.0 is), λ damaged. early.1 (damaged_in page log h damaged));
   headless = (λ is. absurd (head is), λ none. absurd (none.1 page h));
 }
 
-pub told_without : (log : List ℕ) (told : Ending) → ((page : ℕ) → ¬ IsReadable page log) → (told ≡ Headless) ↔ IsFilled log → told ≢ Early → IsEndingOf log told
-told_without log told none filled early = record {
+pub found_without : (log : List ℕ) (ending : Ending) → ((page : ℕ) → ¬ IsReadable page log) → (ending ≡ Headless) ↔ IsFilled log → ending ≢ Early → IsEndingOf log ending
+found_without log ending none filled early = record {
   early = (λ is. absurd (early is), λ damaged. absurd (none damaged.0 damaged.1));
   headless = (λ is. (filled.0 is, none), λ h. filled.1 h.0);
 }

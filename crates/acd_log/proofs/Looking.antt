@@ -19,7 +19,7 @@ part_between bytes at len =
 
 -- ---- up to the first bad frame
 
--- the frames before this offset pass the store's test, which goes on from this checksum
+-- the frames before this offset pass the store's test, which continues from this checksum
 pub record Good (page : ℕ) (log : List ℕ) (before : ℕ × ℕ) (at : ℕ) : Type 0 where
   pub count : ℕ
   pub place : at ≡ frame_at page count
@@ -62,7 +62,7 @@ first_once page log n k a b = elim (cases_order n k) [
   | inr (inr high) ↦ absurd (b.bad (a.good k high))
 ]
 
--- ---- behind it
+-- ---- after it
 
 -- the salt of a frame, and the mark of a commit, by the offset of the frame
 pub salted : (page : ℕ) (log : List ℕ) (i at : ℕ) → 32 ≤ length log → at ≡ frame_at page i → at + (24 + page) ≤ length log → (part log (at + 8) 8 ≡ part log 16 8) ↔ IsSalted page log i
@@ -79,21 +79,21 @@ salted page log i at long place within =
 pub marked : (page : ℕ) (log : List ℕ) (i at : ℕ) → at ≡ frame_at page i → be32 log (at + 4) ≡ commit_size (frame page log i)
 marked page log i at place = sym (be32-part log at (24 + page) 4 (omega arith)) ∙ ap (λ (x : ℕ). be32 (part log x (24 + page)) 4) place
 
--- The first commit behind frame n, before frame `next`: no frame between has the salt.
+-- The first commit after frame n, before frame `next`: no frame between has the salt.
 pub record Committed (page : ℕ) (log : List ℕ) (n next : ℕ) : Type 0 where
   pub last : ℕ
-  pub behind : n < last
+  pub after : n < last
   pub before : last < next
   pub salted : IsSalted page log last
   pub ends : commit_size (frame page log last) ≢ 0
   pub first : (i : ℕ) → n < i → i < last → IsSalted page log i → commit_size (frame page log i) ≡ 0
   pub alone : (i : ℕ) → last < i → i < next → ¬ IsSalted page log i
 
--- all frames behind frame n and before this offset were looked at, and whether one of them ends a commit
+-- all frames after frame n and before this offset were looked at, and whether one of them ends a commit
 pub record Looking (page : ℕ) (log : List ℕ) (n at : ℕ) (is_committed : Bool) : Type 0 where
   pub next : ℕ
   pub place : at ≡ frame_at page next
-  pub behind : n < next
+  pub after : n < next
   pub none : is_committed ≡ false → (i : ℕ) → n < i → i < next → IsSalted page log i → commit_size (frame page log i) ≡ 0
   pub some : is_committed ≡ true → Committed page log n next
 
@@ -104,7 +104,7 @@ pub looking_begun : (page : ℕ) (log : List ℕ) (n at : ℕ) → at ≡ frame_
 looking_begun page log n at place = record {
   next = suc n;
   place = next_place page at n place;
-  behind = omega arith;
+  after = omega arith;
   none = λ no' i above low. absurd (omega arith);
   some = λ yes'. absurd (false≢true yes');
 }
@@ -114,14 +114,14 @@ pub looking_past : (page : ℕ) (log : List ℕ) (n at : ℕ) (is_committed : Bo
 looking_past page log n at is_committed h other = record {
   next = suc h.next;
   place = next_place page at h.next h.place;
-  behind = omega (arith, h.behind);
+  after = omega (arith, h.after);
   none = λ no' i above low it. elim (cases_lt i h.next) [
     | inl lower ↦ h.none no' i above lower it
     | inr no_lower ↦ let same : i ≡ h.next = omega arith in absurd (other (subst (IsSalted page log) same it))
   ];
   some = λ yes'. let c = h.some yes' in record {
     last = c.last;
-    behind = c.behind;
+    after = c.after;
     before = omega (arith, c.before);
     salted = c.salted;
     ends = c.ends;
@@ -141,7 +141,7 @@ looking_on page log n at is_committed is_last not_yet h here mark =
     record {
       next = suc h.next;
       place = next_place page at h.next h.place;
-      behind = omega (arith, h.behind);
+      after = omega (arith, h.after);
       none = λ no' i above low it. elim (cases_lt i h.next) [
         | inl lower ↦ h.none not_yet i above lower it
         | inr no_lower ↦
@@ -154,7 +154,7 @@ looking_on page log n at is_committed is_last not_yet h here mark =
       ];
       some = λ yes'. record {
         last = h.next;
-        behind = h.behind;
+        after = h.after;
         before = omega arith;
         salted = here;
         ends = λ none. mark.0 yes' (mark_is ∙ none);
@@ -167,7 +167,7 @@ looking_on page log n at is_committed is_last not_yet h here mark =
 pub looking_done : (page : ℕ) (log : List ℕ) (n at : ℕ) (is_committed : Bool) → is_committed ≡ true → (h : Looking page log n at is_committed) → IsSalted page log h.next → IsBeforeCommit page log n
 looking_done page log n at is_committed yes' h here =
     let c = h.some yes' in
-    record { last = c.last; later = h.next; behind = c.behind; salted = c.salted; ends = c.ends; further = c.before; written = here }
+    record { last = c.last; later = h.next; after = c.after; salted = c.salted; ends = c.ends; further = c.before; written = here }
 
 inside : (page : ℕ) (log : List ℕ) (next at i : ℕ) → at ≡ frame_at page next → ¬ (at + (24 + page) ≤ length log) → IsSalted page log i → i < next
 inside page log next at i place ends it = elim (cases_lt i next) [
@@ -177,16 +177,16 @@ inside page log next at i place ends it = elim (cases_lt i next) [
 
 -- there is no more frame
 pub looking_ends : (page : ℕ) (log : List ℕ) (n at : ℕ) (is_committed : Bool) → Looking page log n at is_committed → ¬ (at + (24 + page) ≤ length log) → ¬ IsBeforeCommit page log n
-looking_ends page log n at false h ends b = b.ends (h.none refl b.last b.behind (inside page log h.next at b.last h.place ends b.salted) b.salted)
+looking_ends page log n at false h ends b = b.ends (h.none refl b.last b.after (inside page log h.next at b.last h.place ends b.salted) b.salted)
 looking_ends page log n at true h ends b =
     let c = h.some refl in
     elim (cases_lt b.last c.last) [
-      | inl lower ↦ b.ends (c.first b.last b.behind lower b.salted)
+      | inl lower ↦ b.ends (c.first b.last b.after lower b.salted)
       | inr past ↦ c.alone b.later (omega (arith, past, b.further)) (inside page log h.next at b.later h.place ends b.written) b.written
     ]
 
--- there is none behind frame n, where frame n isn't whole itself
-pub none_behind : (page : ℕ) (log : List ℕ) (n at : ℕ) → at ≡ frame_at page n → ¬ (at + (24 + page) ≤ length log) → ¬ IsBeforeCommit page log n
-none_behind page log n at place ends b =
+-- there is none after frame n, where frame n isn't whole itself
+pub none_after : (page : ℕ) (log : List ℕ) (n at : ℕ) → at ≡ frame_at page n → ¬ (at + (24 + page) ≤ length log) → ¬ IsBeforeCommit page log n
+none_after page log n at place ends b =
     let low = inside page log n at b.last place ends b.salted in
-    absurd (omega (arith, low, b.behind))
+    absurd (omega (arith, low, b.after))

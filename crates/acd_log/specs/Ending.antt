@@ -13,21 +13,21 @@ pub record IsReadable (page : ℕ) (log : List ℕ) : Type 0 where
   pub head : IsHeader page (header log)
   pub size : IsPageSize page
 
--- frame i stands whole in the log, and has the salt of its head
+-- frame i is whole in the log, and has the salt of its head
 pub record IsSalted (page : ℕ) (log : List ℕ) (i : ℕ) : Type 0 where
   pub within : frame_at page i + (24 + page) ≤ length log
   pub salt : part (frame page log i) 8 8 ≡ part (header log) 16 8
 
--- what the store takes of the log ends before frame n, the first that doesn't pass its test
+-- the part of the log that the store reads ends before frame n, the first that doesn't pass its test
 pub record IsFirstBad (page : ℕ) (log : List ℕ) (n : ℕ) : Type 0 where
   pub good : (i : ℕ) → i < n → Passes page log i
   pub bad : ¬ Passes page log n
 
--- Behind frame n a frame ends a commit, and behind that stands another one: so the commit was on the disk before that one was written.
+-- After frame n a frame ends a commit, and another one follows it: so the commit was on the disk before that one was written.
 pub record IsBeforeCommit (page : ℕ) (log : List ℕ) (n : ℕ) : Type 0 where
   pub last : ℕ
   pub later : ℕ
-  pub behind : n < last
+  pub after : n < last
   pub salted : IsSalted page log last
   pub ends : commit_size (frame page log last) ≢ 0
   pub further : last < later
@@ -43,7 +43,7 @@ IsDamaged log = (page : ℕ) × IsReadable page log × IsDamagedIn page log
 abbrev pub is_zero : ℕ → Bool
 is_zero byte = byte == 0
 
--- There is something behind the head. A log that is being emptied begins with 0 until that is done.
+-- There is something after the head. A log that is being emptied begins with 0 until that is done.
 pub record IsFilled (log : List ℕ) : Type 0 where
   pub long : 56 ≤ length log
   pub begun : slice_index log 0 ≢ 0
@@ -54,6 +54,6 @@ abbrev pub IsHeadless : List ℕ → Type 0
 IsHeadless log = IsFilled log × ((page : ℕ) → ¬ IsReadable page log)
 
 -- the log ends so
-pub record IsEndingOf (log : List ℕ) (told : Ending) : Type 0 where
-  pub early : (told ≡ Early) ↔ IsDamaged log
-  pub headless : (told ≡ Headless) ↔ IsHeadless log
+pub record IsEndingOf (log : List ℕ) (ending : Ending) : Type 0 where
+  pub early : (ending ≡ Early) ↔ IsDamaged log
+  pub headless : (ending ≡ Headless) ↔ IsHeadless log

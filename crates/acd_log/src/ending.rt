@@ -1,4 +1,4 @@
-//! What the end of a log says of what was answered.
+//! The end of a log, and whether answers are missing by it.
 
 ghost use Rattle.std.specs.Prelude.{◌≡◌, ◌≢◌, ◌≤◌, ◌↔◌, length, IsTrue};
 ghost use Rattle.std.specs.List.{list_all};
@@ -13,9 +13,9 @@ use crate::words::part_of;
 pub enum Ending {
     /// As one that is whole, or as a power cut leaves it: nothing that was answered is missing.
     Plain,
-    /// Before commits that were on the disk: what was answered in them is missing.
+    /// Before commits that were on the disk: the answers given in them are missing.
     Early,
-    /// Its head can't be read, so nothing says what stands behind it.
+    /// Its head can't be read, so nothing says what follows it.
     Headless,
 }
 
@@ -25,7 +25,7 @@ fn are_zeros(bytes: &[u8]) -> bool
     bytes.iter().all(|byte| *byte == 0)
 }
 
-// Whether something stands behind the head. A log that is being emptied begins with 0 until that is done.
+// Whether something follows the head. A log that is being emptied begins with 0 until that is done.
 fn is_filled(log: &[u8]) -> bool
     ensures { IsTrue result ↔ IsFilled log.now }
 {

@@ -1,4 +1,4 @@
-//! The frames of a log: how many pass the store's test, and what stands behind the first that doesn't.
+//! The frames of a log: how many pass the store's test, and what follows the first that doesn't.
 
 ghost use Rattle.std.specs.Prelude.{◌≡◌, ◌≢◌, ◌+◌, ◌≤◌, ◌↔◌, ℕ, length, IsTrue};
 ghost use Rattle.sqlite_wal.specs.Format.{part, be32, IsFrame};
@@ -12,7 +12,7 @@ use sqlite_wal::checksum_of;
 // The bytes of a frame before its page.
 const FRONT: usize = 24;
 
-// Whether a frame passes the store's test, behind this checksum.
+// Whether a frame passes the store's test, after this checksum.
 fn is_frame(head: &[u8], before: Sum, frame: &[u8]) -> bool
     requires head { length head.now ≡ 32 }
     requires frame { 24 ≤ length frame.now }
@@ -26,7 +26,7 @@ fn is_frame(head: &[u8], before: Sum, frame: &[u8]) -> bool
     checksum_of(big, front, &frame[24..]) == sum_at(frame, 16)
 }
 
-// Whether a whole frame stands here.
+// Whether there is a whole frame here.
 fn has_frame(log: &[u8], page: usize, at: usize) -> bool
     requires { page ≤ 65536 }
     ensures { IsTrue result ↔ (at + (24 + page) ≤ length log.now) }
@@ -34,7 +34,7 @@ fn has_frame(log: &[u8], page: usize, at: usize) -> bool
     at <= log.len() && log.len() - at >= FRONT + page
 }
 
-// Whether one stands here that passes the store's test.
+// Whether there is one here that passes the store's test.
 fn passes(log: &[u8], page: usize, before: Sum, at: usize) -> bool
     requires long { 32 ≤ length log.now }
     requires page { page ≤ 65536 }
@@ -52,7 +52,7 @@ fn passes(log: &[u8], page: usize, before: Sum, at: usize) -> bool
     )
 }
 
-// Where the first bad frame begins, or would.
+// The place where the first bad frame begins, or would.
 fn first_bad(log: &[u8], page: usize) -> usize
     requires long { 32 ≤ length log.now }
     requires page { page ≤ 65536 }
@@ -84,7 +84,7 @@ fn is_last(log: &[u8], at: usize) -> bool
     number_at(log, at + 4) != 0
 }
 
-// Whether a commit stands behind the frame here, and a frame behind that.
+// Whether a commit follows the frame here, and a frame follows that.
 fn is_before_commit(log: &[u8], page: usize, bad: usize) -> bool
     requires long { 32 ≤ length log.now }
     requires page { page ≤ 65536 }
@@ -107,7 +107,7 @@ fn is_before_commit(log: &[u8], page: usize, bad: usize) -> bool
     false
 }
 
-/// Whether commits stand behind the first bad frame.
+/// Whether commits follow the first bad frame.
 pub(crate) fn is_damaged(log: &[u8], page: usize) -> bool
     requires long { 32 ≤ length log.now }
     requires page { page ≤ 65536 }

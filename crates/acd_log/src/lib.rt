@@ -1,4 +1,4 @@
-//! How the log of a file ends, told by its bytes: nothing is opened for it, since an opening empties the log.
+//! How the log of a file ends, found in its bytes: nothing is opened for it, since an opening empties the log.
 //!
 //! ```ignore
 //! let told = ending_of(&fs::read(&rt, "desk.db-wal")?);

@@ -1,4 +1,4 @@
-//! Parts, numbers and checksums as they stand in a log.
+//! Parts, numbers and checksums as they are in a log.
 
 ghost use Rattle.std.specs.Prelude.{◌≡◌, ◌+◌, ◌≤◌, length};
 ghost use Rattle.sqlite_wal.specs.Format.{part, be32, stored_sum};
@@ -26,7 +26,7 @@ pub(crate) fn number_at(bytes: &[u8], at: usize) -> u32
         + bytes[at + 3] as u32
 }
 
-/// The checksum that stands here.
+/// The checksum that is here.
 pub(crate) fn sum_at(bytes: &[u8], at: usize) -> Sum
     requires { at + 8 ≤ length bytes.now }
     ensures { result ≡ stored_sum bytes.now at }

@@ -1,4 +1,4 @@
--- What an answer unfolds to compute the switch on literals.
+-- The definitions that an answer unfolds to compute the switch on literals.
 use Rattle.std.specs.Prelude.{⊤}
 use Rattle.acd_terms.specs.Forms.{read_id, read_text, number_between}
 use Rattle.acd_terms.specs.Limits.{limits_fit}

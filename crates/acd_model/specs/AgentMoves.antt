@@ -35,16 +35,16 @@ state_report Ready agent station = AgentReady agent station
 state_report Busy agent station = AgentBusy agent station
 state_report WorkingAfterCall agent station = AgentWorkingAfterCall agent station
 
--- the agent at a station goes to a state
+-- the agent at a station changes to a state
 abbrev pub go_to : Turn → AgentRecord → Device → AgentState → Move
 go_to turn a station state = reported (PutAgent (in_state state turn a)) (state_report state a.agent station)
 
--- the agent goes to a state, from the station at which it is logged on
+-- the agent changes to a state, from the station at which it is logged on
 abbrev pub go_from : Turn → AgentRecord → Option Device → AgentState → Move
 go_from turn a None state = no_move
 go_from turn a (Some station) state = go_to turn a station state
 
--- the report names the group of an agent who serves just one
+-- the report names the group of an agent who is in just one
 abbrev pub log_on_at : Turn → AgentRecord → Device → List Device → Move
 log_on_at turn a station groups =
     reported (PutAgent (record a { state = NotReady; pending = None; station = Some station; groups = groups; stamp = turn.stamp; since = turn.moment }))

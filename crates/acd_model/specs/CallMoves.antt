@@ -41,7 +41,7 @@ initiate call station = reported (PutConnection (plain call station Initiated)) 
 abbrev pub originate : ConnectionRecord → Device → Move
 originate x called = reported (PutConnection (record x { state = Connected })) (report.Originated x.call x.device called)
 
--- what a call meets at a device
+-- the destination of a call at a device
 abbrev pub met_at : Bool → Bool → Destination
 met_at true idle = Queue
 met_at false true = Idle
@@ -90,11 +90,11 @@ ringing moment x station = record x { device = station; state = Alerting; offere
 abbrev pub offer : Moment → ConnectionRecord → Device → Move
 offer moment x station = reported (PutConnection (ringing moment x station)) (report.Delivered x.call station Distributed x.group)
 
--- the offered call goes back to its group, at its old place and queued moment
+-- the offered call returns to its group, at its old place and queued moment
 abbrev pub go_back : ConnectionRecord → Device → Move
 go_back x group = reported (PutConnection (queueing x.call group x.place x.queued)) (report.Queued x.call group NoAnswer)
 
--- the connection ends, and its call goes elsewhere
+-- the connection ends, and its call is sent elsewhere
 abbrev pub divert : ConnectionRecord → Device → Cause → Move
 divert x to cause = reported (RemoveConnection x.call x.device) (report.Diverted x.call x.device to cause x.group)
 

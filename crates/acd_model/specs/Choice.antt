@@ -1,4 +1,4 @@
--- Which waiting call goes to which ready agent.
+-- The choice of a waiting call and of a ready agent for it.
 use Rattle.std.specs.Prelude.{ℕ, Bool, ◌&&◌, ◌||◌, ◌==◌, nat_lt, List, [], ◌∷◌, Option, Some, None, option_and_then, is_some, filter, map, unwrap_or, if◌then◌else◌}
 use Rattle.acd_terms.specs.Numbers.{Device, Agent, CallId, Stamp}
 use Rattle.acd_terms.specs.declared.rows.Rows.{Rows}
@@ -38,7 +38,7 @@ first_waiting s group = least_from None (map waiting_pair (waiting_in s group))
 unfoldable pub first_eligible : Rows → Device → Option (Stamp × Agent)
 first_eligible s group = least_from None (map ready_pair (eligible_in s group))
 
--- the first call of a group goes to its first agent, where it has both
+-- the first call of a group is offered to its first agent, where it has both
 abbrev pub offer_by : Device → Option (Stamp × CallId) → Option (Stamp × Agent) → Option Offer
 offer_by g (Some w) (Some r) = Some (record { group = g; call = w.1; agent = r.1 })
 offer_by g _ _ = None
@@ -47,23 +47,23 @@ abbrev pub offer_in : Rows → GroupRecord → Option Offer
 offer_in s g = offer_by g.device (first_waiting s g.device) (first_eligible s g.device)
 
 -- of higher priority, or of equal priority and smaller number
-abbrev pub is_served_before : GroupRecord → GroupRecord → Bool
-is_served_before g h = nat_lt h.priority g.priority || (g.priority == h.priority && nat_lt g.device h.device)
+abbrev pub precedes : GroupRecord → GroupRecord → Bool
+precedes g h = nat_lt h.priority g.priority || (g.priority == h.priority && nat_lt g.device h.device)
 
--- the one of a group and another that may be there which is served first
+-- the one of a group and another that may be there which precedes
 abbrev pub sooner : Option GroupRecord → GroupRecord → GroupRecord
 sooner None g = g
-sooner (Some h) g = if is_served_before g h then g else h
+sooner (Some h) g = if precedes g h then g else h
 
--- the one of the groups and one from before which is served first
-abbrev pub first_served : Option GroupRecord → List GroupRecord → Option GroupRecord
-first_served best [] = best
-first_served best (g ∷ gs) = first_served (Some (sooner best g)) gs
+-- the one of the groups and one from before which precedes
+abbrev pub foremost : Option GroupRecord → List GroupRecord → Option GroupRecord
+foremost best [] = best
+foremost best (g ∷ gs) = foremost (Some (sooner best g)) gs
 
 -- it has a waiting call and an eligible agent
 abbrev pub has_both : Rows → GroupRecord → Bool
 has_both s g = is_some (first_waiting s g.device) && is_some (first_eligible s g.device)
 
--- the offer that is to be made: of the groups that have both, in the one that is served first
+-- the offer that is to be made: of the groups that have both, in the one that precedes the others
 unfoldable pub offer_of : Rows → Option Offer
-offer_of s = option_and_then (offer_in s) (first_served None (filter (has_both s) s.groups))
+offer_of s = option_and_then (offer_in s) (foremost None (filter (has_both s) s.groups))

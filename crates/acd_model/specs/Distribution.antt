@@ -25,7 +25,7 @@ station_of_agent (Some a) = a.station
 unfoldable pub offer_moves : Rows → Moment → Offer → List Move
 offer_moves s moment o = offer_at moment (connection_of s o.call o.group) (station_of_agent (agent_of s o.agent))
 
--- stays where there is no offer, and goes on with the one there is
+-- stays where there is no offer, and continues with the one there is
 abbrev pub with_offer : {A : Type 0} → Option Offer → A → (Offer → A) → A
 with_offer None stay go = stay
 with_offer (Some o) stay go = go o

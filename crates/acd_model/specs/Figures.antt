@@ -30,7 +30,7 @@ abbrev pub is_answer : Device → Report → Bool
 is_answer g (Established call station (Some w)) = w.group == g
 is_answer g _ = false
 
--- for how long the call had waited there
+-- how long the call waited there
 abbrev pub waited_there : Device → Report → Seconds
 waited_there g (Established call station (Some w)) = if w.group == g then w.seconds else 0
 waited_there g _ = 0

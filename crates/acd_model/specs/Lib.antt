@@ -14,7 +14,7 @@ pub mod Figures
 pub mod Step
 pub mod Changes
 pub mod Run
-pub mod Told
+pub mod Reported
 pub mod Placed
 pub mod OneOffer
 pub mod Watched

@@ -1,4 +1,4 @@
--- What an offer is, as a relation.
+-- An offer, as a relation.
 use Rattle.std.specs.Prelude.{◌≡◌, ◌⊎◌, ◌↔◌, ℕ, true, false, List, [], map, Option, Some, None}
 use Rattle.std.specs.Ordering.{nat_cmp}
 use Rattle.acd_terms.specs.Lists.{Among, IsAscending}
@@ -6,10 +6,10 @@ use Rattle.acd_terms.specs.Numbers.{Device, Stamp}
 use Rattle.acd_terms.specs.declared.rows.Rows.{Rows}
 use Rattle.acd_terms.specs.declared.record.GroupRecord.{GroupRecord}
 use Rattle.acd_model.specs.Scans.{waiting_in, eligible_in}
-use Rattle.acd_model.specs.Choice.{pair_lt, waiting_pair, ready_pair, first_waiting, first_eligible, is_served_before, offer_of}
+use Rattle.acd_model.specs.Choice.{pair_lt, waiting_pair, ready_pair, first_waiting, first_eligible, precedes, offer_of}
 use Rattle.acd_model.specs.declared.moves.Offer.{Offer}
 
--- the pair stands in the list, and none there is less
+-- the pair is in the list, and none there is less
 pub record IsLeast (p : ℕ × ℕ) (ps : List (ℕ × ℕ)) : Type 0 where
   pub there : Among p ps
   pub least : (q : ℕ × ℕ) → Among q ps → pair_lt q p ≡ false
@@ -31,7 +31,7 @@ FindsFirstEligible = (s : Rows) (group : Device) → FindsLeast (first_eligible 
 abbrev pub HasNoOffer : Rows → Device → Type 0
 HasNoOffer s group = (waiting_in s group ≡ []) ⊎ (eligible_in s group ≡ [])
 
--- the call that waits first in the group goes to the agent that is ready longest there, and no group that is served before it has both
+-- the call that waits first in the group is offered to the agent that is ready longest there, and no group that precedes it has both
 pub record IsOffer (s : Rows) (o : Offer) : Type 0 where
   pub group : GroupRecord
   pub planned : Among group s.groups
@@ -40,7 +40,7 @@ pub record IsOffer (s : Rows) (o : Offer) : Type 0 where
   pub call : IsLeast (place, o.call) (map waiting_pair (waiting_in s o.group))
   pub stamp : Stamp
   pub agent : IsLeast (stamp, o.agent) (map ready_pair (eligible_in s o.group))
-  pub first : (g : GroupRecord) → Among g s.groups → is_served_before g group ≡ true → HasNoOffer s g.device
+  pub first : (g : GroupRecord) → Among g s.groups → precedes g group ≡ true → HasNoOffer s g.device
 
 abbrev pub GroupsAscend : Rows → Type 0
 GroupsAscend s = IsAscending (λ (g h : GroupRecord). nat_cmp g.device h.device) s.groups

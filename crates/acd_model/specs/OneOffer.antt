@@ -12,7 +12,7 @@ use Rattle.acd_model.specs.Scans.{agent_at, is_station}
 abbrev pub is_distributed_at : Device → ConnectionRecord → Bool
 is_distributed_at device x = is_distributed x && x.device == device
 
--- it stands at a station, where an agent is logged on who is ready while it alerts and busy once it is answered
+-- it is at a station, where an agent is logged on who is ready while it alerts and busy once it is answered
 pub record IsAttended (s : Rows) (x : ConnectionRecord) : Type 0 where
   pub at_station : is_station s x.device ≡ true
   pub agent : AgentRecord

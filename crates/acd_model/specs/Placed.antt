@@ -1,4 +1,4 @@
--- Where each call stands: cleared, in one queue, or at devices.
+-- The place of each call: cleared, in one queue, or at devices.
 use Rattle.std.specs.Prelude.{◌≡◌, ◌⊎◌, ℕ, ◌<◌, ◌≤◌, Bool, true, false, ◌&&◌, ◌==◌, List, Some, None}
 use Rattle.acd_terms.specs.Lists.{Among, count}
 use Rattle.acd_terms.specs.States.{is_queued, is_alerting}
@@ -52,6 +52,6 @@ pub record IsAtDevices (s : Rows) (events : List Event) (call : CallId) : Type 0
   pub none_queued : count (is_queued_of call) s.connections ≡ 0
   pub at_devices : (x : ConnectionRecord) → Among x s.connections → is_of call x ≡ true → (x.device ≡ live.caller) ⊎ (is_station s x.device ≡ true)
 
--- each call up to the last stands in exactly one way: the three exclude one another by `ended`, `there`, `once` and `none_queued`
+-- each call up to the last is in exactly one place: the three exclude one another by `ended`, `there`, `once` and `none_queued`
 abbrev pub IsPlaced : Rows → List Event → Type 0
 IsPlaced s events = (call : CallId) → 0 < call → call ≤ s.last_call → IsCleared s events call ⊎ IsWaiting s events call ⊎ IsAtDevices s events call

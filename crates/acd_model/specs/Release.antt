@@ -1,4 +1,4 @@
--- What becomes of an agent whose distributed connection ends.
+-- An agent whose distributed connection ends, and what becomes of it.
 use Rattle.std.specs.Prelude.{Option, Some, None, if◌then◌else◌}
 use Rattle.acd_terms.specs.States.{is_distributed, is_answered, state_wanted}
 use Rattle.acd_terms.specs.Numbers.{Device}

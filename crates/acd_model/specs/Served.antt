@@ -1,4 +1,4 @@
--- What a service answers.
+-- The answer of a service.
 use Rattle.std.specs.Prelude.{Bool, true, false, List, [], Result, Ok, Err}
 use Rattle.acd_terms.specs.declared.answer.Answer.{Answer}
 use Rattle.acd_terms.specs.declared.answer.Refusal.{Refusal}

@@ -42,7 +42,7 @@ is_overdue s moment x = is_alerting x.state && is_overdue_offer s moment x.group
 unfoldable pub overdue_in : Rows → Moment → List ConnectionRecord
 overdue_in s moment = filter (is_overdue s moment) s.connections
 
--- the call goes back to the group that offered it, and the agent is released
+-- the call returns to the group that offered it, and the agent is released
 abbrev pub return_to : Rows → Turn → ConnectionRecord → Option Device → List Move
 return_to s turn x None = []
 return_to s turn x (Some group) = divert x group cause.NoAnswer ∷ go_back x group ∷ release s turn x NoAnswer ∷ []

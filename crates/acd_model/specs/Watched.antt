@@ -1,4 +1,4 @@
--- The reports alone tell a watcher the connections at planned devices, the agents and the order of each queue.
+-- The reports alone give a watcher the connections at planned devices, the agents and the order of each queue.
 use Rattle.std.specs.Prelude.{◌≡◌, ◌↔◌, ◌<◌, Bool, true, false, not, ◌&&◌, ◌||◌, ◌==◌, List, Option, Some, None, option_map}
 use Rattle.acd_terms.specs.Lists.{Among}
 use Rattle.acd_terms.specs.States.{is_queued, is_alerting}
@@ -10,7 +10,7 @@ use Rattle.acd_terms.specs.declared.record.ConnectionRecord.{ConnectionRecord}
 use Rattle.acd_terms.specs.declared.state.ConnectionState.{ConnectionState}
 use Rattle.acd_terms.specs.declared.event.Event.{Event}
 use Rattle.acd_model.specs.Scans.{call_of, connection_of, agent_of, is_planned, has}
-use Rattle.acd_model.specs.Told.{known_after, connection_told, Seat, no_seat, seat_told, enters, last_entry}
+use Rattle.acd_model.specs.Reported.{known_after, connection_reported, Seat, no_seat, seat_reported, enters, last_entry}
 
 abbrev pub is_caller : Option CallRecord → Device → Bool
 is_caller None device = false
@@ -57,7 +57,7 @@ abbrev pub EachHasEntered : Rows → List Event → Type 0
 EachHasEntered s events = (group : Device) (x : ConnectionRecord) → Among x s.connections → waits_or_rings group x ≡ true → HasEntered events group x.call
 
 pub record IsWatched (s : Rows) (events : List Event) : Type 0 where
-  pub connections : (call : CallId) (device : Device) → is_external_caller s call device ≡ false → state_at s call device ≡ known_after (connection_told call device) None events
-  pub agents : (agent : Agent) → seat_of (agent_of s agent) ≡ known_after (seat_told agent) no_seat events
+  pub connections : (call : CallId) (device : Device) → is_external_caller s call device ≡ false → state_at s call device ≡ known_after (connection_reported call device) None events
+  pub agents : (agent : Agent) → seat_of (agent_of s agent) ≡ known_after (seat_reported agent) no_seat events
   pub entries : EachHasEntered s events
   pub queues : InOrder s events

@@ -11,7 +11,7 @@ ghost use Rattle.acd_model.specs.Examples.HandedOn.{DeflectedToAnotherQueue, Def
 ghost use Rattle.acd_model.specs.Examples.Priorities.{HigherPriorityFirst, EqualPriorities, PriorityChanged};
 ghost use Rattle.acd_model.specs.Examples.Releases.{ReleasedAfterAnAnswer, ReleasedUnanswered, ReleasedByNoAnswer};
 ghost use Rattle.acd_model.specs.Examples.Refusals.{RefusalsOfPlanAndCalls, RefusalsOfAnAnsweredCall, RefusalsOfAHeldCall, RefusalsOfAnOfferedCall, RefusalsOfAnUnansweredCall, RefusalsOfAgents};
-ghost use Rattle.acd_model.specs.Examples.Rejections.{RejectedToTheSecondAgent, RejectedByOneAfterTheOther, RejectedWithNobodyReady, RejectedBehindAnOlderCall, ReleasedByARejection, RejectedInAFurtherGroup, RejectedWithoutARingTime, RejectedAndGivenUp, RejectionAndTick, RefusalsOfRejections};
+ghost use Rattle.acd_model.specs.Examples.Rejections.{RejectedToTheSecondAgent, RejectedByOneAfterTheOther, RejectedWithNobodyReady, RejectedAfterAnOlderCall, ReleasedByARejection, RejectedInAFurtherGroup, RejectedWithoutARingTime, RejectedAndGivenUp, RejectionAndTick, RefusalsOfRejections};
 ghost use Rattle.acd_model.specs.Examples.Corrections.{RingShortened, RingProlonged, WrapShortened, WrapProlonged, WrapOfTheLeastGroup, ChangedGroup, ChangedAgent, ChangedAgentKeepsTheTurn, ChangedToTheSame, NamesOfOneAndForty, RefusalsOfCorrections};
 
 /// Numbers of identifiers, records as they are added, and monitors.
@@ -38,7 +38,7 @@ pub fn queue()
     ensures abandoned_in_queue { AbandonedInQueue }
 {}
 
-/// What waits for time, and who is ready longest.
+/// Waiting for time, and who is ready longest.
 pub fn waiting()
     ensures offers_go_back { OffersGoBack }
     ensures ticks { Ticks }
@@ -47,7 +47,7 @@ pub fn waiting()
     ensures two_groups_at_once { TwoGroupsAtOnce }
 {}
 
-/// What is pending for a busy agent, holding, and giving a call away.
+/// The pending state of a busy agent, holding, and giving a call away.
 pub fn agents()
     ensures pending_log_off { PendingLogOff }
     ensures present_state_pending { PresentStatePending }
@@ -108,7 +108,7 @@ pub fn rejections()
     ensures rejected_to_the_second_agent { RejectedToTheSecondAgent }
     ensures rejected_by_one_after_the_other { RejectedByOneAfterTheOther }
     ensures rejected_with_nobody_ready { RejectedWithNobodyReady }
-    ensures rejected_behind_an_older_call { RejectedBehindAnOlderCall }
+    ensures rejected_after_an_older_call { RejectedAfterAnOlderCall }
     ensures released_by_a_rejection { ReleasedByARejection }
     ensures rejected_in_a_further_group { RejectedInAFurtherGroup }
     ensures rejected_without_a_ring_time { RejectedWithoutARingTime }

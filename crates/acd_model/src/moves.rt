@@ -1,4 +1,4 @@
-//! What a service does: a refusal, or an answer and the moves that it makes.
+//! The answer of a service: a refusal, or an answer and the moves that it makes.
 
 ghost use Rattle.std.specs.Prelude.{◌≡◌, [], ◌∷◌};
 ghost use Rattle.acd_model.specs.Moves.{no_move, silent, reported};
@@ -138,14 +138,14 @@ impl Moves {
     }
 }
 
-/// What a service does that doesn't refuse.
+/// The answer and the moves of a service that doesn't refuse.
 #[derive(Debug, Drop)]
 pub struct Done {
     pub answer: Answer,
     pub moves: Moves,
 }
 
-/// What a service answers: the first refusal that applies, or what it does.
+/// The answer of a service: the first refusal that applies, or its answer and its moves.
 pub type Served = Result<Done, Refusal>;
 
 /// Refuses where the test holds.
@@ -174,16 +174,16 @@ pub enum Ending {
     NoAnswer,
 }
 
-/// What becomes of an agent whose distributed connection ended.
+/// An agent whose distributed connection ended, and what becomes of it.
 #[derive(Clone, Copy, Debug, PartialEq, Eq)]
 pub enum Release {
     /// The agent stays ready, with its old stamp and moment, and nothing is reported.
     Stays,
-    /// The agent goes to the state, with a new stamp and moment, and it is reported.
+    /// The agent changes to the state, with a new stamp and moment, and it is reported.
     Goes(AgentState),
 }
 
-/// What a call meets where it comes to.
+/// The destination at which a call arrives.
 #[derive(Clone, Copy, Debug, PartialEq, Eq)]
 pub enum Destination {
     /// A group: the call enters its queue.
@@ -194,7 +194,7 @@ pub enum Destination {
     Busy,
 }
 
-/// A waiting call that goes to a ready agent of its group.
+/// A waiting call that is offered to a ready agent of its group.
 #[derive(Clone, Copy, Debug, PartialEq, Eq)]
 pub struct Offer {
     pub group: DeviceId,

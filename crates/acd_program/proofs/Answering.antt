@@ -1,4 +1,4 @@
--- What a new desk answers, by what its run leaves.
+-- A new desk's answers, by what its run leaves.
 use Rattle.std.proofs.Common.{◌≡◌, ℕ, List, [], Option, Some, None, refl, sym, subst, ◌∙◌, inl, inr, true≢false, arith}
 use Rattle.std.proofs.KnownBytes.{Appends-nil}
 use Rattle.acd_terms.specs.Limits.{greatest_limits, limits_fit}
@@ -6,7 +6,7 @@ use Rattle.acd_terms.specs.declared.command.Arrival.{Arrival}
 use Rattle.acd_book.specs.Content.{Content, HasRisen}
 use Rattle.acd_book.specs.State.{BookState}
 use Rattle.acd_desk.specs.declared.taken.Taken.{Taken}
-use Rattle.acd_desk.specs.Served.{served, sent}
+use Rattle.acd_desk.specs.Accepted.{accepted, sent}
 use Rattle.acd_desk.specs.Stands.{IsSound, replies}
 use Rattle.acd_desk.specs.Carried.{no_archive}
 use Rattle.acd_desk.specs.Standing.{Standing, standing}
@@ -35,7 +35,7 @@ pub new_refused : (old new : BookState) (rule : Rule) → new.is_clean → old.i
 unfolding limits_fit
 new_refused old new rule clean sound e r = r.well no_archive clean sound (subst IsSound (sym e) (empty_sound greatest_limits refl))
 
--- the book of the desk is clean behind the run, and has counted no failure
+-- the book of the desk is clean after the run, and has counted no failure
 pub record IsQuiet (old new : Standing) : Type 0 where
   pub clean : new.book.is_clean
   pub quiet : ¬ (HasRisen old.book.failures new.book.failures)
@@ -52,13 +52,13 @@ in_memory_quiet old new = record {
 from_nothing : (old new : Standing) → IsNewDesk old → IsQuiet old new → (arrivals : List Arrival) (answers : List Taken) → Ran old arrivals answers new → AnsweredFromNothing arrivals answers
 from_nothing old new first quiet arrivals answers ran = record {
   even = ran.even;
-  replies = subst (λ (c : Content). sent answers ≡ replies c (served arrivals answers)) first.empty (ran.replies quiet.clean first.starts);
+  replies = subst (λ (c : Content). sent answers ≡ replies c (accepted arrivals answers)) first.empty (ran.replies quiet.clean first.starts);
   no_fault = λ found. elim (ran.desk.cause (ran.desk.shuts found)) [
     | inl cause ↦ elim cause [
       | inl failed ↦ absurd (true≢false (sym failed ∙ first.works))
       | inr risen ↦ quiet.quiet risen
     ]
-    | inr told ↦ absurd (told.1 (quiet.clean, first.starts.0, first.starts.2))
+    | inr deceived ↦ absurd (deceived.1 (quiet.clean, first.starts.0, first.starts.2))
   ];
 }
 
@@ -76,15 +76,15 @@ abbrev some_input : Option (List ℕ) → List ℕ
 some_input (Some input) = input
 some_input None = []
 
-is_some_input : (had : Option (List ℕ)) → IsInput had (some_input had)
+is_some_input : (old_input : Option (List ℕ)) → IsInput old_input (some_input old_input)
 is_some_input (Some input) = refl
 is_some_input None = search
 
-pub answers_none : (had before : Option (List ℕ)) → LinesAnswered (FirstLines had) (ArrivalsAnswered AnsweredFromNothing) (Begins before before)
-answers_none had before = record {
+pub answers_none : (old_input old_output : Option (List ℕ)) → LinesAnswered (FirstLines old_input) (ArrivalsAnswered AnsweredFromNothing) (Begins old_output old_output)
+answers_none old_input old_output = record {
   taken = [];
   answers = [];
-  picked = (some_input had, 0, is_some_input had, refl);
+  picked = (some_input old_input, 0, is_some_input old_input, refl);
   answered = ([], search, none_from_nothing);
-  out = record { front = []; rest = []; whole = refl; written = Appends-nil before };
+  out = record { front = []; rest = []; whole = refl; written = Appends-nil old_output };
 }

@@ -1,4 +1,4 @@
--- What is told of a book, by what its desk told; and over a connection, by what its book told.
+-- What is read of a book, by what its desk read; and over a connection, by what its book read.
 use Rattle.std.proofs.Common.{◌≡◌, ℕ, Result, Ok, Err, sym, subst, ◌∙◌}
 use Rattle.acd_book.specs.Content.{Content}
 use Rattle.acd_book.specs.Order.{IsOrdered}
@@ -13,9 +13,9 @@ use Rattle.acd_desk.specs.Stands.{IsSound}
 use Rattle.acd_desk.specs.declared.fault.DeskFault.{DeskFault}
 use Rattle.acd_desk.specs.declared.open_fault.OpenFault.{OpenFault}
 use Rattle.acd_desk.specs.Opening.{Opened, Refused}
-use Rattle.acd_desk.specs.Told.{Told}
+use Rattle.acd_desk.specs.ReadDone.{ReadDone}
 use Rattle.acd_desk.proofs.AuditLaws.{one_audit}
-use Rattle.acd_desk.proofs.Telling.{told_nothing, told_then}
+use Rattle.acd_desk.proofs.ReadsDone.{read_nothing, read_twice}
 use Rattle.acd_program.specs.declared.auditing.Finding.{Finding}
 use Rattle.acd_program.specs.declared.auditing.Finding.TheVariants.{Sound, Counted, Differs}
 use Rattle.acd_program.specs.Ended.{OnlyAsked}
@@ -25,7 +25,7 @@ use Rattle.acd_program.specs.Taking.{IsOf}
 use Rattle.acd_terms.proofs.Results.{ok_err}
 
 -- a desk that was opened was asked; of a content that is sound, by itself or with an archive, the answer is that of the read
-pub asked_by : {A : Type 0} (old : BookState) (d e : Standing) (x : A) (P : Content → A → Type 0) → Opened old d → Told d e (Ok x) P → WasAsked old (λ (c : Content) (y : A). (p : Archive) → IsSound (together p c) → P c y) x e.book
+pub asked_by : {A : Type 0} (old : BookState) (d e : Standing) (x : A) (P : Content → A → Type 0) → Opened old d → ReadDone d e (Ok x) P → WasAsked old (λ (c : Content) (y : A). (p : Archive) → IsSound (together p c) → P c y) x e.book
 asked_by old d e x P o t =
     let same : e.book.is_clean → old.is_sound → d.book.content ≡ old.content = λ clean sound. (o.opened (t.step.clean clean) sound).2 in
     let up : e.book.is_clean → old.is_sound → e.book.is_open
@@ -44,15 +44,15 @@ asked_by old d e x P o t =
 pub only_refused : (old new : BookState) (why : OpenFault) → Refused old why new → OnlyAsked old new
 only_refused old new why r = record { clean = r.step.clean; sound = r.step.sound; stops = r.unchanged.stops }
 
--- whatever a desk told
-pub only_asked : {A : Type 0} (d e : Standing) (r : Result A DeskFault) (P : Content → A → Type 0) → Told d e r P → OnlyAsked d.book e.book
+-- whatever a desk read
+pub only_asked : {A : Type 0} (d e : Standing) (r : Result A DeskFault) (P : Content → A → Type 0) → ReadDone d e r P → OnlyAsked d.book e.book
 only_asked d e r P t = record { clean = t.step.clean; sound = t.step.sound; stops = t.unchanged.stops }
 
--- a read behind another one ended by a fault
-pub told_fault : {A B C : Type 0} (old mid new : Standing) (x : A) (f : DeskFault) (r : Result C DeskFault) (P : Content → A → Type 0) (Q : Content → B → Type 0) (R : Content → C → Type 0)
-    → Told old mid (Ok x) P → Told mid new (Err f) Q → r ≡ Err f → Told old new r R
-told_fault {C = C} old mid new x f r P Q R first second is =
-    subst (λ (y : Result C DeskFault). Told old new y R) (sym is) (told_then old mid new x (Err f) P R R (λ c y before after. after) first (told_nothing mid new f Q R second))
+-- a fault ended a read after another one
+pub read_fault : {A B C : Type 0} (old mid new : Standing) (x : A) (f : DeskFault) (r : Result C DeskFault) (P : Content → A → Type 0) (Q : Content → B → Type 0) (R : Content → C → Type 0)
+    → ReadDone old mid (Ok x) P → ReadDone mid new (Err f) Q → r ≡ Err f → ReadDone old new r R
+read_fault {C = C} old mid new x f r P Q R first second is =
+    subst (λ (y : Result C DeskFault). ReadDone old new y R) (sym is) (read_twice old mid new x (Err f) P R R (λ c y before after. after) first (read_nothing mid new f Q R second))
 
 -- nothing was asked of it
 pub only_left : (s : BookState) → OnlyAsked s s
@@ -66,10 +66,10 @@ only_opened old d now o asked = record {
   stops = λ clean sound c at. o.stops (asked.clean clean) sound c (asked.stops clean (o.step.sound (asked.clean clean) sound) c at);
 }
 
-pub only_told : {A : Type 0} (old : BookState) (d e : Standing) (r : Result A DeskFault) (P : Content → A → Type 0) → Opened old d → Told d e r P → OnlyAsked old e.book
-only_told old d e r P o t = only_opened old d e.book o (only_asked d e r P t)
+pub only_read : {A : Type 0} (old : BookState) (d e : Standing) (r : Result A DeskFault) (P : Content → A → Type 0) → Opened old d → ReadDone d e r P → OnlyAsked old e.book
+only_read old d e r P o t = only_opened old d e.book o (only_asked d e r P t)
 
--- what follows from an answer is an answer
+-- whatever follows from an answer is an answer
 pub asked_so : {A B : Type 0} (old new : BookState) (x : A) (y : B) (P : Content → A → Type 0) (Q : Content → B → Type 0) → ((c : Content) → P c x → Q c y) → WasAsked old P x new → WasAsked old Q y new
 asked_so old new x y P Q follows a = record {
   step = a.step;
@@ -89,7 +89,7 @@ asked_of old mid new x P of a = record {
   stops = λ clean is c at. of.stops (a.step.clean clean) is c (a.stops clean (of.step.sound (a.step.clean clean) is) c at);
 }
 
--- its records stand in order
+-- its records are in order
 pub asked_in_order : (old mid new : BookState) (x : Finding) → IsOf old mid → WasAsked mid IsFindingIfOrdered x new → WasAsked old IsFindingOf x new
 asked_in_order old mid new x of a =
     let there = asked_of old mid new x IsFindingIfOrdered of a in
@@ -110,18 +110,18 @@ unsound c place differs = λ sound. differs_sound place (one_audit c (audit.Diff
     differs_sound : (n : ℕ) → ◌≡◌ {A = Audit} (audit.Differs n) audit.Sound → ⊥
     differs_sound n h = cc
 
--- what an audit of a desk over the book finds is found of what the book holds
-pub audited_by : (old : BookState) (d e : Standing) (x : Finding) → Opened old d → Told d e (Ok x) (λ (c : Content) (y : Finding). Unit {0})
+-- an audit of a desk over the book finds the audit of the book's content
+pub audited_by : (old : BookState) (d e : Standing) (x : Finding) → Opened old d → ReadDone d e (Ok x) (λ (c : Content) (y : Finding). Unit {0})
     → (e.book.is_clean → d.book.is_sound → IsFinding d x) → WasAsked old IsFindingIfOrdered x e.book
 audited_by old d e x o t found =
-    let told = asked_by old d e x (λ (c : Content) (y : Finding). Unit {0}) o t in
+    let asked = asked_by old d e x (λ (c : Content) (y : Finding). Unit {0}) o t in
     record {
-      step = told.step;
-      opened = told.opened;
-      same = told.same;
+      step = asked.step;
+      opened = asked.opened;
+      same = asked.same;
       answer = λ clean sound. subst (λ (c : Content). IsFindingIfOrdered c x) (o.opened (t.step.clean clean) sound).2
           (of_desk x (λ whole. o.starts no_archive (t.step.clean clean) sound (subst IsSound (o.opened (t.step.clean clean) sound).2 whole)) (found clean (o.step.sound (t.step.clean clean) sound)));
-      stops = told.stops;
+      stops = asked.stops;
     }
   where
     of_desk : (x : Finding) → (IsSound d.book.content → Starts d) → IsFinding d x → IsFindingIfOrdered d.book.content x

@@ -1,4 +1,4 @@
--- What becomes of two files before the store has them, step by step.
+-- Two files before the store has them, step by step.
 use Rattle.std.proofs.Common.{◌≡◌, ◌↔◌, ℕ, ◌<◌, ◌≤◌, Bool, false, length, Result, IfOk, IfErr, IsTrue, true≢false, refl, sym, ap, subst, subst₂, ◌∙◌, inl, inr, arith}
 use Rattle.std.proofs.lemmas.Bool.{and_parts}
 use Rattle.std.proofs.lemmas.Result.{IfErr-weaker}
@@ -65,23 +65,23 @@ module _ {D : Type 0} {g : Ghosts D} where
   pub unbegun_read : (old new : Files D) → AreReadOnly g old new → IsUnbegun g old new
   unbegun_read old new read = (new, read, inl (inl (read_as new new refl read.log.usable read.db.usable)))
 
-  pub unbegun_behind : (old mid new : Files D) → AreReadOnly g old mid → IsUnbegun g mid new → IsUnbegun g old new
-  unbegun_behind old mid new read h = (h.0, read_on old mid h.0 read h.1, h.2)
+  pub unbegun_after_read : (old mid new : Files D) → AreReadOnly g old mid → IsUnbegun g mid new → IsUnbegun g old new
+  unbegun_after_read old mid new read h = (h.0, read_on old mid h.0 read h.1, h.2)
 
-  pub unmade_behind : {F : Type 0} (r : Result (Files D) (F × Files D)) (old mid : Files D) → AreReadOnly g old mid → IfErr r (λ (e : F × Files D). IsUnmade g mid e.1) → IfErr r (λ (e : F × Files D). IsUnbegun g old e.1)
-  unmade_behind r old mid read h = IfErr-weaker r _ _ (λ e left. (mid, read, inl left)) h
+  pub unmade_after_read : {F : Type 0} (r : Result (Files D) (F × Files D)) (old mid : Files D) → AreReadOnly g old mid → IfErr r (λ (e : F × Files D). IsUnmade g mid e.1) → IfErr r (λ (e : F × Files D). IsUnbegun g old e.1)
+  unmade_after_read r old mid read h = IfErr-weaker r _ _ (λ e left. (mid, read, inl left)) h
 
   pub unbegun_created : (old mid new : Files D) → AreReadOnly g old mid → IsReadAndCreated g mid new → IsUnbegun g old new
   unbegun_created old mid new read made = (made.0, read_on old mid made.0 read made.1, inr made.2)
 
   -- a database was to be made in files that were read before, of which the log isn't one without its file
   module _ {F : Type 0} (r : Result (Files D) F) (old mid : Files D) (read : AreReadOnly g old mid) where
-    pub created_behind : IfOk r (λ (new : Files D). IsCreated g mid new) → IfOk r (λ (new : Files D). IsReadAndCreated g old new)
-    created_behind = ok_so r _ _ (λ new made. (mid, read, made))
+    pub created_after_read : IfOk r (λ (new : Files D). IsCreated g mid new) → IfOk r (λ (new : Files D). IsReadAndCreated g old new)
+    created_after_read = ok_so r _ _ (λ new made. (mid, read, made))
 
-    pub spared_behind : (lone : Bool) → lone ≡ false → (AreClean g mid.log mid.db → IsTrue lone ↔ IsLone (g.seen old.log) (g.seen old.db))
+    pub spared_after_read : (lone : Bool) → lone ≡ false → (AreClean g mid.log mid.db → IsTrue lone ↔ IsLone (g.seen old.log) (g.seen old.db))
         → IfOk r (λ (new : Files D). AreClean g new.log new.db → AreClean g mid.log mid.db) → IfOk r (λ (new : Files D). AreClean g new.log new.db → ¬ IsLone (g.seen old.log) (g.seen old.db))
-    spared_behind lone is h = ok_so r _ _ (λ new before still it. true≢false (sym ((h (before still)).1 it) ∙ is))
+    spared_after_read lone is h = ok_so r _ _ (λ new before still it. true≢false (sym ((h (before still)).1 it) ∙ is))
 
   pub begun_created : (old mid new : Files D) → AreReadOnly g old mid → (IsClean g mid.db → length (g.seen old.db) ≤ new_page) → (AreClean g new.log new.db → AreClean g mid.log mid.db)
       → (AreClean g new.log new.db → ¬ IsLone (g.seen mid.log) (g.seen mid.db)) → IsReadAndCreated g mid new → IsBegun g old new

@@ -4,23 +4,23 @@ use Rattle.sqlite.specs.State.{State}
 use Rattle.acd_terms.specs.declared.command.Arrival.{Arrival}
 use Rattle.acd_book.specs.Content.{Content}
 use Rattle.acd_book.specs.State.{BookState, BookStep}
-use Rattle.acd_sql_schema.proofs.Contents.{filed_in}
-use Rattle.acd_sqlbook.specs.Noting.{SoundWith}
+use Rattle.acd_sql_schema.proofs.Contents.{canonical_in}
+use Rattle.acd_sqlbook.specs.Caching.{SoundWith}
 use Rattle.acd_sqlbook.specs.State.{book_state}
-use Rattle.acd_sqlbook.specs.declared.notes.Notes.{Notes}
+use Rattle.acd_sqlbook.specs.declared.cache.Cache.{Cache}
 use Rattle.acd_desk.specs.declared.taken.Taken.{Taken}
 use Rattle.acd_desk.specs.Leads.{Leads}
 use Rattle.acd_desk.specs.Ran.{Holds}
 use Rattle.acd_desk.specs.Session.{Session}
-use Rattle.acd_program.specs.Over.{LeavesFiled}
+use Rattle.acd_program.specs.Over.{LeavesCanonical}
 use Rattle.acd_program.specs.Work.{WasAsked}
 
 abbrev pub called : BookState → Type 0 → BookState
 called b Sound = record b { is_sound = Sound }
 
--- whatever a sound book in a database may leave is filed
-pub leaves_filed : (t : State) (noted : Notes) (failures : _) → SoundWith noted (book_state t failures) → LeavesFiled t
-leaves_filed t noted failures sound = λ db at. let own = sound.0.left db at in filed_in db own.0 own.1
+-- whatever a sound book in a database may leave is canonical
+pub leaves_canonical : (t : State) (cache : Cache) (failures : _) → SoundWith cache (book_state t failures) → LeavesCanonical t
+leaves_canonical t cache failures sound = λ db at. let parts = sound.0.left db at in canonical_in db parts.0 parts.1
 
 module _ (Sound : Type 0) (b : BookState) where
   pub leads_called : (c : Content) (l : List Arrival) (ts : List Taken) → Leads c l ts b → Leads c l ts (called b Sound)

@@ -14,7 +14,7 @@ use Rattle.acd_lines.specs.declared.fault.LinesFault.TheVariants as lines
 use Rattle.acd_sql_schema.specs.declared.fault.AdoptFault.{AdoptFault}
 use Rattle.acd_sql_schema.specs.declared.fault.AdoptFault.TheVariants as adopt
 use Rattle.acd_program.specs.Ended.{IsOfDesk, IsOfClosing, EndsBy}
-use Rattle.acd_program.specs.Faults.{adopt_fault, desk_fault, open_fault, lines_fault, told_by}
+use Rattle.acd_program.specs.Faults.{adopt_fault, desk_fault, open_fault, lines_fault, command_result}
 use Rattle.acd_program.specs.LinesOver.{LinesOver}
 use Rattle.acd_program.specs.Statuses.{fault_status}
 use Rattle.acd_program.specs.declared.fault.Fault.{Fault}
@@ -49,18 +49,18 @@ pub closing_late : (fault : Fault) → IsOfClosing fault → IsOfDesk fault
 closing_late fault (inl none) = late_as fault NoMemory none tt
 closing_late fault (inr store) = late_as fault Store store tt
 
-told_late : (ended : Result (Unit {0}) LinesFault) (failed : Bool) → IfErr (told_by ended failed) IsOfDesk
-told_late (Err why) failed = lines_late why
-told_late (Ok done) true = tt
-told_late (Ok done) false = tt
+command_late : (ended : Result (Unit {0}) LinesFault) (failed : Bool) → IfErr (command_result ended failed) IsOfDesk
+command_late (Err why) failed = lines_late why
+command_late (Ok done) true = tt
+command_late (Ok done) false = tt
 
-pub told_as : (r : Result (Unit {0}) Fault) (ended : Result (Unit {0}) LinesFault) (failed : Bool) → r ≡ told_by ended failed → IfErr r IsOfDesk
-told_as r ended failed is = subst (λ (x : Result (Unit {0}) Fault). IfErr x IsOfDesk) (sym is) (told_late ended failed)
+pub command_late_as : (r : Result (Unit {0}) Fault) (ended : Result (Unit {0}) LinesFault) (failed : Bool) → r ≡ command_result ended failed → IfErr r IsOfDesk
+command_late_as r ended failed is = subst (λ (x : Result (Unit {0}) Fault). IfErr x IsOfDesk) (sym is) (command_late ended failed)
 
 -- of lines over a book
 pub lines_known : {B : Type 0} (says : book.Ghosts B) (T : Desk B → Desk B → List (List ℕ) → List (List ℕ) → Type 0) (ends : Bool) (io : Streams) (old : BookState) (r : Result (Unit {0}) Fault) (last : B) → LinesOver says T ends io old r last → IfErr r IsOfDesk
-lines_known says T ends io old r last (inl none) = subst (λ (x : Result (Unit {0}) Fault). IfErr x IsOfDesk) (sym none.told) (open_late none.why)
-lines_known says T ends io old r last (inr some) = told_as r some.did.ended (ends && (standing says some.final).failed) some.did.told
+lines_known says T ends io old r last (inl none) = subst (λ (x : Result (Unit {0}) Fault). IfErr x IsOfDesk) (sym none.outcome) (open_late none.why)
+lines_known says T ends io old r last (inr some) = command_late_as r some.did.ended (ends && (standing says some.final).failed) some.did.outcome
 
 -- of work and of closing
 pub ended_late : (ended : Result (Unit {0}) Fault) (fault : Fault) → IfErr ended IsOfDesk → EndsBy ended fault → IsOfDesk fault

@@ -1,4 +1,4 @@
--- What is read of the matches of a command line, and what the builders make of its commands.
+-- The task read from the matches of a command line, and the commands that the builders make.
 use Rattle.std.proofs.Common.{◌≡◌, ◌≢◌, ◌≤◌, ℕ, suc, Bool, true, false, ◌&&◌, ◌||◌, ◌==◌, not, length, List, [], ◌∷◌, ◌++◌, Option, None, Some, Result, Ok, Err, IfOk, IfErr, IsErrAnd, inl, inr, refl, ap, ap₂, sym, subst, ◌∙◌, codes, arith}
 use Rattle.std.specs.Prelude.{find, is_some, option_map, unwrap_or}
 use Rattle.std.specs.Option.{option_map_or}
@@ -61,11 +61,11 @@ rule_bound r a b c x y h unless conflicts =
     }
 
 -- texts are set, which no parse reads
-pub app_begun : (name : Text) (new told helped : Command) (a h : Option (Bor Text)) → app_of new ≡ new_app name → (fields_of new).has_globals ≡ false → fields_of told ≡ record (fields_of new) { about = a }
-    → fields_of helped ≡ record (fields_of told) { after_help = h } → HasApp (new_app name) helped
-app_begun name new told helped a h is local tells helps = record {
-  app = ap app_of_fields helps ∙ ap app_of_fields tells ∙ is;
-  local = ap (λ (f : Command-F Command). f.has_globals) helps ∙ ap (λ (f : Command-F Command). f.has_globals) tells ∙ local;
+pub app_begun : (name : Text) (new described helped : Command) (a h : Option (Bor Text)) → app_of new ≡ new_app name → (fields_of new).has_globals ≡ false → fields_of described ≡ record (fields_of new) { about = a }
+    → fields_of helped ≡ record (fields_of described) { after_help = h } → HasApp (new_app name) helped
+app_begun name new described helped a h is local describes helps = record {
+  app = ap app_of_fields helps ∙ ap app_of_fields describes ∙ is;
+  local = ap (λ (f : Command-F Command). f.has_globals) helps ∙ ap (λ (f : Command-F Command). f.has_globals) describes ∙ local;
 }
 
 pub app_used : (a : App) (old new : Command) (u : Option (Bor Text)) → HasApp a old → fields_of new ≡ record (fields_of old) { usage_str = u } → HasApp a new
@@ -90,7 +90,7 @@ acd_is_simple = refl
 pub matches_are : (a : App) (words : List Text) (m : ArgMatches) → a ≡ acd → HasMatchesOf a words m → subcommand_rows_of m ≡ subcommand_of acd words
 matches_are a words m is matches = (subst (λ (x : App). HasMatchesOf x words m) is matches acd_is_simple).1
 
--- of words that are taken a parse fails for want of memory alone, so neither help nor the version is told
+-- for accepted words a parse fails for want of memory alone, so neither help nor the version is printed
 memory_is_no_help : (kind : ErrorKind) → kind ≡ OutOfMemory → IsHelp kind → ⊥
 memory_is_no_help kind memory (inl help) = absurd (cc (sym memory ∙ help))
 memory_is_no_help kind memory (inr version) = absurd (cc (sym memory ∙ version))

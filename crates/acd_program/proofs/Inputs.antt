@@ -1,4 +1,4 @@
--- That the lines of an input were answered, by what was answered over a desk in memory or over a file.
+-- The lines of an input were answered, by the answers over a desk in memory or over a file.
 use Rattle.std.proofs.Common.{◌≡◌, inl, inr, ℕ, Bool, true, false, List, Option, Some, None, Result, Ok, Err, IfErr, OnOk, refl, sym, subst, true≢false}
 use Rattle.std.specs.Io.KnownBytes.{Appends}
 use Rattle.sqlite_disk.specs.declared.Disk.{Ghosts}
@@ -24,7 +24,7 @@ use Rattle.acd_program.specs.Tasks.{MemoryAnswered, FileAnswered, InputAnswered}
 use Rattle.acd_program.proofs.Seen.{new_view, new_views, done_seen, whole_seen, seen_new}
 use Rattle.acd_program.proofs.Answering.{in_memory_quiet, lines_from_nothing, answers_none}
 
--- what ended the work, and what closing its file met
+-- the fault that ended the work, and the one of closing its file
 pub both_so : {F : Type 0} (r done closed : Result (Unit {0}) F) (P Q X : Type 0) → OnOk r ((done ≡ Ok tt) × (closed ≡ Ok tt)) → OnOk done P → OnOk closed Q → (P → Q → X) → OnOk r X
 both_so (Err e) done closed P Q X h p q f = tt
 both_so {F} (Ok u) done closed P Q X h p q f = f (subst (λ (x : Result (Unit {0}) F). OnOk x P) h.0 p) (subst (λ (x : Result (Unit {0}) F). OnOk x Q) h.1 q)
@@ -63,27 +63,27 @@ pub memory_lines : (reads is_so : Bool) (io : Streams) (r : Result (Unit {0}) Li
 memory_lines reads is_so io r is h =
     subst (λ (b : Bool). OnOk r (NewAnswered b io)) (sym is) (memory_whole (in_turn is_so (standing in_memory)) io r h)
 
--- behind a fault
-memory_told : {R W : Type 0} (remaining : R → Option (List ℕ)) (contents : W → Option (List ℕ)) → LinesAreFromNothing remaining contents → (reads : Bool) (reader : R × R) (writer : W × W) (r : Result (Unit {0}) LinesFault)
+-- after a fault
+memory_ended_by : {R W : Type 0} (remaining : R → Option (List ℕ)) (contents : W → Option (List ℕ)) → LinesAreFromNothing remaining contents → (reads : Bool) (reader : R × R) (writer : W × W) (r : Result (Unit {0}) LinesFault)
     → LinesInMemory (in_turn reads (standing in_memory)) (streams remaining contents reader writer) r → IfErr r (MemoryEnded reads (streams remaining contents reader writer))
-memory_told remaining contents law reads reader writer (Ok u) h = tt
-memory_told remaining contents law true reader writer (Err why) (inl none) = inl (same_error none.0, none.1)
-memory_told remaining contents law true reader writer (Err why) (inr some) =
+memory_ended_by remaining contents law reads reader writer (Ok u) h = tt
+memory_ended_by remaining contents law true reader writer (Err why) (inl none) = inl (same_error none.0, none.1)
+memory_ended_by remaining contents law true reader writer (Err why) (inr some) =
     inr (seen_new (λ (d e : Desk Content). LinesDone (standing in_memory) (in_turn true (standing in_memory)) false (streams remaining contents reader writer) d e (Err why))
     (λ (stands : Seen Content → Standing) (d e : Seen Content). LinesDone stands (in_turn true stands) false (streams remaining contents reader writer) d e (Err why))
     (λ d e h. (done_seen (standing in_memory) (seen unfailing) new_view _ new_views d e tt false (streams remaining contents reader writer) (Err why) h).1) some)
-memory_told remaining contents law false reader writer (Err why) h = law reader writer (Err why) h
+memory_ended_by remaining contents law false reader writer (Err why) h = law reader writer (Err why) h
 
 pub memory_ended : {R W : Type 0} (remaining : R → Option (List ℕ)) (contents : W → Option (List ℕ)) → LinesAreFromNothing remaining contents → (reads is_so : Bool) (reader : R × R) (writer : W × W) (r : Result (Unit {0}) LinesFault) → reads ≡ is_so
     → LinesInMemory (in_turn is_so (standing in_memory)) (streams remaining contents reader writer) r → IfErr r (MemoryEnded reads (streams remaining contents reader writer))
 memory_ended remaining contents law reads is_so reader writer r is h =
-    subst (λ (b : Bool). IfErr r (MemoryEnded b (streams remaining contents reader writer))) (sym is) (memory_told remaining contents law is_so reader writer r h)
+    subst (λ (b : Bool). IfErr r (MemoryEnded b (streams remaining contents reader writer))) (sym is) (memory_ended_by remaining contents law is_so reader writer r h)
 
 memory_answered : RequestsRun in_memory → (reads : Bool) (io : Streams) → NewAnswered reads io → MemoryAnswered reads io
 memory_answered runs true io h =
     seen_new (Whole (standing in_memory) (in_turn true (standing in_memory)) false io) (λ (stands : Seen Content → Standing). Whole stands (in_turn true stands) false io)
     (λ d e h. whole_seen (standing in_memory) (seen unfailing) new_view _ new_views d e tt false io h) h
-memory_answered runs false io h = from_nothing runs (AllLines io.had) (Appends io.before io.behind) h.first h.final h.opened h.did.answered
+memory_answered runs false io h = from_nothing runs (AllLines io.old_input) (Appends io.old_output io.new_output) h.first h.final h.opened h.did.answered
 
 module _ {Name D : Type 0} (disk : Ghosts D) (IsFresh : Bool → D → Type 0) (named : Option Name) (reads ends : Bool) (io : Streams) where
   pub memory_input : RequestsRun in_memory → named ≡ None → NewAnswered reads io → InputAnswered disk IsFresh named reads ends io 0

@@ -9,7 +9,7 @@ pub mod InFiles
 pub mod Tasks
 pub mod Begun
 pub mod Lone
-pub mod Served
+pub mod ServeDone
 pub mod LinesOver
 pub mod Inputs
 pub mod Plans
@@ -17,4 +17,4 @@ pub mod CommandLines
 pub mod Coming
 pub mod Ended
 pub mod TasksEnded
-pub mod AuditsBehind
+pub mod AuditsWithArchive

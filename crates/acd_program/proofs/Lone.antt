@@ -1,4 +1,4 @@
--- That a log holds no commit.
+-- A log that holds no commit.
 use Rattle.std.proofs.Common.{◌≡◌, ℕ, ◌<◌, List, None, sym, refl, ◌∙◌, subst, inl, arith}
 use Rattle.std.proofs.lemmas.Bool.{false≢true}
 use Rattle.sqlite_wal.specs.Format.{be32}
@@ -8,7 +8,7 @@ use Rattle.sqlite_wal.proofs.RecoveryLemmas.{replays_no_fewer}
 use Rattle.sqlite_wal.proofs.FormatLemmas.{be32-part}
 use Rattle.acd_program.specs.Files.{HoldsCommit}
 
--- what an opening passes over holds none
+-- a log that an opening skips holds none
 taken : (size frames : ℕ) (log : List ℕ) → 0 < frames → IsCommitted size log frames → ¬ IsIgnored log
 taken size frames log some committed ignored =
     let none = replays_no_fewer size log frames 0 committed (inl (ignored, refl)) in

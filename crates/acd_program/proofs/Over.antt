@@ -1,4 +1,4 @@
--- What lines over a book leave, by what opening a desk and its run left; and over a connection, by what its book left.
+-- Lines over a book, by opening a desk and its run, and over a connection, by its book: what they leave.
 use Rattle.std.proofs.Common.{◌≡◌, ℕ, Bool, true, false, List, sym, subst, ◌∙◌, inl, inr, true≢false}
 use Rattle.std.specs.List.{Contains}
 use Rattle.sqlite.specs.State.{State}
@@ -7,12 +7,12 @@ use Rattle.acd_model.specs.Rules.First.{BreaksNoRule}
 use Rattle.acd_book.specs.Content.{Content, IsCounted, HasRisen}
 use Rattle.acd_book.specs.State.{BookState}
 use Rattle.acd_book.proofs.BookSteps.{step_then}
-use Rattle.acd_sqlbook.specs.declared.notes.Notes.{Notes}
-use Rattle.acd_sqlbook.specs.Noting.{followed}
+use Rattle.acd_sqlbook.specs.declared.cache.Cache.{Cache}
+use Rattle.acd_sqlbook.specs.Caching.{followed}
 use Rattle.acd_sqlbook.specs.State.{book_state}
 use Rattle.acd_desk.specs.declared.taken.Taken.{Taken}
 use Rattle.acd_desk.specs.declared.taken.Taken.TheVariants.{StoreFault}
-use Rattle.acd_desk.specs.Served.{served, maybe_last, sent}
+use Rattle.acd_desk.specs.Accepted.{accepted, maybe_last, sent}
 use Rattle.acd_desk.specs.Standing.{Standing}
 use Rattle.acd_desk.specs.Stands.{IsSound, replies, StopsAt}
 use Rattle.acd_desk.specs.Opening.{Opened}
@@ -39,9 +39,9 @@ lines_well P W ends old d e opened well h =
 
 -- a desk that was just opened hadn't failed
 failed_since : (old : BookState) (d e : Standing) (l : List Arrival) (ts : List Taken) → Opened old d → Ran d l ts e → e.failed ≡ true → Contains ts StoreFault
-failed_since old d e l ts opened ran failed = elim (ran.desk.tells failed) [
+failed_since old d e l ts opened ran failed = elim (ran.desk.answers failed) [
   | inl before ↦ absurd (true≢false (sym before ∙ opened.working))
-  | inr told ↦ told
+  | inr found ↦ found
 ]
 
 pub lines_failed : (P : List (List ℕ) → Type 0) (W : List ℕ → Type 0) (old : BookState) (d e : Standing) → Opened old d → e.failed ≡ true → LinesAnswered P (ArrivalsAnswered (λ (l : List Arrival) (ts : List Taken). Ran d l ts e)) W
@@ -62,10 +62,10 @@ session_of P old mid new l ts of s =
       opened = λ clean is. of.opened (s.step.clean clean) is;
       accepts = λ clean is. subst (λ (c : Content). BreaksNoRule c.rows) (same clean is) (s.accepts clean (sound clean is));
       leads = λ clean is counted. subst (λ (c : Content). Leads c l ts new) (same clean is) (s.leads clean (sound clean is) (subst IsCounted (sym (same clean is)) counted));
-      replies = λ clean is whole. subst (λ (c : Content). sent ts ≡ replies c (served l ts)) (same clean is) (s.replies clean (sound clean is) (well clean is whole));
-      holds = λ clean is whole opened. subst (λ (c : Content). Holds c (served l ts) new) (same clean is) (s.holds clean (sound clean is) (well clean is whole) opened);
+      replies = λ clean is whole. subst (λ (c : Content). sent ts ≡ replies c (accepted l ts)) (same clean is) (s.replies clean (sound clean is) (well clean is whole));
+      holds = λ clean is whole opened. subst (λ (c : Content). Holds c (accepted l ts) new) (same clean is) (s.holds clean (sound clean is) (well clean is whole) opened);
       up = λ clean is last. s.up clean (sound clean is) last;
-      stops = λ clean is whole c at. subst (λ (x : Content). StopsAt x (served l ts) (maybe_last l ts) c) (same clean is) (s.stops clean (sound clean is) (well clean is whole) c at);
+      stops = λ clean is whole c at. subst (λ (x : Content). StopsAt x (accepted l ts) (maybe_last l ts) c) (same clean is) (s.stops clean (sound clean is) (well clean is whole) c at);
       sound_stops = λ clean is whole c at. s.sound_stops clean (sound clean is) (well clean is whole) c at;
       later = s.later;
       cause = λ clean is whole found. subst (λ (k : ℕ). HasRisen k new.failures) (of.step.quiet (λ none. none)) (s.cause clean (sound clean is) (well clean is whole) found);
@@ -82,13 +82,13 @@ pub failed_lines_since : (P : List (List ℕ) → Type 0) (W : List ℕ → Type
 failed_lines_since P W old mid new of h = arrivals_so P (IsFailedSession mid new) (IsFailedSession old new) W (λ l ts s. (session_of IsFault old mid new l ts of s.0, s.1)) h
 
 -- whatever carries over to what a book came of is said of the database
-pub over_connection : (P Q : BookState → BookState → Type 0) (makes : Bool) (s t : State) (mid : BookState) (noted : Notes) (failures : ℕ)
-    → ((old : BookState) → IsOf old mid → P mid (followed noted (book_state t failures)) → Q old (followed noted (book_state t failures)))
-    → ((old : BookState) → Q old (followed noted (book_state t failures)) → Q old (left t failures)) → IsTaken makes s mid → P mid (followed noted (book_state t failures)) → OverConnection Q makes s t
-over_connection P Q makes s t mid noted failures carries leaves taken h = (
+pub over_connection : (P Q : BookState → BookState → Type 0) (makes : Bool) (s t : State) (mid : BookState) (cache : Cache) (failures : ℕ)
+    → ((old : BookState) → IsOf old mid → P mid (followed cache (book_state t failures)) → Q old (followed cache (book_state t failures)))
+    → ((old : BookState) → Q old (followed cache (book_state t failures)) → Q old (left t failures)) → IsTaken makes s mid → P mid (followed cache (book_state t failures)) → OverConnection Q makes s t
+over_connection P Q makes s t mid cache failures carries leaves taken h = (
   failures,
   elim taken [
-    | inl had ↦ inl (leaves _ (carries _ had h))
+    | inl found ↦ inl (leaves _ (carries _ found h))
     | inr made ↦ inr (made.0, made.1, leaves _ (carries _ made.2 h))
   ],
 )

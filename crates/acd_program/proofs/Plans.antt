@@ -18,12 +18,12 @@ whole_by all requests true more h =
 whole_by all requests false few h = subst (λ (l : List ℕ). plan_requests l ≡ Ok requests) (take_all 1048577 all (ltb-false 1048577 (length all) few)) h
 
 -- as many bytes as are enough
-pub read_enough : (had : Option (List ℕ)) (limit : ℕ) (before bytes : List ℕ) → limit ≡ 1048577 → before ≡ [] → IfSome (option_map (take limit) had) (λ (xs : List ℕ). bytes ≡ before ++ xs) → IfSome had (λ (all : List ℕ). bytes ≡ take 1048577 all)
+pub read_enough : (old_input : Option (List ℕ)) (limit : ℕ) (before bytes : List ℕ) → limit ≡ 1048577 → before ≡ [] → IfSome (option_map (take limit) old_input) (λ (xs : List ℕ). bytes ≡ before ++ xs) → IfSome old_input (λ (all : List ℕ). bytes ≡ take 1048577 all)
 read_enough None limit before bytes is none h = search
 read_enough (Some all) limit before bytes is none h = h ∙ ap (λ (l : List ℕ). l ++ take limit all) none ∙ ap (λ (n : ℕ). take n all) is
 
--- so much of what a reader had was read
-pub read_whole : (had : Option (List ℕ)) (bytes : List ℕ) (requests : List Request) → IfSome had (λ (all : List ℕ). bytes ≡ take 1048577 all) → plan_requests bytes ≡ Ok requests
-    → (all : List ℕ) × IsInput had all × (plan_requests all ≡ Ok requests)
+-- so much of what a reader held was read
+pub read_whole : (old_input : Option (List ℕ)) (bytes : List ℕ) (requests : List Request) → IfSome old_input (λ (all : List ℕ). bytes ≡ take 1048577 all) → plan_requests bytes ≡ Ok requests
+    → (all : List ℕ) × IsInput old_input all × (plan_requests all ≡ Ok requests)
 read_whole None bytes requests read is = (bytes, search, is)
 read_whole (Some all) bytes requests read is = (all, refl, whole_by all requests (nat_lt 1048577 (length all)) refl (subst (λ (l : List ℕ). plan_requests l ≡ Ok requests) read is))

@@ -1,4 +1,4 @@
--- What a desk over a book did, as it is seen from outside; over that of a database, each book is called sound where the first was.
+-- A desk over a book, as it is seen from outside; over that of a database, each book is called sound where the first was.
 use Rattle.std.proofs.Common.{◌≡◌, inl, inr, ℕ, Bool, true, List, [], ◌∷◌, Option, Some, None, Result, Ok, Err, sym, ap, subst, ◌∙◌, ◌&&◌, refl}
 use Rattle.std.proofs.lemmas.Result.{on_ok_weaker}
 use Rattle.sqlite.specs.Held.{Held, state}
@@ -18,33 +18,33 @@ use Rattle.acd_desk.specs.Opening.{Opened}
 use Rattle.acd_desk.specs.Ran.{DeskStep, EndsUp, Ran, Took}
 use Rattle.acd_desk.specs.Standing.{Standing, Starts, standing, switch_of, is_failed}
 use Rattle.acd_desk.specs.Stands.{IsSound}
-use Rattle.acd_desk.specs.Told.{Told}
+use Rattle.acd_desk.specs.ReadDone.{ReadDone}
 use Rattle.acd_lines.specs.Answers.{Answers}
 use Rattle.acd_lines.specs.Input.{Line, no_moment, too_long, faulty, arrival, text_of}
 use Rattle.acd_lines.specs.Lines.{LinesAnswered, FirstLines, Streams, LinesDone, EndedBy}
-use Rattle.acd_lines.specs.Parts.{Serves}
+use Rattle.acd_lines.specs.Parts.{AnswersEach}
 use Rattle.acd_lines.specs.declared.fault.LinesFault.{LinesFault}
 use Rattle.acd_lines.specs.declared.fault.LinesFault.TheVariants as lines
 use Rattle.acd_lines.proofs.Weaker.{answered_so}
 use Rattle.acd_http.specs.declared.asked.Asked.{Asked}
 use Rattle.acd_http.specs.declared.asked.Asked.TheVariants as ask
-use Rattle.acd_http.specs.declared.serving.ExchangeFault.TheVariants as fault
+use Rattle.acd_http.specs.declared.exchanging.ExchangeFault.TheVariants as fault
 use Rattle.acd_http.specs.Exchanging.{Replies, AnswersAsked}
-use Rattle.acd_http.specs.Listening.{Outcome, Visited, ServedOne, ServesEach, EachWell, ServedFor}
+use Rattle.acd_http.specs.Listening.{Outcome, Visited, AnsweredOne, AnsweredEach, EachWell, AnsweredFor}
 use Rattle.acd_http.specs.ReadingLines.{ReadingLine, plain, get, reading_line_of, ReadingAnswers}
 use Rattle.acd_io.specs.Sent.{Begins}
 use Rattle.acd_program.specs.Answered.{in_memory}
 use Rattle.acd_program.specs.Desks.{OverDatabase, OverNewDesk, in_database}
-use Rattle.acd_program.specs.Faults.{told_by}
-use Rattle.acd_program.specs.Over.{held, unmade, LeavesFiled}
-use Rattle.acd_program.specs.LinesOver.{in_turn, Whole, LinesTold}
+use Rattle.acd_program.specs.Faults.{command_result}
+use Rattle.acd_program.specs.Over.{held, unmade, LeavesCanonical}
+use Rattle.acd_program.specs.LinesOver.{in_turn, Whole, LinesEnded}
 use Rattle.acd_program.specs.Seen.{Seen, seen, SeenNew, InDatabase, left_of, SeenOver, SeenIn}
-use Rattle.acd_program.specs.Serving.{ServeTold, ends_failed}
+use Rattle.acd_program.specs.Serving.{ServeEnded, ends_failed}
 use Rattle.acd_program.specs.Taking.{IsOf}
 use Rattle.acd_program.specs.declared.fault.Fault.{Fault}
-use Rattle.acd_program.proofs.Called.{called, leaves_filed, leads_called, holds_called}
+use Rattle.acd_program.proofs.Called.{called, leaves_canonical, leads_called, holds_called}
 
--- what a book that is called sound says of one that came of it
+-- a book that is called sound says this of one that came of it
 abbrev pub SoundBy : Type 0 → BookState → Type 0
 SoundBy Sound b = b.is_clean → Sound → b.is_sound
 
@@ -71,7 +71,7 @@ module _ (Sound : Type 0) where
     desk_called F U before d = record {
       in_step = λ clean sound. d.in_step clean (k (before clean) sound);
       shuts = d.shuts;
-      tells = d.tells;
+      answers = d.answers;
       lasts = d.lasts;
       cause = λ failed. elim (d.cause failed) [
         | inl why ↦ inl why
@@ -85,16 +85,16 @@ module _ (Sound : Type 0) where
         record {
           step = step_called s.book t.book h.step;
           desk = desk_called _ _ h.step.clean h.desk;
-          up = λ served clean sound. h.up served clean (hon clean sound);
-          sent = λ served clean sound. h.sent served clean (hon clean sound);
+          up = λ accepted clean sound. h.up accepted clean (hon clean sound);
+          sent = λ accepted clean sound. h.sent accepted clean (hon clean sound);
           unmoved = λ none clean sound. h.unmoved none clean (hon clean sound);
           stops = λ clean sound. h.stops clean (hon clean sound);
           shut = h.shut;
           unloads = h.unloads;
         }
 
-    pub told_called : {A : Type 0} (r : Result A DeskFault) (P : Content → A → Type 0) → Told s t r P → Told (recast s) (recast t) r P
-    told_called r P h =
+    pub read_called : {A : Type 0} (r : Result A DeskFault) (P : Content → A → Type 0) → ReadDone s t r P → ReadDone (recast s) (recast t) r P
+    read_called r P h =
         let hon : t.book.is_clean → Sound → s.book.is_sound = λ clean sound. k (h.step.clean clean) sound in
         record {
           step = step_called s.book t.book h.step;
@@ -155,20 +155,20 @@ opened_of old mid d of o =
 
 module _ {S T L : Type 0} (asks : List ℕ → L) (One : S → L → List ℕ → S → Type 0) (Other : T → L → List ℕ → T → Type 0) (f : S → T) (Kept : S → Type 0)
     (step : (s : S) (line : L) (out : List ℕ) (t : S) → Kept s → One s line out t → Kept t × Other (f s) line out (f t)) where
-  serves_as : (s : S) (pieces outs : List (List ℕ)) (t : S) → Kept s → Serves asks One s pieces outs t → Kept t × Serves asks Other (f s) pieces outs (f t)
-  serves_as s [] [] t k h = (subst Kept (sym h) k, ap f h)
-  serves_as s [] (out ∷ outs) t k h = absurd h
-  serves_as s (piece ∷ pieces) [] t k h = absurd h
-  serves_as s (piece ∷ pieces) (out ∷ outs) t k h =
+  answers_as : (s : S) (pieces outs : List (List ℕ)) (t : S) → Kept s → AnswersEach asks One s pieces outs t → Kept t × AnswersEach asks Other (f s) pieces outs (f t)
+  answers_as s [] [] t k h = (subst Kept (sym h) k, ap f h)
+  answers_as s [] (out ∷ outs) t k h = absurd h
+  answers_as s (piece ∷ pieces) [] t k h = absurd h
+  answers_as s (piece ∷ pieces) (out ∷ outs) t k h =
       let one = step s (asks (text_of piece)) out h.0 k h.1 in
-      let rest = serves_as h.0 pieces outs t one.0 h.2 in
+      let rest = answers_as h.0 pieces outs t one.0 h.2 in
       (rest.0, (f h.0, one.1, rest.1))
 
 -- of what each desk keeps, and of what it did, as it is seen
 pub record Views {D T : Type 0} (stands : D → Standing) (stood : T → Standing) (view : D → T) (Kept : D → Type 0) : Type 1 where
   pub failed : (d : D) → (stood (view d)).failed ≡ (stands d).failed
   pub took : (d e : D) (a : Arrival) (x : Taken) → Kept d → Took (stands d) a x (stands e) → Kept e × Took (stood (view d)) a x (stood (view e))
-  pub told : (d e : D) (r : Result (Option (List ℕ)) DeskFault) (P : Content → Option (List ℕ) → Type 0) → Kept d → Told (stands d) (stands e) r P → Kept e × Told (stood (view d)) (stood (view e)) r P
+  pub read : (d e : D) (r : Result (Option (List ℕ)) DeskFault) (P : Content → Option (List ℕ) → Type 0) → Kept d → ReadDone (stands d) (stands e) r P → Kept e × ReadDone (stood (view d)) (stood (view e)) r P
   pub ran : (d e : D) (l : List Arrival) (ts : List Taken) → Kept d → Ran (stands d) l ts (stands e) → Ran (stood (view d)) l ts (stood (view e))
 
 module _ {D T : Type 0} (stands : D → Standing) (stood : T → Standing) (view : D → T) (Kept : D → Type 0) (v : Views stands stood view Kept) where
@@ -187,10 +187,10 @@ module _ {D T : Type 0} (stands : D → Standing) (stood : T → Standing) (view
   read_seen d (plain line) out e k h = line_seen d line out e k h
   read_seen d (get moment (Err why)) out e k h = (same_kept d e h.1 k, (h.0, ap view h.1))
   read_seen d (get moment (Ok question)) out e k (inl none) = (same_kept d e none.1 k, inl (none.0, ap view none.1))
-  read_seen d (get moment (Ok question)) out e k (inr said) = let told = v.told d e said.0 _ k said.2 in (told.0, inr (said.0, said.1, told.1))
+  read_seen d (get moment (Ok question)) out e k (inr said) = let read = v.read d e said.0 _ k said.2 in (read.0, inr (said.0, said.1, read.1))
 
   reads_seen : (d e : D) (pieces outs : List (List ℕ)) → Kept d → in_turn true stands d e pieces outs → Kept e × in_turn true stood (view d) (view e) pieces outs
-  reads_seen d e pieces outs k h = serves_as reading_line_of (ReadingAnswers stands) (ReadingAnswers stood) view Kept read_seen d pieces outs e k h
+  reads_seen d e pieces outs k h = answers_as reading_line_of (ReadingAnswers stands) (ReadingAnswers stood) view Kept read_seen d pieces outs e k h
 
   module _ (d e : D) (k : Kept d) where
     lines_seen : (P : List (List ℕ) → Type 0) (W : List ℕ → Type 0) → LinesAnswered P (in_turn true stands d e) W → LinesAnswered P (in_turn true stood (view d) (view e)) W
@@ -206,15 +206,15 @@ module _ {D T : Type 0} (stands : D → Standing) (stood : T → Standing) (view
 
     pub done_seen : (ends : Bool) (io : Streams) (r : Result (Unit {0}) LinesFault) → LinesDone stands (in_turn true stands) ends io d e r → Kept e × LinesDone stood (in_turn true stood) ends io (view d) (view e) r
     done_seen ends io (Ok u) h = (
-      kept_after (FirstLines io.had) _ h.first,
+      kept_after (FirstLines io.old_input) _ h.first,
       record { all = λ well. lines_seen _ _ (h.all (λ asked. sym (v.failed e) ∙ well asked)); first = lines_seen _ _ h.first; begun = tt; cause = tt },
     )
-    done_seen ends io (Err why) h = (kept_after (FirstLines io.had) _ h.begun, record { all = tt; first = tt; begun = lines_seen _ _ h.begun; cause = ended_seen io why h.cause })
+    done_seen ends io (Err why) h = (kept_after (FirstLines io.old_input) _ h.begun, record { all = tt; first = tt; begun = lines_seen _ _ h.begun; cause = ended_seen io why h.cause })
 
-    pub told_seen : (ends : Bool) (io : Streams) (r : Result (Unit {0}) Fault) → LinesTold stands (in_turn true stands) ends io r d e → Kept e × LinesTold stood (in_turn true stood) ends io r (view d) (view e)
-    told_seen ends io r h =
+    pub lines_ended_seen : (ends : Bool) (io : Streams) (r : Result (Unit {0}) Fault) → LinesEnded stands (in_turn true stands) ends io r d e → Kept e × LinesEnded stood (in_turn true stood) ends io r (view d) (view e)
+    lines_ended_seen ends io r h =
         let done = done_seen ends io h.ended h.lines in
-        (done.0, record { ended = h.ended; lines = done.1; told = h.told ∙ ap (λ (b : Bool). told_by h.ended (ends && b)) (sym (v.failed e)) })
+        (done.0, record { ended = h.ended; lines = done.1; outcome = h.outcome ∙ ap (λ (b : Bool). command_result h.ended (ends && b)) (sym (v.failed e)) })
 
     pub whole_seen : (ends : Bool) (io : Streams) → Whole stands (in_turn true stands) ends io d e → Whole stood (in_turn true stood) ends io (view d) (view e)
     whole_seen ends io h = record { answered = lines_seen _ _ h.answered; well = λ asked. v.failed e ∙ h.well asked }
@@ -224,33 +224,33 @@ module _ {D T : Type 0} (stands : D → Standing) (stood : T → Standing) (view
   replied_seen : (d : D) (moment : ℕ) (asked : Asked) (out : List ℕ) (e : D) → Kept d → Replies stands moment d asked out e → Kept e × Replies stood moment (view d) asked out (view e)
   replied_seen d moment ask.Truncated out e k h = absurd h
   replied_seen d moment (ask.Refused why bodiless) out e k h = (same_kept d e h.1 k, (h.0, ap view h.1))
-  replied_seen d moment (ask.Look question bodiless) out e k h = let told = v.told d e h.0 _ k h.2 in (told.0, (h.0, h.1, told.1))
+  replied_seen d moment (ask.Look question bodiless) out e k h = let read = v.read d e h.0 _ k h.2 in (read.0, (h.0, h.1, read.1))
   replied_seen d moment (ask.Arrival r) out e k h = let took = v.took d e _ h.0 k h.2 in (took.0, (h.0, h.1, took.1, v.ran d e _ _ k h.3))
 
   answered_seen : (d : D) (moment : ℕ) (asked : Asked) (out : List ℕ) (e : D) → Kept d → AnswersAsked stands moment d asked out e → Kept e × AnswersAsked stood moment (view d) asked out (view e)
-  answered_seen d moment asked out e k (inl h) = let told = replied_seen d moment asked out e k h in (told.0, inl told.1)
+  answered_seen d moment asked out e k (inl h) = let replied = replied_seen d moment asked out e k h in (replied.0, inl replied.1)
   answered_seen d moment asked out e k (inr h) = (same_kept d e h.2 k, inr (h.0, h.1, ap view h.2))
 
   visited_seen : (d e : D) → Kept d → Visited stands d e → Kept e × Visited stood (view d) (view e)
   visited_seen d e k h =
-      let told = answered_seen d h.moment h.asked h.reply e k h.answers in
-      (told.0, record { moment = h.moment; input = h.input; asked = h.asked; reply = h.reply; asks = h.asks; answers = told.1 })
+      let answered = answered_seen d h.moment h.asked h.reply e k h.answers in
+      (answered.0, record { moment = h.moment; input = h.input; asked = h.asked; reply = h.reply; asks = h.asks; answers = answered.1 })
 
-  one_seen : (d : D) (x : Outcome) (e : D) → Kept d → ServedOne stands d x e → Kept e × ServedOne stood (view d) x (view e)
+  one_seen : (d : D) (x : Outcome) (e : D) → Kept d → AnsweredOne stands d x e → Kept e × AnsweredOne stood (view d) x (view e)
   one_seen d (Ok u) e k h = visited_seen d e k h
   one_seen d (Err fault.Write) e k h = visited_seen d e k h
   one_seen d (Err fault.Truncated) e k h = (same_kept d e h k, ap view h)
   one_seen d (Err fault.Read) e k h = (same_kept d e h k, ap view h)
   one_seen d (Err fault.NoMemory) e k h = (same_kept d e h k, ap view h)
 
-  each_seen : (d : D) (xs : List Outcome) (e : D) → Kept d → ServesEach stands d xs e → Kept e × ServesEach stood (view d) xs (view e)
+  each_seen : (d : D) (xs : List Outcome) (e : D) → Kept d → AnsweredEach stands d xs e → Kept e × AnsweredEach stood (view d) xs (view e)
   each_seen d [] e k h = (same_kept d e h k, ap view h)
   each_seen d (x ∷ xs) e k h =
       let one = one_seen d x h.0 k h.1 in
       let rest = each_seen h.0 xs e one.0 h.2 in
       (rest.0, (view h.0, one.1, rest.1))
 
-  well_seen : (d : D) (xs : List Outcome) (e : D) (k : Kept d) (h : ServesEach stands d xs e) → EachWell stands d xs e h → EachWell stood (view d) xs (view e) (each_seen d xs e k h).1
+  well_seen : (d : D) (xs : List Outcome) (e : D) (k : Kept d) (h : AnsweredEach stands d xs e) → EachWell stands d xs e h → EachWell stood (view d) xs (view e) (each_seen d xs e k h).1
   unfolding each_seen one_seen
   well_seen d [] e k h w = w
   well_seen d (x ∷ xs) e k h w = (v.failed d ∙ w.0, well_seen h.0 xs e (one_seen d x h.0 k h.1).0 h.2 w.1)
@@ -259,27 +259,27 @@ module _ {D T : Type 0} (stands : D → Standing) (stood : T → Standing) (view
     still_failed : (b : Bool) → (stands e).failed ≡ b → (stood (view e)).failed ≡ b
     still_failed b is = v.failed e ∙ is
 
-    served_for_seen : (span : Option ℕ) (W : List ℕ → Type 0) → ServedFor stands span d e W → Kept e × ServedFor stood span (view d) (view e) W
-    served_for_seen (Some many) W h =
-        let each = each_seen d h.outcomes e k h.serves in
-        (each.0, record { outcomes = h.outcomes; count = h.count; serves = each.1; out = h.out })
-    served_for_seen None W h =
-        let each = each_seen d h.1.outcomes e k h.1.serves in (
+    answered_for_seen : (span : Option ℕ) (W : List ℕ → Type 0) → AnsweredFor stands span d e W → Kept e × AnsweredFor stood span (view d) (view e) W
+    answered_for_seen (Some many) W h =
+        let each = each_seen d h.outcomes e k h.answered in
+        (each.0, record { outcomes = h.outcomes; count = h.count; answered = each.1; out = h.out })
+    answered_for_seen None W h =
+        let each = each_seen d h.1.outcomes e k h.1.answered in (
           each.0,
           (
             h.0,
-            record { outcomes = h.1.outcomes; count = h.1.count; serves = each.1; well = well_seen d h.1.outcomes e k h.1.serves h.1.well; out = h.1.out },
+            record { outcomes = h.1.outcomes; count = h.1.count; answered = each.1; well = well_seen d h.1.outcomes e k h.1.answered h.1.well; out = h.1.out },
             elim h.2 [ inl failed ↦ inl (still_failed true failed) | inr most ↦ inr most ],
           ),
         )
 
-    pub serve_seen : (span : Option ℕ) (mute told : Option (List ℕ)) (port : ℕ) (before behind : Option (List ℕ)) (r : Result (Unit {0}) Fault) → ServeTold span mute told port before behind stands r d e
-        → Kept e × ServeTold span mute told port before behind stood r (view d) (view e)
-    serve_seen span mute told port before behind r (inl h) =
+    pub serve_seen : (span : Option ℕ) (old_errors new_errors : Option (List ℕ)) (port : ℕ) (old_output new_output : Option (List ℕ)) (r : Result (Unit {0}) Fault) → ServeEnded span old_errors new_errors port old_output new_output stands r d e
+        → Kept e × ServeEnded span old_errors new_errors port old_output new_output stood r (view d) (view e)
+    serve_seen span old_errors new_errors port old_output new_output r (inl h) =
         (same_kept d e h.0.same k, inl (record { why = h.0.why; ended = h.0.ended; same = ap view h.0.same; quiet = h.0.quiet }, h.1))
-    serve_seen span mute told port before behind r (inr h) =
-        let each = served_for_seen span (Begins mute told) h.0.served in
-        (each.0, inr (record { served = each.1; ended = h.0.ended ∙ ap (λ (b : Bool). told_by (Ok tt) (ends_failed span b)) (sym (v.failed e)) }, h.1))
+    serve_seen span old_errors new_errors port old_output new_output r (inr h) =
+        let each = answered_for_seen span (Begins old_errors new_errors) h.0.answered in
+        (each.0, inr (record { answered = each.1; ended = h.0.ended ∙ ap (λ (b : Bool). command_result (Ok tt) (ends_failed span b)) (sym (v.failed e)) }, h.1))
 
 -- ---- over a new book in memory
 
@@ -287,7 +287,7 @@ abbrev pub new_view : Desk Content → Seen Content
 new_view d = record { book = d.book; switch = switch_of d.working; failed = is_failed d.working }
 
 pub new_views : Views (standing in_memory) (seen unfailing) new_view (λ (d : Desk Content). Unit {0})
-new_views = record { failed = λ d. refl; took = λ d e a x k h. (tt, h); told = λ d e r P k h. (tt, h); ran = λ d e l ts k h. h }
+new_views = record { failed = λ d. refl; took = λ d e a x k h. (tt, h); read = λ d e r P k h. (tt, h); ran = λ d e l ts k h. h }
 
 pub seen_new : (Did : Desk Content → Desk Content → Type 0) (DidSeen : (Seen Content → Standing) → Seen Content → Seen Content → Type 0) → ((d e : Desk Content) → Did d e → DidSeen (seen unfailing) (new_view d) (new_view e)) → OverNewDesk Did → SeenNew DidSeen
 seen_new Did DidSeen see h = record { first = new_view h.first; final = new_view h.final; opened = h.opened; did = see h.first h.final h.did }
@@ -311,7 +311,7 @@ module _ {S : Type 0} (store : Ghosts S) where
   views began = record {
     failed = λ d. refl;
     took = λ d e a x k h. (still_sound began.is_sound (stands_in d).book (stands_in e).book k h.step, took_called began.is_sound (stands_in d) (stands_in e) k a x h);
-    told = λ d e r P k h. (still_sound began.is_sound (stands_in d).book (stands_in e).book k h.step, told_called began.is_sound (stands_in d) (stands_in e) k r P h);
+    read = λ d e r P k h. (still_sound began.is_sound (stands_in d).book (stands_in e).book k h.step, read_called began.is_sound (stands_in d) (stands_in e) k r P h);
     ran = λ d e l ts k h. ran_called began.is_sound (stands_in d) (stands_in e) k l ts h;
   }
 
@@ -328,26 +328,26 @@ module _ {S : Type 0} (store : Ghosts S) where
           final = view e;
           opened = opened_of old (book_of store taken) (stands_in d) of opened;
           did = done.1;
-          filed = subst (λ (x : Held S). HasCleanDisk (state store x) → old.is_sound → LeavesFiled (state store x)) (sym same)
-              (λ clean sound. leaves_filed (state store e.book.conn) e.book.noted e.book.failures (done.0 clean sound));
+          canonical = subst (λ (x : Held S). HasCleanDisk (state store x) → old.is_sound → LeavesCanonical (state store x)) (sym same)
+              (λ clean sound. leaves_canonical (state store e.book.conn) e.book.cache e.book.failures (done.0 clean sound));
           back = same;
         }
 
     pub seen_in : (makes : Bool) (s : State) (conn : Held S) → OverDatabase store makes Did s conn → SeenIn store DidSeen makes s conn
     seen_in makes s conn h = elim h.of_old [
-      | inl had ↦ inl (over_seen (held s) h.taken h.last h.over.first h.over.final conn had h.over.opened h.over.did h.over.back h.back)
+      | inl found ↦ inl (over_seen (held s) h.taken h.last h.over.first h.over.final conn found h.over.opened h.over.did h.over.back h.back)
       | inr made ↦ inr (made.0, made.1, over_seen (unmade s) h.taken h.last h.over.first h.over.final conn made.2 h.over.opened h.over.did h.over.back h.back)
     ]
 
-  -- that a new one may be made was known
+  -- it was known that a new one may be made
   pub seen_made : (DidSeen : (Seen (InDatabase S) → Standing) → Seen (InDatabase S) → Seen (InDatabase S) → Type 0) (is_new makes : Bool) (s : State) (conn : Held S) → (is_new ≡ true → makes ≡ true)
       → SeenIn store DidSeen is_new s conn → SeenIn store DidSeen makes s conn
-  seen_made DidSeen is_new makes s conn may h = elim h [ inl had ↦ inl had | inr made ↦ inr (may made.0, made.1, made.2) ]
+  seen_made DidSeen is_new makes s conn may h = elim h [ inl found ↦ inl found | inr made ↦ inr (may made.0, made.1, made.2) ]
 
   module _ (Did Done : (Seen (InDatabase S) → Standing) → Seen (InDatabase S) → Seen (InDatabase S) → Type 0) (follows : (stands : Seen (InDatabase S) → Standing) (d e : Seen (InDatabase S)) → Did stands d e → Done stands d e) where
     over_so : (old : BookState) (conn : Held S) → SeenOver store Did old conn → SeenOver store Done old conn
-    over_so old conn h = record { first = h.first; final = h.final; opened = h.opened; did = follows _ h.first h.final h.did; filed = h.filed; back = h.back }
+    over_so old conn h = record { first = h.first; final = h.final; opened = h.opened; did = follows _ h.first h.final h.did; canonical = h.canonical; back = h.back }
 
-    -- what follows of what was done
+    -- whatever follows from the work
     pub seen_so : (makes : Bool) (s : State) (conn : Held S) → SeenIn store Did makes s conn → SeenIn store Done makes s conn
-    seen_so makes s conn h = elim h [ inl had ↦ inl (over_so (held s) conn had) | inr made ↦ inr (made.0, made.1, over_so (unmade s) conn made.2) ]
+    seen_so makes s conn h = elim h [ inl found ↦ inl (over_so (held s) conn found) | inr made ↦ inr (made.0, made.1, over_so (unmade s) conn made.2) ]

@@ -11,12 +11,12 @@ use Rattle.sqlite_trees.specs.Tree.{Trees}
 use Rattle.acd_book.specs.Content.{Content}
 use Rattle.acd_book.specs.Order.{IsOrdered}
 use Rattle.acd_sql_columns.proofs.Decoded.{decoded}
-use Rattle.acd_sql_schema.proofs.Contents.{filed_in}
+use Rattle.acd_sql_schema.proofs.Contents.{canonical_in}
 use Rattle.acd_desk.specs.declared.open_fault.OpenFault.{OpenFault}
 use Rattle.acd_desk.specs.Opening.{Refused}
 use Rattle.acd_sql_columns.specs.Schema.{no_schema}
-use Rattle.acd_sqlbook.specs.declared.notes.Notes.{Notes}
-use Rattle.acd_sqlbook.specs.Noting.{IsBlank, followed}
+use Rattle.acd_sqlbook.specs.declared.cache.Cache.{Cache}
+use Rattle.acd_sqlbook.specs.Caching.{IsBlank, followed}
 use Rattle.acd_sqlbook.specs.State.{book_state, IsNewBook}
 use Rattle.acd_sqlbook.specs.View.{BookView, book_of}
 use Rattle.sqlite.specs.Held.{state}
@@ -26,24 +26,24 @@ use Rattle.acd_program.specs.Ended.{OnlyAsked}
 use Rattle.acd_program.specs.Over.{held, unmade, StandsFor, Unserved}
 use Rattle.acd_program.specs.Taking.{IsOf, IsTaken}
 use Rattle.acd_program.proofs.Asking.{only_refused}
-use Rattle.acd_program.proofs.Called.{leaves_filed}
+use Rattle.acd_program.proofs.Called.{leaves_canonical}
 
-pub of_held : (s t : State) (noted : Notes) (failures : ℕ) → (HasCleanDisk t → IsAdopted s.now (book_state s 0) (book_state t failures)) → IsBlank noted → failures ≡ 0 → (HasCleanDisk t → HasCleanDisk s)
-    → IsOf (held s) (followed noted (book_state t failures))
-of_held s t noted failures adopted none counted clean = record {
-  step = record { clean = clean; sound = λ here filed. ((adopted here).sound filed, λ up. blank_of noted none _); quiet = λ none. counted; counts = omega arith };
-  content = λ here filed. (adopted here).content filed;
-  stops = λ here filed. (adopted here).stops filed;
-  keeps = λ here filed. (adopted here).keeps filed;
-  opened = λ here filed. (adopted here).was_open;
-  live = λ here filed. (adopted here).live;
-  ordered = λ here filed. (adopted here).ordered filed;
+pub of_held : (s t : State) (cache : Cache) (failures : ℕ) → (HasCleanDisk t → IsAdopted s.now (book_state s 0) (book_state t failures)) → IsBlank cache → failures ≡ 0 → (HasCleanDisk t → HasCleanDisk s)
+    → IsOf (held s) (followed cache (book_state t failures))
+of_held s t cache failures adopted none counted clean = record {
+  step = record { clean = clean; sound = λ here canonical. ((adopted here).sound canonical, λ up. blank_of cache none _); quiet = λ none. counted; counts = omega arith };
+  content = λ here canonical. (adopted here).content canonical;
+  stops = λ here canonical. (adopted here).stops canonical;
+  keeps = λ here canonical. (adopted here).keeps canonical;
+  opened = λ here canonical. (adopted here).was_open;
+  live = λ here canonical. (adopted here).live;
+  ordered = λ here canonical. (adopted here).ordered canonical;
 }
 
-pub of_unmade : (s t : State) (noted : Notes) (failures : ℕ) → (HasCleanDisk t → IsNewBook (book_state t failures) greatest_limits) → IsBlank noted → failures ≡ 0 → (HasCleanDisk t → HasCleanDisk s)
-    → IsOf (unmade s) (followed noted (book_state t failures))
-of_unmade s t noted failures made none counted clean = record {
-  step = record { clean = clean; sound = λ here _. ((made here).sound, λ up. blank_of noted none _); quiet = λ none. counted; counts = omega arith };
+pub of_unmade : (s t : State) (cache : Cache) (failures : ℕ) → (HasCleanDisk t → IsNewBook (book_state t failures) greatest_limits) → IsBlank cache → failures ≡ 0 → (HasCleanDisk t → HasCleanDisk s)
+    → IsOf (unmade s) (followed cache (book_state t failures))
+of_unmade s t cache failures made none counted clean = record {
+  step = record { clean = clean; sound = λ here _. ((made here).sound, λ up. blank_of cache none _); quiet = λ none. counted; counts = omega arith };
   content = λ here _. (made here).content;
   stops = λ here _. (made here).only;
   keeps = λ here _ c is. subst (book_state t failures).stops (sym is) (made here).stop;
@@ -53,8 +53,8 @@ of_unmade s t noted failures made none counted clean = record {
 }
 
 pub adopted_taken : {S E : Type 0} (store : Ghosts S) (makes : Bool) (s : State) (r : Result (BookView S) E) → IfOk r (λ (b : BookView S). HasCleanDisk (state store b.conn) → IsAdopted s.now (book_state s 0) (book_state (state store b.conn) b.failures))
-    → IfOk r (λ (b : BookView S). IsBlank b.noted) → IfOk r (λ (b : BookView S). b.failures ≡ 0) → IfOk r (λ (b : BookView S). HasCleanDisk (state store b.conn) → HasCleanDisk s) → IfOk r (λ (b : BookView S). IsTaken makes s (book_of store b))
-adopted_taken store makes s (Ok b) adopted none counted clean = inl (of_held s (state store b.conn) b.noted b.failures adopted none counted clean)
+    → IfOk r (λ (b : BookView S). IsBlank b.cache) → IfOk r (λ (b : BookView S). b.failures ≡ 0) → IfOk r (λ (b : BookView S). HasCleanDisk (state store b.conn) → HasCleanDisk s) → IfOk r (λ (b : BookView S). IsTaken makes s (book_of store b))
+adopted_taken store makes s (Ok b) adopted none counted clean = inl (of_held s (state store b.conn) b.cache b.failures adopted none counted clean)
 adopted_taken store makes s (Err e) adopted none counted clean = tt
 
 pub made_taken : {A E : Type 0} (r : Result A E) (stand : A → BookState) (makes : Bool) (s : State) → makes ≡ true → s.now.schema ≡ no_schema → IfOk r (λ (b : A). IsOf (unmade s) (stand b))
@@ -64,45 +64,45 @@ made_taken (Err e) stand makes s asked empty h = tt
 
 -- ---- where no desk is made
 
--- the tables of a content stand for it
+-- the tables of a content represent it
 stands_for : (db : Trees) (c : Content) → Encodes db c → StandsFor db c
-stands_for db c stored = (filed_in db c stored, decoded db c stored)
+stands_for db c stored = (canonical_in db c stored, decoded db c stored)
 
--- what a database that was not taken may leave
+-- a database that was not opened may leave this
 pub unserved_held : (makes : Bool) (s t : State) → (HasCleanDisk t → MayMigrate s t) → Unserved makes s t
-unserved_held makes s t may = λ clean filed db left. elim (may clean db left) [ inl was ↦ inl was | inr second ↦ inr (inl (stands_for db _ (second.content filed))) ]
+unserved_held makes s t may = λ clean canonical db left. elim (may clean db left) [ inl was ↦ inl was | inr second ↦ inr (inl (stands_for db _ (second.content canonical))) ]
 
-pub none_adopted : {A E : Type 0} (r : Result A E) (behind : E → State) (makes : Bool) (s : State) → IfErr r (λ (e : E). HasCleanDisk (behind e) → MayMigrate s (behind e)) → IfErr r (λ (e : E). Unserved makes s (behind e))
-none_adopted (Ok b) behind makes s h = tt
-none_adopted (Err e) behind makes s h = unserved_held makes s (behind e) h
+pub none_adopted : {A E : Type 0} (r : Result A E) (new : E → State) (makes : Bool) (s : State) → IfErr r (λ (e : E). HasCleanDisk (new e) → MayMigrate s (new e)) → IfErr r (λ (e : E). Unserved makes s (new e))
+none_adopted (Ok b) new makes s h = tt
+none_adopted (Err e) new makes s h = unserved_held makes s (new e) h
 
--- what tables that were not made to their end may leave
+-- tables that were not made to their end may leave this
 pub unserved_unmade : (makes : Bool) (s t : State) → makes ≡ true → s.now.schema ≡ no_schema → (HasCleanDisk t → MayMake s t greatest_limits) → Unserved makes s t
-unserved_unmade makes s t asked empty may = λ clean filed db left. elim (may clean db left) [ inl was ↦ inl was | inr made ↦ inr (inr (asked, empty, stands_for db _ made)) ]
+unserved_unmade makes s t asked empty may = λ clean canonical db left. elim (may clean db left) [ inl was ↦ inl was | inr made ↦ inr (inr (asked, empty, stands_for db _ made)) ]
 
-pub none_made : {A E : Type 0} (r : Result A E) (behind : E → State) (makes : Bool) (s : State) → makes ≡ true → s.now.schema ≡ no_schema → IfErr r (λ (e : E). HasCleanDisk (behind e) → MayMake s (behind e) greatest_limits)
-    → IfErr r (λ (e : E). Unserved makes s (behind e))
-none_made (Ok b) behind makes s asked empty h = tt
-none_made (Err e) behind makes s asked empty h = unserved_unmade makes s (behind e) asked empty h
+pub none_made : {A E : Type 0} (r : Result A E) (new : E → State) (makes : Bool) (s : State) → makes ≡ true → s.now.schema ≡ no_schema → IfErr r (λ (e : E). HasCleanDisk (new e) → MayMake s (new e) greatest_limits)
+    → IfErr r (λ (e : E). Unserved makes s (new e))
+none_made (Ok b) new makes s asked empty h = tt
+none_made (Err e) new makes s asked empty h = unserved_unmade makes s (new e) asked empty h
 
--- what a book may leave of which a desk was only asked, or that makes none
-pub unserved_asked : (makes : Bool) (s t : State) (mid : BookState) (noted : Notes) (failures : ℕ) → ((db : Trees) → IsTrue s.is_open → s.may_leave db → db ≡ s.committed.trees) → IsTaken makes s mid → OnlyAsked mid (followed noted (book_state t failures)) → Unserved makes s t
-unserved_asked makes s t mid noted failures settles (inl had) asked = λ clean filed db left.
+-- a book of which a desk was only asked, or that makes none, may leave this
+pub unserved_asked : (makes : Bool) (s t : State) (mid : BookState) (cache : Cache) (failures : ℕ) → ((db : Trees) → IsTrue s.is_open → s.may_leave db → db ≡ s.committed.trees) → IsTaken makes s mid → OnlyAsked mid (followed cache (book_state t failures)) → Unserved makes s t
+unserved_asked makes s t mid cache failures settles (inl found) asked = λ clean canonical db left.
     let here = asked.clean clean in
-    let sound = had.step.sound here filed in
-    let before = had.stops here filed (content_of db) (asked.stops clean sound (content_of db) (db, left, refl)) in
-    let same : content_of db ≡ content_of s.committed.trees = before.2 ∙ ap content_of (settles before.0 (had.opened here filed) before.1) in
-    inr (inl (leaves_filed t noted failures (asked.sound clean sound) db left, same))
-unserved_asked makes s t mid noted failures settles (inr made) asked = λ clean filed db left.
+    let sound = found.step.sound here canonical in
+    let before = found.stops here canonical (content_of db) (asked.stops clean sound (content_of db) (db, left, refl)) in
+    let same : content_of db ≡ content_of s.committed.trees = before.2 ∙ ap content_of (settles before.0 (found.opened here canonical) before.1) in
+    inr (inl (leaves_canonical t cache failures (asked.sound clean sound) db left, same))
+unserved_asked makes s t mid cache failures settles (inr made) asked = λ clean canonical db left.
     let here = asked.clean clean in
     let new = made.2 in
     let sound = new.step.sound here tt in
     let same = new.stops here tt (content_of db) (asked.stops clean sound (content_of db) (db, left, refl)) in
-    inr (inr (made.0, made.1, (leaves_filed t noted failures (asked.sound clean sound) db left, same)))
+    inr (inr (made.0, made.1, (leaves_canonical t cache failures (asked.sound clean sound) db left, same)))
 
-pub unserved_refused : (makes : Bool) (s t : State) (mid : BookState) (noted : Notes) (failures : ℕ) (why : OpenFault) → ((db : Trees) → IsTrue s.is_open → s.may_leave db → db ≡ s.committed.trees) → IsTaken makes s mid → Refused mid why (followed noted (book_state t failures)) → Unserved makes s t
-unserved_refused makes s t mid noted failures why settles of refused = unserved_asked makes s t mid noted failures settles of (only_refused mid (followed noted (book_state t failures)) why refused)
+pub unserved_refused : (makes : Bool) (s t : State) (mid : BookState) (cache : Cache) (failures : ℕ) (why : OpenFault) → ((db : Trees) → IsTrue s.is_open → s.may_leave db → db ≡ s.committed.trees) → IsTaken makes s mid → Refused mid why (followed cache (book_state t failures)) → Unserved makes s t
+unserved_refused makes s t mid cache failures why settles of refused = unserved_asked makes s t mid cache failures settles of (only_refused mid (followed cache (book_state t failures)) why refused)
 
 -- where it was known whether a new book may be made
 pub unserved_makes : (is_new makes : Bool) (s t : State) → (is_new ≡ true → makes ≡ true) → Unserved is_new s t → Unserved makes s t
-unserved_makes is_new makes s t may h = λ clean filed db left. elim (h clean filed db left) [ inl was ↦ inl was | inr w ↦ elim w [ inl second ↦ inr (inl second) | inr made ↦ inr (inr (may made.0, made.1, made.2)) ] ]
+unserved_makes is_new makes s t may h = λ clean canonical db left. elim (h clean canonical db left) [ inl was ↦ inl was | inr w ↦ elim w [ inl second ↦ inr (inl second) | inr made ↦ inr (inr (may made.0, made.1, made.2)) ] ]

@@ -1,4 +1,4 @@
--- That a task was done, by the work over a connection to files.
+-- A task was done, by the work over a connection to files.
 use Rattle.std.proofs.Common.{◌≡◌, ℕ, Bool, true, false, List, [], Option, Result, Ok, Err, IfOk, IfErr, OnOk, sym, ap, subst, ◌∙◌}
 use Rattle.std.specs.Io.KnownBytes.{Appends}
 use Rattle.sqlite_disk.specs.declared.Disk.{Ghosts}
@@ -10,11 +10,11 @@ use Rattle.acd_terms.specs.declared.command.Request.{Request}
 use Rattle.acd_book.specs.State.{BookState}
 use Rattle.acd_log.specs.declared.ending.Ending.{Ending}
 use Rattle.acd_program.specs.declared.auditing.Finding.{Finding}
-use Rattle.acd_program.specs.declared.desk.Telling.{Telling}
+use Rattle.acd_program.specs.declared.desk.Printout.{Printout}
 use Rattle.acd_program.specs.declared.desk.Work.{Work}
 use Rattle.acd_program.specs.declared.desk.Work.TheVariants as book
 use Rattle.acd_program.specs.declared.desk.Done.{Done}
-use Rattle.acd_program.specs.declared.desk.Done.TheVariants.{Nothing, Told, Audited}
+use Rattle.acd_program.specs.declared.desk.Done.TheVariants.{Nothing, Text, Audited}
 use Rattle.acd_program.specs.Found.{IsFindingOf, HasCount, finding_line}
 use Rattle.acd_lines.specs.Lines.{AllRequests, RequestsAnswered, Streams}
 use Rattle.acd_lines.proofs.Weaker.{out_so}
@@ -26,119 +26,119 @@ use Rattle.acd_program.specs.declared.asked.Task.{Task}
 use Rattle.acd_program.specs.declared.asked.Task.TheVariants as task
 use Rattle.acd_program.proofs.InFiles.{over_so, over_fact, over_makes, appends_nothing}
 
-imports_printed : (requests : List Request) (old new : BookState) (before between behind : Option (List ℕ)) → Appends between behind [] → ImportsOver requests old before between new → ImportsOver requests old before behind new
-imports_printed requests old new before between behind none h =
-    out_so (AllRequests requests) (RequestsAnswered (IsSession old new)) (Appends before between) (Appends before behind) (λ text written. appends_nothing before between behind text written none) h
+imports_printed : (requests : List Request) (old new : BookState) (old_output between new_output : Option (List ℕ)) → Appends between new_output [] → ImportsOver requests old old_output between new → ImportsOver requests old old_output new_output new
+imports_printed requests old new old_output between new_output none h =
+    out_so (AllRequests requests) (RequestsAnswered (IsSession old new)) (Appends old_output between) (Appends old_output new_output) (λ text written. appends_nothing old_output between new_output text written none) h
 
-nothing_left : (left : Done) (between behind : Option (List ℕ)) → left ≡ Nothing → Appends between behind (text_left left) → Appends between behind []
-nothing_left left between behind is h = subst (λ (x : Done). Appends between behind (text_left x)) is h
+nothing_left : (left : Done) (between new_output : Option (List ℕ)) → left ≡ Nothing → Appends between new_output (text_left left) → Appends between new_output []
+nothing_left left between new_output is h = subst (λ (x : Done). Appends between new_output (text_left x)) is h
 
--- what an audit left to print
-found_left : (counts : Bool) (ending : Ending) (before between : Option (List ℕ)) (makes : Bool) (s t : State) (left : Done)
-    → OverConnection (λ (old new : BookState). AuditsOver IsFindingOf counts ending old left new × (between ≡ before)) makes s t
+-- the text that an audit left to print
+found_left : (counts : Bool) (ending : Ending) (old_output between : Option (List ℕ)) (makes : Bool) (s t : State) (left : Done)
+    → OverConnection (λ (old new : BookState). AuditsOver IsFindingOf counts ending old left new × (between ≡ old_output)) makes s t
     → (found : Finding) × (left ≡ Audited found ending) × HasCount counts found × OverConnection (λ (old new : BookState). WasAsked old IsFindingOf found new) makes s t
-found_left counts ending before between makes s t Nothing h =
-    absurd (over_fact (λ (old new : BookState). AuditsOver IsFindingOf counts ending old Nothing new × (between ≡ before)) ⊥ makes s t (λ old new p. p.0) h)
-found_left counts ending before between makes s t (Told text) h =
-    absurd (over_fact (λ (old new : BookState). AuditsOver IsFindingOf counts ending old (Told text) new × (between ≡ before)) ⊥ makes s t (λ old new p. p.0) h)
-found_left counts ending before between makes s t (Audited found told) h =
-    let P : BookState → BookState → Type 0 = λ old new. AuditsOver IsFindingOf counts ending old (Audited found told) new × (between ≡ before) in (
+found_left counts ending old_output between makes s t Nothing h =
+    absurd (over_fact (λ (old new : BookState). AuditsOver IsFindingOf counts ending old Nothing new × (between ≡ old_output)) ⊥ makes s t (λ old new p. p.0) h)
+found_left counts ending old_output between makes s t (Text text) h =
+    absurd (over_fact (λ (old new : BookState). AuditsOver IsFindingOf counts ending old (Text text) new × (between ≡ old_output)) ⊥ makes s t (λ old new p. p.0) h)
+found_left counts ending old_output between makes s t (Audited found end) h =
+    let P : BookState → BookState → Type 0 = λ old new. AuditsOver IsFindingOf counts ending old (Audited found end) new × (between ≡ old_output) in (
       found,
-      ap (Audited found) (over_fact P (told ≡ ending) makes s t (λ old new p. p.0.2) h),
+      ap (Audited found) (over_fact P (end ≡ ending) makes s t (λ old new p. p.0.2) h),
       over_fact P (HasCount counts found) makes s t (λ old new p. p.0.0) h,
       over_so P (λ old new. WasAsked old IsFindingOf found new) makes s t (λ old new p. p.0.1) h,
     )
 
-module _ {D : Type 0} (disk : Ghosts D) (IsFresh : Bool → D → Type 0) (before behind : Option (List ℕ)) (status : ℕ) where
-  pub import_done : (makes : Bool) (requests : _) → WorkedIn disk IsFresh makes (book.Import requests) before behind status
-      → InFile disk IsFresh (λ (old new : BookState). ImportsOver requests.now old before behind new) makes × (status ≡ 0)
+module _ {D : Type 0} (disk : Ghosts D) (IsFresh : Bool → D → Type 0) (old_output new_output : Option (List ℕ)) (status : ℕ) where
+  pub import_done : (makes : Bool) (requests : _) → WorkedIn disk IsFresh makes (book.Import requests) old_output new_output status
+      → InFile disk IsFresh (λ (old new : BookState). ImportsOver requests.now old old_output new_output new) makes × (status ≡ 0)
   import_done makes requests h =
       let w = h.2 in
       let s = file_state h.0 in
       let t = file_state w.last in
-      let P : BookState → BookState → Type 0 = λ old new. WorkDone IsFindingOf (book.Import requests) old before w.between w.left new in
+      let P : BookState → BookState → Type 0 = λ old new. WorkDone IsFindingOf (book.Import requests) old old_output w.between w.left new in
       let left = over_fact P (w.left ≡ Nothing) makes s t (λ old new p. p.1) w.done in (
         record {
           conn = h.0;
           last = w.last;
           opened = h.1;
-          done = over_so P (λ old new. ImportsOver requests.now old before behind new) makes s t
-              (λ old new p. imports_printed requests.now old new before w.between behind (nothing_left w.left w.between behind left w.printed) p.0) w.done;
+          done = over_so P (λ old new. ImportsOver requests.now old old_output new_output new) makes s t
+              (λ old new p. imports_printed requests.now old new old_output w.between new_output (nothing_left w.left w.between new_output left w.printed) p.0) w.done;
           closed = w.closed;
         },
-        w.told ∙ ap status_left left,
+        w.outcome ∙ ap status_left left,
       )
 
-  pub tell_done : (makes : Bool) (telling : Telling) → WorkedIn disk IsFresh makes (book.Tell telling) before behind status
-      → (text : List ℕ) × InFile disk IsFresh (λ (old new : BookState). WasAsked old (IsTextOf telling) text new) makes × Appends before behind text × (status ≡ 0)
-  tell_done makes telling h =
+  pub printout_done : (makes : Bool) (printout : Printout) → WorkedIn disk IsFresh makes (book.Print printout) old_output new_output status
+      → (text : List ℕ) × InFile disk IsFresh (λ (old new : BookState). WasAsked old (IsTextOf printout) text new) makes × Appends old_output new_output text × (status ≡ 0)
+  printout_done makes printout h =
       let w = h.2 in
       let s = file_state h.0 in
       let t = file_state w.last in
-      let P : BookState → BookState → Type 0 = λ old new. WorkDone IsFindingOf (book.Tell telling) old before w.between w.left new in
-      let same = over_fact P (w.between ≡ before) makes s t (λ old new p. p.1) w.done in (
+      let P : BookState → BookState → Type 0 = λ old new. WorkDone IsFindingOf (book.Print printout) old old_output w.between w.left new in
+      let same = over_fact P (w.between ≡ old_output) makes s t (λ old new p. p.1) w.done in (
         text_left w.left,
         record {
           conn = h.0;
           last = w.last;
           opened = h.1;
-          done = over_so P (λ old new. WasAsked old (IsTextOf telling) (text_left w.left) new) makes s t (λ old new p. p.0.asked) w.done;
+          done = over_so P (λ old new. WasAsked old (IsTextOf printout) (text_left w.left) new) makes s t (λ old new p. p.0.asked) w.done;
           closed = w.closed;
         },
-        subst (λ (a : Option (List ℕ)). Appends a behind (text_left w.left)) same w.printed,
-        w.told ∙ over_fact P (status_left w.left ≡ 0) makes s t (λ old new p. p.0.status) w.done,
+        subst (λ (a : Option (List ℕ)). Appends a new_output (text_left w.left)) same w.printed,
+        w.outcome ∙ over_fact P (status_left w.left ≡ 0) makes s t (λ old new p. p.0.status) w.done,
       )
 
-  pub audit_done : (counts : Bool) (ending : Ending) → WorkedIn disk IsFresh false (book.Audit counts ending) before behind status → AuditedIn disk IsFresh counts ending before behind status
+  pub audit_done : (counts : Bool) (ending : Ending) → WorkedIn disk IsFresh false (book.Audit counts ending) old_output new_output status → AuditedIn disk IsFresh counts ending old_output new_output status
   audit_done counts ending h =
       let w = h.2 in
       let s = file_state h.0 in
       let t = file_state w.last in
-      let P : BookState → BookState → Type 0 = λ old new. WorkDone IsFindingOf (book.Audit counts ending) old before w.between w.left new in
-      let same = over_fact P (w.between ≡ before) false s t (λ old new p. p.1) w.done in
-      let found = found_left counts ending before w.between false s t w.left w.done in (
+      let P : BookState → BookState → Type 0 = λ old new. WorkDone IsFindingOf (book.Audit counts ending) old old_output w.between w.left new in
+      let same = over_fact P (w.between ≡ old_output) false s t (λ old new p. p.1) w.done in
+      let found = found_left counts ending old_output w.between false s t w.left w.done in (
         found.0,
         found.2,
         record { conn = h.0; last = w.last; opened = h.1; done = found.3; closed = w.closed },
-        subst (λ (a : Option (List ℕ)). Appends a behind (finding_line ending found.0)) same (subst (λ (x : Done). Appends w.between behind (text_left x)) found.1 w.printed),
-        w.told ∙ ap status_left found.1,
+        subst (λ (a : Option (List ℕ)). Appends a new_output (finding_line ending found.0)) same (subst (λ (x : Done). Appends w.between new_output (text_left x)) found.1 w.printed),
+        w.outcome ∙ ap status_left found.1,
       )
 
 -- where it was known whether the file was new
-pub worked_in : {D : Type 0} {g : Ghosts D} (is_new makes : Bool) (work : Work) (conn : Held (FileStore D g)) (before behind : Option (List ℕ)) (status : ℕ) → (is_new ≡ true → makes ≡ true)
-    → WorkedOver is_new work conn before behind status → WorkedOver makes work conn before behind status
-worked_in is_new makes work conn before behind status may w = record {
+pub worked_in : {D : Type 0} {g : Ghosts D} (is_new makes : Bool) (work : Work) (conn : Held (FileStore D g)) (old_output new_output : Option (List ℕ)) (status : ℕ) → (is_new ≡ true → makes ≡ true)
+    → WorkedOver is_new work conn old_output new_output status → WorkedOver makes work conn old_output new_output status
+worked_in is_new makes work conn old_output new_output status may w = record {
   last = w.last;
   left = w.left;
   between = w.between;
-  done = over_makes (λ (old new : BookState). WorkDone IsFindingOf work old before w.between w.left new) is_new makes (file_state conn) (file_state w.last) may w.done;
+  done = over_makes (λ (old new : BookState). WorkDone IsFindingOf work old old_output w.between w.left new) is_new makes (file_state conn) (file_state w.last) may w.done;
   closed = w.closed;
   printed = w.printed;
-  told = w.told;
+  outcome = w.outcome;
 }
 
 -- the work was done, its file closed, and what was left printed
-pub worked_over : {D : Type 0} {g : Ghosts D} {F : Type 0} (r : Result ℕ F) (work : Work) (makes : Bool) (conn last : Held (FileStore D g)) (done : Result Done F) (closed : Result (Unit {0}) F) (before between behind : Option (List ℕ))
-    → IfOk done (λ (l : Done). OverConnection (λ (old new : BookState). WorkDone IsFindingOf work old before between l new) makes (file_state conn) (file_state last)) → OnOk closed (IsLaidIn last)
-    → IfOk r (λ (status : ℕ). IsPrinted done closed between behind status) → IfOk r (λ (status : ℕ). WorkedOver makes work conn before behind status)
-worked_over (Err e) work makes conn last done closed before between behind d k p = tt
-worked_over {F = F} (Ok status) work makes conn last done closed before between behind d k p = record {
+pub worked_over : {D : Type 0} {g : Ghosts D} {F : Type 0} (r : Result ℕ F) (work : Work) (makes : Bool) (conn last : Held (FileStore D g)) (done : Result Done F) (closed : Result (Unit {0}) F) (old_output between new_output : Option (List ℕ))
+    → IfOk done (λ (l : Done). OverConnection (λ (old new : BookState). WorkDone IsFindingOf work old old_output between l new) makes (file_state conn) (file_state last)) → OnOk closed (IsLaidIn last)
+    → IfOk r (λ (status : ℕ). IsPrinted done closed between new_output status) → IfOk r (λ (status : ℕ). WorkedOver makes work conn old_output new_output status)
+worked_over (Err e) work makes conn last done closed old_output between new_output d k p = tt
+worked_over {F = F} (Ok status) work makes conn last done closed old_output between new_output d k p = record {
   last = last;
   left = p.left;
   between = between;
-  done = subst (λ (x : Result Done F). IfOk x (λ (l : Done). OverConnection (λ (old new : BookState). WorkDone IsFindingOf work old before between l new) makes (file_state conn) (file_state last))) p.ended d;
+  done = subst (λ (x : Result Done F). IfOk x (λ (l : Done). OverConnection (λ (old new : BookState). WorkDone IsFindingOf work old old_output between l new) makes (file_state conn) (file_state last))) p.ended d;
   closed = subst (λ (x : Result (Unit {0}) F). OnOk x (IsLaidIn last)) p.shut k;
   printed = p.printed;
-  told = p.told;
+  outcome = p.outcome;
 }
 
 -- the work was done over the connection that was opened
-pub worked_from : {D F : Type 0} {g : Ghosts D} (IsFresh : Bool → D → Type 0) (r : Result ℕ F) (is_new makes : Bool) (work : Work) (conn : Held (FileStore D g)) (before behind : Option (List ℕ)) → IsOpenedFrom g IsFresh conn → (is_new ≡ true → makes ≡ true)
-    → IfOk r (λ (status : ℕ). WorkedOver is_new work conn before behind status) → IfOk r (λ (status : ℕ). WorkedIn g IsFresh makes work before behind status)
-worked_from IsFresh (Ok status) is_new makes work conn before behind opened may h = (conn, opened, worked_in is_new makes work conn before behind status may h)
-worked_from IsFresh (Err e) is_new makes work conn before behind opened may h = tt
+pub worked_from : {D F : Type 0} {g : Ghosts D} (IsFresh : Bool → D → Type 0) (r : Result ℕ F) (is_new makes : Bool) (work : Work) (conn : Held (FileStore D g)) (old_output new_output : Option (List ℕ)) → IsOpenedFrom g IsFresh conn → (is_new ≡ true → makes ≡ true)
+    → IfOk r (λ (status : ℕ). WorkedOver is_new work conn old_output new_output status) → IfOk r (λ (status : ℕ). WorkedIn g IsFresh makes work old_output new_output status)
+worked_from IsFresh (Ok status) is_new makes work conn old_output new_output opened may h = (conn, opened, worked_in is_new makes work conn old_output new_output status may h)
+worked_from IsFresh (Err e) is_new makes work conn old_output new_output opened may h = tt
 
--- what is so of an error that was handed on
+-- a statement on an error that was handed on
 pub err_from : {A E : Type 0} (r : Result A E) (e : E) (P : E → Type 0) → r ≡ Err e → P e → IfErr r P
 err_from {A} {E} r e P is h = subst (λ (x : Result A E). IfErr x P) (sym is) h
 
@@ -148,21 +148,21 @@ ok_so (Err e) P Q follows h = tt
 
 -- ---- by what the command line asks for
 
-module _ {D F : Type 0} (disk : Ghosts D) (IsFresh : Bool → D → Type 0) (r : Result ℕ F) (asked : Task) (io : Streams) (mute told : Option (List ℕ)) where
+module _ {D F : Type 0} (disk : Ghosts D) (IsFresh : Bool → D → Type 0) (r : Result ℕ F) (asked : Task) (io : Streams) (old_errors new_errors : Option (List ℕ)) where
   pub lines_task : (file : _) (reads ends : Bool) → asked ≡ task.Lines file reads ends → IfOk r (λ (status : ℕ). InputAnswered disk IsFresh file reads ends io status)
-      → IfOk r (λ (status : ℕ). TaskDone disk IsFresh asked io mute told status)
-  lines_task file reads ends is = ok_so r _ _ (λ status h. subst (λ (t : Task). TaskDone disk IsFresh t io mute told status) (sym is) h)
+      → IfOk r (λ (status : ℕ). TaskDone disk IsFresh asked io old_errors new_errors status)
+  lines_task file reads ends is = ok_so r _ _ (λ status h. subst (λ (t : Task). TaskDone disk IsFresh t io old_errors new_errors status) (sym is) h)
 
-  read_done : (file : _) (work : Work) (status : ℕ) → WorkedIn disk IsFresh false work io.before io.behind status → TaskDone disk IsFresh (task.Read file work) io mute told status
-  read_done file (book.Import requests) status h = import_done disk IsFresh io.before io.behind status false requests h
-  read_done file (book.Tell telling) status h = tell_done disk IsFresh io.before io.behind status false telling h
-  read_done file (book.Audit counts ending) status h = audit_done disk IsFresh io.before io.behind status counts ending h
+  read_done : (file : _) (work : Work) (status : ℕ) → WorkedIn disk IsFresh false work io.old_output io.new_output status → TaskDone disk IsFresh (task.Read file work) io old_errors new_errors status
+  read_done file (book.Import requests) status h = import_done disk IsFresh io.old_output io.new_output status false requests h
+  read_done file (book.Print printout) status h = printout_done disk IsFresh io.old_output io.new_output status false printout h
+  read_done file (book.Audit counts ending) status h = audit_done disk IsFresh io.old_output io.new_output status counts ending h
 
-  pub read_task : (file : _) (work : Work) → asked ≡ task.Read file work → IfOk r (λ (status : ℕ). WorkedIn disk IsFresh false work io.before io.behind status)
-      → IfOk r (λ (status : ℕ). TaskDone disk IsFresh asked io mute told status)
-  read_task file work is = ok_so r _ _ (λ status h. subst (λ (t : Task). TaskDone disk IsFresh t io mute told status) (sym is) (read_done file work status h))
+  pub read_task : (file : _) (work : Work) → asked ≡ task.Read file work → IfOk r (λ (status : ℕ). WorkedIn disk IsFresh false work io.old_output io.new_output status)
+      → IfOk r (λ (status : ℕ). TaskDone disk IsFresh asked io old_errors new_errors status)
+  read_task file work is = ok_so r _ _ (λ status h. subst (λ (t : Task). TaskDone disk IsFresh t io old_errors new_errors status) (sym is) (read_done file work status h))
 
-  pub whole_task : (file : _) (counts : Bool) → asked ≡ task.AuditWhole file counts → IfOk r (λ (status : ℕ). WholeAudit disk IsFresh counts io.before io.behind status)
-      → IfOk r (λ (status : ℕ). TaskDone disk IsFresh asked io mute told status)
+  pub whole_task : (file : _) (counts : Bool) → asked ≡ task.AuditWhole file counts → IfOk r (λ (status : ℕ). WholeAudit disk IsFresh counts io.old_output io.new_output status)
+      → IfOk r (λ (status : ℕ). TaskDone disk IsFresh asked io old_errors new_errors status)
   whole_task file counts is =
-      ok_so r _ _ (λ status h. subst (λ (t : Task). TaskDone disk IsFresh t io mute told status) (sym is) (h.0, h.1, audit_done disk IsFresh io.before io.behind status counts h.0 h.2))
+      ok_so r _ _ (λ status h. subst (λ (t : Task). TaskDone disk IsFresh t io old_errors new_errors status) (sym is) (h.0, h.1, audit_done disk IsFresh io.old_output io.new_output status counts h.0 h.2))

@@ -1,4 +1,4 @@
--- What work over a book leaves, by what its desk left; and over a connection, by what its book left.
+-- Work over a book, by its desk, and over a connection, by its book: what it leaves.
 use Rattle.std.proofs.Common.{◌≡◌, ℕ, Bool, List, Option, Some, Result, Ok, Err, IfOk}
 use Rattle.std.specs.Prelude.{String}
 use Rattle.std.specs.Io.KnownBytes.{Appends}
@@ -6,8 +6,8 @@ use Rattle.acd_terms.specs.declared.command.Request.{Request}
 use Rattle.acd_terms.specs.declared.command.Arrival.{Arrival}
 use Rattle.acd_book.specs.Content.{Content}
 use Rattle.acd_book.specs.State.{BookState}
-use Rattle.acd_sqlbook.specs.declared.notes.Notes.{Notes}
-use Rattle.acd_sqlbook.specs.Noting.{followed}
+use Rattle.acd_sqlbook.specs.declared.cache.Cache.{Cache}
+use Rattle.acd_sqlbook.specs.Caching.{followed}
 use Rattle.acd_sqlbook.specs.State.{book_state}
 use Rattle.sqlite.specs.State.{State}
 use Rattle.acd_desk.specs.declared.taken.Taken.{Taken}
@@ -15,71 +15,71 @@ use Rattle.acd_log.specs.declared.ending.Ending.{Ending}
 use Rattle.acd_desk.specs.Standing.{Standing}
 use Rattle.acd_desk.specs.Stands.{IsSound}
 use Rattle.acd_desk.specs.Carried.{Archive, together}
-use Rattle.acd_desk.specs.Tells.{told, export_read, Rise}
+use Rattle.acd_desk.specs.ReadAnswers.{text_read, export_read, Rise}
 use Rattle.acd_desk.proofs.Rising.{carried_rises}
 use Rattle.acd_desk.specs.Opening.{Opened}
 use Rattle.acd_desk.specs.Ran.{Ran, IsFault}
 use Rattle.acd_desk.proofs.Sessions.{session_ran}
 use Rattle.acd_lines.specs.Lines.{LinesAnswered, AllRequests, RequestsAnswered}
 use Rattle.acd_lines.proofs.Weaker.{requests_so}
-use Rattle.acd_program.specs.declared.desk.Telling.TheVariants.{Export}
+use Rattle.acd_program.specs.declared.desk.Printout.TheVariants.{Export}
 use Rattle.acd_program.specs.declared.desk.Work.{Work}
-use Rattle.acd_program.specs.declared.desk.Work.TheVariants.{Import, Tell, Audit}
+use Rattle.acd_program.specs.declared.desk.Work.TheVariants.{Import, Print, Audit}
 use Rattle.acd_program.specs.declared.desk.Done.{Done}
 use Rattle.acd_program.specs.declared.desk.Done.TheVariants as left
 use Rattle.acd_program.specs.Found.{IsFindingOf}
-use Rattle.acd_program.specs.Work.{ImportsOver, IsFindingIfOrdered, IsTextOf, AuditsOver, WorkDone, telling_text}
-use Rattle.acd_program.specs.Over.{IsSession, LeavesFiled, OverConnection}
+use Rattle.acd_program.specs.Work.{ImportsOver, IsFindingIfOrdered, IsTextOf, AuditsOver, WorkDone, printout_text}
+use Rattle.acd_program.specs.Over.{IsSession, LeavesCanonical, OverConnection}
 use Rattle.acd_program.specs.Taking.{IsOf, IsTaken}
 use Rattle.acd_program.proofs.Over.{session_of, over_connection}
 use Rattle.acd_program.proofs.Asking.{asked_of, asked_in_order}
-use Rattle.acd_program.proofs.Called.{called, leaves_filed, session_called, asked_called}
+use Rattle.acd_program.proofs.Called.{called, leaves_canonical, session_called, asked_called}
 
-pub imports_over : (old : BookState) (d e : Standing) (requests : List Request) (before behind : Option (List ℕ)) → Opened old d
-    → LinesAnswered (AllRequests requests) (RequestsAnswered (λ (l : List Arrival) (ts : List Taken). Ran d l ts e)) (Appends before behind) → ImportsOver requests old before behind e.book
-imports_over old d e requests before behind opened h =
-    requests_so (AllRequests requests) (λ (l : List Arrival) (ts : List Taken). Ran d l ts e) (IsSession old e.book) (Appends before behind) (λ l ts ran. session_ran IsFault old d e l ts opened ran ran.later) h
+pub imports_over : (old : BookState) (d e : Standing) (requests : List Request) (old_output new_output : Option (List ℕ)) → Opened old d
+    → LinesAnswered (AllRequests requests) (RequestsAnswered (λ (l : List Arrival) (ts : List Taken). Ran d l ts e)) (Appends old_output new_output) → ImportsOver requests old old_output new_output e.book
+imports_over old d e requests old_output new_output opened h =
+    requests_so (AllRequests requests) (λ (l : List Arrival) (ts : List Taken). Ran d l ts e) (IsSession old e.book) (Appends old_output new_output) (λ l ts ran. session_ran IsFault old d e l ts opened ran ran.later) h
 
-pub imports_of : (old mid new : BookState) (requests : List Request) (before behind : Option (List ℕ)) → IsOf old mid → ImportsOver requests mid before behind new → ImportsOver requests old before behind new
-imports_of old mid new requests before behind of h =
-    requests_so (AllRequests requests) (IsSession mid new) (IsSession old new) (Appends before behind) (λ l ts s. session_of IsFault old mid new l ts of s) h
+pub imports_of : (old mid new : BookState) (requests : List Request) (old_output new_output : Option (List ℕ)) → IsOf old mid → ImportsOver requests mid old_output new_output new → ImportsOver requests old old_output new_output new
+imports_of old mid new requests old_output new_output of h =
+    requests_so (AllRequests requests) (IsSession mid new) (IsSession old new) (Appends old_output new_output) (λ l ts s. session_of IsFault old mid new l ts of s) h
 
 audits_of : (counts : Bool) (ending : Ending) (old mid new : BookState) (done : Done) → IsOf old mid → AuditsOver IsFindingIfOrdered counts ending mid done new
     → AuditsOver IsFindingOf counts ending old done new
 audits_of counts ending old mid new left.Nothing of h = h
-audits_of counts ending old mid new (left.Told text) of h = h
-audits_of counts ending old mid new (left.Audited found told) of h = (h.0, asked_in_order old mid new found of h.1, h.2)
+audits_of counts ending old mid new (left.Text text) of h = h
+audits_of counts ending old mid new (left.Audited found end) of h = (h.0, asked_in_order old mid new found of h.1, h.2)
 
 -- the work over a book that came of another
-pub work_of : (work : Work) (old mid new : BookState) (before behind : Option (List ℕ)) (done : Done) → IsOf old mid → WorkDone IsFindingIfOrdered work mid before behind done new → WorkDone IsFindingOf work old before behind done new
-work_of (Import requests) old mid new before behind done of h = (imports_of old mid new requests.now before behind of h.0, h.1)
-work_of (Tell telling) old mid new before behind done of h = (record { asked = asked_of old mid new _ (IsTextOf telling) of h.0.asked; status = h.0.status }, h.1)
-work_of (Audit counts ending) old mid new before behind done of h = (audits_of counts ending old mid new done of h.0, h.1)
+pub work_of : (work : Work) (old mid new : BookState) (old_output new_output : Option (List ℕ)) (done : Done) → IsOf old mid → WorkDone IsFindingIfOrdered work mid old_output new_output done new → WorkDone IsFindingOf work old old_output new_output done new
+work_of (Import requests) old mid new old_output new_output done of h = (imports_of old mid new requests.now old_output new_output of h.0, h.1)
+work_of (Print printout) old mid new old_output new_output done of h = (record { asked = asked_of old mid new _ (IsTextOf printout) of h.0.asked; status = h.0.status }, h.1)
+work_of (Audit counts ending) old mid new old_output new_output done of h = (audits_of counts ending old mid new done of h.0, h.1)
 
 -- as the database that was left
-work_left : (Sound : Type 0) (new : BookState) → (new.is_sound → Sound) → (work : Work) (old : BookState) (before behind : Option (List ℕ)) (done : Done) → WorkDone IsFindingOf work old before behind done new
-    → WorkDone IsFindingOf work old before behind done (called new Sound)
-work_left Sound new so (Import requests) old before behind done h =
-    (requests_so (AllRequests requests.now) (IsSession old new) (IsSession old (called new Sound)) (Appends before behind) (λ l ts s. session_called Sound new so IsFault old l ts s) h.0, h.1)
-work_left Sound new so (Tell telling) old before behind done h = (record { asked = asked_called Sound new so old _ (IsTextOf telling) h.0.asked; status = h.0.status }, h.1)
-work_left Sound new so (Audit counts ending) old before behind left.Nothing h = h
-work_left Sound new so (Audit counts ending) old before behind (left.Told text) h = h
-work_left Sound new so (Audit counts ending) old before behind (left.Audited found told) h = ((h.0.0, asked_called Sound new so old found IsFindingOf h.0.1, h.0.2), h.1)
+work_left : (Sound : Type 0) (new : BookState) → (new.is_sound → Sound) → (work : Work) (old : BookState) (old_output new_output : Option (List ℕ)) (done : Done) → WorkDone IsFindingOf work old old_output new_output done new
+    → WorkDone IsFindingOf work old old_output new_output done (called new Sound)
+work_left Sound new so (Import requests) old old_output new_output done h =
+    (requests_so (AllRequests requests.now) (IsSession old new) (IsSession old (called new Sound)) (Appends old_output new_output) (λ l ts s. session_called Sound new so IsFault old l ts s) h.0, h.1)
+work_left Sound new so (Print printout) old old_output new_output done h = (record { asked = asked_called Sound new so old _ (IsTextOf printout) h.0.asked; status = h.0.status }, h.1)
+work_left Sound new so (Audit counts ending) old old_output new_output left.Nothing h = h
+work_left Sound new so (Audit counts ending) old old_output new_output (left.Text text) h = h
+work_left Sound new so (Audit counts ending) old old_output new_output (left.Audited found end) h = ((h.0.0, asked_called Sound new so old found IsFindingOf h.0.1, h.0.2), h.1)
 
 -- ---- over a book
 
--- and all events, which stand in order
-pub export_text : {Z : Type 0} (c : Content) (text : Option (String Z)) → (Rise 0 c.events → told text ≡ export_read c) → (p : Archive) → IsSound (together p c) → told text ≡ Some (telling_text Export c)
+-- and all events, which are in order
+pub export_text : {Z : Type 0} (c : Content) (text : Option (String Z)) → (Rise 0 c.events → text_read text ≡ export_read c) → (p : Archive) → IsSound (together p c) → text_read text ≡ Some (printout_text Export c)
 export_text c text h p whole = h (carried_rises p c whole)
 
 -- ---- over a connection
 
 -- the work over the book that the database held, or over a new one
-pub database_done : {E : Type 0} (r : Result Done E) (work : Work) (makes : Bool) (s t : State) (mid : BookState) (noted : Notes) (failures : ℕ) (before behind : Option (List ℕ)) → IsTaken makes s mid
-    → IfOk r (λ (d : Done). WorkDone IsFindingIfOrdered work mid before behind d (followed noted (book_state t failures)))
-    → IfOk r (λ (d : Done). OverConnection (λ (old new : BookState). WorkDone IsFindingOf work old before behind d new) makes s t)
-database_done (Err e) work makes s t mid noted failures before behind taken h = tt
-database_done (Ok d) work makes s t mid noted failures before behind taken h =
-    over_connection (λ (old new : BookState). WorkDone IsFindingIfOrdered work old before behind d new) (λ (old new : BookState). WorkDone IsFindingOf work old before behind d new) makes s t mid noted failures
-    (λ old of done. work_of work old mid (followed noted (book_state t failures)) before behind d of done)
-    (λ old done. work_left (LeavesFiled t) (followed noted (book_state t failures)) (leaves_filed t noted failures) work old before behind d done) taken h
+pub database_done : {E : Type 0} (r : Result Done E) (work : Work) (makes : Bool) (s t : State) (mid : BookState) (cache : Cache) (failures : ℕ) (old_output new_output : Option (List ℕ)) → IsTaken makes s mid
+    → IfOk r (λ (d : Done). WorkDone IsFindingIfOrdered work mid old_output new_output d (followed cache (book_state t failures)))
+    → IfOk r (λ (d : Done). OverConnection (λ (old new : BookState). WorkDone IsFindingOf work old old_output new_output d new) makes s t)
+database_done (Err e) work makes s t mid cache failures old_output new_output taken h = tt
+database_done (Ok d) work makes s t mid cache failures old_output new_output taken h =
+    over_connection (λ (old new : BookState). WorkDone IsFindingIfOrdered work old old_output new_output d new) (λ (old new : BookState). WorkDone IsFindingOf work old old_output new_output d new) makes s t mid cache failures
+    (λ old of done. work_of work old mid (followed cache (book_state t failures)) old_output new_output d of done)
+    (λ old done. work_left (LeavesCanonical t) (followed cache (book_state t failures)) (leaves_canonical t cache failures) work old old_output new_output d done) taken h

@@ -1,4 +1,4 @@
--- What a new desk in memory answers.
+-- The answers of a new desk in memory.
 use Rattle.std.specs.Prelude.{◌≡◌, ℕ, false, List, length, Option}
 use Rattle.std.specs.List.{Contains}
 use Rattle.std.specs.Io.KnownBytes.{Appends}
@@ -9,7 +9,7 @@ use Rattle.acd_book.specs.State.{unfailing}
 use Rattle.acd_book.specs.declared.book.Book.{Ghosts}
 use Rattle.acd_desk.specs.declared.taken.Taken.{Taken}
 use Rattle.acd_desk.specs.declared.taken.Taken.TheVariants.{StoreFault}
-use Rattle.acd_desk.specs.Served.{served, sent}
+use Rattle.acd_desk.specs.Accepted.{accepted, sent}
 use Rattle.acd_desk.specs.Stands.{replies}
 use Rattle.acd_desk.specs.Standing.{Standing, Starts}
 use Rattle.acd_lines.specs.Lines.{LinesAnswered, AllLines, ArrivalsAnswered}
@@ -18,7 +18,7 @@ use Rattle.acd_lines.specs.Lines.{LinesAnswered, AllLines, ArrivalsAnswered}
 abbrev pub nothing : Content
 nothing = empty_content greatest_limits
 
--- what a book in memory says of itself
+-- the state of a book in memory
 abbrev pub in_memory : Ghosts Content
 in_memory = record { state = unfailing }
 
@@ -31,9 +31,9 @@ pub record IsNewDesk (s : Standing) : Type 0 where
 -- each answer is noMemory, or that of the abstract desk at its place among the arrivals that were not answered so
 pub record AnsweredFromNothing (arrivals : List Arrival) (answers : List Taken) : Type 0 where
   pub even : length arrivals ≡ length answers
-  pub replies : sent answers ≡ replies nothing (served arrivals answers)
+  pub replies : sent answers ≡ replies nothing (accepted arrivals answers)
   pub no_fault : ¬ (Contains answers StoreFault)
 
 -- the whole input, and one answer line for each of its lines
 abbrev pub AnswersAll : Option (List ℕ) → Option (List ℕ) → Option (List ℕ) → Type 0
-AnswersAll had before behind = LinesAnswered (AllLines had) (ArrivalsAnswered AnsweredFromNothing) (Appends before behind)
+AnswersAll old_input old_output new_output = LinesAnswered (AllLines old_input) (ArrivalsAnswered AnsweredFromNothing) (Appends old_output new_output)

@@ -14,10 +14,10 @@ use Rattle.clap.specs.declared.builder.value_parser.ValueParser.TheVariants.{Uns
 use Rattle.acd_log.specs.declared.ending.Ending.TheVariants.{Plain}
 use Rattle.acd_program.specs.declared.desk.Work.{Work}
 use Rattle.acd_program.specs.declared.desk.Work.TheVariants as kind
-use Rattle.acd_program.specs.declared.desk.Telling.{Telling}
-use Rattle.acd_program.specs.declared.desk.Telling.TheVariants.{Report, Export}
+use Rattle.acd_program.specs.declared.desk.Printout.{Printout}
+use Rattle.acd_program.specs.declared.desk.Printout.TheVariants.{Report, Export}
 use Rattle.acd_program.specs.declared.asked.Task.{Task}
-use Rattle.acd_program.specs.declared.asked.Task.TheVariants.{Lines, Serve, Import, AuditWhole, AuditBehind, Read}
+use Rattle.acd_program.specs.declared.asked.Task.TheVariants.{Lines, Serve, Import, AuditWhole, AuditWithArchive, Read}
 
 -- ---- the commands
 
@@ -109,14 +109,14 @@ abbrev pub IsSpan : List Row → Option ℕ → Type 0
 IsSpan options (Some n) = IsNumber (codes "connections") options n × (is_given (codes "endless") options ≡ false)
 IsSpan options None = (has_option (codes "connections") options ≡ false) × (is_given (codes "endless") options ≡ true)
 
--- the command that tells it
-abbrev pub command_of : Telling → Text
+-- the command that prints it
+abbrev pub command_of : Printout → Text
 command_of Report = codes "report"
 command_of Export = codes "export"
 
--- what is read of a file
+-- the work that reads a file
 abbrev pub IsWork : Text → List Row → Work → Type 0
-IsWork command options (kind.Tell telling) = command ≡ command_of telling
+IsWork command options (kind.Print printout) = command ≡ command_of printout
 IsWork command options (kind.Audit counts ending) =
     (command ≡ codes "audit") × HasNone (codes "archive") options × (counts ≡ is_given (codes "count") options) × (false ≡ is_given (codes "whole") options) × (ending ≡ Plain)
 IsWork command options (kind.Import requests) = ⊥
@@ -130,7 +130,7 @@ IsTaskWith command options (Serve file port connections) =
 IsTaskWith command options (Import file plan) = (command ≡ codes "import") × IsText (codes "file") options file × IsText (codes "plan") options plan
 IsTaskWith command options (AuditWhole file counts) =
     (command ≡ codes "audit") × IsText (codes "file") options file × HasNone (codes "archive") options × (counts ≡ is_given (codes "count") options) × (true ≡ is_given (codes "whole") options)
-IsTaskWith command options (AuditBehind file archive counts whole) =
+IsTaskWith command options (AuditWithArchive file archive counts whole) =
     (command ≡ codes "audit") × IsText (codes "file") options file × IsText (codes "archive") options archive × (counts ≡ is_given (codes "count") options) × (whole ≡ is_given (codes "whole") options)
 IsTaskWith command options (Read file work) = IsText (codes "file") options file × IsWork command options work
 
@@ -142,6 +142,6 @@ IsTaskIn (Some matches) task = IsTaskWith matches.0 matches.1 task
 abbrev pub IsTaskOf : List Text → Task → Type 0
 IsTaskOf words = IsTaskIn (subcommand_of acd words)
 
--- the words aren't a command line that is taken
+-- the words aren't a command line of the program
 abbrev pub IsUntaken : List Text → Type 0
 IsUntaken words = takes acd words ≢ true

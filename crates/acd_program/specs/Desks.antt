@@ -1,4 +1,4 @@
--- What a desk did over a book: one in memory, or that of a database.
+-- A desk's work over a book: one in memory, or that of a database.
 use Rattle.std.specs.Prelude.{◌≡◌, Bool}
 use Rattle.sqlite.specs.State.{State}
 use Rattle.sqlite.specs.Held.{Held}
@@ -29,11 +29,12 @@ pub record OverNewDesk (Did : Desk Content → Desk Content → Type 0) : Type 0
   pub did : Did first final
 
 module _ {S : Type 0} (store : Ghosts S) where
-  -- what a book in a database says of itself
+  -- the state of a book in a database
   abbrev pub in_database : book.Ghosts (BookView S)
   in_database = record { state = book_of store }
 
-  -- A book was taken of the database or, where that had no tables and one was to be made, a new one. A desk over it did this, and the connection came back.
+  -- A book was opened in the database or, where that had no tables and one was to be made, a new one was made. A desk over it did this, and the connection
+  -- came back.
   pub record OverDatabase (makes : Bool) (Did : Desk (BookView S) → Desk (BookView S) → Type 0) (old : State) (new : Held S) : Type 0 where
     pub taken : BookView S
     pub last : BookView S

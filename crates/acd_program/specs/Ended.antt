@@ -1,5 +1,5 @@
--- What is left where a fault ended a command: what a reopening may find is (a) what it could find at the start, or (b) that with the first of what was asked for. `Unserved` says (a) of a
--- connection; sessions and desks over its book say (b).
+-- A fault ended a command, and what is left: a reopening may find (a) what it could find at the start, or (b) that with the first of the requests. `Unserved` says (a) of a connection;
+-- sessions and desks over its book say (b).
 use Rattle.std.specs.Prelude.{◌≡◌, ◌⊎◌, ℕ, Bool, List, Option, Result, Ok, Err}
 use Rattle.sqlite_disk.specs.declared.Disk.{Ghosts}
 use Rattle.sqlite_store.specs.declared.store.FileStore.{FileStore}
@@ -18,7 +18,7 @@ use Rattle.acd_program.specs.Work.{WorkDone, text_left}
 use Rattle.acd_program.specs.declared.fault.Fault.{Fault}
 use Rattle.acd_program.specs.declared.fault.Fault.TheVariants.{CannotOpen, OpenElsewhere, WrongVersion, BadRow, BadRows, NoMemory, Store, Plan, Read, Write, CannotListen}
 use Rattle.acd_program.specs.declared.desk.Work.{Work}
-use Rattle.acd_program.specs.declared.desk.Work.TheVariants.{Import, Tell, Audit}
+use Rattle.acd_program.specs.declared.desk.Work.TheVariants.{Import, Print, Audit}
 use Rattle.acd_program.specs.declared.desk.Done.{Done}
 
 -- ---- faults, by when they come
@@ -55,7 +55,7 @@ IsOfDesk (CannotListen port) = Unit {0}
 abbrev pub IsOfClosing : Fault → Type 0
 IsOfClosing fault = (fault ≡ NoMemory) ⊎ (fault ≡ Store)
 
--- the fault of a command: what ended its work or, where nothing did, what closing its file met
+-- the fault of a command: the one that ended its work or, where none did, the one of closing its file
 abbrev pub EndsBy : Result (Unit {0}) Fault → Fault → Type 0
 EndsBy ended fault = (ended ≡ Err fault) ⊎ ((ended ≡ Ok tt) × IsOfClosing fault)
 
@@ -70,43 +70,43 @@ pub record OnlyAsked (old new : BookState) : Type 0 where
 -- the work only reads
 abbrev pub OnlyReads : Work → Type 0
 OnlyReads (Import requests) = ⊥
-OnlyReads (Tell telling) = Unit {0}
+OnlyReads (Print printout) = Unit {0}
 OnlyReads (Audit counts ending) = Unit {0}
 
 -- the work takes the requests of a plan of these bytes
 abbrev pub TakesPlan : List ℕ → Work → Type 0
 TakesPlan bytes (Import requests) = plan_requests bytes ≡ Ok requests.now
-TakesPlan bytes (Tell telling) = ⊥
+TakesPlan bytes (Print printout) = ⊥
 TakesPlan bytes (Audit counts ending) = ⊥
 
--- the first requests of a plan were taken in a session, and not all of their answers were written
+-- the first requests of a plan were executed in a session, and not all of their answers were written
 abbrev pub IsBegunPlan : List Request → Option (List ℕ) → Option (List ℕ) → BookState → BookState → Type 0
-IsBegunPlan requests before behind old new = LinesAnswered (FirstRequests requests) (RequestsAnswered (IsSession old new)) (Breaks before behind)
+IsBegunPlan requests old_output new_output old new = LinesAnswered (FirstRequests requests) (RequestsAnswered (IsSession old new)) (Breaks old_output new_output)
 
 -- so the requests of an import; no other work is left so
 abbrev pub IsBegun : Work → Option (List ℕ) → Option (List ℕ) → BookState → BookState → Type 0
-IsBegun (Import requests) before behind old new = IsBegunPlan requests.now before behind old new
-IsBegun (Tell telling) before behind old new = ⊥
-IsBegun (Audit counts ending) before behind old new = ⊥
+IsBegun (Import requests) old_output new_output old new = IsBegunPlan requests.now old_output new_output old new
+IsBegun (Print printout) old_output new_output old new = ⊥
+IsBegun (Audit counts ending) old_output new_output old new = ⊥
 
 -- a fault ended the work of a plan: no desk did anything and nothing was written, or it is begun
 abbrev pub StoppedPlan : List Request → Option (List ℕ) → Option (List ℕ) → BookState → BookState → Type 0
-StoppedPlan requests before behind old new = (OnlyAsked old new × (behind ≡ before)) ⊎ IsBegunPlan requests before behind old new
+StoppedPlan requests old_output new_output old new = (OnlyAsked old new × (new_output ≡ old_output)) ⊎ IsBegunPlan requests old_output new_output old new
 
 -- the same of any work over the book
 abbrev pub StoppedOver : Work → Option (List ℕ) → Option (List ℕ) → BookState → BookState → Type 0
-StoppedOver work before behind old new = (OnlyAsked old new × (behind ≡ before)) ⊎ IsBegun work before behind old new
+StoppedOver work old_output new_output old new = (OnlyAsked old new × (new_output ≡ old_output)) ⊎ IsBegun work old_output new_output old new
 
 -- ---- over a connection
 
 -- a fault ended the work: (a), and nothing was written; or (b), with the first requests of a plan
 abbrev pub WorkStopped : Work → Bool → State → State → Option (List ℕ) → Option (List ℕ) → Type 0
-WorkStopped work makes old new before behind = (Unserved makes old new × (behind ≡ before)) ⊎ OverConnection (IsBegun work before behind) makes old new
+WorkStopped work makes old new old_output new_output = (Unserved makes old new × (new_output ≡ old_output)) ⊎ OverConnection (IsBegun work old_output new_output) makes old new
 
--- where a fault ended the work nothing was printed behind it, and else a beginning of what was left
+-- where a fault ended the work nothing was printed after it, and else a beginning of what was left
 abbrev pub PrintedOf : {F : Type 0} → Result Done F → Option (List ℕ) → Option (List ℕ) → Type 0
-PrintedOf (Err fault) before behind = behind ≡ before
-PrintedOf (Ok left) before behind = Begins before behind (text_left left)
+PrintedOf (Err fault) old_output new_output = new_output ≡ old_output
+PrintedOf (Ok left) old_output new_output = Begins old_output new_output (text_left left)
 
 module _ {D : Type 0} {g : Ghosts D} where
   -- the connection was closed, or that failed: a crash leaves nothing then that it didn't leave before
@@ -114,15 +114,15 @@ module _ {D : Type 0} {g : Ghosts D} where
   IsShut conn = (store : FileStore D g) × IsClosed conn store
 
   -- the work was done, and a beginning of what was left of it was printed
-  pub record WasCut (makes : Bool) (work : Work) (conn last : Held (FileStore D g)) (before behind : Option (List ℕ)) : Type 0 where
+  pub record WasCut (makes : Bool) (work : Work) (conn last : Held (FileStore D g)) (old_output new_output : Option (List ℕ)) : Type 0 where
     pub left : Done
     pub between : Option (List ℕ)
-    pub done : OverConnection (λ (old new : BookState). WorkDone IsFindingOf work old before between left new) makes (file_state conn) (file_state last)
-    pub printed : Begins between behind (text_left left)
+    pub done : OverConnection (λ (old new : BookState). WorkDone IsFindingOf work old old_output between left new) makes (file_state conn) (file_state last)
+    pub printed : Begins between new_output (text_left left)
 
   -- Work over a connection ended by a fault, and the connection was shut. Work that only reads leaves (a) alone, whatever was printed.
-  pub record WorkEnded (makes : Bool) (work : Work) (conn : Held (FileStore D g)) (before behind : Option (List ℕ)) : Type 0 where
+  pub record WorkEnded (makes : Bool) (work : Work) (conn : Held (FileStore D g)) (old_output new_output : Option (List ℕ)) : Type 0 where
     pub last : Held (FileStore D g)
     pub shut : IsShut last
     pub kept : OnlyReads work → Unserved makes (file_state conn) (file_state last)
-    pub left : WorkStopped work makes (file_state conn) (file_state last) before behind ⊎ WasCut makes work conn last before behind
+    pub left : WorkStopped work makes (file_state conn) (file_state last) old_output new_output ⊎ WasCut makes work conn last old_output new_output

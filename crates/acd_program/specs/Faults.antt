@@ -23,7 +23,7 @@ abbrev pub book_fault : BookFault → Fault
 book_fault book.NoMemory = NoMemory
 book_fault book.Store = Store
 
--- of a book that isn't made, as of one that isn't taken
+-- of a book that can't be made, as of one that can't be opened
 abbrev pub unmade_fault : BookFault → AdoptFault
 unmade_fault book.NoMemory = adopt.NoMemory
 unmade_fault book.Store = adopt.Store
@@ -41,7 +41,7 @@ open_fault (opening.Rows rule) = BadRows rule
 open_fault opening.NoMemory = NoMemory
 open_fault opening.Store = Store
 
--- of a desk that tells nothing
+-- of a desk that answers nothing
 abbrev pub desk_fault : DeskFault → Fault
 desk_fault desk.NoMemory = NoMemory
 desk_fault desk.StoreFault = Store
@@ -62,8 +62,8 @@ abbrev pub by_memory : {F : Type 0} → Error → F → F → F
 by_memory (SqliteFailure OutOfMemory) none other = none
 by_memory _ none other = other
 
--- what a command is told of how its lines ended: that the desk has failed is a fault where that was to end them
-abbrev pub told_by : Result (Unit {0}) LinesFault → Bool → Result (Unit {0}) Fault
-told_by (Err why) failed = Err (lines_fault why)
-told_by (Ok done) true = Err Store
-told_by (Ok done) false = Ok done
+-- what a command answers about how its lines ended: that the desk has failed is a fault where that was to end them
+abbrev pub command_result : Result (Unit {0}) LinesFault → Bool → Result (Unit {0}) Fault
+command_result (Err why) failed = Err (lines_fault why)
+command_result (Ok done) true = Err Store
+command_result (Ok done) false = Ok done

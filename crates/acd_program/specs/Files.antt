@@ -1,4 +1,4 @@
--- What becomes of the two files before the store has them.
+-- The two files before the store has them.
 use Rattle.std.specs.Prelude.{◌≡◌, ◌⊎◌, ◌↔◌, ℕ, ◌/◌, ◌<◌, ◌≤◌, Bool, List, [], length, IsTrue, Option, None, Some, Result, IfOk}
 use Rattle.sqlite_disk.specs.declared.Disk.{Ghosts}
 use Rattle.sqlite_disk.specs.declared.Files.{Files}
@@ -22,7 +22,7 @@ use Rattle.sqlite.specs.Files.{file_state, IsOpened, Finds, IsCleanLeft, LeavesF
 abbrev pub new_page : ℕ
 new_page = 1024
 
--- how long a page is: as long as was found or, where nothing was, as in a new file
+-- the length of a page: the length found or, where none was, that of a new file
 abbrev pub page_of : Option PageSize → ℕ
 page_of None = new_page
 page_of (Some size) = bytes_of size
@@ -65,8 +65,8 @@ module _ {D : Type 0} (g : Ghosts D) where
   IfClean pair Fact = AreClean g pair.log pair.db → Fact
 
   -- an answer says whether this is so, where neither file's disk lied
-  abbrev pub Tells : {E : Type 0} → Files D → Result Bool E → Type 0 → Type 0
-  Tells pair result Fact = IfOk result (λ (told : Bool). IfClean pair (IsTrue told ↔ Fact))
+  abbrev pub FindsWhether : {E : Type 0} → Files D → Result Bool E → Type 0 → Type 0
+  FindsWhether pair result Fact = IfOk result (λ (found : Bool). IfClean pair (IsTrue found ↔ Fact))
 
   -- the log holds a commit, and its file has no bytes
   abbrev pub IsLoneIn : Files D → Type 0
@@ -77,7 +77,7 @@ module _ {D : Type 0} (g : Ghosts D) where
     pub log : OnlyReads g old.log new.log
     pub db : OnlyReads g old.db new.db
 
-  -- that is how long the pages are, by the head of the log or, where it has none, by that of the file
+  -- that is the length of the pages, by the head of the log or, where it has none, by that of the file
   pub record FindsPage (old new : Files D) (found : Option PageSize) : Type 0 where
     pub by_log : AreClean g new.log new.db → ¬ IsIgnored (g.seen old.log) → Names found (be32 (g.seen old.log) 8)
     pub by_file : AreClean g new.log new.db → IsIgnored (g.seen old.log) → Names found (size_in_file (g.seen old.db))

@@ -1,4 +1,4 @@
--- What an audit of a desk finds.
+-- The finding of an audit of a desk.
 use Rattle.std.specs.Prelude.{◌≡◌, ℕ, Bool, true, false, ⊤, List, ◌∷◌, [], ◌++◌, length, codes, decimal}
 use Rattle.acd_book.specs.Content.{Content}
 use Rattle.acd_book.specs.Order.{IsOrdered}

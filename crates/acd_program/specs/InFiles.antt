@@ -1,4 +1,4 @@
--- What is done over a database in files, from the connection on to what is printed.
+-- Work over a database in files, from the connection on to what is printed.
 use Rattle.std.specs.Prelude.{◌≡◌, ℕ, Bool, true, false, List, Option}
 use Rattle.std.specs.Io.KnownBytes.{Appends}
 use Rattle.sqlite_disk.specs.declared.Disk.{Ghosts}
@@ -18,7 +18,7 @@ use Rattle.acd_program.specs.declared.desk.Work.{Work}
 use Rattle.acd_program.specs.declared.desk.Done.{Done}
 
 module _ {D : Type 0} {g : Ghosts D} where
-  -- the connection was closed: its last commit lies whole in the database file, as that reads now and after a crash
+  -- the connection was closed: its last commit is whole in the database file, as that reads now and after a crash
   pub record IsLaidIn (conn : Held (FileStore D g)) : Type 0 where
     pub pair : Files D
     pub store : FileStore D g
@@ -26,22 +26,23 @@ module _ {D : Type 0} {g : Ghosts D} where
     pub closed : IsClosed conn store
     pub copied : AreClean g pair.log pair.db → IsCopied conn pair
 
-  -- The work was done over the book of the database, which was then laid into its file. What was left of the work was printed behind that.
-  pub record WorkedOver (makes : Bool) (work : Work) (conn : Held (FileStore D g)) (before behind : Option (List ℕ)) (status : ℕ) : Type 0 where
+  -- The work was done over the book of the database, which was then written into its file. What was left of the work was printed after
+  -- that.
+  pub record WorkedOver (makes : Bool) (work : Work) (conn : Held (FileStore D g)) (old_output new_output : Option (List ℕ)) (status : ℕ) : Type 0 where
     pub last : Held (FileStore D g)
     pub left : Done
     pub between : Option (List ℕ)
-    pub done : OverConnection (λ (old new : BookState). WorkDone IsFindingOf work old before between left new) makes (file_state conn) (file_state last)
+    pub done : OverConnection (λ (old new : BookState). WorkDone IsFindingOf work old old_output between left new) makes (file_state conn) (file_state last)
     pub closed : IsLaidIn last
-    pub printed : Appends between behind (text_left left)
-    pub told : status ≡ status_left left
+    pub printed : Appends between new_output (text_left left)
+    pub outcome : status ≡ status_left left
 
 -- `IsFresh is_log file` says that a file is a log, or a database file, that was just opened
 module _ {D : Type 0} (disk : Ghosts D) (IsFresh : Bool → D → Type 0) where
   -- it was opened over two files that were just opened
   pub record IsOpenedFrom (conn : Held (FileStore D disk)) : Type 0 where
     pub pair : Files D
-    pub fresh : IsFresh true pair.log × IsFresh false pair.db
+    pub unused : IsFresh true pair.log × IsFresh false pair.db
     pub opened : IsOpenedIn disk pair conn
 
   -- a database in files was opened, this was done over its book, and it was closed into its file

@@ -6,7 +6,7 @@ pub mod Taking
 pub mod Found
 pub mod Work
 pub mod InFiles
-pub mod Behind
+pub mod WithArchive
 pub mod Files
 pub mod Desks
 pub mod Seen

@@ -21,7 +21,7 @@ use Rattle.acd_lines.specs.declared.fault.LinesFault.TheVariants.{NoMemory}
 use Rattle.acd_http.specs.ReadingLines.{reading_line_of, ReadingAnswers}
 use Rattle.acd_program.specs.Answered.{in_memory}
 use Rattle.acd_program.specs.Desks.{OverDesk, OverNewDesk, OverDatabase, in_database}
-use Rattle.acd_program.specs.Faults.{open_fault, told_by}
+use Rattle.acd_program.specs.Faults.{open_fault, command_result}
 use Rattle.acd_program.specs.Over.{AnswersOver, OverConnection, Unserved}
 use Rattle.acd_program.specs.Seen.{Seen, InDatabase, SeenIn}
 use Rattle.acd_program.specs.declared.fault.Fault.{Fault}
@@ -38,43 +38,43 @@ each_by unmarked long read Answers = InTurn (asked unmarked long read) Answers
 module _ {D : Type 0} (stands : D → Standing) (AnsweredInTurn : D → D → List (List ℕ) → List (List ℕ) → Type 0) (ends : Bool) (io : Streams) where
   -- the whole input was answered, by a desk that hasn't failed where that was to end it
   pub record Whole (d e : D) : Type 0 where
-    pub answered : LinesAnswered (AllLines io.had) (AnsweredInTurn d e) (Appends io.before io.behind)
+    pub answered : LinesAnswered (AllLines io.old_input) (AnsweredInTurn d e) (Appends io.old_output io.new_output)
     pub well : ends ≡ true → (stands e).failed ≡ false
 
-  -- lines were answered, and the command is told how that ended
-  pub record LinesTold (result : Result (Unit {0}) Fault) (d e : D) : Type 0 where
+  -- lines were answered, and the command gets how that ended
+  pub record LinesEnded (result : Result (Unit {0}) Fault) (d e : D) : Type 0 where
     pub ended : Result (Unit {0}) LinesFault
     pub lines : LinesDone stands AnsweredInTurn ends io d e ended
-    pub told : result ≡ told_by ended (ends && (stands e).failed)
+    pub outcome : result ≡ command_result ended (ends && (stands e).failed)
 
 module _ {B : Type 0} (says : book.Ghosts B) (AnsweredInTurn : Desk B → Desk B → List (List ℕ) → List (List ℕ) → Type 0) (ends : Bool) (io : Streams) where
   -- the book made no desk, and nothing was read or written
   pub record NoDesk (old : BookState) (result : Result (Unit {0}) Fault) (last : B) : Type 0 where
     pub why : OpenFault
-    pub told : result ≡ Err (open_fault why)
+    pub outcome : result ≡ Err (open_fault why)
     pub refused : Refused old why (says.state last)
     pub untouched : Untouched io
 
   -- lines over the book
   abbrev pub LinesOver : BookState → Result (Unit {0}) Fault → B → Type 0
-  LinesOver old result last = NoDesk old result last ⊎ OverDesk says (LinesTold (standing says) AnsweredInTurn ends io result) old last
+  LinesOver old result last = NoDesk old result last ⊎ OverDesk says (LinesEnded (standing says) AnsweredInTurn ends io result) old last
 
 module _ {S : Type 0} (store : Ghosts S) (makes : Bool) (io : Streams) where
   -- there was no desk: nothing was read or written, and a crash leaves what it left before, or a new book
-  pub record NoneServed (old : State) (result : Result (Unit {0}) Fault) (new : Held S) : Type 0 where
+  pub record NoneMade (old : State) (result : Result (Unit {0}) Fault) (new : Held S) : Type 0 where
     pub why : Fault
-    pub told : result ≡ Err why
+    pub outcome : result ≡ Err why
     pub unserved : Unserved makes old (state store new)
     pub untouched : Untouched io
 
 -- lines over the book of the database
 abbrev pub LinesIn : {S : Type 0} → (store : Ghosts S) → (Desk (BookView S) → Desk (BookView S) → List (List ℕ) → List (List ℕ) → Type 0) → Bool → Bool → Streams → State → Result (Unit {0}) Fault → Held S → Type 0
 LinesIn store AnsweredInTurn makes ends io old result new =
-    NoneServed store makes io old result new ⊎ OverDatabase store makes (LinesTold (standing (in_database store)) AnsweredInTurn ends io result) old new
+    NoneMade store makes io old result new ⊎ OverDatabase store makes (LinesEnded (standing (in_database store)) AnsweredInTurn ends io result) old new
 
 -- the whole input was answered over the book of the database: where lines are requests alone, by a session; else each by the desk that the lines before it left
 abbrev pub DatabaseAnswered : {S : Type 0} → Ghosts S → Bool → Bool → Bool → Streams → State → Held S → Type 0
-DatabaseAnswered store makes false ends io old new = OverConnection (λ (before behind : BookState). AnswersOver ends before io.had io.before io.behind behind) makes old (state store new)
+DatabaseAnswered store makes false ends io old new = OverConnection (λ (old_book new_book : BookState). AnswersOver ends old_book io.old_input io.old_output io.new_output new_book) makes old (state store new)
 DatabaseAnswered {S} store makes true ends io old new = SeenIn store (λ (stands : Seen (InDatabase S) → Standing). Whole stands (in_turn true stands) ends io) makes old new
 
 module _ (AnsweredInTurn : Desk Content → Desk Content → List (List ℕ) → List (List ℕ) → Type 0) (io : Streams) where

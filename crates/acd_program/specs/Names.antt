@@ -1,11 +1,11 @@
--- Names that fault lines tell.
+-- Names that fault lines print.
 use Rattle.std.specs.Prelude.{ℕ, List, codes}
 use Rattle.acd_sql_columns.specs.declared.tables.Table.{Table}
 use Rattle.acd_sql_columns.specs.declared.tables.Table.TheVariants as table
 use Rattle.acd_terms.specs.declared.rows.Rule.{Rule}
 use Rattle.acd_terms.specs.declared.rows.Rule.TheVariants as rule
 
--- of a table, as it stands in the file
+-- of a table, as it is in the file
 abbrev pub table_name : Table → List ℕ
 table_name table.Meta = codes "meta"
 table_name table.Groups = codes "acd_groups"

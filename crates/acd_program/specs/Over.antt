@@ -1,4 +1,4 @@
--- What lines over a book answer, and what they leave.
+-- The answers of lines over a book, and what they leave.
 use Rattle.std.specs.Prelude.{◌≡◌, ◌⊎◌, ℕ, Bool, true, List, Option, IsTrue, ⊤}
 use Rattle.std.specs.List.{Contains}
 use Rattle.std.specs.Io.KnownBytes.{Appends}
@@ -7,7 +7,7 @@ use Rattle.sqlite.specs.State.{State, HasCleanDisk}
 use Rattle.acd_terms.specs.declared.command.Arrival.{Arrival}
 use Rattle.acd_book.specs.Content.{Content}
 use Rattle.acd_book.specs.State.{BookState}
-use Rattle.acd_sql_columns.specs.AnyRows.{IsFiled, IsFiledAs}
+use Rattle.acd_sql_columns.specs.AnyRows.{IsCanonical, IsCanonicalAs}
 use Rattle.acd_sql_columns.specs.declared.tables.Version.TheVariants as version
 use Rattle.acd_sql_columns.specs.InTables.{content_of}
 use Rattle.acd_sql_columns.specs.Schema.{no_schema}
@@ -32,16 +32,16 @@ IsFailedSession old new arrivals answers = Session IsFault old arrivals answers 
 
 -- the whole input, and one answer line for each of its lines; the arrivals among them are a session over the book, without a storeFault where one was to end them
 abbrev pub AnswersOver : Bool → BookState → Option (List ℕ) → Option (List ℕ) → Option (List ℕ) → BookState → Type 0
-AnswersOver ends old had before behind new = LinesAnswered (AllLines had) (ArrivalsAnswered (IsSessionTo ends old new)) (Appends before behind)
+AnswersOver ends old old_input old_output new_output new = LinesAnswered (AllLines old_input) (ArrivalsAnswered (IsSessionTo ends old new)) (Appends old_output new_output)
 
 -- ---- over a connection
 
--- a database as a book: it holds what its tables stand for, and is sound where their rows are filed
+-- a database as a book: its tables give its content, and it is sound where their rows are canonical
 abbrev pub held : State → BookState
 held s = record {
   content = content_of s.committed.trees;
   stops = λ c. (db : Trees) × s.may_leave db × (c ≡ content_of db);
-  is_sound = IsFiled s.now;
+  is_sound = IsCanonical s.now;
   is_clean = HasCleanDisk s;
   is_open = IsTrue s.is_open;
   failures = 0;
@@ -51,24 +51,24 @@ held s = record {
 abbrev pub unmade : State → BookState
 unmade s = record { content = nothing; stops = λ c. c ≡ nothing; is_sound = ⊤; is_clean = HasCleanDisk s; is_open = ⊤; failures = 0 }
 
--- the rows of version 2's tables are filed, and stand for this
+-- the rows of version 2's tables are canonical, and represent this
 abbrev pub StandsFor : Trees → Content → Type 0
-StandsFor db c = IsFiledAs version.Second db × (content_of db ≡ c)
+StandsFor db c = IsCanonicalAs version.Second db × (content_of db ≡ c)
 
--- whatever a crash may leave is filed
-abbrev pub LeavesFiled : State → Type 0
-LeavesFiled s = (db : Trees) → s.may_leave db → IsFiledAs version.Second db
+-- whatever a crash may leave is canonical
+abbrev pub LeavesCanonical : State → Type 0
+LeavesCanonical s = (db : Trees) → s.may_leave db → IsCanonicalAs version.Second db
 
 -- a database as the book that a desk left in it, whose store has failed so often
 abbrev pub left : State → ℕ → BookState
-left s failures = record (held s) { is_sound = LeavesFiled s; failures = failures }
+left s failures = record (held s) { is_sound = LeavesCanonical s; failures = failures }
 
 -- No desk was made: a crash leaves a database that it left before, or version 2 of the content that was held or, where the database had no tables and a book was to be made,
 -- a new one with nothing in it.
 abbrev pub Unserved : Bool → State → State → Type 0
 Unserved makes old new =
-    HasCleanDisk new → IsFiled old.now → (db : Trees) → new.may_leave db → old.may_leave db ⊎ StandsFor db (content_of old.committed.trees) ⊎ ((makes ≡ true) × (old.now.schema ≡ no_schema) × StandsFor db nothing)
+    HasCleanDisk new → IsCanonical old.now → (db : Trees) → new.may_leave db → old.may_leave db ⊎ StandsFor db (content_of old.committed.trees) ⊎ ((makes ≡ true) × (old.now.schema ≡ no_schema) × StandsFor db nothing)
 
--- what is said of the book that the database held or, where it had no tables and one was to be made, of the new one
+-- this holds of the book in the database or, where it had no tables and one was to be made, of the new one
 abbrev pub OverConnection : (BookState → BookState → Type 0) → Bool → State → State → Type 0
 OverConnection P makes old new = (failures : ℕ) × (P (held old) (left new failures) ⊎ ((makes ≡ true) × (old.now.schema ≡ no_schema) × P (unmade old) (left new failures)))

@@ -1,4 +1,4 @@
--- A desk over a book, as a command leaves it: what the book says of itself, and what the desk has in memory.
+-- A desk over a book, as a command leaves it: the book's state, and what the desk has in memory.
 use Rattle.std.specs.Prelude.{◌≡◌, ◌⊎◌, ℕ, Bool, true, Option}
 use Rattle.sqlite.specs.State.{State, HasCleanDisk}
 use Rattle.sqlite.specs.Held.{Held, state}
@@ -10,7 +10,7 @@ use Rattle.acd_sql_columns.specs.Schema.{no_schema}
 use Rattle.acd_desk.specs.Opening.{Opened}
 use Rattle.acd_desk.specs.Standing.{Standing}
 use Rattle.acd_program.specs.Answered.{IsNewDesk}
-use Rattle.acd_program.specs.Over.{held, unmade, left, LeavesFiled}
+use Rattle.acd_program.specs.Over.{held, unmade, left, LeavesCanonical}
 
 pub record Seen (B : Type 0) : Type 0 where
   pub book : B
@@ -19,7 +19,7 @@ pub record Seen (B : Type 0) : Type 0 where
   -- it answers storeFault, and nothing else
   pub failed : Bool
 
--- how it stands, by what its book says
+-- its state, by what its book says
 abbrev pub seen : {B : Type 0} → (B → BookState) → Seen B → Standing
 seen says d = record { book = says d.book; switch = d.switch; failed = d.failed }
 
@@ -44,15 +44,16 @@ module _ {S : Type 0} (store : Ghosts S) where
   left_of began b = record (left (state store b.conn) b.failures) { is_sound = began.is_sound }
 
   module _ (Did : (Seen (InDatabase S) → Standing) → Seen (InDatabase S) → Seen (InDatabase S) → Type 0) where
-    -- a desk was opened over the book and did this, and the connection came back; whatever a crash may leave of a sound book is filed
+    -- a desk was opened over the book and did this, and the connection came back; whatever a crash may leave of a sound book is
+    -- canonical
     pub record SeenOver (old : BookState) (new : Held S) : Type 0 where
       pub first : Seen (InDatabase S)
       pub final : Seen (InDatabase S)
       pub opened : Opened old (seen (left_of old) first)
       pub did : Did (seen (left_of old)) first final
-      pub filed : HasCleanDisk (state store new) → old.is_sound → LeavesFiled (state store new)
+      pub canonical : HasCleanDisk (state store new) → old.is_sound → LeavesCanonical (state store new)
       pub back : new ≡ final.book.conn
 
-    -- over the book that the database held or, where it had no tables and one was to be made, over the new one
+    -- over the book in the database or, where it had no tables and one was to be made, over the new one
     abbrev pub SeenIn : Bool → State → Held S → Type 0
     SeenIn makes old new = SeenOver (held old) new ⊎ ((makes ≡ true) × (old.now.schema ≡ no_schema) × SeenOver (unmade old) new)

@@ -1,4 +1,4 @@
--- What serving connections over the book of a database leaves, and how that ended.
+-- Answering connections over the book of a database: what it leaves, and how that ended.
 use Rattle.std.specs.Prelude.{◌≡◌, ◌⊎◌, ℕ, Bool, false, List, [], ◌∷◌, ◌++◌, codes, decimal, Option, Some, None, Result, Ok, Err}
 use Rattle.std.specs.Io.KnownBytes.{Appends}
 use Rattle.sqlite.specs.State.{State}
@@ -10,54 +10,54 @@ use Rattle.acd_desk.specs.declared.open_fault.OpenFault.{OpenFault}
 use Rattle.acd_desk.specs.Opening.{Refused}
 use Rattle.acd_desk.specs.Standing.{Standing, standing}
 use Rattle.acd_io.specs.Sent.{Begins}
-use Rattle.acd_http.specs.Listening.{ServedFor}
+use Rattle.acd_http.specs.Listening.{AnsweredFor}
 use Rattle.acd_program.specs.Desks.{OverDesk}
-use Rattle.acd_program.specs.Faults.{open_fault, told_by}
+use Rattle.acd_program.specs.Faults.{open_fault, command_result}
 use Rattle.acd_program.specs.Over.{Unserved}
 use Rattle.acd_program.specs.Seen.{Seen, InDatabase, SeenIn}
 use Rattle.acd_program.specs.declared.fault.Fault.{Fault}
 
--- connections were served, one after another, so many or until the desk had failed; the lines of their faults were written, or a beginning of them
-pub record Served {D : Type 0} (stands : D → Standing) (span : Option ℕ) (before behind : Option (List ℕ)) (d e : D) : Type 0 where
-  pub served : ServedFor stands span d e (Begins before behind)
+-- connections were answered, one after another, so many or until the desk failed; the lines of their faults were written, or a beginning of them
+pub record ServeDone {D : Type 0} (stands : D → Standing) (span : Option ℕ) (old_output new_output : Option (List ℕ)) (d e : D) : Type 0 where
+  pub answered : AnsweredFor stands span d e (Begins old_output new_output)
   -- an endless service doesn't end so where its store has failed
   pub well : span ≡ None → (stands e).failed ≡ false
 
--- the line that tells where connections are waited for
+-- the line that says where the program waits for connections
 abbrev pub listening_line : ℕ → List ℕ
 listening_line port = codes "listening on 127.0.0.1:" ++ (decimal port ++ 10 ∷ [])
 
--- that the desk has failed is a fault of an endless service alone
+-- a failed desk is a fault of an endless service alone
 abbrev pub ends_failed : Option ℕ → Bool → Bool
 ends_failed (Some many) failed = false
 ends_failed None failed = failed
 
--- `mute` was written of the faults of connections before, and `told` is behind
-module _ (span : Option ℕ) (mute told : Option (List ℕ)) where
+-- `old_errors` was written of the faults of connections before, and `new_errors` is written after
+module _ (span : Option ℕ) (old_errors new_errors : Option (List ℕ)) where
   module _ {D : Type 0} (stands : D → Standing) where
     -- nothing was asked of the desk
     pub record Unasked (result : Result (Unit {0}) Fault) (d e : D) : Type 0 where
       pub why : Fault
       pub ended : result ≡ Err why
       pub same : e ≡ d
-      pub quiet : told ≡ mute
+      pub quiet : new_errors ≡ old_errors
 
-    -- so many connections were answered, or until the desk had failed
+    -- so many connections were answered, or until the desk failed
     pub record Answered (result : Result (Unit {0}) Fault) (d e : D) : Type 0 where
-      pub served : ServedFor stands span d e (Begins mute told)
-      pub ended : result ≡ told_by (Ok tt) (ends_failed span (stands e).failed)
+      pub answered : AnsweredFor stands span d e (Begins old_errors new_errors)
+      pub ended : result ≡ command_result (Ok tt) (ends_failed span (stands e).failed)
 
-    -- what answering connections left, and the command is told how it ended
-    abbrev pub ListenTold : Result (Unit {0}) Fault → D → D → Type 0
-    ListenTold result d e = Unasked result d e ⊎ Answered result d e
+    -- what answering connections left, and the command gets how it ended
+    abbrev pub ListenEnded : Result (Unit {0}) Fault → D → D → Type 0
+    ListenEnded result d e = Unasked result d e ⊎ Answered result d e
 
-  -- `before` was written on the output before, and `behind` is behind
-  module _ (port : ℕ) (before behind : Option (List ℕ)) where
-    -- connections are answered only behind the whole line
-    abbrev pub ServeTold : {D : Type 0} → (D → Standing) → Result (Unit {0}) Fault → D → D → Type 0
-    ServeTold stands result d e =
-        (Unasked stands result d e × Begins before behind (listening_line port))
-        ⊎ (Answered stands result d e × Appends before behind (listening_line port))
+  -- `old_output` was written on the output before, and `new_output` is written after
+  module _ (port : ℕ) (old_output new_output : Option (List ℕ)) where
+    -- connections are answered only after the whole line
+    abbrev pub ServeEnded : {D : Type 0} → (D → Standing) → Result (Unit {0}) Fault → D → D → Type 0
+    ServeEnded stands result d e =
+        (Unasked stands result d e × Begins old_output new_output (listening_line port))
+        ⊎ (Answered stands result d e × Appends old_output new_output (listening_line port))
 
     module _ {B : Type 0} (says : Ghosts B) where
       -- the book made no desk, and nothing was written
@@ -65,22 +65,22 @@ module _ (span : Option ℕ) (mute told : Option (List ℕ)) where
         pub why : OpenFault
         pub ended : result ≡ Err (open_fault why)
         pub refused : Refused old why (says.state last)
-        pub quiet : told ≡ mute
-        pub unsaid : behind ≡ before
+        pub quiet : new_errors ≡ old_errors
+        pub unsaid : new_output ≡ old_output
 
-      -- serving over the book
+      -- answering connections over the book
       abbrev pub ServeOver : BookState → Result (Unit {0}) Fault → B → Type 0
-      ServeOver old result last = NoDesk old result last ⊎ OverDesk says (ServeTold (standing says) result) old last
+      ServeOver old result last = NoDesk old result last ⊎ OverDesk says (ServeEnded (standing says) result) old last
 
     -- there was no desk: nothing was written, and a crash leaves what it left before, or a new book
-    pub record NoneServed {S : Type 0} (store : Stores S) (makes : Bool) (old : State) (result : Result (Unit {0}) Fault) (new : Held S) : Type 0 where
+    pub record NoneMade {S : Type 0} (store : Stores S) (makes : Bool) (old : State) (result : Result (Unit {0}) Fault) (new : Held S) : Type 0 where
       pub why : Fault
       pub ended : result ≡ Err why
       pub unserved : Unserved makes old (state store new)
-      pub quiet : told ≡ mute
-      pub unsaid : behind ≡ before
+      pub quiet : new_errors ≡ old_errors
+      pub unsaid : new_output ≡ old_output
 
-    -- serving over the book of the database
+    -- answering connections over the book of the database
     abbrev pub ServeIn : {S : Type 0} → Stores S → Bool → State → Result (Unit {0}) Fault → Held S → Type 0
     ServeIn {S} store makes old result new =
-        NoneServed store makes old result new ⊎ SeenIn store (λ (stands : Seen (InDatabase S) → Standing). ServeTold stands result) makes old new
+        NoneMade store makes old result new ⊎ SeenIn store (λ (stands : Seen (InDatabase S) → Standing). ServeEnded stands result) makes old new

@@ -14,7 +14,7 @@ use Rattle.acd_desk.specs.Standing.{Standing, standing}
 use Rattle.acd_program.specs.Answered.{in_memory, AnsweredFromNothing, AnswersAll}
 use Rattle.acd_program.specs.Faults.{lines_fault}
 use Rattle.acd_program.specs.Desks.{OverDatabase, in_database}
-use Rattle.acd_program.specs.LinesOver.{in_turn, LinesTold, LinesInMemory, NoneServed}
+use Rattle.acd_program.specs.LinesOver.{in_turn, LinesEnded, LinesInMemory, NoneMade}
 use Rattle.acd_program.specs.Over.{IsSession, IsFailedSession, AnswersOver, OverConnection}
 use Rattle.acd_program.specs.Seen.{Seen, SeenNew, InDatabase, SeenIn}
 use Rattle.acd_program.specs.declared.fault.Fault.{Fault}
@@ -24,44 +24,44 @@ module _ (ends : Bool) (io : Streams) where
   -- reading or writing ended it, and the session is over a beginning of the input
   pub record Stopped (old new : BookState) (fault : Fault) : Type 0 where
     pub why : LinesFault
-    pub told : fault ≡ lines_fault why
-    pub session : LinesAnswered (FirstLines io.had) (ArrivalsAnswered (IsSession old new)) (Begins io.before io.behind)
+    pub outcome : fault ≡ lines_fault why
+    pub session : LinesAnswered (FirstLines io.old_input) (ArrivalsAnswered (IsSession old new)) (Begins io.old_output io.new_output)
 
   -- a storeFault ended it, which was asked for; it is over the first lines, and all of their answers were written
   pub record Failed (old new : BookState) (fault : Fault) : Type 0 where
-    pub told : fault ≡ Store
+    pub outcome : fault ≡ Store
     pub asked : ends ≡ true
-    pub session : LinesAnswered (FirstLines io.had) (ArrivalsAnswered (IsFailedSession old new)) (Appends io.before io.behind)
+    pub session : LinesAnswered (FirstLines io.old_input) (ArrivalsAnswered (IsFailedSession old new)) (Appends io.old_output io.new_output)
 
-  abbrev pub SessionTold : Result (Unit {0}) Fault → BookState → BookState → Type 0
-  SessionTold (Ok done) old new = AnswersOver ends old io.had io.before io.behind new
-  SessionTold (Err fault) old new = Stopped old new fault ⊎ Failed old new fault
+  abbrev pub SessionEnded : Result (Unit {0}) Fault → BookState → BookState → Type 0
+  SessionEnded (Ok done) old new = AnswersOver ends old io.old_input io.old_output io.new_output new
+  SessionEnded (Err fault) old new = Stopped old new fault ⊎ Failed old new fault
 
 -- over any reader and any writer
 abbrev pub LinesAreSessions : {S R W : Type 0} → Ghosts S → (R → Option (List ℕ)) → (W → Option (List ℕ)) → Type 0
 LinesAreSessions {S} {R} {W} store remaining contents = (makes ends : Bool) (reader : R × R) (writer : W × W) (result : Result (Unit {0}) Fault) (old new : Held S)
-    → OverDatabase store makes (LinesTold (standing (in_database store)) (in_turn false (standing (in_database store))) ends (streams remaining contents reader writer) result) (state store old) new
-    → OverConnection (SessionTold ends (streams remaining contents reader writer) result) makes (state store old) (state store new)
+    → OverDatabase store makes (LinesEnded (standing (in_database store)) (in_turn false (standing (in_database store))) ends (streams remaining contents reader writer) result) (state store old) new
+    → OverConnection (SessionEnded ends (streams remaining contents reader writer) result) makes (state store old) (state store new)
 
 -- how lines over the database ended: where they are requests alone, by a session, whole or begun; else each of them by the desk that the lines before it left
 abbrev pub DatabaseEnded : {S : Type 0} → Ghosts S → Bool → Bool → Bool → Streams → State → Result (Unit {0}) Fault → Held S → Type 0
-DatabaseEnded store makes false ends io old result new = NoneServed store makes io old result new ⊎ OverConnection (SessionTold ends io result) makes old (state store new)
+DatabaseEnded store makes false ends io old result new = NoneMade store makes io old result new ⊎ OverConnection (SessionEnded ends io result) makes old (state store new)
 DatabaseEnded {S} store makes true ends io old result new =
-    NoneServed store makes io old result new ⊎ SeenIn store (λ (stands : Seen (InDatabase S) → Standing). LinesTold stands (in_turn true stands) ends io result) makes old new
+    NoneMade store makes io old result new ⊎ SeenIn store (λ (stands : Seen (InDatabase S) → Standing). LinesEnded stands (in_turn true stands) ends io result) makes old new
 
 -- ---- in memory
 
--- all lines are answered so, or behind any fault a beginning of them
-abbrev pub AnswersTold : Streams → Result (Unit {0}) LinesFault → Type 0
-AnswersTold io (Ok done) = AnswersAll io.had io.before io.behind
-AnswersTold io (Err why) = LinesAnswered (FirstLines io.had) (ArrivalsAnswered AnsweredFromNothing) (Begins io.before io.behind)
+-- all lines are answered so, or after any fault a beginning of them
+abbrev pub AnswersEnded : Streams → Result (Unit {0}) LinesFault → Type 0
+AnswersEnded io (Ok done) = AnswersAll io.old_input io.old_output io.new_output
+AnswersEnded io (Err why) = LinesAnswered (FirstLines io.old_input) (ArrivalsAnswered AnsweredFromNothing) (Begins io.old_output io.new_output)
 
 abbrev pub LinesAreFromNothing : {R W : Type 0} → (R → Option (List ℕ)) → (W → Option (List ℕ)) → Type 0
 LinesAreFromNothing {R} {W} remaining contents = (reader : R × R) (writer : W × W) (result : Result (Unit {0}) LinesFault)
     → LinesInMemory (in_turn false (standing in_memory)) (streams remaining contents reader writer) result
-    → AnswersTold (streams remaining contents reader writer) result
+    → AnswersEnded (streams remaining contents reader writer) result
 
 -- how lines over a new desk in memory ended by a fault: where they are requests alone, as the abstract desk answers a beginning of them; else each by the desk that the lines before it left
 abbrev pub MemoryEnded : Bool → Streams → LinesFault → Type 0
-MemoryEnded false io why = AnswersTold io (Err why)
+MemoryEnded false io why = AnswersEnded io (Err why)
 MemoryEnded true io why = ((why ≡ NoMemory) × Untouched io) ⊎ SeenNew (λ (stands : Seen Content → Standing) (d e : Seen Content). LinesDone stands (in_turn true stands) false io d e (Err why))

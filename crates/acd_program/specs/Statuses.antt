@@ -1,4 +1,4 @@
--- Exit statuses, and what goes with them.
+-- Exit statuses and their causes.
 use Rattle.std.specs.Prelude.{◌≡◌, ◌⊎◌, ℕ, List, Option}
 use Rattle.clap.specs.declared.error.kind.ErrorKind.{ErrorKind}
 use Rattle.clap.specs.declared.error.kind.ErrorKind.TheVariants.{DisplayHelp, DisplayVersion}
@@ -15,7 +15,7 @@ use Rattle.acd_http.specs.Listening.{Outcome, outcome_lines}
 abbrev pub IsHelp : ErrorKind → Type 0
 IsHelp kind = (kind ≡ DisplayHelp) ⊎ (kind ≡ DisplayVersion)
 
--- no fault: success, the difference that an audit told, or that a sound desk's log ends early
+-- no fault: success, the difference that an audit found, or that a sound desk's log ends early
 abbrev pub IsDone : ℕ → Type 0
 IsDone status = (status ≡ 0) ⊎ ((status ≡ 3) ⊎ (status ≡ 5))
 
@@ -25,13 +25,13 @@ sound_status log.Plain = 0
 sound_status log.Early = 5
 sound_status log.Headless = 5
 
--- the status that goes with what an audit found
+-- the status for what an audit found
 abbrev pub finding_status : Ending → Finding → ℕ
 finding_status ending Sound = sound_status ending
 finding_status ending (Counted count) = sound_status ending
 finding_status ending (Differs place) = 3
 
--- the status that goes with a fault
+-- the status for a fault
 abbrev pub fault_status : Fault → ℕ
 fault_status (OpenElsewhere path) = 4
 fault_status (CannotOpen path) = 1
@@ -46,5 +46,5 @@ fault_status Write = 1
 fault_status (CannotListen port) = 1
 
 -- the lines of the faults of connections were written, or a beginning of them
-abbrev pub TellsConnections : Option (List ℕ) → Option (List ℕ) → Type 0
-TellsConnections before behind = (outcomes : List Outcome) × Begins before behind (outcome_lines 1 outcomes)
+abbrev pub PrintsConnectionFaults : Option (List ℕ) → Option (List ℕ) → Type 0
+PrintsConnectionFaults old_output new_output = (outcomes : List Outcome) × Begins old_output new_output (outcome_lines 1 outcomes)

@@ -17,6 +17,6 @@ pub record IsOf (old new : BookState) : Type 0 where
   pub live : new.is_clean → old.is_sound → new.is_open
   pub ordered : new.is_clean → old.is_sound → IsOrdered new.content
 
--- the book that the database held or, where it had no tables and one was to be made, a new one
+-- the book in the database or, where it had no tables and one was to be made, a new one
 abbrev pub IsTaken : Bool → State → BookState → Type 0
 IsTaken makes s new = IsOf (held s) new ⊎ ((makes ≡ true) × (s.now.schema ≡ no_schema) × IsOf (unmade s) new)

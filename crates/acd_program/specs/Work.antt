@@ -1,4 +1,4 @@
--- What is done over a book, and what is left to print of it.
+-- Work over a book, and what is left to print of it.
 use Rattle.std.specs.Prelude.{◌≡◌, ℕ, Bool, List, [], Option, Result, Ok, string_bytes}
 use Rattle.std.specs.Io.KnownBytes.{Appends}
 use Rattle.acd_terms.specs.declared.command.Request.{Request}
@@ -15,34 +15,34 @@ use Rattle.acd_program.specs.Statuses.{finding_status}
 use Rattle.acd_program.specs.Over.{IsSession}
 use Rattle.acd_log.specs.declared.ending.Ending.{Ending}
 use Rattle.acd_program.specs.declared.auditing.Finding.{Finding}
-use Rattle.acd_program.specs.declared.desk.Telling.{Telling}
-use Rattle.acd_program.specs.declared.desk.Telling.TheVariants.{Report, Export}
+use Rattle.acd_program.specs.declared.desk.Printout.{Printout}
+use Rattle.acd_program.specs.declared.desk.Printout.TheVariants.{Report, Export}
 use Rattle.acd_program.specs.declared.desk.Work.{Work}
-use Rattle.acd_program.specs.declared.desk.Work.TheVariants.{Import, Tell, Audit}
+use Rattle.acd_program.specs.declared.desk.Work.TheVariants.{Import, Print, Audit}
 use Rattle.acd_program.specs.declared.desk.Done.{Done}
-use Rattle.acd_program.specs.declared.desk.Done.TheVariants.{Nothing, Told, Audited}
+use Rattle.acd_program.specs.declared.desk.Done.TheVariants.{Nothing, Text, Audited}
 
--- what is told of a content: the queue report at the moment of the last executed request, or all events
-abbrev pub telling_text : Telling → Content → List ℕ
-telling_text Report c = queue_report c.rows c.rows.last_moment
-telling_text Export c = events_csv c.events
+-- what is printed of a content: the queue report at the moment of the last executed request, or all events
+abbrev pub printout_text : Printout → Content → List ℕ
+printout_text Report c = queue_report c.rows c.rows.last_moment
+printout_text Export c = events_csv c.events
 
 -- ---- what is left to print
 
 abbrev pub text_left : Done → List ℕ
 text_left Nothing = []
-text_left (Told text) = string_bytes text
+text_left (Text text) = string_bytes text
 text_left (Audited found ending) = finding_line ending found
 
--- and the exit status that goes with it
+-- and its exit status
 abbrev pub status_left : Done → ℕ
 status_left Nothing = 0
-status_left (Told text) = 0
+status_left (Text text) = 0
 status_left (Audited found ending) = finding_status ending found
 
 -- ---- over a book
 
--- a desk was opened over the book and asked, and the book came back as it was: this was found of what it holds
+-- a desk was opened over the book and asked, and the book came back as it was: this is the finding of its content
 pub record WasAsked {A : Type 0} (old : BookState) (IsAnswer : Content → A → Type 0) (found : A) (new : BookState) : Type 0 where
   pub step : BookStep ⊥ old new
   pub opened : IfHonest old new (old.is_open × new.is_open)
@@ -51,39 +51,39 @@ pub record WasAsked {A : Type 0} (old : BookState) (IsAnswer : Content → A →
   -- a reopening finds nothing new
   pub stops : IfHonest old new (Within new.stops old.stops)
 
--- of a content that is sound, by itself or with an archive, this is told
-abbrev pub IsTextOf : Telling → Content → List ℕ → Type 0
-IsTextOf telling c text = (p : Archive) → IsSound (together p c) → text ≡ telling_text telling c
+-- of a content that is sound, by itself or with an archive, this is printed
+abbrev pub IsTextOf : Printout → Content → List ℕ → Type 0
+IsTextOf printout c text = (p : Archive) → IsSound (together p c) → text ≡ printout_text printout c
 
--- of a content whose records stand in order, as those of tables do, this is found
+-- of a content whose records are in order, as those of tables do, this is the finding
 abbrev pub IsFindingIfOrdered : Content → Finding → Type 0
 IsFindingIfOrdered c found = IsOrdered c → IsFindingOf c found
 
--- a text is left to print that is told of the book
-pub record TellsOver (telling : Telling) (old : BookState) (done : Done) (new : BookState) : Type 0 where
-  pub asked : WasAsked old (IsTextOf telling) (text_left done) new
+-- a text of the book is left to print
+pub record PrintsOver (printout : Printout) (old : BookState) (done : Done) (new : BookState) : Type 0 where
+  pub asked : WasAsked old (IsTextOf printout) (text_left done) new
   pub status : status_left done ≡ 0
 
--- an audit of the book found this, which is left to print with how the log of its file had ended
+-- an audit of the book found this, which is left to print with how the log of its file ended before
 abbrev pub AuditsOver : (Content → Finding → Type 0) → Bool → Ending → BookState → Done → BookState → Type 0
 AuditsOver IsAnswer counts ending old Nothing new = ⊥
-AuditsOver IsAnswer counts ending old (Told text) new = ⊥
-AuditsOver IsAnswer counts ending old (Audited found told) new = HasCount counts found × WasAsked old IsAnswer found new × (told ≡ ending)
+AuditsOver IsAnswer counts ending old (Text text) new = ⊥
+AuditsOver IsAnswer counts ending old (Audited found end) new = HasCount counts found × WasAsked old IsAnswer found new × (end ≡ ending)
 
 -- the requests came in at moment 0, one after the other, and one answer line was written for each; they are a session over the book
 abbrev pub ImportsOver : List Request → BookState → Option (List ℕ) → Option (List ℕ) → BookState → Type 0
-ImportsOver requests old before behind new = LinesAnswered (AllRequests requests) (RequestsAnswered (IsSession old new)) (Appends before behind)
+ImportsOver requests old old_output new_output new = LinesAnswered (AllRequests requests) (RequestsAnswered (IsSession old new)) (Appends old_output new_output)
 
--- the work was done; only what isn't printed behind it is written
+-- the work was done; only what isn't printed after it is written
 abbrev pub WorkDone : (Content → Finding → Type 0) → Work → BookState → Option (List ℕ) → Option (List ℕ) → Done → BookState → Type 0
-WorkDone IsAnswer (Import requests) old before behind done new = ImportsOver requests.now old before behind new × (done ≡ Nothing)
-WorkDone IsAnswer (Tell telling) old before behind done new = TellsOver telling old done new × (behind ≡ before)
-WorkDone IsAnswer (Audit counts ending) old before behind done new = AuditsOver IsAnswer counts ending old done new × (behind ≡ before)
+WorkDone IsAnswer (Import requests) old old_output new_output done new = ImportsOver requests.now old old_output new_output new × (done ≡ Nothing)
+WorkDone IsAnswer (Print printout) old old_output new_output done new = PrintsOver printout old done new × (new_output ≡ old_output)
+WorkDone IsAnswer (Audit counts ending) old old_output new_output done new = AuditsOver IsAnswer counts ending old done new × (new_output ≡ old_output)
 
 -- the work ended, so did the closing of its file, and what was left of it is printed
-pub record IsPrinted {F : Type 0} (done : Result Done F) (closed : Result (Unit {0}) F) (before behind : Option (List ℕ)) (status : ℕ) : Type 0 where
+pub record IsPrinted {F : Type 0} (done : Result Done F) (closed : Result (Unit {0}) F) (old_output new_output : Option (List ℕ)) (status : ℕ) : Type 0 where
   pub left : Done
   pub ended : done ≡ Ok left
   pub shut : closed ≡ Ok tt
-  pub printed : Appends before behind (text_left left)
-  pub told : status ≡ status_left left
+  pub printed : Appends old_output new_output (text_left left)
+  pub outcome : status ≡ status_left left

@@ -1,8 +1,8 @@
-//! What a command line asks for.
+//! The task of a command line.
 
 use crate::desk::Work;
 
-/// What a command line asks for, with the paths that it names.
+/// The task of a command line, with the paths that it names.
 #[derive(Clone, Copy)]
 pub(crate) enum Task<'a> {
     /// Answer the lines of standard input, requests alone or reads too, over a desk in memory or in a file; a storeFault
@@ -28,14 +28,15 @@ pub(crate) enum Task<'a> {
         file: &'a str,
         counts: bool,
     },
-    /// Audit the desk in a file behind the archive that it goes on from; where it is looked at whole, say how its log ended.
-    AuditBehind {
+    /// Audit the desk in a file with the archive that it goes on from; where it is looked at whole, say how its log
+    /// ended.
+    AuditWithArchive {
         file: &'a str,
         archive: &'a str,
         counts: bool,
         whole: bool,
     },
-    /// Print what is told of the desk in a file: the queue report, all event reports, or what an audit finds.
+    /// Print what a read of the desk in a file finds: the queue report, all event reports, or what an audit finds.
     Read {
         file: &'a str,
         work: Work<'a>,

@@ -30,7 +30,7 @@ use std::io::{Read, Write};
 // A table that version 1 doesn't have.
 const SECOND: &[u8; 12] = b"agent_groups";
 
-// Why no book was made, as why none is taken.
+// Why no book was made, as why none was opened.
 fn unmade_fault(fault: BookFault) -> AdoptFault
     ensures { result ≡ unmade_fault fault }
 {
@@ -133,7 +133,7 @@ fn with_reads<'a, S: Alter, R: Read, W: Write>(
     ensures done { OnOk result.0 (DatabaseAnswered S.Store makes true ends
         (streams R.remaining W.contents (reader.old, reader.new) (writer.old, writer.new))
         (state S.Store conn) result.1) }
-    ensures told { DatabaseEnded S.Store makes true ends
+    ensures ended { DatabaseEnded S.Store makes true ends
         (streams R.remaining W.contents (reader.old, reader.new) (writer.old, writer.new))
         (state S.Store conn) result.0 result.1 }
     ensures known { IfErr result.0 IsOfDesk }
@@ -162,7 +162,7 @@ pub(crate) fn database_lines<'a, S: Alter, R: Read, W: Write>(
         (streams R.remaining W.contents (reader.old, reader.new) (writer.old, writer.new))
         (state S.Store conn) result.1) }
     // whatever ended them
-    ensures told { DatabaseEnded S.Store makes reads ends
+    ensures ended { DatabaseEnded S.Store makes reads ends
         (streams R.remaining W.contents (reader.old, reader.new) (writer.old, writer.new))
         (state S.Store conn) result.0 result.1 }
     ensures known { IfErr result.0 IsOfDesk }

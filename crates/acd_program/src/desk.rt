@@ -1,15 +1,15 @@
-//! What is done over a database. What needs a desk is done over any book, so that one function alone names the store.
+//! Work over a database. Whatever needs a desk is done over any book, so that one function alone names the store.
 
 ghost use Rattle.std.specs.Prelude.{◌≡◌, false, [], Some, IfOk, IfErr, OnOk, OnErr, unwrap_or};
 ghost use Rattle.sqlite.specs.Held.{state};
 ghost use Rattle.acd_desk.specs.Stands.{IsSound};
 ghost use Rattle.acd_desk.specs.Carried.{Archive, together};
-ghost use Rattle.acd_desk.specs.Told.{DeskTold};
-ghost use Rattle.acd_desk.specs.Tells.{told};
+ghost use Rattle.acd_desk.specs.ReadDone.{DeskRead};
+ghost use Rattle.acd_desk.specs.ReadAnswers.{text_read};
 ghost use Rattle.acd_program.specs.Found.{IsFindingOf};
 ghost use Rattle.acd_program.specs.Ended.{IsOfDesk, OnlyAsked, OnlyReads, StoppedPlan, StoppedOver, WorkStopped};
 ghost use Rattle.acd_program.specs.Over.{OverConnection, Unserved};
-ghost use Rattle.acd_program.specs.Work.{telling_text, text_left, status_left, ImportsOver, TellsOver, AuditsOver, IsFindingIfOrdered, WorkDone};
+ghost use Rattle.acd_program.specs.Work.{printout_text, text_left, status_left, ImportsOver, PrintsOver, AuditsOver, IsFindingIfOrdered, WorkDone};
 
 use crate::auditing::{Finding, audited};
 use crate::connection::book_over;
@@ -24,32 +24,32 @@ use sqlite::{Alter, Connection};
 use std::alloc::Global;
 use std::io::Write;
 
-/// What is done over a book.
+/// Work over a book.
 #[derive(Clone, Copy)]
 pub(crate) enum Work<'w> {
     /// Take the requests of a plan.
     Import(&'w [Request]),
-    /// Tell of its desk.
-    Tell(Telling),
-    /// Run the kept requests again, and compare what they give with the book. How the log of its file had ended is told
-    /// beside that; where nobody looked, plainly.
+    /// Print a text of its desk.
+    Print(Printout),
+    /// Run the kept requests again, and compare what they give with the book. How the log of its file ended before is
+    /// printed beside that; where nobody looked, plainly.
     Audit { counts: bool, ending: Ending },
 }
 
-/// What is told of a desk as one text.
+/// A desk printed as one text.
 #[derive(Clone, Copy)]
-pub(crate) enum Telling {
+pub(crate) enum Printout {
     /// The report of the queues. No moment is before 0, so it is that of the last executed request.
     Report,
     /// All events.
     Export,
 }
 
-/// What is left to print of it, once the file is closed.
+/// The rest that is printed of it, once the file is closed.
 #[derive(Drop)]
 pub(crate) enum Done {
     Nothing,
-    Told(String),
+    Text(String),
     Audited(Finding, Ending),
 }
 
@@ -77,30 +77,34 @@ fn imported<'a, B: Book, W: Write>(
     }
 }
 
-// What the desk tells. There always is a text.
-fn text_of<B: Book>(desk: &mut Desk<B>, telling: Telling) -> Result<Option<String>, DeskFault>
-    ensures { DeskTold B.Book desk.old desk.new result (λ c text.
-        (p : Archive) → IsSound (together p c) → told text ≡ Some (telling_text telling c)) }
+// The text that the desk reads. There always is one.
+fn text_of<B: Book>(desk: &mut Desk<B>, printout: Printout) -> Result<Option<String>, DeskFault>
+    ensures { DeskRead B.Book desk.old desk.new result (λ c text.
+        (p : Archive) → IsSound (together p c) → text_read text ≡ Some (printout_text printout c)) }
 {
-    match telling {
-        Telling::Report => desk.report(0),
-        Telling::Export => desk.export(),
+    match printout {
+        Printout::Report => desk.report(0),
+        Printout::Export => desk.export(),
     }
 }
 
 fn done_by(text: Option<String>) -> Done
-    ensures text { text_left result ≡ unwrap_or (told text) [] }
+    ensures text { text_left result ≡ unwrap_or (text_read text) [] }
     ensures status { status_left result ≡ 0 }
 {
     match text {
-        Some(text) => Done::Told(text),
+        Some(text) => Done::Text(text),
         None => Done::Nothing,
     }
 }
 
-fn told<'a, B: Book>(alloc: Global, book: B, telling: Telling) -> (Result<Done, Fault<'a>>, B)
+fn read_text<'a, B: Book>(
+    alloc: Global,
+    book: B,
+    printout: Printout,
+) -> (Result<Done, Fault<'a>>, B)
     ensures over { IfOk result.0
-        (λ done. TellsOver telling (B.state book) done (B.state result.1)) }
+        (λ done. PrintsOver printout (B.state book) done (B.state result.1)) }
     ensures kept { OnlyAsked (B.state book) (B.state result.1) }
     ensures known { IfErr result.0 IsOfDesk }
 {
@@ -108,13 +112,13 @@ fn told<'a, B: Book>(alloc: Global, book: B, telling: Telling) -> (Result<Done, 
         Ok(desk) => desk,
         Err((fault, book)) => return (Err(Fault::from(fault)), book),
     };
-    match text_of(&mut desk, telling) {
+    match text_of(&mut desk, printout) {
         Ok(text) => (Ok(done_by(text)), desk.close()),
         Err(fault) => (Err(Fault::from(fault)), desk.close()),
     }
 }
 
-// Gives the book back. Of one that differs a terminal may be told more.
+// Gives the book back. For one that differs, more may be printed on a terminal.
 fn book_of<B: Book>(book: Watched<'_, B>, found: Finding) -> B
     ensures { result ≡ book.entry.inner }
 {
@@ -169,7 +173,7 @@ fn over_book<'a, B: Book, W: Write>(
 {
     match work {
         Work::Import(requests) => imported(rt.alloc(), book, requests, writer),
-        Work::Tell(telling) => told(rt.alloc(), book, telling),
+        Work::Print(printout) => read_text(rt.alloc(), book, printout),
         Work::Audit { counts, ending } => {
             let book = Watched::new(book, Progress::new(rt));
             audit(rt.alloc(), book, counts, ending)

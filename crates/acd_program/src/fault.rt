@@ -41,7 +41,7 @@ pub enum Fault<'a> {
     Read,
     #[error("cannot write")]
     Write,
-    /// The port that is taken, or isn't given to this program.
+    /// The port that is in use, or isn't given to this program.
     #[error("cannot listen on port {0}")]
     CannotListen(u16),
 }

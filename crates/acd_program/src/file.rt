@@ -28,7 +28,7 @@ const FIRST_PAGE: u64 = 1024;
 /// The store of a file that held what `S` says.
 pub(crate) type StoreFrom<S> = FileStore<FileFrom<S>>;
 
-// What there is at a path.
+// The kind of thing at a path.
 #[derive(Clone, Copy)]
 enum Found {
     Nothing,
@@ -36,7 +36,7 @@ enum Found {
     Bytes(u64),
 }
 
-// What there is at the path, before the store looks at it.
+// The kind of thing at the path, before the store looks at it.
 fn look<'a>(rt: &HostRuntime, path: &'a str) -> Result<Found, Fault<'a>>
     ensures known { IfErr result IsOfOpening }
 {
@@ -52,7 +52,7 @@ fn look<'a>(rt: &HostRuntime, path: &'a str) -> Result<Found, Fault<'a>>
     }
 }
 
-/// The path of the log: it lies where a link leads.
+/// The path of the log: a link's log is beside the file that it leads to.
 pub(crate) fn log_path<'a>(rt: &HostRuntime, path: &'a str) -> Result<String, Fault<'a>>
     ensures known { IfErr result IsOfOpening }
 {
@@ -101,7 +101,7 @@ pub(crate) fn log_ending<'a>(rt: &HostRuntime, path: &'a str) -> Result<Ending, 
     Ok(ending_of(&log))
 }
 
-// Says at a terminal what is missing of the log: an opening takes what stands before, and empties it.
+// Says at a terminal what is missing of the log: an opening reads the part before, and empties the log.
 fn warn_of_log(rt: &HostRuntime, path: &str) {
     if !rt.stderr().is_terminal() {
         return;
@@ -111,7 +111,7 @@ fn warn_of_log(rt: &HostRuntime, path: &str) {
     }
 }
 
-// The files at a path. What the store takes for another thing than a file is none.
+// The files at a path. Where the store finds another thing than a file, there is none.
 fn open_pair<'a, S: Start>(
     rt: &HostRuntime,
     path: &'a str,
@@ -119,7 +119,7 @@ fn open_pair<'a, S: Start>(
 ) -> Result<Files<FileFrom<S>>, Fault<'a>>
     ensures log { IfOk result (λ files. IsTrue (file_is_usable S.Start files.log)) }
     ensures db { IfOk result (λ files. IsTrue (file_is_usable S.Start files.db)) }
-    ensures fresh { IfOk result (λ files. IsFresh true files.log × IsFresh false files.db) }
+    ensures unused { IfOk result (λ files. IsFresh true files.log × IsFresh false files.db) }
     ensures known { IfErr result IsOfOpening }
 {
     if path == ":memory:" || path.starts_with("file:") {
@@ -166,7 +166,7 @@ fn is_new<'a>(found: Found, makes: bool, path: &'a str) -> Result<bool, Fault<'a
     }
 }
 
-// What kept the store from opening the files, as a fault.
+// The error that kept the store from opening the files, as a fault.
 fn opening_fault<'a>(error: Error, path: &'a str) -> Fault<'a>
     ensures cause { result ≡ by_memory error Fault.NoMemory (Fault.CannotOpen path.entry) }
     ensures known { IsOfOpening result }
@@ -186,9 +186,9 @@ fn open_files<'a, D: Disk + Drop>(
 ) -> Result<Connection<FileStore<D>>, (Fault<'a>, Files<D>)>
     requires log { IsTrue (D.Disk.is_usable files.log) }
     requires db { IsTrue (D.Disk.is_usable files.db) }
-    ensures fresh { IfOk result IsNew }
+    ensures unused { IfOk result IsNew }
     ensures opened { IfOk result (λ conn. IsOpenedIn D.Disk files conn) }
-    // where that fails they hold what they held, or where that was nothing a database of no tables
+    // where that fails they hold what they held before, or where that was nothing a database of no tables
     ensures left { IfErr result (λ e. IsUnopened D.Disk files e.1) }
     ensures known { IfErr result (λ e. IsOfOpening e.0) }
 {
@@ -210,7 +210,7 @@ fn open_connection<'a, S: Start>(
     path: &'a str,
     start: S,
 ) -> Result<Connection<StoreFrom<S>>, Fault<'a>>
-    ensures fresh { IfOk result IsNew }
+    ensures unused { IfOk result IsNew }
     ensures opened { IfOk result (λ conn. IsOpenedFrom ⟦<FileFrom<S> as Disk>⟧ IsFresh conn) }
     ensures known { IfErr result IsOfOpening }
 {
@@ -230,7 +230,7 @@ pub(crate) fn connect<'a, S: Start>(
     makes: bool,
     start: S,
 ) -> Result<(Connection<StoreFrom<S>>, bool), Fault<'a>>
-    ensures fresh { IfOk result (λ found. IsNew found.0) }
+    ensures unused { IfOk result (λ found. IsNew found.0) }
     ensures opened { IfOk result (λ found. IsOpenedFrom ⟦<FileFrom<S> as Disk>⟧ IsFresh found.0) }
     ensures makes { IfOk result (λ found. found.1 ≡ true → makes ≡ true) }
     ensures known { IfErr result IsOfOpening }
@@ -267,7 +267,7 @@ pub(crate) fn connect_archive<'a, S: Start>(
     path: &'a str,
     start: S,
 ) -> Result<Connection<StoreFrom<S>>, Fault<'a>>
-    ensures fresh { IfOk result IsNew }
+    ensures unused { IfOk result IsNew }
     ensures opened { IfOk result (λ conn. IsOpenedFrom ⟦<FileFrom<S> as Disk>⟧ IsFresh conn) }
 {
     let found = look(rt, path)?;
@@ -281,7 +281,7 @@ pub(crate) fn connect_archive<'a, S: Start>(
     open_connection(rt, path, start)
 }
 
-// What closing found, as a fault.
+// The finding of closing, as a fault.
 fn closing_fault<'a>(error: Error) -> Fault<'a>
     ensures cause { result ≡ by_memory error Fault.NoMemory Fault.Store }
     ensures known { IsOfClosing result }

@@ -1,5 +1,5 @@
-//! The program of the desk, over three streams: what a command line asks for is done, over a desk in memory or in
-//! a file.
+//! The program of the desk, over three streams: it does what a command line asks for, over a desk in memory or in a
+//! file.
 //!
 //! ```ignore
 //! let status = program(&rt, &["acd", "report", "--file", "desk.db"], &mut reader, &mut writer, &mut errors);
@@ -8,7 +8,6 @@
 
 mod asked;
 mod auditing;
-mod behind;
 mod connection;
 mod desk;
 mod fault;
@@ -26,6 +25,7 @@ mod running;
 mod serving;
 mod session;
 mod task;
+mod with_archive;
 
 pub use connection::lines_over_connection;
 pub use fault::Fault;

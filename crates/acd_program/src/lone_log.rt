@@ -1,8 +1,8 @@
-//! A log whose file is missing or has no bytes. What was answered may lie in it, and nowhere else.
+//! A log whose file is missing or has no bytes. Answers may be in it, and nowhere else.
 
 ghost use Rattle.std.specs.Prelude.{◌≡◌, ◌↔◌, IsTrue, IfOk};
 ghost use Rattle.sqlite_disk.specs.Memory.{memory_bytes, memory_is_usable};
-ghost use Rattle.acd_program.specs.Files.{AreReadOnly, Tells, HoldsCommit, IsLoneIn};
+ghost use Rattle.acd_program.specs.Files.{AreReadOnly, FindsWhether, HoldsCommit, IsLoneIn};
 
 use sqlite_disk::{Disk, Files, Memory};
 use sqlite_wal::{Error, probe_frames, probe_page_size};
@@ -13,7 +13,7 @@ use std::io;
 fn holds_commit<D: Disk>(alloc: Global, files: &mut Files<D>) -> Result<bool, Error>
     requires log { IsTrue (D.Disk.is_usable files.old.log) }
     requires db { IsTrue (D.Disk.is_usable files.old.db) }
-    ensures holds { Tells D.Disk files.new result (HoldsCommit (D.Disk.seen files.old.log)) }
+    ensures holds { FindsWhether D.Disk files.new result (HoldsCommit (D.Disk.seen files.old.log)) }
     ensures read { AreReadOnly D.Disk files.old files.new }
 {
     match probe_page_size(files)? {
@@ -26,7 +26,7 @@ fn holds_commit<D: Disk>(alloc: Global, files: &mut Files<D>) -> Result<bool, Er
 pub(crate) fn is_lone<D: Disk>(alloc: Global, files: &mut Files<D>) -> Result<bool, Error>
     requires log { IsTrue (D.Disk.is_usable files.old.log) }
     requires db { IsTrue (D.Disk.is_usable files.old.db) }
-    ensures lone { Tells D.Disk files.new result (IsLoneIn D.Disk files.old) }
+    ensures lone { FindsWhether D.Disk files.new result (IsLoneIn D.Disk files.old) }
     ensures read { AreReadOnly D.Disk files.old files.new }
 {
     if files.db.len()? != 0 {

@@ -14,18 +14,19 @@ use sqlite_wal::{Error, probe_page_size};
 use std::alloc::Global;
 use std::io;
 
-// The bytes of a page of a new file. A request changes a row or two in each of a dozen pages, and each of these is digested and
-// written whole, so it takes half as long again with the store's own choice, 4,096. Not much less pays: few rows then lie in a page.
+// The bytes of a page of a new file. A request changes a row or two in each of a dozen pages, and each of these is
+// digested and written whole, so it takes half as long again with the store's default, 4,096. Not much less pays: then
+// a page holds few rows.
 const NEW_PAGE: usize = 1024;
 
-// The bytes of the pages that the store keeps in memory. More of them spare no request a read. An opening, which goes through the file
-// more than once, would read fewer pages anew only where more than half of all were kept.
+// The bytes of the pages that the store keeps in memory. More of them spare no request a read. An opening, which reads
+// the file more than once, would read fewer pages anew only where more than half of all were kept.
 const CACHE: usize = 8_192_000;
 
-// What it takes to lay the first page.
+// The cache, in pages, that suffices to write the first page.
 const ONE_PAGE: usize = 1;
 
-/// What kept a file from being read, as a fault.
+/// The error that kept a file from being read, as a fault.
 pub(crate) fn disk_fault<'a>(error: io::Error, path: &'a str) -> Fault<'a>
     ensures known { IsOfOpening result }
 {
@@ -92,7 +93,7 @@ fn created<'a, D: Disk + Drop>(
     }
 }
 
-/// What kept a log from being read, as a fault.
+/// The error that kept a log from being read, as a fault.
 pub(crate) fn log_fault<'a>(error: Error, path: &'a str) -> Fault<'a>
     ensures known { IsOfOpening result }
 {
@@ -162,7 +163,7 @@ fn kept_pages(page: usize) -> usize
     CACHE / page.max(1)
 }
 
-// How long a page is: as long as was found or, where nothing was, as in a new file.
+// The length of a page: the length found or, where none was, that of a new file.
 fn page_bytes(found: Option<PageSize>) -> usize
     ensures some { 0 < result }
     ensures length { result ≡ page_of found }

@@ -25,7 +25,7 @@ pub(crate) fn bytes_from<R: Read + Drop>(alloc: Global, reader: R) -> io::Result
     Ok(bytes)
 }
 
-// What reading the plan met, as a fault.
+// The error of reading the plan, as a fault.
 fn reading_fault<'a>(error: io::Error, path: &'a str) -> Fault<'a>
     ensures known { IsOfOpening result }
 {

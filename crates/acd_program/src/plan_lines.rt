@@ -8,7 +8,7 @@ const SHOWN: usize = 60;
 
 const DIGITS: &[u8; 16] = b"0123456789ABCDEF";
 
-// Where in a plan's text something stands.
+// A place in a plan's text.
 #[derive(Clone, Copy)]
 struct Place {
     line: u64,
@@ -18,9 +18,9 @@ struct Place {
     last: u8,
 }
 
-// The place behind this byte. A record begins with its first byte, and ends where its line does, outside of quotes; an
+// The place after this byte. A record begins with its first byte, and ends where its line does, outside of quotes; an
 // empty line is none. CR and LF together end one line.
-fn behind(place: Place, byte: u8) -> Place {
+fn after(place: Place, byte: u8) -> Place {
     let last = place.last;
     let place = Place {
         last: byte,
@@ -63,7 +63,7 @@ pub(crate) fn line_of(plan: &[u8], record: u64) -> Option<u64> {
     };
     for byte in plan {
         let line = place.line;
-        place = behind(place, *byte);
+        place = after(place, *byte);
         if place.records == record {
             return Some(line);
         }
@@ -103,7 +103,7 @@ pub(crate) fn first_line(alloc: Global, plan: &[u8]) -> Result<String, AllocErro
     Ok(text)
 }
 
-/// What this member of a row has to be.
+/// The required form of this member of a row.
 pub(crate) fn form_of(member: PlanMember) -> &'static str {
     match member {
         PlanMember::Fields => "a row has five fields, parted by commas, in UTF-8",

@@ -1,4 +1,4 @@
-//! What is left of the work, as it is printed.
+//! The printing of what is left of the work.
 
 ghost use Rattle.std.specs.Prelude.{◌≡◌, ◌++◌, ◌∷◌, [], decimal, OnOk, OnErr, IfOk, IfErr};
 ghost use Rattle.std.specs.Io.KnownBytes.{Appends};
@@ -41,7 +41,7 @@ pub(crate) fn send_number<W: Write>(
     send(writer, &mut calls, b"\n")
 }
 
-// What is said of a sound desk, of whose file the log ended so.
+// The line of a sound desk, of whose file the log ended so.
 fn sound_line(ending: Ending) -> &'static str
     ensures { result.now ≡ sound_line ending }
 {
@@ -62,7 +62,7 @@ fn send_counted<W: Write>(ending: Ending, count: u64, writer: &mut W) -> Result<
     send_number(writer, b"executed ", count)
 }
 
-// Writes what an audit found, as a line or two.
+// Writes the finding of an audit, as a line or two.
 fn send_finding<W: Write>(found: Finding, ending: Ending, writer: &mut W) -> Result<(), Stopped>
     ensures { WasSent result (W.contents writer.old) (W.contents writer.new)
         (finding_line ending found) }
@@ -81,7 +81,7 @@ fn send_left<W: Write>(left: &Done, writer: &mut W) -> Result<(), Stopped>
     let mut calls = CALLS;
     match left {
         Done::Nothing => Ok(()),
-        Done::Told(text) => send(writer, &mut calls, text.as_bytes()),
+        Done::Text(text) => send(writer, &mut calls, text.as_bytes()),
         Done::Audited(found, ending) => send_finding(*found, *ending, writer),
     }
 }
@@ -98,7 +98,7 @@ fn sound_status(ending: Ending) -> u8
     }
 }
 
-// The exit status that goes with what an audit found. Where something differs that is no fault.
+// The exit status of an audit's finding. A difference is no fault.
 fn status_of(found: Finding, ending: Ending) -> u8
     ensures known { IsDone result }
     ensures status { result ≡ finding_status ending found }
@@ -116,7 +116,7 @@ fn status_left(left: &Done) -> u8
 {
     match left {
         Done::Nothing => SUCCESS,
-        Done::Told(_) => SUCCESS,
+        Done::Text(_) => SUCCESS,
         Done::Audited(found, ending) => status_of(*found, *ending),
     }
 }

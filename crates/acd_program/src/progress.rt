@@ -1,4 +1,4 @@
-//! What is shown of long work, where standard error is a terminal.
+//! The progress of long work, shown where standard error is a terminal.
 
 ghost use Rattle.std.specs.Prelude.{◌≡◌};
 
@@ -35,7 +35,7 @@ pub(crate) fn warn(rt: &HostRuntime, path: &str, ending: Ending) {
     };
 }
 
-/// A line that tells once a second how many requests were replayed. It is taken away at the end.
+/// A line that prints once a second how many requests were replayed. It is erased at the end.
 #[derive(Drop)]
 pub(crate) struct Progress<'a> {
     rt: &'a HostRuntime,
@@ -126,7 +126,7 @@ impl<'a, B: Book> Watched<'a, B> {
         inner
     }
 
-    /// The same, of a book that differs from its own replay. Where older requests lie in an archive, it says so.
+    /// The same, of a book that differs from its replay. Where older requests are in an archive, it says so.
     pub(crate) fn into_unlike(self) -> B
         ensures { result ≡ self.entry.inner }
     {

@@ -1,5 +1,5 @@
-//! Why a command could not do what it was asked, for whoever sits at a terminal: it is told behind the line of the fault, by
-//! what stands at a path by then. Where the program can't tell, nothing is.
+//! Why a command could not do what it was asked, for whoever sits at a terminal: it is printed after the line of the
+//! fault, by what is at a path by then. Where the program can't find out why, it prints nothing.
 
 use crate::asked::Task;
 use crate::fault::Fault;
@@ -12,21 +12,21 @@ use std::fs::{self, Metadata, OpenOptions};
 use std::io::{self, ErrorKind, IsTerminal, Read};
 use std::os::unix::fs::MetadataExt;
 
-// What each database begins with.
+// The first bytes of each database.
 const DATABASE: &[u8; 16] = b"SQLite format 3\0";
 
 // The bytes of a first page, which a stop may leave alone.
 const FIRST_PAGE: u64 = 1024;
 
-// What the list of a database's tables has of any of them, and of one that each desk has.
+// The text that the list of a database's tables has of any of them, and of one that each desk has.
 const ANY_TABLE: &[u8; 7] = b"CREATE ";
 
 const DESK_TABLE: &[u8; 23] = b"CREATE TABLE acd_groups";
 
-// So much of a database is looked at: of a desk's the list lies there, with pages of any size.
+// So much of a database is looked at: a desk's list of tables is there, with pages of any size.
 const LISTED: u64 = 65_536;
 
-// The byte of a database that tells how its texts are written: 2 and 3 are UTF-16, which a desk's never are.
+// The byte of a database that says how its texts are written: 2 and 3 are UTF-16, which a desk's never are.
 const ENCODING: usize = 59;
 
 const ANOTHER: &str = "it is another program's database";
@@ -38,7 +38,7 @@ enum Owner {
     Another,
 }
 
-// What kept a call for a path from it.
+// The error that kept a call for a path from it.
 fn of_kind(kind: ErrorKind) -> Option<&'static str> {
     match kind {
         ErrorKind::NotFound => Some("it isn't there"),
@@ -58,7 +58,7 @@ fn has(bytes: &[u8], text: &[u8]) -> bool {
     !text.is_empty() && bytes.windows(text.len()).any(|part| part == text)
 }
 
-// Whose tables these first bytes of a database list, where that can be told.
+// Whose tables these first bytes of a database list, where they show that.
 fn owner_in(bytes: &[u8]) -> Option<Owner> {
     if has(bytes, DESK_TABLE) {
         return Some(Owner::Desk);
@@ -79,7 +79,7 @@ fn first_bytes<R: Read + Drop>(alloc: Global, reader: R) -> io::Result<Vec<u8>> 
     Ok(bytes)
 }
 
-// Whose tables the database at a path lists. While its log holds a commit that may be told there alone.
+// Whose tables the database at a path lists. While its log holds a commit, only the log may show that.
 fn owner_at(rt: &HostRuntime, path: &str) -> Option<Owner> {
     match holds_log(rt, path) {
         Ok(false) => {}
@@ -102,7 +102,7 @@ fn of_owner(rt: &HostRuntime, path: &str) -> Option<&'static str> {
     }
 }
 
-// What there is beside a database that this user may write.
+// The log beside a database that this user may write.
 fn of_log(rt: &HostRuntime, path: &str) -> Option<&'static str> {
     let Ok(log) = log_path(rt, path) else {
         return None;
@@ -124,7 +124,7 @@ fn of_log(rt: &HostRuntime, path: &str) -> Option<&'static str> {
     }
 }
 
-// What a file is that this user may write.
+// The kind of a file that this user may write.
 fn of_bytes<R: Read>(reader: &mut R) -> Option<&'static str> {
     let mut head = [0; 16];
     match reader.read_exact(&mut head) {
@@ -219,8 +219,8 @@ fn plan_again(rt: &HostRuntime, path: &str) -> Option<Vec<u8>> {
     }
 }
 
-// Tells of a plan's header what was wanted, and what there is.
-fn tell_header(rt: &HostRuntime, path: &str) {
+// Prints of a plan's header what was wanted, and what there is.
+fn print_header(rt: &HostRuntime, path: &str) {
     let _ = eprint!(rt; "acd: its first line has to be kind,number,name,ring,wrap");
     if let Some(plan) = plan_again(rt, path) {
         if let Ok(line) = first_line(rt.alloc(), &plan) {
@@ -230,8 +230,8 @@ fn tell_header(rt: &HostRuntime, path: &str) {
     let _ = eprintln!(rt;);
 }
 
-// Tells of a plan's row which line it is, and what was wanted. The header is the first record.
-fn tell_row(rt: &HostRuntime, path: &str, row: u64, form: &str) {
+// Prints of a plan's row which line it is, and what was wanted. The header is the first record.
+fn print_row(rt: &HostRuntime, path: &str, row: u64, form: &str) {
     let line = match plan_again(rt, path) {
         Some(plan) => line_of(&plan, row.saturating_add(1)),
         None => None,
@@ -242,19 +242,19 @@ fn tell_row(rt: &HostRuntime, path: &str, row: u64, form: &str) {
     };
 }
 
-fn tell_plan(rt: &HostRuntime, task: Task<'_>, fault: PlanFault) {
+fn print_plan_fault(rt: &HostRuntime, task: Task<'_>, fault: PlanFault) {
     let Task::Import { plan, .. } = task else {
         return;
     };
     match fault {
-        PlanFault::Header => tell_header(rt, plan),
-        PlanFault::Row { row, member } => tell_row(rt, plan, row, form_of(member)),
-        PlanFault::TooLong => tell(rt, Some("a plan has 1,048,576 bytes at most")),
+        PlanFault::Header => print_header(rt, plan),
+        PlanFault::Row { row, member } => print_row(rt, plan, row, form_of(member)),
+        PlanFault::TooLong => print_reason(rt, Some("a plan has 1,048,576 bytes at most")),
         PlanFault::NoMemory => {}
     }
 }
 
-fn tell(rt: &HostRuntime, reason: Option<&str>) {
+fn print_reason(rt: &HostRuntime, reason: Option<&str>) {
     if let Some(reason) = reason {
         let _ = eprintln!(rt; "acd: {reason}");
     }
@@ -267,7 +267,7 @@ fn is_plan(task: Task<'_>, path: &str) -> bool {
 
 // Whether a path is that of an archive.
 fn is_archive(task: Task<'_>, path: &str) -> bool {
-    matches!(task, Task::AuditBehind { archive, .. } if archive == path)
+    matches!(task, Task::AuditWithArchive { archive, .. } if archive == path)
 }
 
 // The file of a desk that the task names.
@@ -278,23 +278,29 @@ fn file_of(task: Task<'_>) -> Option<&str> {
         Task::Import { file, .. } => Some(file),
         Task::AuditWhole { file, .. } => Some(file),
         // of two files such a fault doesn't say which is at fault
-        Task::AuditBehind { .. } => None,
+        Task::AuditWithArchive { .. } => None,
         Task::Read { file, .. } => Some(file),
     }
 }
 
-/// Tells why, on the process's own standard error, where that is a terminal.
+/// Prints why, on the process's standard error, where that is a terminal.
 pub(crate) fn explain(rt: &HostRuntime, task: Task<'_>, fault: Fault<'_>) {
     if !rt.stderr().is_terminal() {
         return;
     }
     match (fault, file_of(task)) {
-        (Fault::CannotOpen(path), _) if is_plan(task, path) => tell(rt, of_reading(rt, path)),
-        (Fault::CannotOpen(path), _) if is_archive(task, path) => tell(rt, of_archive(rt, path)),
-        (Fault::CannotOpen(path), _) => tell(rt, of_opening(rt, path)),
-        (Fault::WrongVersion(0), Some(file)) => tell(rt, of_no_version(rt, file)),
-        (Fault::Store, Some(file)) => tell(rt, of_owner(rt, file)),
-        (Fault::Plan(fault), _) => tell_plan(rt, task, fault),
+        (Fault::CannotOpen(path), _) if is_plan(task, path) => print_reason(
+            rt,
+            of_reading(rt, path),
+        ),
+        (Fault::CannotOpen(path), _) if is_archive(task, path) => print_reason(
+            rt,
+            of_archive(rt, path),
+        ),
+        (Fault::CannotOpen(path), _) => print_reason(rt, of_opening(rt, path)),
+        (Fault::WrongVersion(0), Some(file)) => print_reason(rt, of_no_version(rt, file)),
+        (Fault::Store, Some(file)) => print_reason(rt, of_owner(rt, file)),
+        (Fault::Plan(fault), _) => print_plan_fault(rt, task, fault),
         _ => {}
     }
 }

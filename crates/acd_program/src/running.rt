@@ -8,14 +8,13 @@ ghost use Rattle.acd_program.specs.CommandLine.{IsUntaken};
 ghost use Rattle.acd_program.specs.Ended.{IsOfDesk, IsOfOpening, PrintedOf, WorkEnded};
 ghost use Rattle.acd_program.specs.LinesOver.{NewAnswered};
 ghost use Rattle.acd_program.specs.Sessions.{MemoryEnded};
-ghost use Rattle.acd_program.specs.Statuses.{IsDone, IsHelp, fault_status, TellsConnections};
+ghost use Rattle.acd_program.specs.Statuses.{IsDone, IsHelp, fault_status, PrintsConnectionFaults};
 ghost use Rattle.acd_program.specs.Work.{IsPrinted};
 ghost use Rattle.acd_program.specs.InFiles.{WorkedOver};
-ghost use Rattle.acd_program.specs.Tasks.{WorkedIn, FileAnswered, InputAnswered, ImportedIn, ServedIn, WholeAudit, IsToldEnding, AuditedWith, TaskDone, NamedTaskDone};
-ghost use Rattle.acd_program.specs.TasksEnded.{WorkEndedIn, PlanEnded, AuditEnded, BehindEnded, ServiceEnded, InputEnded, TaskEnded, FaultTold};
+ghost use Rattle.acd_program.specs.Tasks.{WorkedIn, FileAnswered, InputAnswered, ImportedIn, ServeDoneIn, WholeAudit, IsReadEnding, AuditedWith, TaskDone, NamedTaskDone};
+ghost use Rattle.acd_program.specs.TasksEnded.{WorkEndedIn, PlanEnded, AuditEnded, AuditWithArchiveEnded, ServiceEnded, InputEnded, TaskEnded, FaultEnded};
 
 use crate::asked::Task;
-use crate::behind::over_archive;
 use crate::connection::database_lines;
 use crate::desk::{Done, Work, over_database};
 use crate::fault::Fault;
@@ -27,6 +26,7 @@ use crate::printing::print;
 use crate::reasons::explain;
 use crate::serving::serve;
 use crate::task::parse;
+use crate::with_archive::over_archive;
 use acd_book::MemoryBook;
 use acd_http::RequestsAndReads;
 use acd_lines::laws::requests_run;
@@ -49,7 +49,7 @@ const REFUSED: u8 = 2;
 
 const OPEN_ELSEWHERE: u8 = 4;
 
-// What ended the work goes before what closing its file met.
+// A fault that ended the work comes before one of closing its file.
 fn done_and_closed<'a>(
     done: Result<(), Fault<'a>>,
     closed: Result<(), Fault<'a>>,
@@ -225,8 +225,8 @@ fn audit_whole<'a, S: Start, W: Write>(
 }
 
 // How the log of a file ends, where it is to be looked at.
-fn told_ending<'a>(rt: &HostRuntime, file: &'a str, whole: bool) -> Result<Ending, Fault<'a>>
-    ensures ending { IfOk result (IsToldEnding whole) }
+fn read_ending<'a>(rt: &HostRuntime, file: &'a str, whole: bool) -> Result<Ending, Fault<'a>>
+    ensures ending { IfOk result (IsReadEnding whole) }
     ensures known { IfErr result IsOfOpening }
 {
     if whole {
@@ -235,8 +235,8 @@ fn told_ending<'a>(rt: &HostRuntime, file: &'a str, whole: bool) -> Result<Endin
     Ok(Ending::Plain)
 }
 
-// Audits the desk in a file behind the archive that it goes on from. Of a log, that of the file alone is looked at.
-fn audit_behind<'a, S: Start, W: Write>(
+// Audits the desk in a file with the archive that it goes on from. Of the two logs, it looks only at the file's.
+fn audit_with_archive<'a, S: Start, W: Write>(
     rt: &HostRuntime,
     start: S,
     beside: S,
@@ -251,10 +251,10 @@ fn audit_behind<'a, S: Start, W: Write>(
         (λ status. AuditedWith ⟦<FileFrom<S> as Disk>⟧ IsFresh counts whole
         (W.contents writer.old) (W.contents writer.new) status) }
     ensures ended { IfErr result
-        (BehindEnded ⟦<FileFrom<S> as Disk>⟧ IsFresh counts whole (W.contents writer.old)
+        (AuditWithArchiveEnded ⟦<FileFrom<S> as Disk>⟧ IsFresh counts whole (W.contents writer.old)
         (W.contents writer.new) (writer.new ≡ writer.old)) }
 {
-    let ending = told_ending(rt, file, whole)?;
+    let ending = read_ending(rt, file, whole)?;
     let (conn, _) = connect(rt, file, false, start)?;
     let (done, conn) = over_archive(rt, conn, beside, archive, counts, ending);
     print_done(done, close_connection(conn), writer)
@@ -269,8 +269,8 @@ fn serve_file<'a, S: Start, W: Write, E: Write>(
     writer: &mut W,
     errors: &mut E,
 ) -> Result<(), Fault<'a>>
-    ensures served { OnOk result
-        (ServedIn ⟦<FileFrom<S> as Disk>⟧ IsFresh connections (E.contents errors.old)
+    ensures answered { OnOk result
+        (ServeDoneIn ⟦<FileFrom<S> as Disk>⟧ IsFresh connections (E.contents errors.old)
         (E.contents errors.new)) }
     ensures ended { IfErr result (ServiceEnded ⟦<FileFrom<S> as Disk>⟧ IsFresh connections port
         (W.contents writer.old) (W.contents writer.new) (E.contents errors.old)
@@ -281,7 +281,7 @@ fn serve_file<'a, S: Start, W: Write, E: Write>(
     done_and_closed(done, close_connection(conn))
 }
 
-// What ended the work goes before what printing met, and that before what closing the file found.
+// A fault that ended the work comes before one of printing, and that before one of closing the file.
 fn print_done<'a, W: Write>(
     done: Result<Done, Fault<'a>>,
     closed: Result<(), Fault<'a>>,
@@ -314,19 +314,19 @@ fn execute<'a, S: Start, R: Read, W: Write, E: Write>(
     errors: &mut E,
 ) -> Result<u8, Fault<'a>>
     ensures known { IfOk result IsDone }
-    // what the words asked for was done
+    // the task of the words was done
     ensures done { IfOk result
         (λ status. TaskDone ⟦<FileFrom<S> as Disk>⟧ IsFresh task.entry
         (streams R.remaining W.contents (reader.old, reader.new) (writer.old, writer.new))
         (E.contents errors.old) (E.contents errors.new) status) }
-    ensures told { IfOk result
+    ensures printed { IfOk result
         (λ status. (errors.new ≡ errors.old)
-        ⊎ ((status ≡ 0) × TellsConnections (E.contents errors.old) (E.contents errors.new))) }
+        ⊎ ((status ≡ 0) × PrintsConnectionFaults (E.contents errors.old) (E.contents errors.new))) }
     // where a fault ended it
     ensures ended { IfErr result (TaskEnded ⟦<FileFrom<S> as Disk>⟧ IsFresh task.entry
         (streams R.remaining W.contents (reader.old, reader.new) (writer.old, writer.new))
         (E.contents errors.old) (E.contents errors.new)) }
-    // that another program has the file is found before anything is read or written
+    // before anything is read or written the program finds that another one has the file
     ensures elsewhere { IfErr result (λ fault. fault_status fault ≡ 4
         → (reader.new ≡ reader.old) × (writer.new ≡ writer.old)) }
 {
@@ -344,17 +344,17 @@ fn execute<'a, S: Start, R: Read, W: Write, E: Write>(
         }
         Task::Import { file, plan } => import_plan(rt, start, file, plan, writer),
         Task::AuditWhole { file, counts } => audit_whole(rt, start, file, counts, writer),
-        Task::AuditBehind {
+        Task::AuditWithArchive {
             file,
             archive,
             counts,
             whole,
-        } => audit_behind(rt, start, beside, file, archive, counts, whole, writer),
+        } => audit_with_archive(rt, start, beside, file, archive, counts, whole, writer),
         Task::Read { file, work } => work_in(rt, start, file, false, work, writer),
     }
 }
 
-// A fault is one line. That another program has the file is told by a status of its own.
+// A fault is one line. A separate status says that another program has the file.
 fn fail<E: Write>(fault: Fault<'_>, errors: &mut E) -> u8
     ensures known { (result ≡ 1) ⊎ (result ≡ 4) }
     ensures status { result ≡ fault_status fault.entry }
@@ -366,8 +366,13 @@ fn fail<E: Write>(fault: Fault<'_>, errors: &mut E) -> u8
     }
 }
 
-// Tells the text of a command line that asks for no task, which may be the help that was asked for.
-fn tell<W: Write, E: Write>(alloc: Global, error: &Error, writer: &mut W, errors: &mut E) -> u8
+// Prints the text of a command line that asks for no task, which may be the help that was asked for.
+fn print_error<W: Write, E: Write>(
+    alloc: Global,
+    error: &Error,
+    writer: &mut W,
+    errors: &mut E,
+) -> u8
     ensures success { result ≡ 0 → errors.new ≡ errors.old }
     ensures help { result ≡ 0 → IsHelp (kind_of error.now) }
     ensures refused { result ≡ 2 → writer.new ≡ writer.old }
@@ -390,9 +395,9 @@ fn tell<W: Write, E: Write>(alloc: Global, error: &Error, writer: &mut W, errors
     }
 }
 
-/// Does what the words ask for; the first is the program's name. It answers the exit status: 0 for success, 1 for
-/// a fault, which is one line on `errors`, 2 for a command line that it refuses, 3 for an audit that tells a
-/// difference, 4, with a fault's line, where the file is open elsewhere, and 5 where a sound desk's log is damaged.
+/// Does what the words ask for; the first is the program's name. It answers the exit status: 0 for success, 1 for a
+/// fault, which is one line on `errors`, 2 for a command line that it refuses, 3 for an audit that finds a difference,
+/// 4, with a fault's line, where the file is open elsewhere, and 5 where a sound desk's log is damaged.
 pub fn program<S: AsStr, R: Read, W: Write, E: Write>(
     rt: &HostRuntime,
     words: &[S],
@@ -402,8 +407,8 @@ pub fn program<S: AsStr, R: Read, W: Write, E: Write>(
 ) -> u8
     // success says nothing on the stream of errors but the lines of connections' faults, or a beginning of them
     ensures success { result ≡ 0 → (errors.new ≡ errors.old)
-        ⊎ TellsConnections (E.contents errors.old) (E.contents errors.new) }
-    // a difference that an audit tells says nothing there
+        ⊎ PrintsConnectionFaults (E.contents errors.old) (E.contents errors.new) }
+    // a difference that an audit finds prints nothing there
     ensures differs { result ≡ 3 → errors.new ≡ errors.old }
     // nor does a log that ends early
     ensures early { result ≡ 5 → errors.new ≡ errors.old }
@@ -418,7 +423,7 @@ pub fn program<S: AsStr, R: Read, W: Write, E: Write>(
         (streams R.remaining W.contents (reader.old, reader.new) (writer.old, writer.new))
         (E.contents errors.old) (E.contents errors.new) result }
     // a fault ended the task that they name; or it came before there was one, and nothing was read or written but help
-    ensures ended { FaultTold ⟦<FileFrom<Unknown> as Disk>⟧ IsFresh (map S.text words.now)
+    ensures ended { FaultEnded ⟦<FileFrom<Unknown> as Disk>⟧ IsFresh (map S.text words.now)
         (streams R.remaining W.contents (reader.old, reader.new) (writer.old, writer.new))
         (E.contents errors.old) result }
     // nothing was read or written where another program has the file
@@ -427,7 +432,7 @@ pub fn program<S: AsStr, R: Read, W: Write, E: Write>(
 {
     let task = match parse(rt.alloc(), words) {
         Ok(task) => task,
-        Err(error) => return tell(rt.alloc(), &error, writer, errors),
+        Err(error) => return print_error(rt.alloc(), &error, writer, errors),
     };
     match execute(rt, Unknown, Unknown, task, reader, writer, errors) {
         Ok(status) => status,

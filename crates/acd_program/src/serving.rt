@@ -6,7 +6,7 @@ ghost use Rattle.acd_io.specs.Sent.{WasSent};
 ghost use Rattle.acd_desk.specs.Standing.{standing};
 ghost use Rattle.acd_program.specs.Ended.{IsOfDesk};
 ghost use Rattle.acd_program.specs.Seen.{SeenIn};
-ghost use Rattle.acd_program.specs.Serving.{Served, listening_line, ListenTold, ServeTold, ServeOver, ServeIn};
+ghost use Rattle.acd_program.specs.Serving.{ServeDone, listening_line, ListenEnded, ServeEnded, ServeOver, ServeIn};
 
 use crate::connection::book_over;
 use crate::fault::Fault;
@@ -47,7 +47,7 @@ fn answer_some<'a, B: Book, E: Write>(
     connections: u32,
     errors: &mut E,
 ) -> Result<(), Fault<'a>>
-    ensures told { ListenTold (Some connections) (E.contents errors.old) (E.contents errors.new)
+    ensures ended { ListenEnded (Some connections) (E.contents errors.old) (E.contents errors.new)
         (standing B.Book) result desk.old desk.new }
     ensures known { IfErr result IsOfDesk }
 {
@@ -72,7 +72,7 @@ fn answer_until_failed<'a, B: Book, E: Write>(
     desk: &mut Desk<B>,
     errors: &mut E,
 ) -> Result<(), Fault<'a>>
-    ensures told { ListenTold None (E.contents errors.old) (E.contents errors.new)
+    ensures ended { ListenEnded None (E.contents errors.old) (E.contents errors.new)
         (standing B.Book) result desk.old desk.new }
     ensures known { IfErr result IsOfDesk }
 {
@@ -90,7 +90,7 @@ fn answer<'a, B: Book, E: Write>(
     connections: Option<u32>,
     errors: &mut E,
 ) -> Result<(), Fault<'a>>
-    ensures told { ListenTold connections (E.contents errors.old) (E.contents errors.new)
+    ensures ended { ListenEnded connections (E.contents errors.old) (E.contents errors.new)
         (standing B.Book) result desk.old desk.new }
     ensures known { IfErr result IsOfDesk }
 {
@@ -108,7 +108,7 @@ fn serve_desk<'a, B: Book, W: Write, E: Write>(
     writer: &mut W,
     errors: &mut E,
 ) -> Result<(), Fault<'a>>
-    ensures told { ServeTold connections (E.contents errors.old) (E.contents errors.new)
+    ensures ended { ServeEnded connections (E.contents errors.old) (E.contents errors.new)
         port (W.contents writer.old) (W.contents writer.new) (standing B.Book) result desk.old
         desk.new }
     ensures known { IfErr result IsOfDesk }
@@ -126,7 +126,7 @@ fn serve_book<'a, B: Book, W: Write, E: Write>(
     writer: &mut W,
     errors: &mut E,
 ) -> (Result<(), Fault<'a>>, B)
-    ensures told { ServeOver connections (E.contents errors.old) (E.contents errors.new)
+    ensures ended { ServeOver connections (E.contents errors.old) (E.contents errors.new)
         port (W.contents writer.old) (W.contents writer.new) B.Book (B.state book)
         result.0 result.1 }
     ensures known { IfErr result.0 IsOfDesk }
@@ -139,8 +139,8 @@ fn serve_book<'a, B: Book, W: Write, E: Write>(
     (done, desk.close())
 }
 
-/// Serves connections, so many or until the store has failed, over the desk of a database, which is made where there is none and one is to be made.
-/// The faults of connections are lines on `errors`.
+/// Answers connections, so many or until the store has failed, over the desk of a database, which is made where there
+/// is none and one is to be made. The faults of connections are lines on `errors`.
 pub(crate) fn serve<'a, S: Alter, W: Write, E: Write>(
     rt: &HostRuntime,
     conn: Connection<S>,
@@ -152,11 +152,11 @@ pub(crate) fn serve<'a, S: Alter, W: Write, E: Write>(
 ) -> (Result<(), Fault<'a>>, Connection<S>)
     requires { conn.in_transaction ≡ false }
     ensures idle { result.1.in_transaction ≡ false }
-    ensures served { OnOk result.0
-        (SeenIn S.Store (λ stands. Served stands connections (E.contents errors.old)
+    ensures answered { OnOk result.0
+        (SeenIn S.Store (λ stands. ServeDone stands connections (E.contents errors.old)
         (E.contents errors.new)) makes (state S.Store conn) result.1) }
     // whatever ended it
-    ensures told { ServeIn connections (E.contents errors.old) (E.contents errors.new)
+    ensures ended { ServeIn connections (E.contents errors.old) (E.contents errors.new)
         port (W.contents writer.old) (W.contents writer.new) S.Store makes (state S.Store conn)
         result.0 result.1 }
     ensures known { IfErr result.0 IsOfDesk }

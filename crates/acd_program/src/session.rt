@@ -3,8 +3,8 @@
 ghost use Rattle.std.specs.Prelude.{◌≡◌, ◌&&◌, false, Ok, OnOk};
 ghost use Rattle.acd_desk.specs.Standing.{standing};
 ghost use Rattle.acd_lines.specs.Lines.{streams};
-ghost use Rattle.acd_program.specs.Faults.{told_by};
-ghost use Rattle.acd_program.specs.LinesOver.{each_by, LinesTold, LinesOver};
+ghost use Rattle.acd_program.specs.Faults.{command_result};
+ghost use Rattle.acd_program.specs.LinesOver.{each_by, LinesEnded, LinesOver};
 
 use crate::fault::Fault;
 use acd_book::Book;
@@ -13,9 +13,9 @@ use acd_lines::{Answering, answer_lines};
 use std::alloc::Global;
 use std::io::{Read, Write};
 
-/// That the store has failed is a fault of the command.
+/// A failure of the store is a fault of the command.
 pub(crate) fn unless_failed<'a, B: Book>(desk: &Desk<B>) -> Result<(), Fault<'a>>
-    ensures told { result ≡ told_by (Ok tt) (standing B.Book desk.now).failed }
+    ensures ended { result ≡ command_result (Ok tt) (standing B.Book desk.now).failed }
     ensures well { OnOk result ((standing B.Book desk.now).failed ≡ false) }
 {
     if desk.has_failed() {
@@ -26,7 +26,7 @@ pub(crate) fn unless_failed<'a, B: Book>(desk: &Desk<B>) -> Result<(), Fault<'a>
 
 // It is where that was to end the lines.
 fn ended<'a, B: Book>(desk: &Desk<B>, ends: bool) -> Result<(), Fault<'a>>
-    ensures { result ≡ told_by (Ok tt) (ends && (standing B.Book desk.now).failed) }
+    ensures { result ≡ command_result (Ok tt) (ends && (standing B.Book desk.now).failed) }
 {
     if ends {
         return unless_failed(desk);
@@ -43,7 +43,7 @@ fn answer<'a, B: Book, A: Answering<B>, R: Read, W: Write>(
     reader: &mut R,
     writer: &mut W,
 ) -> Result<(), Fault<'a>>
-    ensures { LinesTold (standing B.Book) (each_by A.unmarked A.long A.read A.answers) ends
+    ensures { LinesEnded (standing B.Book) (each_by A.unmarked A.long A.read A.answers) ends
         (streams R.remaining W.contents (reader.old, reader.new) (writer.old, writer.new))
         result desk.old desk.new }
 {

@@ -6,7 +6,7 @@ ghost use Rattle.acd_program.specs.CommandLine.{HasApp, HasRule, IsTaskWith, IsT
 ghost use Rattle.acd_program.specs.Statuses.{IsHelp};
 
 use crate::asked::Task;
-use crate::desk::{Telling, Work};
+use crate::desk::{Printout, Work};
 use acd_log::Ending;
 use clap::builder::ValueParser;
 use clap::error::ErrorKind;
@@ -14,7 +14,7 @@ use clap::{Arg, ArgAction, ArgMatches, Command, Error};
 use std::alloc::{AllocError, Global};
 use std::convert::AsStr;
 
-/// What `acd --version` tells behind the program's name: the version, and the toolchain that proved it.
+/// The text that `acd --version` prints after the program's name: the version, and the toolchain that proved it.
 const VERSION: &str = "1.13 (rattle-kit-13f)";
 
 const FILE: &str = "file";
@@ -39,7 +39,7 @@ const ARCHIVE: &str = "archive";
 
 const GREATEST_PORT: u64 = 65_535;
 
-/// How many connections are served at most.
+/// How many connections are answered at most.
 const MOST_CONNECTIONS: u64 = 1_000_000;
 
 fn file_option<'a>(alloc: Global) -> Arg<'a>
@@ -271,7 +271,7 @@ fn span_of(options: &ArgMatches<'_>) -> Option<Option<u32>>
     Some(Some(options.get_one(CONNECTIONS)?))
 }
 
-fn serving_of<'a>(options: &ArgMatches<'a>) -> Option<Task<'a>>
+fn serve_of<'a>(options: &ArgMatches<'a>) -> Option<Task<'a>>
     ensures { IfSome result (IsTaskWith (codes "serve") (rows_of (found_of options.now))) }
 {
     Some(Task::Serve {
@@ -290,7 +290,7 @@ fn import_of<'a>(options: &ArgMatches<'a>) -> Option<Task<'a>>
     })
 }
 
-// What is audited of the desk in a file, behind no archive.
+// An audit of the desk in a file, with no archive.
 fn audit_alone<'a>(file: &'a str, counts: bool, whole: bool) -> Task<'a>
     ensures whole { IsTrue whole → result ≡ Task.AuditWhole file.entry counts }
     ensures plain { whole ≡ false
@@ -308,7 +308,7 @@ fn audit_alone<'a>(file: &'a str, counts: bool, whole: bool) -> Task<'a>
     }
 }
 
-// What is audited of the desk in a file.
+// The audit of the desk in a file.
 fn audit_of<'a>(options: &ArgMatches<'a>) -> Option<Task<'a>>
     ensures { IfSome result (IsTaskWith (codes "audit") (rows_of (found_of options.now))) }
 {
@@ -316,7 +316,7 @@ fn audit_of<'a>(options: &ArgMatches<'a>) -> Option<Task<'a>>
     let counts = is_given(options, COUNT);
     let whole = is_given(options, WHOLE);
     match options.get_str(ARCHIVE) {
-        Some(archive) => Some(Task::AuditBehind {
+        Some(archive) => Some(Task::AuditWithArchive {
             file,
             archive,
             counts,
@@ -326,13 +326,13 @@ fn audit_of<'a>(options: &ArgMatches<'a>) -> Option<Task<'a>>
     }
 }
 
-// What is told of the desk in a file.
-fn telling_of<'a>(options: &ArgMatches<'a>, telling: Telling) -> Option<Task<'a>>
-    ensures { IfSome result (IsTaskWith (command_of telling) (rows_of (found_of options.now))) }
+// A text of the desk in a file.
+fn printout_of<'a>(options: &ArgMatches<'a>, printout: Printout) -> Option<Task<'a>>
+    ensures { IfSome result (IsTaskWith (command_of printout) (rows_of (found_of options.now))) }
 {
     Some(Task::Read {
         file: options.get_str(FILE)?,
-        work: Work::Tell(telling),
+        work: Work::Print(printout),
     })
 }
 
@@ -342,10 +342,10 @@ fn named<'a>(command: &str, options: &ArgMatches<'a>) -> Option<Task<'a>>
 {
     match command {
         "lines" => Some(lines_of(options)),
-        "serve" => serving_of(options),
+        "serve" => serve_of(options),
         "import" => import_of(options),
-        "report" => telling_of(options, Telling::Report),
-        "export" => telling_of(options, Telling::Export),
+        "report" => printout_of(options, Printout::Report),
+        "export" => printout_of(options, Printout::Export),
         "audit" => audit_of(options),
         _ => None,
     }
@@ -372,11 +372,11 @@ fn chosen<'a, S: AsStr>(
     Ok(task_in(&matches))
 }
 
-/// What the words ask for; the first is the program's name. The other outcome is a text to print, which may be
-/// the help that was asked for.
+/// The task of the words; the first is the program's name. The other outcome is a text to print, which may be the help
+/// that was asked for.
 pub(crate) fn parse<'a, S: AsStr>(alloc: Global, words: &'a [S]) -> Result<Task<'a>, Error>
     ensures task { IfOk result (IsTaskOf (map S.text words.entry.now)) }
-    // help and the version are told only of words that ask for no task
+    // help and the version are printed only for words that ask for no task
     ensures untaken { IfErr result
         (λ e. IsHelp (kind_of e) → IsUntaken (map S.text words.entry.now)) }
 {

@@ -1,4 +1,4 @@
--- How a reader goes through the records of a text.
+-- A reader's way through the records of a text.
 use Rattle.std.proofs.Common.{◌≡◌, ℕ, zero, suc, ◌+◌, ◌<◌, ◌≤◌, Bool, true, false, List, [], ◌∷◌, length, add-one, Option, Some, None, refl, rules, subst, ◌==◌, ◌||◌, ◌∙◌, ap, arith, if◌then◌else◌}
 use Rattle.csv.specs.Machine.{Read, next_record, start_field, start_record, step, is_end, ends_at_end}
 use Rattle.csv.specs.Reading.{NextIs, ReadRecord, ReadsNext, ReadsOn, default_config, is_bom, pending_of, records_from, records_next, source_of, strip_bom}
@@ -41,7 +41,7 @@ step_ends st.AfterQuote c = if_ends (c == 34) _ _ (λ e. absurd cc) (in_field_en
 step_ends st.InComment c = if_ends (c == 10) _ _ (λ e. absurd cc) (λ e. absurd cc)
 step_ends st.AfterCr c = if_ends (c == 10) _ _ (λ e. absurd cc) (start_record_ends c)
 
--- what is left behind a record has at most so many bytes, and begins with no record
+-- the rest after a record has at most so many bytes, and begins with no record
 abbrev Leaves : ℕ → Read → Type 0
 Leaves n p = (length p.2 ≤ n) × (ends_at_end p.1 ≡ false)
 
@@ -85,9 +85,9 @@ abbrev pub rows_in : State → Option (List ℕ) → List (List (List ℕ))
 rows_in s bytes = records_from default_config (length (unwrap_or bytes []) + 1) s (unwrap_or bytes [])
 
 abbrev pub ReadsRows : Bool → State → Option (List ℕ) → List (List ℕ) → State → Option (List ℕ) → Type 0
-ReadsRows false s before fields s2 behind = rows_in s before ≡ []
-ReadsRows true s before fields s2 behind =
-    (rows_in s before ≡ fields ∷ rows_in s2 behind) × (length (unwrap_or behind []) < length (unwrap_or before [])) × (ends_at_end s2 ≡ false) × IsSome behind
+ReadsRows false s old fields s2 new = rows_in s old ≡ []
+ReadsRows true s old fields s2 new =
+    (rows_in s old ≡ fields ∷ rows_in s2 new) × (length (unwrap_or new []) < length (unwrap_or old [])) × (ends_at_end s2 ≡ false) × IsSome new
 
 none_left : (s : State) (xs : List ℕ) → next_record default_config s [] [] xs ≡ None → records_from default_config (length xs + 1) s xs ≡ []
 unfolding records_from
@@ -106,12 +106,12 @@ by_read s s2 xs ys fields (Some p) true between e r =
     let steps = enough (length xs) (length p.2 + 1) p.1 p.2 less.0 (omega arith) less.1 in
     (one_more s xs p e ∙ rw (r.1, r.2, r.3) (ap (λ (l : List (List (List ℕ))). p.0 ∷ l) steps), rw r.3 less.0, rw r.2 less.1, search rules)
 
-pub reads_rows : (s s2 : State) (before behind : Option (List ℕ)) (fields : List (List ℕ)) (found : Bool) → ends_at_end s ≡ false → IsSome before → ReadsNext default_config s before behind found fields s2 → ReadsRows found s before fields s2 behind
-reads_rows s s2 None behind fields found between has r = absurd cc
+pub reads_rows : (s s2 : State) (old new : Option (List ℕ)) (fields : List (List ℕ)) (found : Bool) → ends_at_end s ≡ false → IsSome old → ReadsNext default_config s old new found fields s2 → ReadsRows found s old fields s2 new
+reads_rows s s2 None new fields found between has r = absurd cc
 reads_rows s s2 (Some xs) None fields found between has r = absurd r
 reads_rows s s2 (Some xs) (Some ys) fields found between has r = by_read s s2 xs ys fields (next_record default_config s [] [] xs) found between refl r
 
--- what a read does to a plan's reader
+-- the effect of a read on a plan's reader
 source_known : (reader : PlanReader) → reader.bom_checked ≡ true → pending_of (known reader.rdr) reader ≡ source_of known reader
 source_known reader checked = rw checked refl
 

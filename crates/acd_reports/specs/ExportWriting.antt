@@ -7,7 +7,7 @@ use Rattle.csv.specs.declared.writer.Writer.{Writer}
 abbrev pub all_written : {Z : Type 0} → Writer (Vec ℕ Z) → List ℕ
 all_written w = (writer_under w).items ++ writer_pending w
 
--- the writer writes by default, and stands between two records
+-- the writer writes by default, and is between two records
 pub record IsPlain {Z : Type 0} (w : Writer (Vec ℕ Z)) : Type 0 where
   pub setup : writer_setup w ≡ default_writer
   pub fields : fields_written w ≡ 0

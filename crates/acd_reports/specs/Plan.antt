@@ -1,4 +1,4 @@
--- A plan in CSV, and the requests that it stands for.
+-- A plan in CSV, and the requests that it represents.
 use Rattle.std.specs.Prelude.{◌≡◌, ℕ, ◌+◌, List, [], ◌∷◌, length, take, drop, codes, nat_lt, if◌then◌else◌, ◌&&◌, Bool, false, Option, Some, None, Vec, Result, Ok, Err}
 use Rattle.std.specs.Str.{bytes_eq}
 use Rattle.csv.specs.Reading.{records, default_config, strip_bom}
@@ -30,7 +30,7 @@ requests_from row (fields ∷ rows) = do
   requests ← requests_from (row + 1) rows
   Ok (request ∷ requests)
 
--- the first record is the header, and the rows behind it count from 1
+-- the first record is the header, and the rows after it count from 1
 abbrev pub requests_of : List (List (List ℕ)) → Result (List Request) PlanFault
 requests_of [] = Err Header
 requests_of (first ∷ rows) = if names_columns (row_of first) then requests_from 1 rows else Err Header
@@ -39,7 +39,7 @@ requests_of (first ∷ rows) = if names_columns (row_of first) then requests_fro
 unfoldable pub without_mark : List ℕ → List ℕ
 without_mark bytes = if bytes_eq (take 3 bytes) (0xEF ∷ 0xBB ∷ 0xBF ∷ []) then drop 3 bytes else bytes
 
--- what the default reader of CSV gives of a text that has no header row of its own
+-- what the default reader of CSV gives of a text that has no header row
 abbrev pub records_of : List ℕ → List (List (List ℕ))
 records_of text = records default_config (strip_bom text)
 
@@ -54,7 +54,7 @@ IsPlanFault TooLong wanted = wanted ≡ Err TooLong
 IsPlanFault Header wanted = wanted ≡ Err Header
 IsPlanFault (Row row m) wanted = wanted ≡ Err (Row row m)
 
--- what was returned is this, unless memory ran out
+-- the reader returned this, unless memory ran out
 abbrev pub GivesPlan : {Z : Type 0} → Result (Vec Request Z) PlanFault → Result (List Request) PlanFault → Type 0
 GivesPlan (Ok requests) wanted = wanted ≡ Ok requests.items
 GivesPlan (Err fault) wanted = IsPlanFault fault wanted

@@ -22,7 +22,7 @@ unread reader = unwrap_or (source_of known reader) []
 unfoldable pub rows_left : PlanReader → List (List (List ℕ))
 rows_left reader = records_from default_config (length (unread reader) + 1) (reader_state reader) (unread reader)
 
--- the reader reads by default but for the header row, has not failed, and stands between two records
+-- the reader reads by default but for the header row, has not failed, and is between two records
 pub record IsPlain (reader : PlanReader) : Type 0 where
   pub trim : reader_trim reader ≡ trim.None
   pub ready : Ready reader
@@ -35,7 +35,7 @@ abbrev pub ReadsPlan : Bool → PlanReader → List (List ℕ) → PlanReader �
 ReadsPlan false old fields new = rows_left old ≡ []
 ReadsPlan true old fields new = (rows_left old ≡ fields ∷ rows_left new) × (length (unread new) < length (unread old)) × IsPlain new
 
--- what is read after some requests
+-- the requests read after some others
 abbrev pub after : List Request → Result (List Request) PlanFault → Result (List Request) PlanFault
 after requests (Ok more) = Ok (requests ++ more)
 after requests (Err fault) = Err fault

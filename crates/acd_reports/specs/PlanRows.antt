@@ -1,4 +1,4 @@
--- A row of a plan: five fields, and the command that they stand for.
+-- A row of a plan: five fields, and the command that they represent.
 use Rattle.std.specs.Prelude.{ℕ, List, [], ◌∷◌, length, codes, ◌==◌, ◌&&◌, nat_le, if◌then◌else◌, Option, Some, None, Result, Ok, Err}
 use Rattle.std.specs.List.{list_all}
 use Rattle.std.specs.Option.{ok_or}
@@ -95,7 +95,7 @@ agent_row_in row = do
   no_wrap ← nothing_in member.Wrap row.wrap
   Ok (AddAgent agent name)
 
--- the command of a row goes by its kind
+-- the kind of a row decides its command
 unfoldable pub command_of : PlanRow → Result Command PlanMember
 command_of row =
     if bytes_eq row.kind (codes "group") then group_in row
@@ -103,7 +103,7 @@ command_of row =
     else (if bytes_eq row.kind (codes "agent") then agent_row_in row
     else Err member.Kind))
 
--- the command that some fields stand for, or the first faulty member
+-- the command that some fields represent, or the first faulty member
 unfoldable pub command_in : List (List ℕ) → Result Command PlanMember
 command_in fields = do
   row ← ok_or (row_of fields) member.Fields

@@ -11,7 +11,7 @@ use Rattle.acd_model.specs.Rules.Occupied.{rings_from}
 use Rattle.acd_reports.specs.declared.queues.GroupState.{GroupState}
 use Rattle.acd_reports.specs.Layout.{left, number_or_hyphen, columns_text}
 
--- for how long an answered call had waited on average, whole seconds downwards
+-- how long an answered call waited on average, whole seconds downwards
 unfoldable pub average_wait : Figures → Option ℕ
 average_wait figures = if figures.answered == 0 then None else Some (figures.waited / figures.answered)
 
@@ -27,7 +27,7 @@ longest_wait first moment = option_map (λ first. moment - first) first
 unfoldable pub ringing_from : Rows → ℕ → ℕ
 ringing_from s group = length (filter (rings_from group) s.connections)
 
--- what is shown of a group
+-- the state of a group in the report
 abbrev pub state_of : Rows → GroupRecord → GroupState
 state_of s g = record { group = g; waiting = length (waiting_in s g.device); ringing = ringing_from s g.device; first_queued = first_queued s g.device }
 

@@ -6,7 +6,7 @@ ghost use Rattle.acd_reports.specs.Layout.{left, right, number_or_hyphen, column
 use itoa::Buffer;
 use std::alloc::AllocError;
 
-// Spaces to the end of a column behind a text.
+// Spaces to the end of a column after a text.
 fn push_spaces(line: &mut String, width: usize, text: &str) -> Result<(), AllocError>
     ensures { OnOk result
         (string_bytes line.new ≡ string_bytes line.old ++ replicate (width - length text.now) 32) }

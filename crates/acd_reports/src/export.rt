@@ -150,7 +150,7 @@ fn write_events(
     Ok(())
 }
 
-// What was written is characters of ASCII, so it is text; no clause says so.
+// The written bytes are characters of ASCII, so they are text; no clause says so.
 fn text_of(writer: Writer<Vec<u8>>) -> Result<String, AllocError>
     ensures { IfOk result (λ s. string_bytes s ≡ all_written writer) }
 {

@@ -7,7 +7,7 @@ ghost use Rattle.acd_reports.specs.declared.fault.PlanFault.TheVariants.{NoMemor
 use std::alloc::AllocError;
 use thiserror::Error;
 
-/// What can be faulty in a row of a plan.
+/// The faulty part in a row of a plan.
 #[derive(Clone, Copy, Debug, PartialEq, Eq)]
 pub enum PlanMember {
     /// The row has more or fewer than five fields, or they are no text.

@@ -1,9 +1,9 @@
 //! The queue report, plans and the export of events.
 //!
-//! [`queue_report`] writes a line for each group, at a moment, and [`groups_report`] the same of groups that are handed in. [`plan_requests`] reads a plan in CSV: the
-//! requests that add its groups, stations and agents, or a [`PlanFault`]. [`events_csv`] writes events as
-//! CSV; a long export goes page by page, [`export_header`] first and then an [`events_page`] for some
-//! events at a time.
+//! [`queue_report`] writes a line for each group, at a moment, and [`groups_report`] the same of groups that are handed
+//! in. [`plan_requests`] reads a plan in CSV: the requests that add its groups, stations and agents, or a
+//! [`PlanFault`]. [`events_csv`] writes events as CSV; a long export is written page by page, [`export_header`] first
+//! and then an [`events_page`] for some events at a time.
 //!
 //! ```ignore
 //! let requests = plan_requests(alloc, b"kind,number,name,ring,wrap\ngroup,100,Billing,20,30\n")?;

@@ -1,4 +1,4 @@
-//! A plan in CSV, and the requests that it stands for.
+//! A plan in CSV, and the requests that it represents.
 
 ghost use Rattle.std.specs.Prelude.{◌≡◌, ◌≤◌, ◌+◌, ◌++◌, ◌∷◌, [], codes, length, IfOk, IfErr, OnOk};
 ghost use Rattle.csv.specs.Records.{fields_of};
@@ -78,7 +78,7 @@ fn request_in(number: u64, row: &ByteRecord) -> Result<Request, PlanFault>
     }
 }
 
-// A push of its own, for any type.
+// A separate push, for any type.
 fn keep<T: Copy + Drop>(one: &T, kept: &mut Vec<T>) -> Result<(), AllocError>
     ensures { OnOk result (kept.new.items ≡ kept.old.items ++ one.now ∷ []) }
 {
@@ -111,7 +111,7 @@ fn requests_in(
     Ok(requests)
 }
 
-// The requests of a header and the rows behind it.
+// The requests of a header and the rows after it.
 fn requests_of(
     alloc: Global,
     reader: &mut Reader<&[u8]>,

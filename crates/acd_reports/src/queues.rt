@@ -8,7 +8,7 @@ use crate::columns::{push_left, push_numbers};
 use acd_terms::{DeviceId, Figures, GroupRecord, Rows};
 use std::alloc::{AllocError, Global};
 
-/// What the queue report shows of a group.
+/// The state of a group in the queue report.
 #[derive(Clone, Copy)]
 pub struct GroupState {
     pub group: GroupRecord,

@@ -1,4 +1,4 @@
-//! Rows of a plan, and the commands that they stand for.
+//! Rows of a plan, and the commands that they represent.
 
 ghost use Rattle.std.specs.Prelude.{◌≡◌, ◌<◌, ◌≤◌, length, true, option_map};
 ghost use Rattle.std.specs.List.{list_all};

@@ -1,4 +1,5 @@
--- What a list, sorted by a number of its records, has at one number, and that it is what an unsorted one has there.
+-- The records at one number of a list, sorted by a number of its records: they are those that an unsorted one has
+-- there.
 use Rattle.std.proofs.Common.{◌≡◌, ℕ, ◌+◌, ◌<◌, ◌≤◌, ◌==◌, Bool, true, false, not, ◌&&◌, List, [], ◌∷◌, ◌++◌, length, take, drop, length-drop, length-take-le, append-nil, refl, sym, ◌∙◌, ap, arith, leb, ltb}
 use Rattle.std.specs.Prelude.{filter}
 use Rattle.std.specs.List.{All}
@@ -35,7 +36,7 @@ joined p xs front middle back is none all rest = rw (is, filter-append, none, fi
 equal : (a k : ℕ) → (a == k) ≡ true → a ≡ k
 equal a k t = grind (arith, nat_tests)
 
--- the records behind the lesser ones and before the greater ones are those of the number
+-- the records after the lesser ones and before the greater ones are those of the number
 pub alike : {X : Type 0} (number : X → ℕ) (xs : List X) (k from len : ℕ)
     → from ≤ length xs → len ≤ length (drop from xs)
     → IsPartitionPoint (λ y. ltb (number y) k ≡ true) (λ y. ltb (number y) k ≡ false) xs from
@@ -66,13 +67,13 @@ at_one number xs ys stable k x is =
 pub same_groups : {X : Type 0} (number : X → ℕ) (xs ys : List X) → IsStableByKey number nat_cmp xs ys
     → (k : ℕ) → filter (λ y. number y == k) ys ≡ filter (λ y. number y == k) xs
 same_groups number xs ys stable k =
-    told (filter (λ y. number y == k) xs) (filter (λ y. number y == k) ys)
+    by_first (filter (λ y. number y == k) xs) (filter (λ y. number y == k) ys)
     (passes xs) (passes ys) (λ x is. at_one number xs ys stable k x is)
   where
     passes : (zs : List _) → All (λ y. number y ≡ k) (filter (λ y. number y == k) zs)
     passes zs = All-weaker (λ y. (number y == k) ≡ true) (λ y. number y ≡ k) (λ y t. equal (number y) k t) _ (filter_passes (λ y. number y == k) zs)
 
-    told : (us vs : List _) → All (λ y. number y ≡ k) us → All (λ y. number y ≡ k) vs → ((x : _) → number x ≡ k → vs ≡ us) → vs ≡ us
-    told [] [] us_are vs_are same = refl
-    told (x ∷ us) vs us_are vs_are same = same x (All-head (λ y. number y ≡ k) x us us_are)
-    told [] (x ∷ vs) us_are vs_are same = same x (All-head (λ y. number y ≡ k) x vs vs_are)
+    by_first : (us vs : List _) → All (λ y. number y ≡ k) us → All (λ y. number y ≡ k) vs → ((x : _) → number x ≡ k → vs ≡ us) → vs ≡ us
+    by_first [] [] us_are vs_are same = refl
+    by_first (x ∷ us) vs us_are vs_are same = same x (All-head (λ y. number y ≡ k) x us us_are)
+    by_first [] (x ∷ vs) us_are vs_are same = same x (All-head (λ y. number y ≡ k) x vs vs_are)

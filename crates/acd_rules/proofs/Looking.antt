@@ -7,7 +7,7 @@ use Rattle.acd_rules.specs.declared.grouped.Grouped.{Grouped}
 use Rattle.acd_rules.specs.Groups.{HasAllWith}
 use Rattle.acd_rules.specs.Grouping.{IsGrouped, LooksUp}
 
--- those of a number, where each call gives the number that the records lie by
+-- those of a number, where each call gives the number by which the records are sorted
 pub looked_up : {T F : Type 0} (g : Mut F (Bor T × Unit {0}) ℕ) (f : F) (key : T → ℕ) (m n : ℕ) (part xs : List T) (grouped : Grouped T)
     → LooksUp g f m grouped part → m ≡ n → IsGrouped key xs grouped
     → ((a : Bor T × Unit {0}) (r : ℕ) (f' : F) → Called g f a r f' → (r ≡ key a.0.now) × (f' ≡ f)) → HasAllWith key n part xs

@@ -79,7 +79,7 @@ pub and_right : (a b : Bool) → (a && b) ≡ true → b ≡ true
 and_right true b is = is
 and_right false b is = absurd (cc is)
 
--- what stands at the device that is there
+-- the connection at the device that is there
 pub has_there : (o : Option ℕ) (d n : ℕ) → o ≡ Some d → has o n ≡ true → (n == d) ≡ true
 has_there o d n is has_it = turned d n (rw is at has_it)
   where

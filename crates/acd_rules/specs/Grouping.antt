@@ -1,4 +1,4 @@
--- What a list that is kept sorted by a number of its records has.
+-- The records of a list that is kept sorted by a number of its records.
 use Rattle.std.specs.Prelude.{◌≡◌, ℕ, List, Some}
 use Rattle.std.specs.Borrow.{Bor}
 use Rattle.std.specs.Fn.{Mut, ComputesKey}
@@ -13,6 +13,6 @@ IsGrouped {T} number xs grouped =
     (grouped.whole.now ≡ xs)
     × ((sorted : List T) → option_map (λ v. v.items) grouped.sorted ≡ Some sorted → IsNonDecreasingBy number sorted × AreGrouped number sorted xs)
 
--- of records that lie by the number that calls of f give, those that are found have all with this one
+-- of records sorted by the number that calls of f give, those that are found have all with this one
 pub record LooksUp {T F : Type 0} (g : Mut F (Bor T × Unit {0}) ℕ) (f : F) (wanted : ℕ) (grouped : Grouped T) (found : List T) : Type 0 where
   pub has : (number : T → ℕ) (xs : List T) → ComputesKey g number f → IsGrouped number xs grouped → HasAllWith number wanted found xs

@@ -87,8 +87,8 @@ fn is_caller(call: Option<CallRecord>, device: DeviceId) -> bool
     call.is_some_and(|c| c.caller == device)
 }
 
-/// A connection is of a live call, at its caller or at a planned device, with its columns, in a
-/// state that may stand there.
+/// A connection is of a live call, at its caller or at a planned device, with its columns, in a state that may be
+/// there.
 #[tactic(auto, unfolding(acd_model::specs::Rules::Calls::keeps_connection))]
 pub fn keeps_connection(lookups: &Lookups) -> bool
     ensures { result ≡ keeps_connection lookups.now.rows.now }

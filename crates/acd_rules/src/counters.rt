@@ -7,7 +7,7 @@ ghost use Rattle.acd_terms.specs.declared.record.AgentRecord.{AgentRecord};
 ghost use Rattle.acd_terms.specs.declared.record.CallRecord.{CallRecord};
 ghost use Rattle.acd_terms.specs.declared.record.ConnectionRecord.{ConnectionRecord};
 ghost use Rattle.acd_model.specs.Scans.{has};
-ghost use Rattle.acd_model.specs.Rules.Counters.{is_stamp, is_moment_or_none, is_own_place, is_offered_after, is_timed, is_countable, keeps_counters};
+ghost use Rattle.acd_model.specs.Rules.Counters.{is_stamp, is_moment_or_none, is_unique_place, is_offered_after, is_timed, is_countable, keeps_counters};
 
 use crate::lookups::Lookups;
 use acd_terms::{ConnectionRecord, GroupRecord, Rows};
@@ -42,8 +42,8 @@ fn connections_with(lookups: &Lookups, place: u64) -> usize
 }
 
 // The place is a stamp, and no other connection has it.
-fn is_own_place(lookups: &Lookups, place: Option<u64>) -> bool
-    ensures { result ≡ is_own_place lookups.now.rows.now place }
+fn is_unique_place(lookups: &Lookups, place: Option<u64>) -> bool
+    ensures { result ≡ is_unique_place lookups.now.rows.now place }
 {
     match place {
         None => true,
@@ -63,13 +63,13 @@ fn is_offered_after(queued: Option<u32>, offered: Option<u32>) -> bool
 fn is_timed(lookups: &Lookups, connection: &ConnectionRecord) -> bool
     ensures { result ≡ is_timed lookups.now.rows.now connection.now }
 {
-    is_own_place(lookups, connection.place)
+    is_unique_place(lookups, connection.place)
         && is_moment_or_none(lookups.rows, connection.queued)
         && is_moment_or_none(lookups.rows, connection.offered)
         && is_offered_after(connection.queued, connection.offered)
 }
 
-// What a group counted is no more than can have been.
+// A group's counts are no more than is possible.
 fn is_countable(rows: &Rows, group: &GroupRecord) -> bool
     ensures { result ≡ is_countable rows.now group.now }
 {

@@ -12,8 +12,8 @@ use crate::plan::{keeps_agent, keeps_device, keeps_limits, keeps_monitor, keeps_
 use acd_terms::{Rows, Rule};
 use std::alloc::Global;
 
-/// The first rule that the rows break, in the order of [`Rule`]. It goes through the records once for each
-/// test, where there is memory for some copies of them, and else once for each record.
+/// The first rule that the rows break, in the order of [`Rule`]. It looks at all records once for each test, where
+/// there is memory for some copies of them, and else once for each record.
 #[tactic(auto, unfolding(acd_model::specs::Rules::First::first_broken))]
 pub fn first_broken(alloc: Global, rows: &Rows) -> Option<Rule>
     ensures { result ≡ first_broken rows.now }

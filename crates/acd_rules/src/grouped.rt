@@ -1,4 +1,4 @@
-//! Records that lie together by a number of theirs.
+//! Records that are together by a number of theirs.
 
 ghost use Rattle.std.specs.Prelude.{◌≡◌, ℕ, IfOk, ltb, leb};
 ghost use Rattle.std.specs.Fn.{ComputesKey};
@@ -16,7 +16,7 @@ pub struct Grouped<'a, T: Copy> {
 impl<'a, T: Copy> Grouped<'a, T> {
     ghost use Rattle.acd_rules.specs.Grouping.{IsGrouped, LooksUp};
 
-    /// These records, which may stand in any order, by a number of theirs.
+    /// These records, in any order, by a number of theirs.
     pub fn by<F: Fn(&T) -> u64>(alloc: Global, whole: &'a [T], number: F) -> Self
         requires { F.IsAlwaysCallable number }
         ensures { (key : T → ℕ) → ComputesKey F.FnMut key number
@@ -26,7 +26,7 @@ impl<'a, T: Copy> Grouped<'a, T> {
         Grouped { whole, sorted }
     }
 
-    /// Those whose number it is, in their order, or all. They are asked for by the number that they lie by.
+    /// Those whose number it is, in their order, or all. A call asks for them by the number by which they are sorted.
     pub fn with<F: Fn(&T) -> u64>(&self, wanted: u64, number: F) -> &[T]
         requires { F.IsAlwaysCallable number }
         ensures { LooksUp F.FnMut number wanted self.now result.now }

@@ -19,8 +19,8 @@ fn number_or_none(device: Option<DeviceId>) -> u64
     device.map_or(0, |d| d.number())
 }
 
-/// Rows, with their lists sorted by what their records are looked up by, so that no look-up goes through
-/// a whole list. One that there was no memory to sort is gone through.
+/// Rows, with their lists sorted by the keys of the look-ups, so that no look-up scans a whole list. A list that there
+/// was no memory to sort is scanned.
 #[derive(Drop)]
 pub struct Lookups<'a> {
     pub rows: &'a Rows,

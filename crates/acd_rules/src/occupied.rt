@@ -252,7 +252,7 @@ fn count_of_gone(figures: Figures) -> u128
     u128::from(figures.answered) + u128::from(figures.abandoned) + u128::from(figures.moved)
 }
 
-// What entered waits, rings, was answered, was abandoned or was moved.
+// Each entry waits, rings, was answered, was abandoned or was moved.
 fn is_balanced(lookups: &Lookups, group: &GroupRecord) -> bool
     ensures { result ≡ is_balanced lookups.now.rows.now group.now }
 {

@@ -50,7 +50,7 @@ fn state_report(state: AgentState, agent: AgentId, station: DeviceId) -> Report
     }
 }
 
-/// The agent at a station goes to a state, with nothing pending.
+/// The agent at a station changes to a state, with nothing pending.
 pub fn go_to(at: Turn, agent: &AgentRecord, station: DeviceId, state: AgentState) -> Move
     ensures { result ≡ go_to at agent.now station state }
 {
@@ -60,7 +60,7 @@ pub fn go_to(at: Turn, agent: &AgentRecord, station: DeviceId, state: AgentState
     )
 }
 
-/// The agent goes to a state, from the station at which it is logged on.
+/// The agent changes to a state, from the station at which it is logged on.
 pub fn go_from(at: Turn, agent: &AgentRecord, state: AgentState) -> Move
     ensures { result ≡ go_from at agent.now agent.now.station state }
 {
@@ -70,7 +70,7 @@ pub fn go_from(at: Turn, agent: &AgentRecord, state: AgentState) -> Move
     }
 }
 
-/// The agent logs on. The report names the group of one who serves just one.
+/// The agent logs on. The report names the group of an agent who is in just one.
 pub fn log_on_at(at: Turn, agent: &AgentRecord, station: DeviceId, groups: Groups) -> Move
     ensures { result ≡ log_on_at at agent.now station groups }
 {

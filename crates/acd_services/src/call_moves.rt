@@ -220,7 +220,7 @@ pub fn offer(moment: u32, connection: &ConnectionRecord, station: DeviceId) -> M
     )
 }
 
-/// An offered call goes back to its group, at its old place.
+/// An offered call returns to its group, at its old place.
 pub fn go_back(connection: &ConnectionRecord, group: DeviceId) -> Move
     ensures { result ≡ go_back connection.now group }
 {
@@ -239,7 +239,7 @@ pub fn go_back(connection: &ConnectionRecord, group: DeviceId) -> Move
     )
 }
 
-/// The connection ends, and its call goes elsewhere.
+/// The connection ends, and its call is sent elsewhere.
 pub fn divert(connection: &ConnectionRecord, to: DeviceId, cause: Cause) -> Move
     ensures { result ≡ divert connection.now to cause }
 {

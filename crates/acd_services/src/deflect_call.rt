@@ -14,7 +14,7 @@ use acd_terms::Refusal::{
 };
 use acd_terms::{Answer, Cause, DeviceId, Turn};
 
-/// An alerting or queued call goes to another device (Deflect Call of ECMA-269).
+/// An alerting or queued call is sent to another device (Deflect Call of ECMA-269).
 #[tactic(auto, unfolding(acd_model::specs::Services::DeflectCall::deflect_call))]
 pub fn deflect_call(tables: &Tables, at: Turn, call: u64, device: DeviceId, to: DeviceId) -> Served
     ensures { result ≡ deflect_call tables.now at call device to }

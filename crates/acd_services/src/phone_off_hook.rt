@@ -9,7 +9,7 @@ use acd_tables::Tables;
 use acd_terms::Refusal::{UnknownCall, UnknownConnection, WrongConnectionState};
 use acd_terms::{Answer, Cause, DeviceId, Turn};
 
-/// The station that began a call goes off hook, and the call goes to the device that was called.
+/// The station that began a call goes off hook, and the call is sent to the device that was called.
 #[tactic(auto, unfolding(acd_model::specs::Services::PhoneOffHook::phone_off_hook))]
 pub fn phone_off_hook(tables: &Tables, at: Turn, call: u64, device: DeviceId) -> Served
     ensures { result ≡ phone_off_hook tables.now at call device }

@@ -9,7 +9,7 @@ use acd_tables::Tables;
 use acd_terms::Refusal::{UnknownCall, UnknownConnection, WrongConnectionState};
 use acd_terms::{Answer, DeviceId, Turn};
 
-/// A call that distribution offered at the station, and that rings there, goes back to its queue now.
+/// A call that distribution offered at the station, and that rings there, returns to its queue now.
 #[tactic(auto, unfolding(acd_model::specs::Services::RejectCall::reject_call))]
 pub fn reject_call(tables: &Tables, at: Turn, call: u64, device: DeviceId) -> Served
     ensures { result ≡ reject_call tables.now at call device }

@@ -1,4 +1,4 @@
-//! What becomes of an agent whose distributed connection ends.
+//! An agent whose distributed connection ends, and what becomes of it.
 
 ghost use Rattle.std.specs.Prelude.{◌≡◌};
 ghost use Rattle.acd_model.specs.Release.{release_of, released, ending_of, release};

@@ -1,4 +1,4 @@
-//! How an offered call that isn't taken goes back to its queue.
+//! How an offered call that isn't answered returns to its queue.
 
 ghost use Rattle.std.specs.Prelude.{◌≡◌};
 ghost use Rattle.acd_model.specs.Tick.{return_to, return_moves};
@@ -9,7 +9,7 @@ use acd_model::{Ending, Move, Moves};
 use acd_tables::Tables;
 use acd_terms::{Cause, ConnectionRecord, DeviceId, Turn};
 
-/// The call goes back to that group, and the agent is released.
+/// The call returns to that group, and the agent is released.
 #[inline(always)]
 pub fn return_to(
     tables: &Tables,
@@ -26,8 +26,7 @@ pub fn return_to(
     ]
 }
 
-/// The call goes back to the group that offered it, and the agent is released. A connection without a
-/// group has no moves.
+/// The call returns to the group that offered it, and the agent is released. A connection without a group has no moves.
 pub fn return_moves(tables: &Tables, at: Turn, connection: &ConnectionRecord) -> Moves
     ensures { result ≡ return_moves tables.now at connection.now }
 {

@@ -31,7 +31,7 @@ use acd_tables::Tables;
 use acd_terms::{Command, Event, Outcome, Turn};
 use std::alloc::AllocError;
 
-/// What the service does. It changes nothing.
+/// The answer and the moves of the service. It changes nothing.
 pub fn decide(tables: &Tables, at: Turn, command: &Command) -> Served
     requires calls { tables.now.last_call < 2 ^ 64 - 1 }
     requires monitors { tables.now.last_monitor < 2 ^ 64 - 1 }

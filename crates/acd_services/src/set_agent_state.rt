@@ -56,7 +56,7 @@ fn log_on(tables: &Tables, at: Turn, agent: AgentId, device: DeviceId, groups: S
     gives(Answer::State(AgentState::NotReady), moves)
 }
 
-// An occupied agent waits for the state, any other goes to it.
+// An occupied agent waits for the state, any other changes to it.
 fn go_or_wait(tables: &Tables, at: Turn, agent: &AgentRecord, wanted: Pending) -> Served
     ensures { result ≡ go_or_wait tables.now at agent.now wanted }
 {

@@ -17,7 +17,7 @@ use Rattle.acd_sql_columns.specs.declared.tables.Version.TheVariants as version
 use Rattle.acd_sql_columns.specs.declared.texts.TheConstants.{INSERT_AGENT_GROUP, DELETE_AGENT_GROUPS, SELECT_AGENT_GROUPS}
 use Rattle.acd_sql_columns.specs.AnyRows.{schema_of}
 use Rattle.acd_sql_columns.specs.Content.{IsIn, with_part}
-use Rattle.acd_sql_columns.specs.Draft.{Drafts, HoldsContent}
+use Rattle.acd_sql_columns.specs.Transactions.{HoldsUncommitted, HoldsContent}
 use Rattle.acd_sql_columns.specs.Relations.{pair_order, Relations, relations_of}
 use Rattle.acd_sql_columns.specs.Rows.{further_values}
 use Rattle.acd_sql_columns.specs.Schema.{book_schema, nine, two}
@@ -58,13 +58,13 @@ pub groups_selects : SelectsAll agent_groups (nine ++ two) SELECT_AGENT_GROUPS.n
 unfolding understood everything
 groups_selects = record { selects = λ rest s. refl; plain = λ rest s. (refl, refl); unlisted = λ rest s. refl }
 
-pub inserts_group : (p : ℕ × ℕ) (c : Relations) (old new : State) (count : ℕ) → Drafts old c → Executes INSERT_AGENT_GROUP.now (further_values p) old new (Ok count)
-    → Drafts new (with_part table.AgentGroups (put_by (pair_order p) c.further p) c)
+pub inserts_group : (p : ℕ × ℕ) (c : Relations) (old new : State) (count : ℕ) → HoldsUncommitted old c → Executes INSERT_AGENT_GROUP.now (further_values p) old new (Ok count)
+    → HoldsUncommitted new (with_part table.AgentGroups (put_by (pair_order p) c.further p) c)
 inserts_group p c old new count d ran = inserted_in agent_groups groups_heaped tt p c old new count d ran
 
 -- all of an agent
-pub drops_groups : (agent : ℕ) (c : Relations) (old new : State) (count : ℕ) → Drafts old c → Executes DELETE_AGENT_GROUPS.now (id_value agent ∷ []) old new (Ok count)
-    → Drafts new (with_part table.AgentGroups (filter (λ (p : ℕ × ℕ). not (p.0 == agent)) c.further) c)
+pub drops_groups : (agent : ℕ) (c : Relations) (old new : State) (count : ℕ) → HoldsUncommitted old c → Executes DELETE_AGENT_GROUPS.now (id_value agent ∷ []) old new (Ok count)
+    → HoldsUncommitted new (with_part table.AgentGroups (filter (λ (p : ℕ × ℕ). not (p.0 == agent)) c.further) c)
 drops_groups agent c old new count d ran =
     deleted_in agent_groups groups_heaped DELETE_AGENT_GROUPS.now by_one groups_deletes (id_value agent ∷ []) (λ (p : ℕ × ℕ). p.0 == agent) (of_one agent_groups groups_heaped agent) c old new count d ran
 

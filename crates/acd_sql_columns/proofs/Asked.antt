@@ -1,4 +1,4 @@
--- What each query shows.
+-- The result of each query.
 use Rattle.std.proofs.Common.{◌≡◌, ℕ, ◌+◌, zero, suc, List, [], ◌∷◌, map, filter, take, find, nat_lt, ◌==◌, ◌&&◌, cond, Bool, true, false, Option, Some, None, refl, sym, ap, ap₂, ◌∙◌, arith}
 use Rattle.std.specs.Prelude.{negsuc, pos, bytes_eq, option_to_list}
 use Rattle.std.specs.Ordering.{is_eq, is_gt}
@@ -25,14 +25,14 @@ use Rattle.acd_terms.specs.Columns.{columns_of}
 use Rattle.acd_model.specs.Scans.{monitor_of, has}
 use Rattle.sqlite.specs.Values.{or_null}
 use Rattle.acd_lemmas.proofs.State.{monitor_find}
-use Rattle.acd_book.specs.Content.{Content, kept_of, is_key, is_told}
+use Rattle.acd_book.specs.Content.{Content, kept_of, is_key, is_at_after}
 use Rattle.acd_book.specs.declared.kept.Kept.{Kept}
 use Rattle.acd_sql_columns.specs.declared.tables.Table.TheVariants as table
-use Rattle.acd_sql_columns.specs.Schema.{book_schema, nine, two as both_new, names_of, behind_first}
+use Rattle.acd_sql_columns.specs.Schema.{book_schema, nine, two as both_new, names_of, after_first}
 use Rattle.acd_sql_columns.specs.Schema as schema
 use Rattle.acd_sql_columns.specs.Values.{id_value}
 use Rattle.acd_sql_columns.specs.Rows.{monitor_values, monitor_row, event_values, event_row, kept_values, kept_row}
-use Rattle.acd_sql_columns.specs.Draft.{HoldsContent}
+use Rattle.acd_sql_columns.specs.Transactions.{HoldsContent}
 use Rattle.acd_sql_columns.proofs.KeyedRows.{id_cmp, id_tied}
 use Rattle.acd_sql_columns.proofs.Listings.{Listing, Lists, listed, held_begins, stored}
 use Rattle.acd_sql_columns.proofs.Puts.{truth_back}
@@ -84,7 +84,7 @@ unfolding understood everything
 events_at_listing = record {
   tree = schema.events.tree;
   terms = op2 (Compare Gt Binary) (col 1 0) (col 0 0) ∷ op2 (Compare Eq Binary) (col 1 4) (col 0 1) ∷ [];
-  project = col 1 0 ∷ columns 2 (behind_first schema.events);
+  project = col 1 0 ∷ columns 2 (after_first schema.events);
   order = by_number;
   limit = col 0 2;
   names = names_of schema.events;
@@ -94,7 +94,7 @@ events_at_listing = record {
 }
 
 events_at_lists : (device number limit : ℕ)
-    → Lists SELECT_EVENTS_AT_DEVICE.now events_at_listing (λ (e : Event). e.number) event_row event_values (id_value number ∷ id_value device ∷ id_value limit ∷ []) (is_told (Some device) number)
+    → Lists SELECT_EVENTS_AT_DEVICE.now events_at_listing (λ (e : Event). e.number) event_row event_values (id_value number ∷ id_value device ∷ id_value limit ∷ []) (is_at_after (Some device) number)
 unfolding events_at_listing binary
 events_at_lists device number limit = record {
   keyed = λ e. refl;
@@ -107,12 +107,12 @@ pub events_at_plain : IsPlain (understood book_schema SELECT_EVENTS_AT_DEVICE.no
 events_at_plain = events_at_listing.plain both_new book_schema
 
 pub shows_events_at : (device number limit : ℕ) (old new : State) (rows : List Row) (c : Content) → HoldsContent old c
-    → Shown SELECT_EVENTS_AT_DEVICE.now (id_value number ∷ id_value device ∷ id_value limit ∷ []) old new rows → rows ≡ map event_values (take limit (filter (is_told (Some device) number) c.events))
+    → Shown SELECT_EVENTS_AT_DEVICE.now (id_value number ∷ id_value device ∷ id_value limit ∷ []) old new rows → rows ≡ map event_values (take limit (filter (is_at_after (Some device) number) c.events))
 unfolding events_at_listing
 shows_events_at device number limit old new rows c held h =
-    listed SELECT_EVENTS_AT_DEVICE.now events_at_listing _ event_row event_values (id_value number ∷ id_value device ∷ id_value limit ∷ []) (is_told (Some device) number) (events_at_lists device number limit) old new rows c.events (held_begins old c held)
+    listed SELECT_EVENTS_AT_DEVICE.now events_at_listing _ event_row event_values (id_value number ∷ id_value device ∷ id_value limit ∷ []) (is_at_after (Some device) number) (events_at_lists device number limit) old new rows c.events (held_begins old c held)
     (stored table.Events old c held) h
-    ∙ take-map event_values limit (filter (is_told (Some device) number) c.events)
+    ∙ take-map event_values limit (filter (is_at_after (Some device) number) c.events)
 
 -- ---- the one at a key
 
@@ -125,7 +125,7 @@ unfolding understood everything
 monitor_listing = record {
   tree = schema.monitors.tree;
   terms = op2 (Compare Eq Binary) (col 1 0) (col 0 0) ∷ [];
-  project = col 1 0 ∷ columns 2 (behind_first schema.monitors);
+  project = col 1 0 ∷ columns 2 (after_first schema.monitors);
   order = by_number;
   limit = lit (Int (pos 1));
   names = names_of schema.monitors;
@@ -162,7 +162,7 @@ unfolding understood everything
 key_listing = record {
   tree = schema.kept.tree;
   terms = op2 (Compare Eq Binary) (col 1 2) (col 0 0) ∷ op2 (Compare Eq Binary) (col 1 3) (col 0 1) ∷ [];
-  project = col 1 0 ∷ columns 2 (behind_first schema.kept);
+  project = col 1 0 ∷ columns 2 (after_first schema.kept);
   order = by_number;
   limit = lit (Int (pos 1));
   names = names_of schema.kept;

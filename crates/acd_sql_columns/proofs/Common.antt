@@ -1,4 +1,4 @@
--- What the texts of a put say, and what a statement leaves inside a transaction.
+-- The texts of a put, and what a statement leaves inside a transaction.
 use Rattle.std.proofs.Common.{◌≡◌, ℕ, zero, suc, ◌+◌, List, [], ◌∷◌, Bool, true, false, cond, Ok, Err, Result, OnOk, refl}
 use Rattle.sqlite_value.specs.declared.value.Value.{Value}
 use Rattle.sqlite_value.specs.declared.value.Value.TheVariants.{Null}
@@ -11,7 +11,7 @@ use Rattle.sqlite.specs.declared.error.Error.{Error}
 use Rattle.sqlite.specs.State.{State, Executes}
 use Rattle.acd_sql_columns.specs.Relations.{Relations}
 use Rattle.acd_sql_columns.specs.Values.{id_value}
-use Rattle.acd_sql_columns.specs.Draft.{Drafts, RanStatement}
+use Rattle.acd_sql_columns.specs.Transactions.{HoldsUncommitted, RanStatement}
 use Rattle.acd_sql_columns.specs.Schema.{book_schema}
 use Rattle.acd_sql_columns.proofs.Statements.{IsInert}
 
@@ -34,8 +34,8 @@ pub cast_null : cast Integer Null ≡ Null
 unfolding unary
 cast_null = either _ Null
 
-pub drafts : (sql : List ℕ) (params : Row) (change : Relations → Relations) (old new : State) (r : Result (Unit {0}) Error)
-    → ((c : Relations) (count : ℕ) → Drafts old c → Executes sql params old new (Ok count) → Drafts new (change c))
-    → OnOk r (RanStatement sql params old new) → OnOk r ((c : Relations) → Drafts old c → Drafts new (change c))
-drafts sql params change old new (Err e) law ran = tt
-drafts sql params change old new (Ok x) law ran = λ (c : Relations) (d : Drafts old c). law c ran.0 d ran.1
+pub changes_uncommitted : (sql : List ℕ) (params : Row) (change : Relations → Relations) (old new : State) (r : Result (Unit {0}) Error)
+    → ((c : Relations) (count : ℕ) → HoldsUncommitted old c → Executes sql params old new (Ok count) → HoldsUncommitted new (change c))
+    → OnOk r (RanStatement sql params old new) → OnOk r ((c : Relations) → HoldsUncommitted old c → HoldsUncommitted new (change c))
+changes_uncommitted sql params change old new (Err e) law ran = tt
+changes_uncommitted sql params change old new (Ok x) law ran = λ (c : Relations) (d : HoldsUncommitted old c). law c ran.0 d ran.1

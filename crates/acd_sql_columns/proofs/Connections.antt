@@ -22,7 +22,7 @@ use Rattle.acd_sql_columns.specs.declared.tables.Version.TheVariants as version
 use Rattle.acd_sql_columns.specs.declared.texts.TheConstants.{INSERT_CONNECTION, UPDATE_CONNECTION, DELETE_CONNECTION, SELECT_CONNECTIONS}
 use Rattle.acd_sql_columns.specs.AnyRows.{schema_of}
 use Rattle.acd_sql_columns.specs.Content.{with_part}
-use Rattle.acd_sql_columns.specs.Draft.{Drafts, HoldsContent}
+use Rattle.acd_sql_columns.specs.Transactions.{HoldsUncommitted, HoldsContent}
 use Rattle.acd_sql_columns.specs.Relations.{Relations}
 use Rattle.acd_sql_columns.specs.Rows.{connection_fields, connection_values}
 use Rattle.acd_sql_columns.specs.Schema.{nine, two, book_schema}
@@ -69,25 +69,25 @@ connections_selects = record { selects = λ rest s. refl; plain = λ rest s. (re
 
 -- ---- the statements
 
-pub inserts_connection : (x : ConnectionRecord) (c : Relations) (old new : State) (count : ℕ) → Drafts old c → Executes INSERT_CONNECTION.now (connection_values x) old new (Ok count)
-    → Drafts new (with_part table.Connections (put_by (at_connection x.call x.device) c.connections x) c)
+pub inserts_connection : (x : ConnectionRecord) (c : Relations) (old new : State) (count : ℕ) → HoldsUncommitted old c → Executes INSERT_CONNECTION.now (connection_values x) old new (Ok count)
+    → HoldsUncommitted new (with_part table.Connections (put_by (at_connection x.call x.device) c.connections x) c)
 inserts_connection x c old new count d ran = inserted_in connections connections_heaped tt x c old new count d ran
 
-pub sets_connection : (x : ConnectionRecord) (c : Relations) (old new : State) (count : ℕ) → Drafts old c → Executes UPDATE_CONNECTION.now (connection_values x) old new (Ok count) → (count ≡ 0 → ⊥)
-    → Drafts new (with_part table.Connections (put_by (at_connection x.call x.device) c.connections x) c)
+pub sets_connection : (x : ConnectionRecord) (c : Relations) (old new : State) (count : ℕ) → HoldsUncommitted old c → Executes UPDATE_CONNECTION.now (connection_values x) old new (Ok count) → (count ≡ 0 → ⊥)
+    → HoldsUncommitted new (with_part table.Connections (put_by (at_connection x.call x.device) c.connections x) c)
 sets_connection x c old new count d ran some = updated_in connections connections_heaped UPDATE_CONNECTION.now connections_updates x c old new count d ran some
 
--- where the UPDATE changed no row, what an INSERT behind it makes is made of what was there
-pub behind_none : (x : ConnectionRecord) (change : Relations → Relations) (old mid new : State) (none : ℕ) (result : Result (Unit {0}) Error) → Executes UPDATE_CONNECTION.now (connection_values x) old mid (Ok none) → none ≡ 0
-    → OnOk result ((c : Relations) → Drafts mid c → Drafts new (change c)) → OnOk result ((c : Relations) → Drafts old c → Drafts new (change (with_part table.Connections c.connections c)))
-behind_none x change old mid late none (Err e) ran missed put = tt
-behind_none x change old mid late none (Ok done) ran missed put = λ (c : Relations) (d : Drafts old c).
+-- where the UPDATE changed no row, an INSERT after it makes what it would make of the rows before
+pub after_none : (x : ConnectionRecord) (change : Relations → Relations) (old mid new : State) (none : ℕ) (result : Result (Unit {0}) Error) → Executes UPDATE_CONNECTION.now (connection_values x) old mid (Ok none) → none ≡ 0
+    → OnOk result ((c : Relations) → HoldsUncommitted mid c → HoldsUncommitted new (change c)) → OnOk result ((c : Relations) → HoldsUncommitted old c → HoldsUncommitted new (change (with_part table.Connections c.connections c)))
+after_none x change old mid late none (Err e) ran missed put = tt
+after_none x change old mid late none (Ok done) ran missed put = λ (c : Relations) (d : HoldsUncommitted old c).
     put (with_part table.Connections c.connections c) (unchanged_in connections connections_heaped UPDATE_CONNECTION.now connections_updates x c old mid none d ran missed)
 
-pub drops_connection : (call device : ℕ) (c : Relations) (old new : State) (count : ℕ) → Drafts old c → Executes DELETE_CONNECTION.now (id_value call ∷ id_value device ∷ []) old new (Ok count)
-    → Drafts new (with_part table.Connections (remove_by (at_connection call device) c.connections) c)
+pub drops_connection : (call device : ℕ) (c : Relations) (old new : State) (count : ℕ) → HoldsUncommitted old c → Executes DELETE_CONNECTION.now (id_value call ∷ id_value device ∷ []) old new (Ok count)
+    → HoldsUncommitted new (with_part table.Connections (remove_by (at_connection call device) c.connections) c)
 drops_connection call device c old new count d ran =
-    subst (λ (xs : List ConnectionRecord). Drafts new (with_part table.Connections xs c)) (sym (others_left by_connection c.connections (d.tables table.Connections).ascending (call, device)))
+    subst (λ (xs : List ConnectionRecord). HoldsUncommitted new (with_part table.Connections xs c)) (sym (others_left by_connection c.connections (d.tables table.Connections).ascending (call, device)))
     (deleted_in connections connections_heaped DELETE_CONNECTION.now by_two connections_deletes (id_value call ∷ id_value device ∷ []) (λ (x : ConnectionRecord). (x.call == call) && (x.device == device))
     (of_two connections connections_heaped call device []) c old new count d ran)
 

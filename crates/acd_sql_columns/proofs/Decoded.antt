@@ -1,4 +1,4 @@
--- Rows stand for the records that were written.
+-- Rows represent the records that were written.
 use Rattle.std.proofs.Common.{◌≡◌, inl, inr, ℕ, ◌==◌, cond, ℤ, List, [], ◌∷◌, map, drop, refl, sym, ap, subst, ◌∙◌}
 use Rattle.std.specs.declared.cmp.Ordering.TheVariants.{Less, Equal, Greater}
 use Rattle.std.specs.declared.cmp.Ordering.{Ordering}
@@ -53,7 +53,7 @@ kept_each_back : (ks : List Kept) → Every IsReadable ks → records_in as_kept
 kept_each_back [] h = refl
 kept_each_back (k ∷ ks) h = rw (kept_back k h.0) (ap (λ l. k ∷ l) (kept_each_back ks h.1))
 
--- ---- rows with numbers of their own
+-- ---- rows with rowids apart from their keys
 
 -- of an ascending list, two that compare as equal are one
 pub one_of : {X : Type 0} (cmp : X → X → Ordering) (o : IsTotalOrder cmp) (xs : List X) (x y : X) → IsAscending cmp xs → Among x xs → Among y xs → cmp x y ≡ Equal → x ≡ y
@@ -78,11 +78,11 @@ module _ {R : Type 0} (order : R → R → Ordering) where
   to_order [] one z a = a
   to_order (x ∷ xs) one z (inl e) = subst (λ k. Among k (put_by (order x) (in_order order xs) x)) (sym e) (among-put (order x) x (in_order order xs))
   to_order (x ∷ xs) one z (inr a) =
-      let behind = to_order xs (λ u v p q. one u v (inr p) (inr q)) z a in
+      let rest = to_order xs (λ u v p q. one u v (inr p) (inr q)) z a in
       (elim (order x z) as (λ o. order x z ≡ o → Among z (put_by (order x) (in_order order xs) x)) [
-        | Less ↦ λ e. among-put_other (order x) x (in_order order xs) z behind (λ q. cc (e, q))
+        | Less ↦ λ e. among-put_other (order x) x (in_order order xs) z rest (λ q. cc (e, q))
         | Equal ↦ λ e. subst (λ k. Among k (put_by (order x) (in_order order xs) x)) (one x z (inl refl) (inr a) e) (among-put (order x) x (in_order order xs))
-        | Greater ↦ λ e. among-put_other (order x) x (in_order order xs) z behind (λ q. cc (e, q))
+        | Greater ↦ λ e. among-put_other (order x) x (in_order order xs) z rest (λ q. cc (e, q))
       ]) refl
 
 module _ {X Y : Type 0} (f : X → Y) where
@@ -192,7 +192,7 @@ ranks_back version.Second db c h =
     ap (λ n. cond (n == 1) [] (records_in as_priority (db (tree_of table.GroupPriority)))) (version_is 2 (meta_of c.rows) (db (tree_of table.Meta)) (h.tables table.Meta tt))
     ∙ rows_back as_priority priority_row _ (db (tree_of table.GroupPriority)) (priorities_in c.rows.groups) (h.tables table.GroupPriority tt) priority_back
 
--- what is stored is what the tables stand for, in either version
+-- the stored content is the one that the tables represent, in either version
 pub decoded_as : (v : Version) (db : Trees) (c : Content) → EncodesAs v db c → content_of db ≡ c
 unfolding content_of
 decoded_as v db c h =

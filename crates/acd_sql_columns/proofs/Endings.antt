@@ -1,4 +1,4 @@
--- What the end of a transaction leaves.
+-- The end of a transaction: what it leaves.
 use Rattle.std.proofs.Common.{◌≡◌, [], inl, inr, true, false, Result, Ok, Err, IsTrue, IfErr, OnOk, OnErr, arith, sym, ap, subst, ◌∙◌}
 use Rattle.sqlite_trees.specs.Tree.{Trees}
 use Rattle.sqlite.specs.declared.error.Error.{Error}
@@ -9,7 +9,7 @@ use Rattle.acd_book.specs.Content.{Content}
 use Rattle.acd_sql_columns.specs.Relations.{relations_of}
 use Rattle.acd_sql_columns.specs.Content.{Encodes}
 use Rattle.sqlite.proofs.StateLemmas.{survives_then}
-use Rattle.acd_sql_columns.specs.Draft.{Drafts, HoldsContent, Works, AddsStop}
+use Rattle.acd_sql_columns.specs.Transactions.{HoldsUncommitted, HoldsContent, Works, AddsStop}
 
 -- a database that is as it was still has its content
 pub holds_still : (old new : State) (c : Content) → HoldsContent old c → IsTrue new.is_open → new.now ≡ old.committed → new.committed ≡ old.committed → HoldsContent new c
@@ -27,13 +27,13 @@ rolled_back old mid new c h kept back up =
 
 pub not_committed : {X : Type 0} (old mid new : State) (r : Result X Error) → KeepsCommit old mid → ((c : Content) → HoldsContent old c → mid.in_transaction ≡ true) → IfErr r (FailsToCommit mid new)
     → OnErr r ((c : Content) → HoldsContent old c → IsTrue new.is_open → HoldsContent new c)
-not_committed old mid new (Ok x) kept drafts fails = tt
-not_committed old mid new (Err e) kept drafts fails = λ (c : Content) (h : HoldsContent old c) (up : IsTrue new.is_open). elim fails [
+not_committed old mid new (Ok x) kept inside fails = tt
+not_committed old mid new (Err e) kept inside fails = λ (c : Content) (h : HoldsContent old c) (up : IsTrue new.is_open). elim fails [
   | inl failed ↦ rolled_back old mid new c h kept failed.3 up
-  | inr late ↦ absurd (let e = sym (drafts c h) ∙ late.1 in cc)
+  | inr late ↦ absurd (let e = sym (inside c h) ∙ late.1 in cc)
 ]
 
-pub begins : (old begun : State) (c : Content) → begun.in_transaction ≡ true → begun.now ≡ old.now → HoldsContent old c → Drafts begun (relations_of c)
+pub begins : (old begun : State) (c : Content) → begun.in_transaction ≡ true → begun.now ≡ old.now → HoldsContent old c → HoldsUncommitted begun (relations_of c)
 begins old begun c inside same h =
     let now = same ∙ h.idle in
     record { inside = inside; schema = ap (λ (d : Database). d.schema) now ∙ h.schema; tables = subst (λ (d : Database). Encodes d.trees c) (sym now) h.encodes }
@@ -47,8 +47,8 @@ works_on a b c p q = record {
       record { was_open = λ up. k.was_open (l.was_open up); committed = λ up. l.committed up ∙ k.committed (l.was_open up) };
 }
 
--- what the transaction made is what the connection holds
-pub holds_drafted : (mid new : State) (c : Content) → Drafts mid (relations_of c) → Shows mid new mid.now mid.now false → HoldsContent new c
+-- the connection holds the result of the transaction
+pub holds_drafted : (mid new : State) (c : Content) → HoldsUncommitted mid (relations_of c) → Shows mid new mid.now mid.now false → HoldsContent new c
 holds_drafted mid new c d s = record {
   is_open = s.is_open;
   idle = s.now_is ∙ sym s.committed_is;
@@ -56,15 +56,15 @@ holds_drafted mid new c d s = record {
   encodes = subst (λ (d : Database). Encodes d.trees c) (sym s.committed_is) d.tables;
 }
 
--- the end of a transaction makes what was drafted
-pub made_whole : (old mid new : State) (r : Result (Unit {0}) Error) (change : Content → Content) → ((c : Content) → HoldsContent old c → Drafts mid (relations_of (change c)))
+-- the end of a transaction commits what was uncommitted
+pub made_whole : (old mid new : State) (r : Result (Unit {0}) Error) (change : Content → Content) → ((c : Content) → HoldsContent old c → HoldsUncommitted mid (relations_of (change c)))
     → OnOk r (IsTrue mid.in_transaction × Shows mid new mid.now mid.now false × KeepsCounts mid new × (new.marks ≡ [])) → OnOk r ((c : Content) → HoldsContent old c → HoldsContent new (change c))
 made_whole old mid new (Err e) change put ended = tt
 made_whole old mid new (Ok x) change put ended = λ (c : Content) (h : HoldsContent old c). holds_drafted mid new (change c) (put c h) ended.1
 
 -- and nothing else is added to the stops
 pub adds_stop : (old begun mid new : State) (change : Content → Content) → ((db : Trees) → begun.may_leave db → old.may_leave db) → Survives begun mid (λ _. ⊥) → Survives mid new (λ db. db ≡ mid.now.trees)
-    → ((c : Content) → HoldsContent old c → Drafts mid (relations_of (change c))) → HasCleanDisk mid → HasCleanDisk new → AddsStop old new change
+    → ((c : Content) → HoldsContent old c → HoldsUncommitted mid (relations_of (change c))) → HasCleanDisk mid → HasCleanDisk new → AddsStop old new change
 adds_stop old begun mid new change back first second put middle late db left = elim (second.crash late db left) [
   | inl was ↦ elim (first.crash middle db was) [ inl older ↦ inl (back db older) | inr none ↦ absurd none ]
   | inr made ↦ inr (λ c h. subst (λ d. Encodes d (change c)) (sym made) (put c h).tables)

@@ -17,7 +17,7 @@ use Rattle.acd_sql_columns.specs.Values.{id_value, cells}
 use Rattle.acd_lemmas.proofs.Lists.{head_is, tail_is, some_is}
 
 module _ {R : Type 0} where
-  -- what holds of all that is made holds of what was read
+  -- whatever holds of all records made holds of those that were read
   kept : (fs : List (Field R)) (make : Makes R fs) (P : R → Type 0) (row : Row) (at : ℕ) (x : R) → Agree fs make P → read_from fs make row at ≡ Some x → P x
   kept [] made P row at x agree h = subst P (some_is made x h) agree
   kept (f ∷ fs) make P row at x agree h =
@@ -28,9 +28,9 @@ module _ {R : Type 0} where
   cells_are [] made P row at x agree h = refl
   cells_are (f ∷ fs) make P row at x agree h =
       let b = bound (read_at f.column row at) (λ v. read_from fs (make v) row (suc at)) x h in
-      let own = (kept fs (make b.0) (λ r. P r × (f.get r ≡ b.0)) row (suc at) x (agree b.0) b.2).1 in
+      let field_is = (kept fs (make b.0) (λ r. P r × (f.get r ≡ b.0)) row (suc at) x (agree b.0) b.2).1 in
       beside (column row at) (value f.column (f.get x)) (cells (suc at) (length fs) row) (written fs x)
-      (stored f.column row at b.0 b.1 ∙ ap (value f.column) (sym own))
+      (stored f.column row at b.0 b.1 ∙ ap (value f.column) (sym field_is))
       (cells_are fs (make b.0) (λ r. P r × (f.get r ≡ b.0)) row (suc at) x (agree b.0) b.2)
 
   pub row_is_written : (fs : List (Field R)) (make : Makes R fs) → Agree fs make (λ r. ⊤) → (row : Row) (x : R) → read_whole fs make row ≡ Some x → row ≡ written fs x

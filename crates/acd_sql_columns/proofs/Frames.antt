@@ -1,4 +1,4 @@
--- What a statement on one table leaves of the content.
+-- A statement on one table: what it leaves of the content.
 use Rattle.std.proofs.Common.{◌≡◌, ◌≢◌, ℕ, ℤ, List, [], ◌∷◌, true, false, ◌==◌, slice_index_or, inl, inr, refl, sym, ap, subst, subst₂, ◌∙◌}
 use Rattle.std.proofs.lemmas.Bool.{cases_Bool}
 use Rattle.std.specs.List.{AllByRecursion}
@@ -17,7 +17,7 @@ use Rattle.acd_sql_columns.specs.Rows.{meta_row, connection_row, further_row}
 use Rattle.acd_sql_columns.specs.Schema.{book_schema}
 use Rattle.acd_sql_columns.specs.Relations.{pair_order, Relations, relations_of}
 use Rattle.acd_sql_columns.specs.Content.{tree_of, TableContent, part, with_part, Stores, AreTables, AreHeaped}
-use Rattle.acd_sql_columns.specs.Draft.{Drafts}
+use Rattle.acd_sql_columns.specs.Transactions.{HoldsUncommitted}
 use Rattle.acd_sql_columns.proofs.KeyedRows.{apart}
 use Rattle.acd_sql_columns.proofs.Statements.{Replaces}
 use Rattle.acd_lemmas.proofs.Numbers.{same_number}
@@ -39,7 +39,7 @@ at_table P all table.Kept = all.1.1.1.1.1.1.1.1.0
 at_table P all table.AgentGroups = all.1.1.1.1.1.1.1.1.1.0
 at_table P all table.GroupPriority = all.1.1.1.1.1.1.1.1.1.1.0
 
--- each table has a tree of its own
+-- each table has a separate tree
 tables : List Table
 tables = table.Meta ∷ table.Groups ∷ table.Stations ∷ table.Agents ∷ table.Agents ∷ table.Calls ∷ table.Connections ∷ table.Connections ∷ table.Monitors ∷ table.Events ∷ table.Kept ∷ table.Kept
     ∷ table.AgentGroups ∷ table.AgentGroups ∷ table.GroupPriority ∷ []
@@ -88,7 +88,7 @@ part_kept table.AgentGroups table.AgentGroups x r e = absurd (apart_from e)
 part_kept table.GroupPriority table.GroupPriority x r e = absurd (apart_from e)
 part_kept _ _ x r e = refl
 
--- the table that is written has its new rows, and each other what it had
+-- the table that is written has its new rows, and each other its old ones
 pub framed : (t : Table) (x : TableContent t) (rows : List Row) (old new : Trees) (r : Relations) → Stores t rows x → new (tree_of t) ≡ rows
     → AllByRecursion (λ u. u.tree ≢ tree_of t → new u.tree ≡ old u.tree) book_schema.tables → AreTables old r → AreTables new (with_part t x r)
 framed t x rows old new r stores is others was u = elim (cases_Bool (tree_of u == tree_of t)) [
@@ -99,8 +99,8 @@ framed t x rows old new r stores is others was u = elim (cases_Bool (tree_of u =
       subst₂ (Stores u) (sym (at_table (λ n. n ≢ tree_of t → new n ≡ old n) others u (apart (tree_of u) (tree_of t) other))) (sym (part_kept t u x r other)) (was u)
 ]
 
-pub drafted : (t : Table) (x : TableContent t) (rows : List Row) (old new : State) (r : Relations) → Stores t rows x → Replaces book_schema (tree_of t) rows old new → Drafts old r → Drafts new (with_part t x r)
-drafted t x rows old new r stores made d = record {
+pub holds_replaced : (t : Table) (x : TableContent t) (rows : List Row) (old new : State) (r : Relations) → Stores t rows x → Replaces book_schema (tree_of t) rows old new → HoldsUncommitted old r → HoldsUncommitted new (with_part t x r)
+holds_replaced t x rows old new r stores made d = record {
   inside = made.mode ∙ d.inside;
   schema = made.schema_is;
   tables = framed t x rows old.now.trees new.now.trees r stores made.rows_are made.others d.tables;

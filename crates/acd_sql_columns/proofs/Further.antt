@@ -4,7 +4,7 @@ use Rattle.sqlite.specs.Listing.{understood}
 use Rattle.sqlite_tied.specs.Compute.{everything}
 use Rattle.acd_sql_columns.specs.declared.tables.Table.TheVariants as table
 use Rattle.acd_sql_columns.specs.declared.texts.TheConstants.{SELECT_STANDING_AGENT_GROUPS}
-use Rattle.acd_sql_columns.specs.Schema.{nine, two, names_of, behind_first}
+use Rattle.acd_sql_columns.specs.Schema.{nine, two, names_of, after_first}
 use Rattle.acd_sql_columns.specs.Schema as schema
 use Rattle.acd_sql_columns.proofs.Asked.{columns, no_limit}
 use Rattle.acd_sql_columns.proofs.Listings.{Listing}

@@ -1,4 +1,5 @@
--- A table whose rows have numbers of their own, and which is as it is described: what its statements and its query do, for any such table.
+-- A table whose rows have rowids apart from their keys, and which is as it is described: what its statements and its query do, for any
+-- such table.
 use Rattle.std.proofs.Common.{◌≡◌, ◌≢◌, inl, inr, ℕ, ℤ, ◌+◌, ◌/◌, suc, List, [], ◌∷◌, length, map, filter, drop, slice_get, Bool, true, false, not, ◌==◌, ◌&&◌, Option, Some, Ok, refl, sym, ap, ap₂, subst, subst₂, ◌∙◌}
 use Rattle.std.specs.List.{AllByRecursion, list_all, list_any}
 use Rattle.std.specs.List.Sorted.{IsPermutation}
@@ -50,10 +51,10 @@ use Rattle.acd_sql_columns.specs.declared.tables.Version.{Version}
 use Rattle.acd_sql_columns.specs.declared.tables.Version.TheVariants as version
 use Rattle.acd_sql_columns.specs.AnyRows.{is_good, values_in, schema_of}
 use Rattle.acd_sql_columns.specs.Content.{AreHeaped, AreTables, IsIn, tree_of}
-use Rattle.acd_sql_columns.specs.Descriptions.{Heap, behind_both, numbered_row, by_both}
-use Rattle.acd_sql_columns.specs.Draft.{Drafts, HoldsContent}
+use Rattle.acd_sql_columns.specs.Descriptions.{Heap, after_both, numbered_row, by_both}
+use Rattle.acd_sql_columns.specs.Transactions.{HoldsUncommitted, HoldsContent}
 use Rattle.acd_sql_columns.specs.Relations.{Relations, relations_of}
-use Rattle.acd_sql_columns.specs.Schema.{table_of, book_schema, with_behind, names_of, BeginsSchema}
+use Rattle.acd_sql_columns.specs.Schema.{table_of, book_schema, with_later, names_of, BeginsSchema}
 use Rattle.acd_sql_columns.specs.Values.{id_value}
 use Rattle.acd_sql_columns.proofs.Asked.{columns, no_limit, two}
 use Rattle.acd_sql_columns.proofs.Common.{run, inert, either, cast_null}
@@ -70,7 +71,7 @@ use Rattle.acd_sql_columns.proofs.Sets.{set_none}
 use Rattle.acd_sql_columns.proofs.Statements.{Changed, Insertion, inserted, Deletion, deletion_edit, deleted, Replaces, replaces, inert_works}
 use Rattle.acd_sql_columns.proofs.Updates.{Updating, updating_edit, updated}
 
--- ---- what the texts of a table of so many columns behind its key say
+-- ---- what the texts of a table of so many columns after its key say
 
 -- NULL for the number that the row is given, and the parameters
 abbrev pub sources : ℕ → List Term
@@ -84,7 +85,7 @@ by_two = op2 (Compare Eq Binary) (col 1 1) (col 0 0) ∷ op2 (Compare Eq Binary)
 abbrev pub by_one : List Term
 by_one = op2 (Compare Eq Binary) (col 1 1) (col 0 0) ∷ []
 
--- the number of the row that is there, its number and key, and the parameters behind the key
+-- the number of the row that is there, its number and key, and the parameters after the key
 abbrev pub columns_given : ℕ → List Term
 columns_given more = col 1 0 ∷ col 1 0 ∷ col 1 1 ∷ col 1 2 ∷ run 2 more
 
@@ -109,16 +110,16 @@ module _ {R : Type 0} (h : Heap R) where
   pub record Heaped : Type 0 where
     -- the table, and the text that puts a record
     pub computes : ◌≡◌ {A = Option MadeTable × ℕ × Command} (slice_get book_schema.tables h.place, h.layout.tree, command_of (understood book_schema h.insert))
-        (Some (table_of h.layout), tree_of h.table, Insert h.place (Values (sources (behind_both h)) (behind_both h + 3)))
+        (Some (table_of h.layout), tree_of h.table, Insert h.place (Values (sources (after_both h)) (after_both h + 3)))
     pub plain : IsPlain (understood book_schema h.insert)
     -- its values begin with the key, and the text puts them
     pub of_record : (r : R) → ◌≡◌ {A = Row × List Row}
-        (h.values r, value_rows (h.values r) (behind_both h + 3) (length (sources (behind_both h)) / (behind_both h + 3)) (sources (behind_both h)))
+        (h.values r, value_rows (h.values r) (after_both h + 3) (length (sources (after_both h)) / (after_both h + 3)) (sources (after_both h)))
         (id_value (h.first r) ∷ id_value (h.second r) ∷ drop 2 (h.values r), (Null ∷ h.values r) ∷ [])
     -- its columns show its values, whatever its number
-    pub shows : (id : ℤ) (r : R) → showing [] (shown_columns (behind_both h)) (numbered_row h id r) ≡ h.values r
-    -- what is looked at of any row
-    pub of_row : (row : Row) → ◌≡◌ {A = Row × Bool} (showing [] (shown_columns (behind_both h)) row, is_good h.table row) (values_in h.table row, is_some (h.in_row row))
+    pub shows : (id : ℤ) (r : R) → showing [] (shown_columns (after_both h)) (numbered_row h id r) ≡ h.values r
+    -- the values of any row that are looked at
+    pub of_row : (row : Row) → ◌≡◌ {A = Row × Bool} (showing [] (shown_columns (after_both h)) row, is_good h.table row) (values_in h.table row, is_some (h.in_row row))
     pub casts : (r : R) → cast_all h.layout.columns (h.values r) ≡ h.values r
     -- a row whose values are in their ranges is that of the record
     pub stored : (row : Row) (r : R) → h.in_row row ≡ Some r → row ≡ h.values r
@@ -132,20 +133,20 @@ module _ {R : Type 0} (h : Heap R) where
 
   -- a text that changes the columns of the row that has a record's key
   pub record UpdatesOne (text : List ℕ) : Type 0 where
-    pub updates : command_of (understood book_schema text) ≡ Update h.place (record { lets = []; body = scan h.layout.tree by_two (columns_given (behind_both h)) [] })
+    pub updates : command_of (understood book_schema text) ≡ Update h.place (record { lets = []; body = scan h.layout.tree by_two (columns_given (after_both h)) [] })
     pub plain : IsPlain (understood book_schema text)
-    pub changes : (id : ℤ) (new r : R) → showing (h.values new) (columns_given (behind_both h)) (numbered_row h id r) ≡ Int id ∷ Int id ∷ id_value (h.first r) ∷ id_value (h.second r) ∷ drop 2 (h.values new)
+    pub changes : (id : ℤ) (new r : R) → showing (h.values new) (columns_given (after_both h)) (numbered_row h id r) ≡ Int id ∷ Int id ∷ id_value (h.first r) ∷ id_value (h.second r) ∷ drop 2 (h.values new)
 
-  -- a text that takes out the rows that pass these tests
+  -- a text that removes the rows that pass these tests
   pub record DeletesThose (text : List ℕ) (terms : List Term) : Type 0 where
     pub deletes : command_of (understood book_schema text) ≡ Delete h.place (record { lets = []; body = scan h.layout.tree terms (col 1 0 ∷ []) [] })
     pub plain : IsPlain (understood book_schema text)
 
-  -- a text that shows all rows in the order of their keys, whatever lies behind these tables
+  -- a text that shows all rows in the order of their keys, whatever tables come later than these
   pub record SelectsAll (base : List MadeTable) (text : List ℕ) : Type 0 where
-    pub selects : (rest : List MadeTable) (s : Schema) → command_of (understood (with_behind base rest s) text) ≡ Select (record { lets = []; body = asking h.layout.tree [] (shown_columns (behind_both h)) by_columns no_limit }) (names_of h.layout)
-    pub plain : (rest : List MadeTable) (s : Schema) → IsPlain (understood (with_behind base rest s) text)
-    pub unlisted : (rest : List MadeTable) (s : Schema) → reads_listing (with_behind base rest s) text ≡ false
+    pub selects : (rest : List MadeTable) (s : Schema) → command_of (understood (with_later base rest s) text) ≡ Select (record { lets = []; body = asking h.layout.tree [] (shown_columns (after_both h)) by_columns no_limit }) (names_of h.layout)
+    pub plain : (rest : List MadeTable) (s : Schema) → IsPlain (understood (with_later base rest s) text)
+    pub unlisted : (rest : List MadeTable) (s : Schema) → reads_listing (with_later base rest s) text ≡ false
 
 -- ---- rows
 
@@ -160,18 +161,18 @@ one_test : (m : ℕ) (id : ℤ) (p : ℕ) (row : Row) → list_all (holds ((id_v
 unfolding binary
 one_test m id p row = truth_back (is_eq (value_cmp (id_value p) (id_value m))) ∙ id_tied p m
 
-keys_agree : (id own : ℤ) (m n p q : ℕ) (row given : Row) → agree plain key_columns (Int id ∷ id_value p ∷ id_value q ∷ row) key_columns (Int own ∷ id_value m ∷ id_value n ∷ given) ≡ ((p == m) && (q == n))
+keys_agree : (id given_id : ℤ) (m n p q : ℕ) (row given : Row) → agree plain key_columns (Int id ∷ id_value p ∷ id_value q ∷ row) key_columns (Int given_id ∷ id_value m ∷ id_value n ∷ given) ≡ ((p == m) && (q == n))
 unfolding binary first_key value_cmp
-keys_agree id own m n p q row given = two (is_eq (value_cmp (id_value p) (id_value m))) (is_eq (value_cmp (id_value q) (id_value n))) ∙ both_ids p q m n
+keys_agree id given_id m n p q row given = two (is_eq (value_cmp (id_value p) (id_value m))) (is_eq (value_cmp (id_value q) (id_value n))) ∙ both_ids p q m n
 
 apart_is : (o : Ordering) → is_eq o ≡ false → is_true (from_truth (Some (is_ne o))) ≡ true
 apart_is Less e = refl
 apart_is Equal e = absurd (cc e)
 apart_is Greater e = refl
 
-differs : (own id : ℤ) → is_eq (value_cmp (Int id) (Int own)) ≡ false → differ (Int id) (Int own) ≡ true
+differs : (given_id id : ℤ) → is_eq (value_cmp (Int id) (Int given_id)) ≡ false → differ (Int id) (Int given_id) ≡ true
 unfolding binary
-differs own id e = apart_is (value_cmp (Int id) (Int own)) e
+differs given_id id e = apart_is (value_cmp (Int id) (Int given_id)) e
 
 -- where a unique index is kept
 pub no_twin : (rows : List Row) → AllByRecursion (λ row. (not (has_twin rows row) && true) ≡ true) rows → (row : Row) → Has rows row → has_twin rows row ≡ false
@@ -205,53 +206,53 @@ module _ {R : Type 0} (h : Heap R) (f : Heaped h) where
   casts : (v : Value) (r : R) → cast Integer v ≡ v → cast_row (table_of h.layout) (v ∷ h.values r) ≡ v ∷ h.values r
   casts v r e = beside _ _ _ _ e (f.casts r)
 
-  drafted : (rs : List R) (rows : List Row) (old new : State) (c : Relations) → AreRowsOf rows rs → Replaces book_schema h.layout.tree rows old new → Drafts old c → Drafts new (h.with_records rs c)
-  drafted rs rows old new c are made drafts = record {
-    inside = made.mode ∙ drafts.inside;
+  holds_replaced : (rs : List R) (rows : List Row) (old new : State) (c : Relations) → AreRowsOf rows rs → Replaces book_schema h.layout.tree rows old new → HoldsUncommitted old c → HoldsUncommitted new (h.with_records rs c)
+  holds_replaced rs rows old new c are made uncommitted = record {
+    inside = made.mode ∙ uncommitted.inside;
     schema = made.schema_is;
-    tables = f.framed rs rows old.now.trees new.now.trees c are made.rows_are made.others drafts.tables;
+    tables = f.framed rs rows old.now.trees new.now.trees c are made.rows_are made.others uncommitted.tables;
   }
 
   -- ---- INSERT
 
   abbrev insertion : Insertion book_schema h.insert
-  insertion = record { at = h.place; layout = h.layout; terms = sources (behind_both h); width = behind_both h + 3; place = place_is; command = ap (λ (t : Option MadeTable × ℕ × Command). t.2) f.computes; plain = f.plain; inert = inert_works book_schema inert h.layout.tree }
+  insertion = record { at = h.place; layout = h.layout; terms = sources (after_both h); width = after_both h + 3; place = place_is; command = ap (λ (t : Option MadeTable × ℕ × Command). t.2) f.computes; plain = f.plain; inert = inert_works book_schema inert h.layout.tree }
 
-  pub agreed : (id own : ℤ) (r x : R) → agree plain key_columns (numbered_row h id x) key_columns (numbered_row h own r) ≡ is_like h r x
-  agreed id own r x =
-      subst₂ (λ v w. agree plain key_columns (Int id ∷ v) key_columns (Int own ∷ w) ≡ is_like h r x) (sym (starts x)) (sym (starts r))
-      (keys_agree id own (h.first r) (h.second r) (h.first x) (h.second x) (drop 2 (h.values x)) (drop 2 (h.values r)))
+  pub agreed : (id given : ℤ) (r x : R) → agree plain key_columns (numbered_row h id x) key_columns (numbered_row h given r) ≡ is_like h r x
+  agreed id given r x =
+      subst₂ (λ v w. agree plain key_columns (Int id ∷ v) key_columns (Int given ∷ w) ≡ is_like h r x) (sym (starts x)) (sym (starts r))
+      (keys_agree id given (h.first r) (h.second r) (h.first x) (h.second x) (drop 2 (h.values x)) (drop 2 (h.values r)))
 
-  -- where a row could be put, no record had its key
+  -- where a row could be put, no record had its key before
   none_like : (rows : List Row) (records : List R) (are : AreRowsOf rows records) (id : ℤ) (r : R) (next : List Row) → are_fresh rows (numbered_row h id r ∷ []) ≡ true → next ≡ put_all rows (numbered_row h id r ∷ [])
       → AllByRecursion (λ row. (not (has_twin next row) && true) ≡ true) next → (x : R) → Among x records → is_like h r x ≡ false
-  none_like rows records are id r next fresh is alone x a = false_from_ne_true (is_like h r x) (λ met.
-      let own = numbered_row h id r in
+  none_like rows records are id r next unused is alone x a = false_from_ne_true (is_like h r x) (λ met.
+      let given = numbered_row h id r in
       let at = are.stored x a in
       let row = numbered_row h at.0 x in
-      let free : list_any (λ s. is_eq (value_cmp (rowid s) (rowid own))) rows ≡ false = not-true _ (and_parts _ true fresh).0 in
+      let free : list_any (λ s. is_eq (value_cmp (rowid s) (rowid given))) rows ≡ false = not-true _ (and_parts _ true unused).0 in
       let other : is_eq (value_cmp (Int at.0) (Int id)) ≡ false =
-      false_from_ne_true _ (λ tied. let taken = some_from (λ s. is_eq (value_cmp (rowid s) (rowid own))) rows row at.1 tied in cc (free, taken)) in
-      let hit = some_from (λ s. agree plain key_columns s key_columns own && differ (rowid s) (rowid own)) next row (subst (λ l. Has l row) (sym is) (put_all_keeps (own ∷ []) rows row fresh at.1))
+      false_from_ne_true _ (λ tied. let taken = some_from (λ s. is_eq (value_cmp (rowid s) (rowid given))) rows row at.1 tied in cc (free, taken)) in
+      let hit = some_from (λ s. agree plain key_columns s key_columns given && differ (rowid s) (rowid given)) next row (subst (λ l. Has l row) (sym is) (put_all_keeps (given ∷ []) rows row unused at.1))
       (and_from _ _ (agreed at.0 id r x ∙ met) (differs id at.0 other)) in
-      let none = no_twin next alone own (subst (λ l. Has l own) (sym is) (put_all_adds (own ∷ []) rows own fresh (inl refl))) in
+      let none = no_twin next alone given (subst (λ l. Has l given) (sym is) (put_all_adds (given ∷ []) rows given unused (inl refl))) in
       cc (hit, none))
 
-  pub inserted_in : IsIn version.Second h.table → (r : R) (c : Relations) (old new : State) (count : ℕ) → Drafts old c → Executes h.insert (h.values r) old new (Ok count)
-      → Drafts new (h.with_records (put_by (by_both h r) (h.records c) r) c)
-  inserted_in there r c old new count drafts ran =
+  pub inserted_in : IsIn version.Second h.table → (r : R) (c : Relations) (old new : State) (count : ℕ) → HoldsUncommitted old c → Executes h.insert (h.values r) old new (Ok count)
+      → HoldsUncommitted new (h.with_records (put_by (by_both h r) (h.records c) r) c)
+  inserted_in there r c old new count uncommitted ran =
       let db = old.now.trees in
       let rows = db h.layout.tree in
       let id = next_rowid rows in
       let source = ap (λ (t : Row × List Row). t.1) (f.of_record r) in
-      let made = subst (λ l. Changed book_schema old new (edit_of db (table_of h.layout) [] Chosen 0 l)) source (inserted book_schema h.insert insertion (h.values r) old new count drafts.schema ran) in
-      let own = ap (with_rowid Chosen rows) (casts Null r cast_null) in
-      let fresh = subst (λ k. are_fresh rows (k ∷ []) ≡ true) own made.applies.fresh in
-      let put = ap (λ k. put_all rows (k ∷ [])) own in
-      let are = f.held c db drafts.tables in
-      let other = none_like rows (h.records c) are id r (new.now.trees h.layout.tree) fresh (made.applies.rows ∙ put) (f.alone version.Second there new.now.trees (made.applies.fits.rules Unique (λ e. cc (e)))) in
-      drafted _ (put_all rows (numbered_row h id r ∷ [])) old new c (heap_beside h starts rows (h.records c) are id r fresh other)
-      (replaces book_schema old new (edit_of db (table_of h.layout) [] Chosen 0 ((Null ∷ h.values r) ∷ [])) _ made put) drafts
+      let made = subst (λ l. Changed book_schema old new (edit_of db (table_of h.layout) [] Chosen 0 l)) source (inserted book_schema h.insert insertion (h.values r) old new count uncommitted.schema ran) in
+      let given = ap (with_rowid Chosen rows) (casts Null r cast_null) in
+      let unused = subst (λ k. are_fresh rows (k ∷ []) ≡ true) given made.applies.fresh in
+      let put = ap (λ k. put_all rows (k ∷ [])) given in
+      let are = f.held c db uncommitted.tables in
+      let other = none_like rows (h.records c) are id r (new.now.trees h.layout.tree) unused (made.applies.rows ∙ put) (f.alone version.Second there new.now.trees (made.applies.fits.rules Unique (λ e. cc (e)))) in
+      holds_replaced _ (put_all rows (numbered_row h id r ∷ [])) old new c (heap_beside h starts rows (h.records c) are id r unused other)
+      (replaces book_schema old new (edit_of db (table_of h.layout) [] Chosen 0 ((Null ∷ h.values r) ∷ [])) _ made put) uncommitted
 
   -- ---- tests
 
@@ -271,7 +272,7 @@ module _ {R : Type 0} (h : Heap R) (f : Heaped h) where
 
   module _ (text : List ℕ) (u : UpdatesOne h text) where
     abbrev updating : Updating book_schema text
-    updating = record { at = h.place; layout = h.layout; terms = by_two; project = columns_given (behind_both h); place = place_is; command = u.updates; plain = u.plain; inert = inert_works book_schema inert h.layout.tree }
+    updating = record { at = h.place; layout = h.layout; terms = by_two; project = columns_given (after_both h); place = place_is; command = u.updates; plain = u.plain; inert = inert_works book_schema inert h.layout.tree }
 
     module _ (r : R) (db : Trees) (records : List R) (are : AreRowsOf (db h.layout.tree) records) where
       abbrev rows : List Row
@@ -281,7 +282,7 @@ module _ {R : Type 0} (h : Heap R) (f : Heaped h) where
       passes row = list_all (holds (h.values r ∷ row ∷ [])) by_two
 
       abbrev shows : Row → Row
-      shows = showing (h.values r) (columns_given (behind_both h))
+      shows = showing (h.values r) (columns_given (after_both h))
 
       -- one row passes
       passing_one : (id : ℤ) (x : R) → Has rows (numbered_row h id x) → is_like h r x ≡ true → filter passes rows ≡ numbered_row h id x ∷ []
@@ -303,7 +304,7 @@ module _ {R : Type 0} (h : Heap R) (f : Heaped h) where
 
       changed : (found : List Row) (count : ℕ) → IsPermutation (map shows (passing (h.values r) by_two rows)) found → count ≡ length found → (count ≡ 0 → ⊥)
           → are_fresh (without_all rows (ids_of found)) (updating_edit db h.layout found).news ≡ true → AreRowsOf (edited db (updating_edit db h.layout found)) (put_by (by_both h r) records r)
-      changed found count same counted some fresh =
+      changed found count same counted some unused =
           let one = some_passes passes shows rows (filter passes rows) found count refl same counted some in
           let from = are.known one.0 one.1 in
           let id = from.0 in
@@ -311,51 +312,51 @@ module _ {R : Type 0} (h : Heap R) (f : Heaped h) where
           let met = sym (passes_is id r x) ∙ ap passes (sym from.2) ∙ one.2 in
           let alone = passing_one id x (subst (Has rows) from.2 one.1) met in
           let found_is = one_permutation _ found (subst (λ l. IsPermutation l found) (ap (map shows) alone ∙ ap (λ k. k ∷ []) (shown_one id x met)) same) in
-          let left = left_is rows are.rising (ints_of h rows records are) (h.values r) by_two (col 1 0 ∷ col 1 1 ∷ col 1 2 ∷ run 2 (behind_both h)) found same in
+          let left = left_is rows are.rising (ints_of h rows records are) (h.values r) by_two (col 1 0 ∷ col 1 1 ∷ col 1 2 ∷ run 2 (after_both h)) found same in
           let news : (updating_edit db h.layout found).news ≡ numbered_row h id r ∷ [] =
           ap (λ l. numbered Given (without_all rows (ids_of found)) (map (λ s. cast_row (table_of h.layout) (drop 1 s)) l)) found_is ∙ ap (λ k. k ∷ []) (casts (Int id) r (cast_whole id)) in
           let others = filter (λ y. not (is_like h r y)) records in
           let are_left = heap_left h passes (is_like h r) (λ i y. passes_is i r y) rows records are in
-          let put = heap_beside h starts (filter (λ s. not (passes s)) rows) others are_left id r (subst₂ (λ l n. are_fresh l n ≡ true) left news fresh)
+          let put = heap_beside h starts (filter (λ s. not (passes s)) rows) others are_left id r (subst₂ (λ l n. are_fresh l n ≡ true) left news unused)
           (λ y a. not-true _ (filter_among (λ y. not (is_like h r y)) records y a).1) in
           subst (AreRowsOf (edited db (updating_edit db h.layout found))) (put_back (by_both h) (by_both_total h) (is_like h) (like_tied h) r records are.ascending)
           (subst₂ (λ l n. AreRowsOf (put_all l n) (put_by (by_both h r) others r)) (sym left) (sym news) put)
 
     -- of a record that has a row
-    pub updated_in : (r : R) (c : Relations) (old new : State) (count : ℕ) → Drafts old c → Executes text (h.values r) old new (Ok count) → (count ≡ 0 → ⊥)
-        → Drafts new (h.with_records (put_by (by_both h r) (h.records c) r) c)
-    updated_in r c old new count drafts ran some =
+    pub updated_in : (r : R) (c : Relations) (old new : State) (count : ℕ) → HoldsUncommitted old c → Executes text (h.values r) old new (Ok count) → (count ≡ 0 → ⊥)
+        → HoldsUncommitted new (h.with_records (put_by (by_both h r) (h.records c) r) c)
+    updated_in r c old new count uncommitted ran some =
         let db = old.now.trees in
-        let made = updated book_schema text updating (h.values r) old new count drafts.schema ran in
-        let are = changed r db (h.records c) (f.held c db drafts.tables) made.rows count made.found made.counted some made.changed.applies.fresh in
-        drafted _ (edited db (updating_edit db h.layout made.rows)) old new c are (replaces book_schema old new (updating_edit db h.layout made.rows) _ made.changed refl) drafts
+        let made = updated book_schema text updating (h.values r) old new count uncommitted.schema ran in
+        let are = changed r db (h.records c) (f.held c db uncommitted.tables) made.rows count made.found made.counted some made.changed.applies.fresh in
+        holds_replaced _ (edited db (updating_edit db h.layout made.rows)) old new c are (replaces book_schema old new (updating_edit db h.layout made.rows) _ made.changed refl) uncommitted
 
     -- where it changed no row
-    pub unchanged_in : (r : R) (c : Relations) (old new : State) (count : ℕ) → Drafts old c → Executes text (h.values r) old new (Ok count) → count ≡ 0 → Drafts new (h.with_records (h.records c) c)
-    unchanged_in r c old new count drafts ran missed =
-        drafted (h.records c) (old.now.trees h.layout.tree) old new c (f.held c old.now.trees drafts.tables) (set_none book_schema text updating (h.values r) old new count drafts.schema ran missed) drafts
+    pub unchanged_in : (r : R) (c : Relations) (old new : State) (count : ℕ) → HoldsUncommitted old c → Executes text (h.values r) old new (Ok count) → count ≡ 0 → HoldsUncommitted new (h.with_records (h.records c) c)
+    unchanged_in r c old new count uncommitted ran missed =
+        holds_replaced (h.records c) (old.now.trees h.layout.tree) old new c (f.held c old.now.trees uncommitted.tables) (set_none book_schema text updating (h.values r) old new count uncommitted.schema ran missed) uncommitted
 
   -- ---- DELETE
 
   -- of the records that pass
   pub deleted_in : (text : List ℕ) (terms : List Term) → DeletesThose h text terms → (params : Row) (p : R → Bool) → ((id : ℤ) (x : R) → list_all (holds (params ∷ numbered_row h id x ∷ [])) terms ≡ p x)
-      → (c : Relations) (old new : State) (count : ℕ) → Drafts old c → Executes text params old new (Ok count) → Drafts new (h.with_records (filter (λ x. not (p x)) (h.records c)) c)
-  deleted_in text terms t params p same c old new count drafts ran =
+      → (c : Relations) (old new : State) (count : ℕ) → HoldsUncommitted old c → Executes text params old new (Ok count) → HoldsUncommitted new (h.with_records (filter (λ x. not (p x)) (h.records c)) c)
+  deleted_in text terms t params p same c old new count uncommitted ran =
       let db = old.now.trees in
       let rows = db h.layout.tree in
-      let are = f.held c db drafts.tables in
+      let are = f.held c db uncommitted.tables in
       let it : Deletion book_schema text = record { at = h.place; layout = h.layout; terms = terms; place = place_is; command = t.deletes; plain = t.plain; inert = inert_works book_schema inert h.layout.tree } in
-      let made = deleted book_schema text it params old new count drafts.schema ran in
-      drafted _ (filter (λ s. not (list_all (holds (params ∷ s ∷ [])) terms)) rows) old new c (heap_left h (λ s. list_all (holds (params ∷ s ∷ [])) terms) p same rows (h.records c) are)
-      (replaces book_schema old new (deletion_edit it made.rows db) _ made.changed (left_is rows are.rising (ints_of h rows (h.records c) are) params terms [] made.rows made.found)) drafts
+      let made = deleted book_schema text it params old new count uncommitted.schema ran in
+      holds_replaced _ (filter (λ s. not (list_all (holds (params ∷ s ∷ [])) terms)) rows) old new c (heap_left h (λ s. list_all (holds (params ∷ s ∷ [])) terms) p same rows (h.records c) are)
+      (replaces book_schema old new (deletion_edit it made.rows db) _ made.changed (left_is rows are.rising (ints_of h rows (h.records c) are) params terms [] made.rows made.found)) uncommitted
 
   -- ---- the query of all rows
 
   module _ {base : List MadeTable} (text : List ℕ) (s : SelectsAll h base text) where
     abbrev pub listing : Listing base text
-    listing = record { tree = h.layout.tree; terms = []; project = shown_columns (behind_both h); order = by_columns; limit = no_limit; names = names_of h.layout; command = s.selects; plain = s.plain; unlisted = s.unlisted }
+    listing = record { tree = h.layout.tree; terms = []; project = shown_columns (after_both h); order = by_columns; limit = no_limit; names = names_of h.layout; command = s.selects; plain = s.plain; unlisted = s.unlisted }
 
-    -- what a row is sorted by, and what it shows
+    -- the sort key of a row, and the values that it shows
     abbrev part : Row → Output
     part r = given (query_of listing) [] r
 
@@ -405,12 +406,12 @@ module _ {R : Type 0} (h : Heap R) (f : Heaped h) where
 
     pub shows_all : (old new : State) (rows : List Row) (c : Content) → HoldsContent old c → BeginsSchema base old.now.schema → Shown text [] old new rows → rows ≡ map h.values (h.records (relations_of c))
     shows_all old new rows c held b shown =
-        let own = with_behind base b.0 old.now.schema in
-        let read = reads_as text [] old new own (begun base old.now.schema b) _ (s.selects b.0 old.now.schema) (s.plain b.0 old.now.schema) (s.unlisted b.0 old.now.schema) rows shown in
+        let given = with_later base b.0 old.now.schema in
+        let read = reads_as text [] old new given (begun base old.now.schema b) _ (s.selects b.0 old.now.schema) (s.plain b.0 old.now.schema) (s.unlisted b.0 old.now.schema) rows shown in
         let are = subst (λ (d : Database). AreRowsOf (d.trees h.layout.tree) (h.records (relations_of c))) (sym held.idle) (f.held (relations_of c) old.committed.trees held.encodes) in
         let all = shown_all (old.now.trees h.layout.tree) (h.records (relations_of c)) are in
         let every : map part (old.now.trees h.layout.tree) ≡ map part (passing [] [] (old.now.trees h.layout.tree)) = ap (map part) (sym (filter_true (old.now.trees h.layout.tree))) in
-        answered (by_both h) (by_both_total h) h.layout.tree [] (shown_columns (behind_both h)) by_columns no_limit old.now.trees [] rows out (h.records (relations_of c)) ranks are.ascending
+        answered (by_both h) (by_both_total h) h.layout.tree [] (shown_columns (after_both h)) by_columns no_limit old.now.trees [] rows out (h.records (relations_of c)) ranks are.ascending
         (subst (IsPermutation (map out (h.records (relations_of c)))) every all) read.answer
 
     pub asks : AsksAll h.table base text listing

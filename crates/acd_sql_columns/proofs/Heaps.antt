@@ -1,4 +1,4 @@
--- Rows with numbers of their own, which stand for records that are told by two numbers.
+-- Rows with rowids apart from their keys, which represent records that two numbers identify.
 use Rattle.std.proofs.Common.{◌≡◌, ◌⊎◌, inl, inr, ℕ, ℤ, pos, List, [], ◌∷◌, Bool, true, false, not, ◌==◌, ◌&&◌, filter, map, drop, refl, sym, ap, ap₂, ◌∙◌, eq-eqb}
 use Rattle.std.specs.Cmp.{IsTotalOrder, both_ways}
 use Rattle.std.specs.List.{list_any, list_all}
@@ -67,8 +67,8 @@ lone (r ∷ s ∷ rows) w up all here =
     absurd (let same = all r (inl refl) ∙ sym (all s (inr (inl refl))) in
     let never : Equal ≡ Less = sym (ap (λ k. value_cmp (rowid r) (rowid k)) (sym same) ∙ tied_itself value_cmp_total (rowid r)) ∙ up.0.0 in cc never)
 
-own_number : (id : ℤ) → is_eq (value_cmp (Int id) (Int id)) ≡ true
-own_number id = is_eq_of (value_cmp (Int id) (Int id)) (tied_itself value_cmp_total (Int id))
+number_itself : (id : ℤ) → is_eq (value_cmp (Int id) (Int id)) ≡ true
+number_itself id = is_eq_of (value_cmp (Int id) (Int id)) (tied_itself value_cmp_total (Int id))
 
 -- where the rows that pass were shown, each with its number, those that are left without these numbers are those that don't pass
 module _ (rows : List Row) (up : IsTable rows) (ints : (r : Row) → Has rows r → rowid r ≡ Int (id_in (rowid r))) (params : Row) (terms more : List Term) (found : List Row)
@@ -85,8 +85,8 @@ module _ (rows : List Row) (up : IsTable rows) (ints : (r : Row) → Has rows r 
       ∙ any_mapped (λ id. has_rowid id r) (λ w. id_in (rowid w)) (map (showing params (col 1 0 ∷ more)) (filter passes rows))
       ∙ any_mapped (λ w. has_rowid (id_in (rowid w)) r) (showing params (col 1 0 ∷ more)) (filter passes rows)
 
-  own : (r : Row) → Has rows r → has_rowid (id_in (rowid r)) r ≡ true
-  own r there = ap (λ v. is_eq (value_cmp v (Int (id_in (rowid r))))) (ints r there) ∙ own_number (id_in (rowid r))
+  rowid_itself : (r : Row) → Has rows r → has_rowid (id_in (rowid r)) r ≡ true
+  rowid_itself r there = ap (λ v. is_eq (value_cmp v (Int (id_in (rowid r))))) (ints r there) ∙ number_itself (id_in (rowid r))
 
   hit_passes : (r : Row) → Has rows r → hit r ≡ passes r
   hit_passes r there = both_ways (hit r) (passes r)
@@ -95,7 +95,7 @@ module _ (rows : List Row) (up : IsTable rows) (ints : (r : Row) → Has rows r 
       let was = has_filtered passes rows w.0 w.1 in
       let one = one_number rows r w.0 up there was.0 (ap (value_cmp (rowid r)) (ints w.0 was.0) ∙ eq_is _ w.2) in
       ap passes one ∙ was.1)
-      (λ pass. hit_is r ∙ some_from (λ w. has_rowid (id_in (rowid w)) r) (filter passes rows) r (has_kept passes rows r there pass) (own r there))
+      (λ pass. hit_is r ∙ some_from (λ w. has_rowid (id_in (rowid w)) r) (filter passes rows) r (has_kept passes rows r there pass) (rowid_itself r there))
 
   pub left_is : without_all rows (ids_of found) ≡ filter (λ r. not (passes r)) rows
   left_is = all_out (ids_of found) rows ∙ filter_like (λ r. not (hit r)) (λ r. not (passes r)) rows (all_from (λ r. not (hit r) ≡ not (passes r)) rows (λ r there. ap not (hit_passes r there)))
@@ -116,7 +116,7 @@ module _ {R : Type 0} (h : Heap R) where
   pub ints_of : (rows : List Row) (records : List R) → AreHeaped (by_both h) (numbered_row h) rows records → (r : Row) → Has rows r → rowid r ≡ Int (id_in (rowid r))
   ints_of rows records are r there = let from = are.known r there in ap rowid from.2 ∙ ap (λ s. Int (id_in (rowid s))) (sym from.2)
 
-  -- the rows of some records are taken out
+  -- the rows of some records are removed
   pub heap_left : (gone : Row → Bool) (p : R → Bool) → ((id : ℤ) (x : R) → gone (numbered_row h id x) ≡ p x) → (rows : List Row) (records : List R) → AreHeaped (by_both h) (numbered_row h) rows records
       → AreHeaped (by_both h) (numbered_row h) (filter (λ r. not (gone r)) rows) (filter (λ x. not (p x)) records)
   heap_left gone p same rows records are = record {
@@ -152,32 +152,32 @@ module _ {R : Type 0} (h : Heap R) where
         (first_is i x ∙ ap id_value same.0 ∙ sym (first_is j r), second_is i x ∙ ap id_value same.1 ∙ sym (second_is j r))
 
     -- a row is put beside others, of which none has its key
-    module _ (rows : List Row) (records : List R) (are : AreHeaped (by_both h) (numbered_row h) rows records) (id : ℤ) (r : R) (fresh : are_fresh rows (numbered_row h id r ∷ []) ≡ true)
+    module _ (rows : List Row) (records : List R) (are : AreHeaped (by_both h) (numbered_row h) rows records) (id : ℤ) (r : R) (unused : are_fresh rows (numbered_row h id r ∷ []) ≡ true)
         (other : (x : R) → Among x records → is_like r x ≡ false) where
-      abbrev own_row : Row
-      own_row = numbered_row h id r
+      abbrev new_row : Row
+      new_row = numbered_row h id r
 
       never : {X : Type 0} (x : R) → Among x records → is_like r x ≡ true → X
       never x a met = absurd (let none = other x a in cc (met, none))
 
-      known : (row : Row) → Has (own_row ∷ []) row ⊎ Has rows row → (i : ℤ) × (x : R) × (row ≡ numbered_row h i x) × Among x (put_by (by_both h r) records r)
+      known : (row : Row) → Has (new_row ∷ []) row ⊎ Has rows row → (i : ℤ) × (x : R) × (row ≡ numbered_row h i x) × Among x (put_by (by_both h r) records r)
       known row (inl (inl e)) = (id, r, e, among-put (by_both h r) r records)
       known row (inl (inr none)) = absurd none
       known row (inr there) =
           let from = are.known row there in
           (from.0, from.1, from.2, among-put_other (by_both h r) r records from.1 from.3 (λ tied. never from.1 from.3 (sym (like_tied r from.1) ∙ ap is_eq tied)))
 
-      stored : (x : R) → (x ≡ r) ⊎ Among x records → (i : ℤ) × Has (put_all rows (own_row ∷ [])) (numbered_row h i x)
-      stored x (inl e) = (id, put_all_adds (own_row ∷ []) rows (numbered_row h id x) fresh (inl (ap (numbered_row h id) e)))
-      stored x (inr a) = let from = are.stored x a in (from.0, put_all_keeps (own_row ∷ []) rows (numbered_row h from.0 x) fresh from.1)
+      stored : (x : R) → (x ≡ r) ⊎ Among x records → (i : ℤ) × Has (put_all rows (new_row ∷ [])) (numbered_row h i x)
+      stored x (inl e) = (id, put_all_adds (new_row ∷ []) rows (numbered_row h id x) unused (inl (ap (numbered_row h id) e)))
+      stored x (inr a) = let from = are.stored x a in (from.0, put_all_keeps (new_row ∷ []) rows (numbered_row h from.0 x) unused from.1)
 
       -- no row beside it has the key
-      free : (it : Row) → Has rows it → column it 1 ≡ column own_row 1 → column it 2 ≡ column own_row 2 → ⊥
+      free : (it : Row) → Has rows it → column it 1 ≡ column new_row 1 → column it 2 ≡ column new_row 2 → ⊥
       free row there e f =
           let from = are.known row there in
           never from.1 from.3 (key_met from.0 id r from.1 (ap (λ k. column k 1) (sym from.2) ∙ e) (ap (λ k. column k 2) (sym from.2) ∙ f))
 
-      apart : (a b : Row) → Has (own_row ∷ []) a ⊎ Has rows a → Has (own_row ∷ []) b ⊎ Has rows b → column a 1 ≡ column b 1 → column a 2 ≡ column b 2 → a ≡ b
+      apart : (a b : Row) → Has (new_row ∷ []) a ⊎ Has rows a → Has (new_row ∷ []) b ⊎ Has rows b → column a 1 ≡ column b 1 → column a 2 ≡ column b 2 → a ≡ b
       apart a b (inl (inr none)) k e f = absurd none
       apart a b k (inl (inr none)) e f = absurd none
       apart a b (inl (inl p)) (inl (inl q)) e f = p ∙ sym q
@@ -185,11 +185,11 @@ module _ {R : Type 0} (h : Heap R) where
       apart a b (inr there) (inl (inl q)) e f = absurd (free a there (e ∙ ap (λ k. column k 1) q) (f ∙ ap (λ k. column k 2) q))
       apart a b (inr p) (inr q) e f = are.apart a b p q e f
 
-      pub heap_beside : AreHeaped (by_both h) (numbered_row h) (put_all rows (own_row ∷ [])) (put_by (by_both h r) records r)
+      pub heap_beside : AreHeaped (by_both h) (numbered_row h) (put_all rows (new_row ∷ [])) (put_by (by_both h r) records r)
       heap_beside = record {
-        rising = IsTable-put_row own_row rows are.rising;
-        known = λ row there. known row (put_all_has (own_row ∷ []) rows row there);
+        rising = IsTable-put_row new_row rows are.rising;
+        known = λ row there. known row (put_all_has (new_row ∷ []) rows row there);
         stored = λ x a. stored x (among_put (by_both h r) r records x a);
-        apart = λ a b p q. apart a b (put_all_has (own_row ∷ []) rows a p) (put_all_has (own_row ∷ []) rows b q);
+        apart = λ a b p q. apart a b (put_all_has (new_row ∷ []) rows a p) (put_all_has (new_row ∷ []) rows b q);
         ascending = ascending-put (by_both h) by_both_total r records are.ascending;
       }

@@ -1,4 +1,4 @@
--- Groups and agents, and what the tables have of them: a group's priority and an agent's further groups stand in tables of their own.
+-- Groups and agents, and what the tables have of them: separate tables hold a group's priority and an agent's further groups.
 use Rattle.std.proofs.Common.{◌≡◌, ◌⊎◌, inl, inr, ℕ, Bool, true, false, cond, not, ◌==◌, ◌++◌, List, [], ◌∷◌, map, filter, refl, sym, ap, ap₂, subst, ◌∙◌, append-nil}
 use Rattle.std.specs.Ordering.{nat_cmp, is_eq, ordering_then, ordering_reverse, match_ordering}
 use Rattle.std.specs.declared.cmp.Ordering.{Ordering}
@@ -15,7 +15,7 @@ use Rattle.acd_lemmas.proofs.Lists.{after_among}
 use Rattle.acd_sql_columns.specs.declared.relations.GroupRow.{GroupRow}
 use Rattle.acd_sql_columns.specs.declared.relations.AgentRow.{AgentRow}
 use Rattle.acd_sql_columns.specs.declared.relations.GroupPriority.{GroupPriority}
-use Rattle.acd_sql_columns.specs.Relations.{pair_order, group_part, agent_part, further_of, further_in, priority_part, priorities_in, priority_of, joined_group, groups_beside, behind_first, joined_agent, all_put, with_further, with_priority_of}
+use Rattle.acd_sql_columns.specs.Relations.{pair_order, group_part, agent_part, further_of, further_in, priority_part, priorities_in, priority_of, joined_group, groups_beside, after_first, joined_agent, all_put, with_further, with_priority_of}
 use Rattle.acd_lemmas.proofs.Numbers.{greater_is}
 
 -- ---- numbers
@@ -38,13 +38,13 @@ not_of n p = not (p.0 == n)
 abbrev pub pairs_of : ℕ → List ℕ → List (ℕ × ℕ)
 pairs_of n gs = map (λ (g : ℕ). (n, g)) gs
 
-own_pairs : (n : ℕ) (gs : List ℕ) → filter (of_agent n) (pairs_of n gs) ≡ pairs_of n gs
-own_pairs n [] = refl
-own_pairs n (g ∷ gs) = ap (λ b. cond b ((n, g) ∷ filter (of_agent n) (pairs_of n gs)) (filter (of_agent n) (pairs_of n gs))) (eqb_self n) ∙ ap (λ l. (n, g) ∷ l) (own_pairs n gs)
+all_of_agent : (n : ℕ) (gs : List ℕ) → filter (of_agent n) (pairs_of n gs) ≡ pairs_of n gs
+all_of_agent n [] = refl
+all_of_agent n (g ∷ gs) = ap (λ b. cond b ((n, g) ∷ filter (of_agent n) (pairs_of n gs)) (filter (of_agent n) (pairs_of n gs))) (eqb_self n) ∙ ap (λ l. (n, g) ∷ l) (all_of_agent n gs)
 
-none_own : (n m : ℕ) (gs : List ℕ) → (m == n) ≡ false → filter (of_agent n) (pairs_of m gs) ≡ []
-none_own n m [] e = refl
-none_own n m (g ∷ gs) e = ap (λ b. cond b ((m, g) ∷ filter (of_agent n) (pairs_of m gs)) (filter (of_agent n) (pairs_of m gs))) e ∙ none_own n m gs e
+none_of_agent : (n m : ℕ) (gs : List ℕ) → (m == n) ≡ false → filter (of_agent n) (pairs_of m gs) ≡ []
+none_of_agent n m [] e = refl
+none_of_agent n m (g ∷ gs) e = ap (λ b. cond b ((m, g) ∷ filter (of_agent n) (pairs_of m gs)) (filter (of_agent n) (pairs_of m gs))) e ∙ none_of_agent n m gs e
 
 all_other : (n m : ℕ) (gs : List ℕ) → (m == n) ≡ false → filter (not_of n) (pairs_of m gs) ≡ pairs_of m gs
 all_other n m [] e = refl
@@ -64,36 +64,36 @@ abbrev by_agent : AgentRecord → AgentRecord → Ordering
 by_agent a b = nat_cmp a.agent b.agent
 
 -- the pairs of an agent before these are none of theirs
-none_behind : (n : ℕ) (agents : List AgentRecord) → ((a : AgentRecord) → Among a agents → nat_cmp n a.agent ≡ Less) → filter (of_agent n) (further_in agents) ≡ []
-none_behind n [] before = refl
-none_behind n (a ∷ agents) before =
+none_after : (n : ℕ) (agents : List AgentRecord) → ((a : AgentRecord) → Among a agents → nat_cmp n a.agent ≡ Less) → filter (of_agent n) (further_in agents) ≡ []
+none_after n [] before = refl
+none_after n (a ∷ agents) before =
     filter-append (of_agent n) (further_of a) (further_in agents)
-    ∙ ap₂ (λ xs ys. xs ++ ys) (none_own n a.agent (further_groups a.groups) (apart n a.agent (before a (inl refl)))) (none_behind n agents (λ b h. before b (inr h)))
+    ∙ ap₂ (λ xs ys. xs ++ ys) (none_of_agent n a.agent (further_groups a.groups) (apart n a.agent (before a (inl refl)))) (none_after n agents (λ b h. before b (inr h)))
 
-all_behind : (n : ℕ) (agents : List AgentRecord) → ((a : AgentRecord) → Among a agents → nat_cmp n a.agent ≡ Less) → filter (not_of n) (further_in agents) ≡ further_in agents
-all_behind n [] before = refl
-all_behind n (a ∷ agents) before =
+all_after : (n : ℕ) (agents : List AgentRecord) → ((a : AgentRecord) → Among a agents → nat_cmp n a.agent ≡ Less) → filter (not_of n) (further_in agents) ≡ further_in agents
+all_after n [] before = refl
+all_after n (a ∷ agents) before =
     filter-append (not_of n) (further_of a) (further_in agents)
-    ∙ ap₂ (λ xs ys. xs ++ ys) (all_other n a.agent (further_groups a.groups) (apart n a.agent (before a (inl refl)))) (all_behind n agents (λ b h. before b (inr h)))
+    ∙ ap₂ (λ xs ys. xs ++ ys) (all_other n a.agent (further_groups a.groups) (apart n a.agent (before a (inl refl)))) (all_after n agents (λ b h. before b (inr h)))
 
 beside_first : (a : AgentRecord) (agents : List AgentRecord) → AllAfter by_agent a agents → groups_beside (further_of a ++ further_in agents) a.agent ≡ further_groups a.groups
 beside_first a agents after =
     ap (map (λ (p : ℕ × ℕ). p.1))
-    (filter-append (of_agent a.agent) (further_of a) (further_in agents) ∙ ap₂ (λ xs ys. xs ++ ys) (own_pairs a.agent (further_groups a.groups)) (none_behind a.agent agents (λ b h. after_among by_agent a agents b after h))
+    (filter-append (of_agent a.agent) (further_of a) (further_in agents) ∙ ap₂ (λ xs ys. xs ++ ys) (all_of_agent a.agent (further_groups a.groups)) (none_after a.agent agents (λ b h. after_among by_agent a agents b after h))
     ∙ append-nil (further_of a))
     ∙ seconds a.agent (further_groups a.groups)
 
 beside_other : (a : AgentRecord) (pairs : List (ℕ × ℕ)) (n : ℕ) → (a.agent == n) ≡ false → groups_beside (further_of a ++ pairs) n ≡ groups_beside pairs n
 beside_other a pairs n e =
     ap (map (λ (p : ℕ × ℕ). p.1))
-    (filter-append (of_agent n) (further_of a) pairs ∙ ap (λ xs. xs ++ filter (of_agent n) pairs) (none_own n a.agent (further_groups a.groups) e))
+    (filter-append (of_agent n) (further_of a) pairs ∙ ap (λ xs. xs ++ filter (of_agent n) pairs) (none_of_agent n a.agent (further_groups a.groups) e))
 
 pub beside_each : (agents : List AgentRecord) → IsAscending by_agent agents → (a : AgentRecord) → Among a agents → groups_beside (further_in agents) a.agent ≡ further_groups a.groups
 beside_each [] up a h = absurd h
 beside_each (b ∷ agents) up a (inl e) = subst (λ (c : AgentRecord). groups_beside (further_of b ++ further_in agents) c.agent ≡ further_groups c.groups) (sym e) (beside_first b agents up.0)
 beside_each (b ∷ agents) up a (inr h) = beside_other b (further_in agents) a.agent (apart_back b.agent a.agent (after_among by_agent b agents a up.0 h)) ∙ beside_each agents up.1 a h
 
-all_groups : (gs : List ℕ) → behind_first (least_group gs) (further_groups gs) ≡ gs
+all_groups : (gs : List ℕ) → after_first (least_group gs) (further_groups gs) ≡ gs
 all_groups [] = refl
 all_groups (g ∷ gs) = refl
 
@@ -101,7 +101,7 @@ abbrev regrouped : AgentRecord → List ℕ → AgentRecord
 regrouped a gs = record a { groups = gs }
 
 one_joined : (pairs : List (ℕ × ℕ)) (a : AgentRecord) → groups_beside pairs a.agent ≡ further_groups a.groups → joined_agent pairs (agent_part a) ≡ a
-one_joined pairs a e = ap (λ gs. regrouped a (behind_first (least_group a.groups) gs)) e ∙ ap (regrouped a) (all_groups a.groups)
+one_joined pairs a e = ap (λ gs. regrouped a (after_first (least_group a.groups) gs)) e ∙ ap (regrouped a) (all_groups a.groups)
 
 each_joined : (pairs : List (ℕ × ℕ)) (agents : List AgentRecord) → ((a : AgentRecord) → Among a agents → groups_beside pairs a.agent ≡ further_groups a.groups) → map (joined_agent pairs) (map agent_part agents) ≡ agents
 each_joined pairs [] all = refl
@@ -113,7 +113,7 @@ agents_joined agents up = each_joined (further_in agents) agents (beside_each ag
 
 -- ---- an agent is put
 
--- what comes before all of them stays before
+-- a pair that comes before all of them stays before
 passed : (ps : List (ℕ × ℕ)) (q : ℕ × ℕ) (pairs : List (ℕ × ℕ)) → ((p : ℕ × ℕ) → Among p ps → pair_order p q ≡ Greater) → all_put ps (q ∷ pairs) ≡ q ∷ all_put ps pairs
 passed [] q pairs all = refl
 passed (p ∷ ps) q pairs all =
@@ -172,14 +172,14 @@ pairs_after n agents before q h = let from = pair_agent agents q h in ap (nat_cm
 abbrev left_pairs : ℕ → List AgentRecord → List (ℕ × ℕ)
 left_pairs n agents = filter (not_of n) (further_in agents)
 
--- the further groups of an agent that is put are put, in place of those that it had
+-- the further groups of an agent that is put are put, in place of its old ones
 pub further_put : (a : AgentRecord) (agents : List AgentRecord) → IsAscending nat_cmp (further_groups a.groups) → IsAscending by_agent agents → with_further a (further_in agents) ≡ further_in (put_by (by_agent a) agents a)
-further_put a [] own up = all_in_front a.agent (further_groups a.groups) [] own (λ q h. absurd h)
-further_put a (x ∷ agents) own up = by (by_agent a x) refl (further_put a agents own up.1)
+further_put a [] groups_rise up = all_in_front a.agent (further_groups a.groups) [] groups_rise (λ q h. absurd h)
+further_put a (x ∷ agents) groups_rise up = by (by_agent a x) refl (further_put a agents groups_rise up.1)
   where
-    behind : by_agent a x ≡ Less → (b : AgentRecord) → Among b (x ∷ agents) → nat_cmp a.agent b.agent ≡ Less
-    behind e b (inl same) = subst (λ (c : AgentRecord). nat_cmp a.agent c.agent ≡ Less) (sym same) e
-    behind e b (inr h) = nat_cmp_total.trans a.agent x.agent b.agent e (after_among by_agent x agents b up.0 h)
+    after : by_agent a x ≡ Less → (b : AgentRecord) → Among b (x ∷ agents) → nat_cmp a.agent b.agent ≡ Less
+    after e b (inl same) = subst (λ (c : AgentRecord). nat_cmp a.agent c.agent ≡ Less) (sym same) e
+    after e b (inr h) = nat_cmp_total.trans a.agent x.agent b.agent e (after_among by_agent x agents b up.0 h)
 
     same : by_agent a x ≡ Equal → (b : AgentRecord) → Among b agents → nat_cmp a.agent b.agent ≡ Less
     same e b h = ap (λ n. nat_cmp n b.agent) (cmp_equal a.agent x.agent e) ∙ after_among by_agent x agents b up.0 h
@@ -187,13 +187,13 @@ further_put a (x ∷ agents) own up = by (by_agent a x) refl (further_put a agen
     by : (o : Ordering) → by_agent a x ≡ o → with_further a (further_in agents) ≡ further_in (put_by (by_agent a) agents a)
         → all_put (further_of a) (left_pairs a.agent (x ∷ agents)) ≡ further_in (match_ordering o (a ∷ x ∷ agents) (a ∷ agents) (x ∷ put_by (by_agent a) agents a))
     by Less e more =
-        ap (all_put (further_of a)) (all_behind a.agent (x ∷ agents) (behind e))
-        ∙ all_in_front a.agent (further_groups a.groups) (further_in (x ∷ agents)) own (pairs_after a.agent (x ∷ agents) (behind e))
+        ap (all_put (further_of a)) (all_after a.agent (x ∷ agents) (after e))
+        ∙ all_in_front a.agent (further_groups a.groups) (further_in (x ∷ agents)) groups_rise (pairs_after a.agent (x ∷ agents) (after e))
     by Equal e more =
         ap (all_put (further_of a))
         (filter-append (not_of a.agent) (further_of x) (further_in agents)
-        ∙ ap₂ (λ xs ys. xs ++ ys) (ap (λ n. filter (not_of n) (further_of x)) (cmp_equal a.agent x.agent e) ∙ none_other x.agent (further_groups x.groups)) (all_behind a.agent agents (same e)))
-        ∙ all_in_front a.agent (further_groups a.groups) (further_in agents) own (pairs_after a.agent agents (same e))
+        ∙ ap₂ (λ xs ys. xs ++ ys) (ap (λ n. filter (not_of n) (further_of x)) (cmp_equal a.agent x.agent e) ∙ none_other x.agent (further_groups x.groups)) (all_after a.agent agents (same e)))
+        ∙ all_in_front a.agent (further_groups a.groups) (further_in agents) groups_rise (pairs_after a.agent agents (same e))
     by Greater e more =
         let low : nat_cmp x.agent a.agent ≡ Less = nat_cmp_total.antisymm x.agent a.agent ∙ ap ordering_reverse e in
         ap (all_put (further_of a))
@@ -274,7 +274,7 @@ groups_joined groups up = each_ranked (priorities_in groups) groups (priority_ea
 abbrev at_device : ℕ → GroupPriority → Ordering
 at_device n p = nat_cmp n p.device
 
--- of groups behind a number, none has a priority there
+-- of groups after a number, none has a priority there
 removed_none : (n : ℕ) (groups : List GroupRecord) → ((g : GroupRecord) → Among g groups → nat_cmp n g.device ≡ Less) → remove_by (at_device n) (priorities_in groups) ≡ priorities_in groups
 removed_none n [] before = refl
 removed_none n (g ∷ groups) before = by (g.priority == 0) (removed_none n groups (λ h k. before h (inr k)))
@@ -301,7 +301,7 @@ put_or_gone g b ps = cond b (remove_by (at_device g.device) ps) (put_by (at_devi
 abbrev first_or_none : GroupRecord → Bool → List GroupPriority → List GroupPriority
 first_or_none g b ps = cond b ps (priority_part g ∷ ps)
 
--- where it goes before all of them
+-- where it comes before all of them
 put_first : (g : GroupRecord) (groups : List GroupRecord) (b : Bool) → ((h : GroupRecord) → Among h groups → nat_cmp g.device h.device ≡ Less) → put_or_gone g b (priorities_in groups) ≡ first_or_none g b (priorities_in groups)
 put_first g groups true before = removed_none g.device groups before
 put_first g groups false before = put_in_front (priority_part g) groups before
@@ -314,27 +314,27 @@ put_over g x groups true false same before = ap (λ o. cond (is_eq o) (prioritie
 put_over g x groups false false same before =
     ap (λ o. match_ordering o (priority_part g ∷ priority_part x ∷ priorities_in groups) (priority_part g ∷ priorities_in groups) (priority_part x ∷ put_by (at_device g.device) (priorities_in groups) (priority_part g))) same
 
--- behind the first of them
-put_behind : (g x : GroupRecord) (ps : List GroupPriority) (b c : Bool) → nat_cmp g.device x.device ≡ Greater → put_or_gone g b (first_or_none x c ps) ≡ first_or_none x c (put_or_gone g b ps)
-put_behind g x ps b true above = refl
-put_behind g x ps true false above = ap (λ o. cond (is_eq o) ps (priority_part x ∷ remove_by (at_device g.device) ps)) above
-put_behind g x ps false false above =
+-- after the first of them
+put_after : (g x : GroupRecord) (ps : List GroupPriority) (b c : Bool) → nat_cmp g.device x.device ≡ Greater → put_or_gone g b (first_or_none x c ps) ≡ first_or_none x c (put_or_gone g b ps)
+put_after g x ps b true above = refl
+put_after g x ps true false above = ap (λ o. cond (is_eq o) ps (priority_part x ∷ remove_by (at_device g.device) ps)) above
+put_after g x ps false false above =
     ap (λ o. match_ordering o (priority_part g ∷ priority_part x ∷ ps) (priority_part g ∷ ps) (priority_part x ∷ put_by (at_device g.device) ps (priority_part g))) above
 
--- the priority of a group that is put is put, in place of the one that it had
+-- the priority of a group that is put is put, in place of its old one
 pub priority_put : (g : GroupRecord) (groups : List GroupRecord) → IsAscending by_group groups → with_priority_of g (priorities_in groups) ≡ priorities_in (put_by (by_group g) groups g)
 priority_put g [] up = put_first g [] (g.priority == 0) (λ h k. absurd k)
 priority_put g (x ∷ groups) up = by (by_group g x) refl (priority_put g groups up.1)
   where
-    behind : by_group g x ≡ Less → (h : GroupRecord) → Among h (x ∷ groups) → nat_cmp g.device h.device ≡ Less
-    behind e h (inl same) = subst (λ (c : GroupRecord). nat_cmp g.device c.device ≡ Less) (sym same) e
-    behind e h (inr k) = nat_cmp_total.trans g.device x.device h.device e (after_among by_group x groups h up.0 k)
+    after : by_group g x ≡ Less → (h : GroupRecord) → Among h (x ∷ groups) → nat_cmp g.device h.device ≡ Less
+    after e h (inl same) = subst (λ (c : GroupRecord). nat_cmp g.device c.device ≡ Less) (sym same) e
+    after e h (inr k) = nat_cmp_total.trans g.device x.device h.device e (after_among by_group x groups h up.0 k)
 
     same : by_group g x ≡ Equal → (h : GroupRecord) → Among h groups → nat_cmp g.device h.device ≡ Less
     same e h k = ap (λ n. nat_cmp n h.device) (cmp_equal g.device x.device e) ∙ after_among by_group x groups h up.0 k
 
     by : (o : Ordering) → by_group g x ≡ o → with_priority_of g (priorities_in groups) ≡ priorities_in (put_by (by_group g) groups g)
         → put_or_gone g (g.priority == 0) (priorities_in (x ∷ groups)) ≡ priorities_in (match_ordering o (g ∷ x ∷ groups) (g ∷ groups) (x ∷ put_by (by_group g) groups g))
-    by Less e more = put_first g (x ∷ groups) (g.priority == 0) (behind e)
+    by Less e more = put_first g (x ∷ groups) (g.priority == 0) (after e)
     by Equal e more = put_over g x groups (g.priority == 0) (x.priority == 0) e (same e)
-    by Greater e more = put_behind g x (priorities_in groups) (g.priority == 0) (x.priority == 0) e ∙ ap (first_or_none x (x.priority == 0)) more
+    by Greater e more = put_after g x (priorities_in groups) (g.priority == 0) (x.priority == 0) e ∙ ap (first_or_none x (x.priority == 0)) more

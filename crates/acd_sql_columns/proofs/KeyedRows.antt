@@ -26,7 +26,7 @@ id_tied m n = ap is_eq (id_cmp m n) ∙ eq_key m n
 pub apart : (m n : ℕ) → (m == n) ≡ false → m ≡ n → ⊥
 apart m n h e = grind (arith, nat_tests)
 
--- the one that goes out of an ascending list is the one that comes back in
+-- the one that is removed from an ascending list is the one that is added again
 module _ {R : Type 0} (order : R → R → Ordering) (total : IsTotalOrder order) (has : R → R → Bool) (tied : (new r : R) → is_eq (order new r) ≡ has new r) where
   module _ (new : R) where
     -- none of these has the key
@@ -37,8 +37,8 @@ module _ {R : Type 0} (order : R → R → Ordering) (total : IsTotalOrder order
     first_of [] h = refl
     first_of (r ∷ rs) h = rw h.0 refl
 
-    told : (r : R) (o : Ordering) → order new r ≡ o → has new r ≡ is_eq o
-    told r o e = sym (tied new r) ∙ ap is_eq e
+    has_is : (r : R) (o : Ordering) → order new r ≡ o → has new r ≡ is_eq o
+    has_is r o e = sym (tied new r) ∙ ap is_eq e
 
   pub put_back : (new : R) (rs : List R) → IsAscending order rs → put_by (order new) (filter (λ r. not (has new r)) rs) new ≡ put_by (order new) rs new
   put_back new [] h = refl
@@ -47,11 +47,11 @@ module _ {R : Type 0} (order : R → R → Ordering) (total : IsTotalOrder order
       go : (o : Ordering) → order new r ≡ o → put_by (order new) (filter (λ r. not (has new r)) rs) new ≡ put_by (order new) rs new
           → put_by (order new) (cond (not (has new r)) (r ∷ filter (λ r. not (has new r)) rs) (filter (λ r. not (has new r)) rs)) new
           ≡ match_ordering o (new ∷ r ∷ rs) (new ∷ rs) (r ∷ put_by (order new) rs new)
-      go Less e ih = rw (told new r Less e, e) (ap (λ l. new ∷ r ∷ l) (none_has new rs (after_lower order total new r e rs h.0)))
+      go Less e ih = rw (has_is new r Less e, e) (ap (λ l. new ∷ r ∷ l) (none_has new rs (after_lower order total new r e rs h.0)))
       go Equal e ih =
           let after = after_same order total new r e rs h.0 in
-          rw (told new r Equal e, none_has new rs after) (first_of new rs after)
-      go Greater e ih = rw (told new r Greater e, e) (ap (λ l. r ∷ l) ih)
+          rw (has_is new r Equal e, none_has new rs after) (first_of new rs after)
+      go Greater e ih = rw (has_is new r Greater e, e) (ap (λ l. r ∷ l) ih)
 
 module _ {R : Type 0} (key : R → ℕ) where
   abbrev pub by_key : R → R → Ordering
@@ -82,11 +82,11 @@ module _ {R : Type 0} (key : R → ℕ) where
   pub only_one : (new x : R) (rs : List R) → IsAscending by_key rs → Among x rs → key x ≡ key new → filter (λ r. key r == key new) rs ≡ x ∷ []
   only_one new x [] h a same = absurd a
   only_one new x (r ∷ rs) h (inl e) same =
-      let own : key r ≡ key new = ap key (sym e) ∙ same in
-      rw (has_own r new own, none_more new r rs own h.0) (ap (λ y. y ∷ []) (sym e))
+      let same_key : key r ≡ key new = ap key (sym e) ∙ same in
+      rw (has_same_key r new same_key, none_more new r rs same_key h.0) (ap (λ y. y ∷ []) (sym e))
     where
-      has_own : (r new : R) → key r ≡ key new → (key r == key new) ≡ true
-      has_own r new own = grind (arith, nat_tests)
+      has_same_key : (r new : R) → key r ≡ key new → (key r == key new) ≡ true
+      has_same_key r new same_key = grind (arith, nat_tests)
   only_one new x (r ∷ rs) h (inr a) same = rw (before new r rs x h.0 a same) (only_one new x rs h.1 a same)
 
   module _ (row : R → Row) (keyed : (r : R) → rowid (row r) ≡ id_value (key r)) where

@@ -30,8 +30,8 @@ pub mod Seen
 pub mod Looked
 pub mod Common
 pub mod Seeing
-pub mod Filed
-pub mod TablesFiled
+pub mod Described
+pub mod TablesDescribed
 pub mod Counters
 pub mod Selected
 pub mod Recorded

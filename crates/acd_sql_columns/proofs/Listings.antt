@@ -1,4 +1,4 @@
--- Queries over one table whose rows stand for records: they show the records that pass, in order.
+-- Queries over one table whose rows represent records: they show the records that pass, in order.
 use Rattle.std.proofs.Common.{◌≡◌, ◌++◌, ℕ, List, [], ◌∷◌, map, filter, false, Bool, Ok, Err, Result, IfOk, OnOk, IsTrue, refl, sym, ap, subst, ◌∙◌}
 use Rattle.std.specs.Prelude.{Vec}
 use Rattle.std.specs.declared.alloc.Global.{Global}
@@ -22,7 +22,7 @@ use Rattle.sqlite.specs.State.{State, HasCleanDisk, Shown}
 use Rattle.sqlite.proofs.Callers.{IsPlain, command_of, reads_as}
 use Rattle.acd_lemmas.proofs.Lists.{ascending-filter}
 use Rattle.acd_book.specs.Content.{Content}
-use Rattle.acd_sql_columns.specs.Schema.{book_schema, nine, two, with_behind, BeginsSchema}
+use Rattle.acd_sql_columns.specs.Schema.{book_schema, nine, two, with_later, BeginsSchema}
 use Rattle.acd_sql_columns.specs.Values.{id_value}
 use Rattle.acd_sql_columns.specs.declared.tables.Table.{Table}
 use Rattle.acd_sql_columns.specs.declared.tables.Version.{Version}
@@ -30,13 +30,14 @@ use Rattle.acd_sql_columns.specs.declared.tables.Version.TheVariants as version
 use Rattle.acd_sql_columns.specs.AnyRows.{schema_of}
 use Rattle.acd_sql_columns.specs.Relations.{relations_of}
 use Rattle.acd_sql_columns.specs.Content.{AreRows, Stores, tree_of, part}
-use Rattle.acd_sql_columns.specs.Draft.{HoldsContent, Quiet, NoStop}
+use Rattle.acd_sql_columns.specs.Transactions.{HoldsContent, Quiet, NoStop}
 use Rattle.acd_sql_columns.specs.Finding.{Finds}
 use Rattle.acd_sql_columns.proofs.KeyedRows.{by_key, by_key_total, id_cmp}
 use Rattle.acd_sql_columns.proofs.Ordered.{asking, given, answered}
 use Rattle.acd_sql_columns.proofs.Scans.{showing, passing, filter_like, each, filter_mapped}
 
--- what a text asks for: the tests, the columns, the order and the limit of a query over one table; and so it does whatever lies behind these tables
+-- a text asks for this: the tests, the columns, the order and the limit of a query over one table; and so it does whatever tables come later than
+-- these
 pub record Listing (base : List Made) (text : List ℕ) : Type 0 where
   pub tree : ℕ
   pub terms : List Term
@@ -44,11 +45,11 @@ pub record Listing (base : List Made) (text : List ℕ) : Type 0 where
   pub order : List (Term × Key)
   pub limit : Term
   pub names : List (List ℕ)
-  pub command : (rest : List Made) (s : Schema) → command_of (understood (with_behind base rest s) text) ≡ Select (record { lets = []; body = asking tree terms project order limit }) names
-  pub plain : (rest : List Made) (s : Schema) → IsPlain (understood (with_behind base rest s) text)
-  pub unlisted : (rest : List Made) (s : Schema) → reads_listing (with_behind base rest s) text ≡ false
+  pub command : (rest : List Made) (s : Schema) → command_of (understood (with_later base rest s) text) ≡ Select (record { lets = []; body = asking tree terms project order limit }) names
+  pub plain : (rest : List Made) (s : Schema) → IsPlain (understood (with_later base rest s) text)
+  pub unlisted : (rest : List Made) (s : Schema) → reads_listing (with_later base rest s) text ≡ false
 
-pub begun : (base : List Made) (s : Schema) (b : BeginsSchema base s) → s ≡ with_behind base b.0 s
+pub begun : (base : List Made) (s : Schema) (b : BeginsSchema base s) → s ≡ with_later base b.0 s
 begun base s b = ap (λ ts. record s { tables = ts }) b.1
 
 pub plain_of : (base : List Made) (text : List ℕ) → Listing base text → (s : Schema) → BeginsSchema base s → IsPlain (understood s text)
@@ -107,8 +108,8 @@ module _ {R : Type 0} {base : List Made} (text : List ℕ) (it : Listing base te
     pub listed : (old new : State) (rows : List Row) (rs : List R) → BeginsSchema base old.now.schema → AreRows key row (old.now.trees it.tree) rs → Shown text params old new rows
         → rows ≡ limited (as_count (eval it.limit (params ∷ []))) (map values (filter P rs))
     listed old new rows rs b are h =
-        let own = with_behind base b.0 old.now.schema in
-        let read = reads_as text params old new own (begun base old.now.schema b) _ (it.command b.0 old.now.schema) (it.plain b.0 old.now.schema) (it.unlisted b.0 old.now.schema) rows h in
+        let whole_schema = with_later base b.0 old.now.schema in
+        let read = reads_as text params old new whole_schema (begun base old.now.schema b) _ (it.command b.0 old.now.schema) (it.plain b.0 old.now.schema) (it.unlisted b.0 old.now.schema) rows h in
         let moved = IsPermutation-same _ _ (sym (passed (old.now.trees it.tree) rs are.rows_are)) in
         answered (by_key key) (by_key_total key) it.tree it.terms it.project it.order it.limit old.now.trees params rows out (filter P rs) same (ascending-filter (by_key key) P rs are.ascending) moved read.answer
         ∙ ap (limited (as_count (eval it.limit (params ∷ [])))) (map_same (λ r. showing params it.project (row r)) values l.shows (filter P rs))

@@ -1,4 +1,4 @@
--- What the queries show of tables whose rows may hold anything.
+-- The results of queries of tables whose rows may hold anything.
 use Rattle.std.proofs.Common.{◌≡◌, ◌&&◌, ℕ, zero, suc, length, take, filter, nat_lt, nat_le, List, [], ◌∷◌, map, cond, Bool, true, false, Option, Some, None, Result, inl, inr, refl, sym, ap, subst, ◌∙◌, IsTrue, arith}
 use Rattle.std.specs.Prelude.{Vec, pos, negsuc, codes}
 use Rattle.std.specs.declared.alloc.Global.{Global}
@@ -38,17 +38,17 @@ use Rattle.acd_sql_columns.specs.declared.tables.Log.{Log}
 use Rattle.acd_sql_columns.specs.declared.tables.Log.TheVariants as log
 use Rattle.acd_sql_columns.specs.declared.tables.Table.{Table}
 use Rattle.acd_sql_columns.specs.declared.tables.Table.TheVariants as table
-use Rattle.acd_sql_columns.specs.AnyRows.{values_in, rows_in, is_good, are_good, is_good_in, table_of_log, values_behind, BeginsAsBook, Numbered, AreNumbered, FromOne, TellsLow, IsPageRows}
+use Rattle.acd_sql_columns.specs.AnyRows.{values_in, rows_in, is_good, are_good, is_good_in, table_of_log, values_after, BeginsAsBook, Numbered, AreNumbered, FromOne, FindsLow, IsPageRows}
 use Rattle.acd_sql_columns.specs.Content.{tree_of}
 use Rattle.acd_sql_columns.specs.Values.{option_in, ◌>>=◌, at_least, stamp_at, id_value}
 use Rattle.acd_sql_columns.specs.Ranges.{event_in, kept_in}
-use Rattle.acd_sql_columns.specs.Schema.{nine, with_behind, BeginsSchema, names_of}
+use Rattle.acd_sql_columns.specs.Schema.{nine, with_later, BeginsSchema, names_of}
 use Rattle.acd_sql_columns.specs.Schema as schema
 use Rattle.acd_sql_columns.specs.Seeing.{HasDatabase, Sees}
 use Rattle.acd_sql_columns.specs.Tables.{connections, events, kept}
-use Rattle.acd_sql_columns.proofs.Filed.{paging}
+use Rattle.acd_sql_columns.proofs.Described.{paging}
 use Rattle.acd_sql_columns.proofs.Seeing.{AsksAll, answer_in}
-use Rattle.acd_sql_columns.proofs.TablesFiled.{events_filed, events_pages, kept_filed, kept_pages}
+use Rattle.acd_sql_columns.proofs.TablesDescribed.{events_described, events_pages, kept_described, kept_pages}
 use Rattle.acd_sql_columns.proofs.Asked.{columns, no_limit, by_number, above_parameter, above}
 use Rattle.acd_sql_columns.proofs.Connections.{connections_heaped, connections_selects, connections_listing}
 use Rattle.acd_sql_columns.proofs.Heaped.{asks}
@@ -114,7 +114,7 @@ bad_among t (x ∷ rows) r (inr k) bad = either (is_good t x) (are_good t rows) 
 
 -- ---- one text
 
-module _ {base : List Made} (text : List ℕ) (it : Listing base text) (params : Row) (d : Database) (old new : State) (rows : List Row) (had : HasDatabase old d) (b : BeginsSchema base d.schema) (h : Shown text params old new rows) where
+module _ {base : List Made} (text : List ℕ) (it : Listing base text) (params : Row) (d : Database) (old new : State) (rows : List Row) (old_database : HasDatabase old d) (b : BeginsSchema base d.schema) (h : Shown text params old new rows) where
   -- each row of the answer shows one that passes
   abbrev Comes : Output → Type 0
   Comes o = (r : Row) × Has (d.trees it.tree) r × (list_all (holds (params ∷ r ∷ [])) it.terms ≡ true) × (o.1 ≡ showing params it.project r)
@@ -128,14 +128,14 @@ module _ {base : List Made} (text : List ℕ) (it : Listing base text) (params :
 
   pub rows_come : AllByRecursion (λ row. (r : Row) × Has (d.trees it.tree) r × (list_all (holds (params ∷ r ∷ [])) it.terms ≡ true) × (row ≡ showing params it.project r)) rows
   rows_come =
-      let some = in_some_order it.tree it.terms it.project it.order it.limit d.trees params rows (answer_in base text it params d old new rows had b h) in
+      let some = in_some_order it.tree it.terms it.project it.order it.limit d.trees params rows (answer_in base text it params d old new rows old_database b h) in
       let P = λ (row : Row). (r : Row) × Has (d.trees it.tree) r × (list_all (holds (params ∷ r ∷ [])) it.terms ≡ true) × (row ≡ showing params it.project r) in
       subst (AllByRecursion P) (sym some.2) (all_limited P (as_count (eval it.limit (params ∷ []))) (map (λ (o : Output). o.1) some.0) (mapped_all P (λ (o : Output). o.1) some.0 (come some.0 some.1)))
 
   -- where no more than the first is asked for, and none is shown
   pub rows_lack : as_count (eval it.limit (params ∷ [])) ≡ Some 1 → rows ≡ [] → AllByRecursion (λ r. list_all (holds (params ∷ r ∷ [])) it.terms ≡ false) (d.trees it.tree)
   rows_lack one none =
-      let some = in_some_order it.tree it.terms it.project it.order it.limit d.trees params rows (answer_in base text it params d old new rows had b h) in
+      let some = in_some_order it.tree it.terms it.project it.order it.limit d.trees params rows (answer_in base text it params d old new rows old_database b h) in
       let empty = first_none some.0 (sym (some.2 ∙ ap (λ o. limited o (map (λ (o : Output). o.1) some.0)) one) ∙ none) in
       let long = length_permutation _ some.0 some.1 in
       none_pass (λ r. list_all (holds (params ∷ r ∷ [])) it.terms) (d.trees it.tree) (none_given (passing params it.terms (d.trees it.tree)) (sym long ∙ ap length empty))
@@ -166,21 +166,21 @@ asks_unordered_connections = record { tree = refl; all = refl; unlimited = refl;
 
 in_database : (s t : Schema) (text : List ℕ) (it : Selection t text) (d : Database) (old new : State) (rows : List Row) → HasDatabase old d → d.schema ≡ t → Shown text [] old new rows
     → IsPermutation (map (showing [] it.project) (passing [] it.terms (d.trees it.tree))) rows
-in_database s t text it d old new rows had is h =
-    subst (λ (x : Database). IsPermutation (map (showing [] it.project) (passing [] it.terms (x.trees it.tree))) rows) had.now
-    (selected t text it [] old new rows (ap (λ (x : Database). x.schema) had.now ∙ is) h)
+in_database s t text it d old new rows old_database is h =
+    subst (λ (x : Database). IsPermutation (map (showing [] it.project) (passing [] it.terms (x.trees it.tree))) rows) old_database.now
+    (selected t text it [] old new rows (ap (λ (x : Database). x.schema) old_database.now ∙ is) h)
 
 pub shown_meta : (d : Database) (old new : State) (rows : List Row) → HasDatabase old d → BeginsSchema nine d.schema → Shown SELECT_META.now [] old new rows → IsPermutation (rows_in table.Meta d.trees) rows
 unfolding meta_selection
-shown_meta d old new rows had b h =
-    let own = with_behind nine b.0 d.schema in
-    subst (λ l. IsPermutation l rows) (ap (map (values_in table.Meta)) (filter_true (d.trees schema.meta.tree))) (in_database own own SELECT_META.now (meta_selection b.0 d.schema) d old new rows had (begun nine d.schema b) h)
+shown_meta d old new rows old_database b h =
+    let whole_schema = with_later nine b.0 d.schema in
+    subst (λ l. IsPermutation l rows) (ap (map (values_in table.Meta)) (filter_true (d.trees schema.meta.tree))) (in_database whole_schema whole_schema SELECT_META.now (meta_selection b.0 d.schema) d old new rows old_database (begun nine d.schema b) h)
 
--- whatever tables are behind the first
+-- whatever tables come later than the first
 abbrev first : List Made
 first = schema.table_of schema.meta ∷ []
 
-version_selection : (rest : List Made) (s : Schema) → Selection (with_behind first rest s) SELECT_VERSION.now
+version_selection : (rest : List Made) (s : Schema) → Selection (with_later first rest s) SELECT_VERSION.now
 unfolding understood everything
 version_selection rest s = record { tree = schema.meta.tree; terms = []; project = col 1 2 ∷ []; order = []; names = codes "version" ∷ []; command = refl; plain = (refl, refl); unlisted = refl }
 
@@ -190,9 +190,9 @@ version_plain d b = subst (λ s. IsPlain (understood s SELECT_VERSION.now)) (sym
 pub shown_version : (d : Database) (old new : State) (rows : List Row) → HasDatabase old d → BeginsAsBook d.schema → Shown SELECT_VERSION.now [] old new rows
     → IsPermutation (map (λ r. column r 2 ∷ []) (d.trees schema.meta.tree)) rows
 unfolding version_selection
-shown_version d old new rows had b h =
+shown_version d old new rows old_database b h =
     subst (λ l. IsPermutation l rows) (ap (map (λ (r : Row). column r 2 ∷ [])) (filter_true (d.trees schema.meta.tree)))
-    (in_database (with_behind first b.0 d.schema) (with_behind first b.0 d.schema) SELECT_VERSION.now (version_selection b.0 d.schema) d old new rows had (begun first d.schema b) h)
+    (in_database (with_later first b.0 d.schema) (with_later first b.0 d.schema) SELECT_VERSION.now (version_selection b.0 d.schema) d old new rows old_database (begun first d.schema b) h)
 
 -- the tables of either version
 pub nine_begin : (s : Schema) → BeginsSchema nine s → BeginsAsBook s
@@ -267,15 +267,15 @@ first_one [] some all = absurd (some refl)
 first_one (r ∷ rows) some all = (r, all.0)
 
 pub shown_low : (l : Log) (text : List ℕ) (it : Listing nine text) → AsksLow l text it → (d : Database) (old new : State) (rows : List Row) → HasDatabase old d → BeginsSchema nine d.schema → Shown text [] old new rows
-    → TellsLow l d.trees rows
+    → FindsLow l d.trees rows
 unfolding is_good_in
-shown_low l text it asks d old new rows had is h = record {
+shown_low l text it asks d old new rows old_database is h = record {
   none = λ none.
       subst (λ n. AllByRecursion (λ r. IsTrue (is_int (rowid r)) → FromOne r) (d.trees n)) asks.tree
       (all_so (λ r. list_all (holds ([] ∷ r ∷ [])) it.terms ≡ false) (λ r. IsTrue (is_int (rowid r)) → FromOne r) (λ r f int. from_one r (rowid r) refl (sym (asks.tests r) ∙ f) int) (d.trees it.tree)
-      (rows_lack text it [] d old new rows had is h asks.one none));
+      (rows_lack text it [] d old new rows old_database is h asks.one none));
   some = λ some.
-      let one = first_one rows some (rows_come text it [] d old new rows had is h) in
+      let one = first_one rows some (rows_come text it [] d old new rows old_database is h) in
       let r = one.1.0 in
       let here : Has (d.trees (tree_of (table_of_log l))) r = subst (λ n. Has (d.trees n) r) asks.tree one.1.1 in
       bad_among (table_of_log l) (rows_in (table_of_log l) d.trees) (values_in (table_of_log l) r) (mapped_has (values_in (table_of_log l)) (d.trees (tree_of (table_of_log l))) r here)
@@ -333,18 +333,18 @@ pub record AsksPage (l : Log) (text : List ℕ) (it : Listing nine text) (n limi
 
 pub shown_page : (l : Log) (text : List ℕ) (it : Listing nine text) (n limit : ℕ) → AsksPage l text it n limit → (d : Database) (old new : State) (rows : List Row) → HasDatabase old d → BeginsSchema nine d.schema
     → Shown text (id_value n ∷ id_value limit ∷ []) old new rows → IsPageRows l n limit d.trees rows
-shown_page l text it n limit asks d old new rows had is h =
+shown_page l text it n limit asks d old new rows old_database is h =
     let params = id_value n ∷ id_value limit ∷ [] in record {
       known = all_so (λ row. (r : Row) × Has (d.trees it.tree) r × (list_all (holds (params ∷ r ∷ [])) it.terms ≡ true) × (row ≡ showing params it.project r)) (λ row. Has (rows_in (table_of_log l) d.trees) row)
           (λ row from.
           subst (Has (rows_in (table_of_log l) d.trees)) (sym (from.3 ∙ asks.shows from.0))
           (mapped_has (values_in (table_of_log l)) (d.trees (tree_of (table_of_log l))) from.0 (subst (λ k. Has (d.trees k) from.0) asks.tree from.1)))
-          rows (rows_come text it params d old new rows had is h);
+          rows (rows_come text it params d old new rows old_database is h);
       paged = λ xs are.
           listed text it (λ (x : Numbered). x.key) (λ (x : Numbered). x.row) (λ (x : Numbered). values_in (table_of_log l) x.row) params (λ (x : Numbered). nat_lt n x.key) asks.lists old new rows xs
-          (subst (λ (x : Database). BeginsSchema nine x.schema) (sym had.now) is)
-          (record { rows_are = ap (λ (x : Database). x.trees it.tree) had.now ∙ ap d.trees asks.tree ∙ are.rows; ascending = numbers_ascend l d xs are }) h
-          ∙ ap (λ o. limited o (values_behind l n xs)) asks.limited_by;
+          (subst (λ (x : Database). BeginsSchema nine x.schema) (sym old_database.now) is)
+          (record { rows_are = ap (λ (x : Database). x.trees it.tree) old_database.now ∙ ap d.trees asks.tree ∙ are.rows; ascending = numbers_ascend l d xs are }) h
+          ∙ ap (λ o. limited o (values_after l n xs)) asks.limited_by;
     }
 
 -- a test of the number is one of the key
@@ -352,29 +352,29 @@ number_tests : (n limit : ℕ) (x : Numbered) → list_all (holds ((id_value n �
 unfolding binary
 number_tests n limit x = ap (λ v. list_all (holds ((id_value n ∷ id_value limit ∷ []) ∷ (v ∷ []) ∷ [])) above_parameter) x.is ∙ truth_back _ ∙ above n x.key
 
-pub asks_events : (n limit : ℕ) → AsksPage log.Events SELECT_EVENTS_AFTER.now (paging events events_filed SELECT_EVENTS_AFTER.now events_pages n limit) n limit
+pub asks_events : (n limit : ℕ) → AsksPage log.Events SELECT_EVENTS_AFTER.now (paging events events_described SELECT_EVENTS_AFTER.now events_pages n limit) n limit
 asks_events n limit = record { tree = refl; lists = record { keyed = λ x. x.is; ranks = λ x y. refl; tests = number_tests n limit; shows = λ x. refl }; shows = λ r. refl; limited_by = refl }
 
-pub asks_kept : (n limit : ℕ) → AsksPage log.Kept SELECT_KEPT_AFTER.now (paging kept kept_filed SELECT_KEPT_AFTER.now kept_pages n limit) n limit
+pub asks_kept : (n limit : ℕ) → AsksPage log.Kept SELECT_KEPT_AFTER.now (paging kept kept_described SELECT_KEPT_AFTER.now kept_pages n limit) n limit
 asks_kept n limit = record { tree = refl; lists = record { keyed = λ x. x.is; ranks = λ x y. refl; tests = number_tests n limit; shows = λ x. refl }; shows = λ r. refl; limited_by = refl }
 
 -- ---- reads
 
 module _ (d : Database) (old new : State) (r : Result (Vec Row Global) Error) (is : BeginsSchema nine d.schema) where
   pub sees_meta : Sees d old new r (λ rows. Shown SELECT_META.now [] old new rows.items) → Sees d old new r (λ rows. IsPermutation (rows_in table.Meta d.trees) rows.items)
-  sees_meta h = sees_so d old new r (λ rows. Shown SELECT_META.now [] old new rows.items) (λ rows. IsPermutation (rows_in table.Meta d.trees) rows.items) (λ had rows shown. shown_meta d old new rows.items had is shown) h
+  sees_meta h = sees_so d old new r (λ rows. Shown SELECT_META.now [] old new rows.items) (λ rows. IsPermutation (rows_in table.Meta d.trees) rows.items) (λ old_database rows shown. shown_meta d old new rows.items old_database is shown) h
 
-  pub sees_low : (l : Log) (text : List ℕ) (it : Listing nine text) → AsksLow l text it → Sees d old new r (λ rows. Shown text [] old new rows.items) → Sees d old new r (λ rows. TellsLow l d.trees rows.items)
-  sees_low l text it asks h = sees_so d old new r (λ rows. Shown text [] old new rows.items) (λ rows. TellsLow l d.trees rows.items) (λ had rows shown. shown_low l text it asks d old new rows.items had is shown) h
+  pub sees_low : (l : Log) (text : List ℕ) (it : Listing nine text) → AsksLow l text it → Sees d old new r (λ rows. Shown text [] old new rows.items) → Sees d old new r (λ rows. FindsLow l d.trees rows.items)
+  sees_low l text it asks h = sees_so d old new r (λ rows. Shown text [] old new rows.items) (λ rows. FindsLow l d.trees rows.items) (λ old_database rows shown. shown_low l text it asks d old new rows.items old_database is shown) h
 
   pub sees_page : (l : Log) (text : List ℕ) (it : Listing nine text) (n limit : ℕ) → AsksPage l text it n limit → Sees d old new r (λ rows. Shown text (id_value n ∷ id_value limit ∷ []) old new rows.items)
       → Sees d old new r (λ rows. IsPageRows l n limit d.trees rows.items)
   sees_page l text it n limit asks h =
       sees_so d old new r (λ rows. Shown text (id_value n ∷ id_value limit ∷ []) old new rows.items) (λ rows. IsPageRows l n limit d.trees rows.items)
-      (λ had rows shown. shown_page l text it n limit asks d old new rows.items had is shown) h
+      (λ old_database rows shown. shown_page l text it n limit asks d old new rows.items old_database is shown) h
 
 pub sees_version : (d : Database) (old new : State) (r : Result (Vec Row Global) Error) → BeginsAsBook d.schema → Sees d old new r (λ rows. Shown SELECT_VERSION.now [] old new rows.items)
     → Sees d old new r (λ rows. IsPermutation (map (λ r. column r 2 ∷ []) (d.trees schema.meta.tree)) rows.items)
 sees_version d old new r b h =
     sees_so d old new r (λ rows. Shown SELECT_VERSION.now [] old new rows.items) (λ rows. IsPermutation (map (λ r. column r 2 ∷ []) (d.trees schema.meta.tree)) rows.items)
-    (λ had rows shown. shown_version d old new rows.items had b shown) h
+    (λ old_database rows shown. shown_version d old new rows.items old_database b shown) h

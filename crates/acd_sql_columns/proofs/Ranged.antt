@@ -144,29 +144,29 @@ coded : {A : Type 0} (code : A → ℕ) (all : List A) (n : ℕ) (x : A) → wit
 coded code all n x h = same_number (code x) n (find_passes (λ a. code a == n) all x h)
 
 -- the value is that of the code
-with_own : {A : Type 0} (code : A → ℕ) (all : List A) (v : Value) (x : A) → (option_in v >>= with_code code all) ≡ Some x → v ≡ id_value (code x)
-with_own code all v x h = let b = bound (option_in v) (with_code code all) x h in whole_is v b.0 b.1 ∙ ap id_value (coded code all b.0 x b.2)
+is_of_code : {A : Type 0} (code : A → ℕ) (all : List A) (v : Value) (x : A) → (option_in v >>= with_code code all) ≡ Some x → v ≡ id_value (code x)
+is_of_code code all v x h = let b = bound (option_in v) (with_code code all) x h in whole_is v b.0 b.1 ∙ ap id_value (coded code all b.0 x b.2)
 
 module _ (r : Row) (at : ℕ) where
   pub agent_state_stored : (s : AgentState) → agent_state_at r at ≡ Some s → column r at ≡ id_value (agent_code s)
   unfolding agent_state_at agent_state_of
-  agent_state_stored s h = with_own agent_code agent_states (column r at) s h
+  agent_state_stored s h = is_of_code agent_code agent_states (column r at) s h
 
   pub pending_stored : (p : Pending) → pending_at r at ≡ Some p → column r at ≡ id_value (pending_code p)
   unfolding pending_at pending_of
-  pending_stored p h = with_own pending_code pending_states (column r at) p h
+  pending_stored p h = is_of_code pending_code pending_states (column r at) p h
 
   pub connection_state_stored : (s : ConnectionState) → connection_state_at r at ≡ Some s → column r at ≡ id_value (connection_code s)
   unfolding connection_state_at connection_state_of
-  connection_state_stored s h = with_own connection_code connection_states (column r at) s h
+  connection_state_stored s h = is_of_code connection_code connection_states (column r at) s h
 
   pub kind_stored : (k : EventKind) → kind_at r at ≡ Some k → column r at ≡ id_value (kind_code k)
   unfolding kind_at kind_of
-  kind_stored k h = with_own kind_code kinds (column r at) k h
+  kind_stored k h = is_of_code kind_code kinds (column r at) k h
 
   pub cause_stored : (w : Cause) → cause_at r at ≡ Some w → column r at ≡ id_value (cause_code w)
   unfolding cause_at cause_of
-  cause_stored w h = with_own cause_code causes (column r at) w h
+  cause_stored w h = is_of_code cause_code causes (column r at) w h
 
 -- ---- rows of a known width
 

@@ -1,4 +1,4 @@
--- What is read of rows are the records that the rows stand for.
+-- The records read of rows are those that the rows represent.
 use Rattle.std.proofs.Common.{◌≡◌, List, [], ◌∷◌, map, Result, Ok, Err, Option, Some, IfOk, refl, sym, ap, ap₂, ◌∙◌}
 use Rattle.std.specs.Prelude.{Vec}
 use Rattle.std.specs.declared.alloc.Global.{Global}
@@ -7,7 +7,7 @@ use Rattle.sqlite.specs.declared.error.Error.{Error}
 use Rattle.sqlite.specs.State.{State}
 use Rattle.acd_terms.specs.Lists.{Every}
 use Rattle.acd_book.specs.Content.{Content}
-use Rattle.acd_sql_columns.specs.Draft.{HoldsContent}
+use Rattle.acd_sql_columns.specs.Transactions.{HoldsContent}
 use Rattle.acd_sql_columns.specs.Finding.{Finds}
 use Rattle.acd_lemmas.proofs.Lists.{head_is, tail_is}
 

@@ -15,7 +15,7 @@ use Rattle.acd_lemmas.proofs.Lists.{after_among, filter_among, all_true, ascendi
 use Rattle.acd_sql_columns.specs.declared.relations.GroupRow.{GroupRow}
 use Rattle.acd_sql_columns.specs.declared.relations.AgentRow.{AgentRow}
 use Rattle.acd_sql_columns.specs.declared.relations.GroupPriority.{GroupPriority}
-use Rattle.acd_sql_columns.specs.Relations.{pair_order, group_part, agent_part, further_of, further_in, priorities_in, priority_of, joined_group, groups_beside, behind_first, joined_agent, is_above, is_behind, are_behind, are_of_groups}
+use Rattle.acd_sql_columns.specs.Relations.{pair_order, group_part, agent_part, further_of, further_in, priorities_in, priority_of, joined_group, groups_beside, after_first, joined_agent, is_above, is_after, are_after, are_of_groups}
 use Rattle.acd_sql_columns.proofs.Decoded.{one_of}
 use Rattle.acd_sql_columns.proofs.Joined.{apart, apart_back, of_agent}
 
@@ -42,8 +42,8 @@ less_lt m n h = grind (arith, nat_tests)
 not_below : (m n : ℕ) → m ≡ n → nat_lt m n ≡ false
 not_below m n h = grind (arith, nat_tests)
 
-abbrev own_order : AgentRow → AgentRow → Ordering
-own_order a b = nat_cmp a.agent b.agent
+abbrev agent_order : AgentRow → AgentRow → Ordering
+agent_order a b = nat_cmp a.agent b.agent
 
 abbrev regrouped : AgentRow → Option ℕ → AgentRow
 regrouped a o = record a { group = o }
@@ -58,7 +58,7 @@ first_le p q h = by (nat_cmp p.0 q.0) refl h
     by Equal e k = not_below q.0 p.0 (sym (cmp_equal p.0 q.0 e))
     by Greater e k = absurd (cc k)
 
--- of numbers that are none below, one behind another that isn't it comes after
+-- of numbers that are none below, one after another that isn't it comes after
 after_one : (n m k : ℕ) → nat_lt m n ≡ false → (m == n) ≡ false → nat_lt k m ≡ false → (k == n) ≡ false
 after_one n m k h e l = grind (arith, nat_tests)
 
@@ -77,13 +77,13 @@ module _ {P A : Type 0} (key : P → ℕ) (order : P → P → Ordering) (le : (
   split n [] up low = refl
   split n (p ∷ ps) up low = by (key p == n) refl (split n ps up.1 (λ q h. low q (inr h)))
     where
-      behind : (key p == n) ≡ false → (q : P) → Among q ps → (key q == n) ≡ false
-      behind e q h = after_one n (key p) (key q) (low p (inl refl)) e (le p q (after_among order p ps q up.0 h))
+      after : (key p == n) ≡ false → (q : P) → Among q ps → (key q == n) ≡ false
+      after e q h = after_one n (key p) (key q) (low p (inl refl)) e (le p q (after_among order p ps q up.0 h))
 
       by : (b : Bool) → (key p == n) ≡ b → filter (of_key n) ps ++ filter (not_key n) ps ≡ ps
           → cond b (p ∷ filter (of_key n) ps) (filter (of_key n) ps) ++ cond (not b) (p ∷ filter (not_key n) ps) (filter (not_key n) ps) ≡ p ∷ ps
       by true e more = ap (λ l. p ∷ l) more
-      by false e more = ap₂ (λ xs ys. xs ++ p ∷ ys) (filter_none (of_key n) ps (behind e)) (filter_all (not_key n) ps (λ q h. ap not (behind e q h)))
+      by false e more = ap₂ (λ xs ys. xs ++ p ∷ ys) (filter_none (of_key n) ps (after e)) (filter_all (not_key n) ps (λ q h. ap not (after e q h)))
 
   -- the ps of each of these items, one agent after the other
   abbrev in_turn : List A → List P → List P
@@ -156,23 +156,23 @@ seconds_rise n (p ∷ ps) all up =
 
 -- ---- agents
 
-module _ (agents : List AgentRow) (pairs : List (ℕ × ℕ)) (up : IsAscending own_order agents) (behind : are_behind agents pairs ≡ true) where
-  both : (list_all (λ (p : ℕ × ℕ). list_any (λ (a : AgentRow). is_behind a p) agents) pairs ≡ true) × (list_all (λ (a : AgentRow). nat_le (length (groups_beside pairs a.agent)) 7) agents ≡ true)
-  both = and_parts _ _ behind
+module _ (agents : List AgentRow) (pairs : List (ℕ × ℕ)) (up : IsAscending agent_order agents) (after : are_after agents pairs ≡ true) where
+  both : (list_all (λ (p : ℕ × ℕ). list_any (λ (a : AgentRow). is_after a p) agents) pairs ≡ true) × (list_all (λ (a : AgentRow). nat_le (length (groups_beside pairs a.agent)) 7) agents ≡ true)
+  both = and_parts _ _ after
 
-  seat : (p : ℕ × ℕ) → Among p pairs → (a : AgentRow) × Among a agents × (is_behind a p ≡ true)
-  seat p h = any_among (λ (a : AgentRow). is_behind a p) agents (all_true (λ (q : ℕ × ℕ). list_any (λ (a : AgentRow). is_behind a q) agents) pairs both.0 p h)
+  seat : (p : ℕ × ℕ) → Among p pairs → (a : AgentRow) × Among a agents × (is_after a p ≡ true)
+  seat p h = any_among (λ (a : AgentRow). is_after a p) agents (all_true (λ (q : ℕ × ℕ). list_any (λ (a : AgentRow). is_after a q) agents) pairs both.0 p h)
 
   there : (p : ℕ × ℕ) → Among p pairs → (a : AgentRow) × Among a agents × (a.agent ≡ p.0)
   there p h = let from = seat p h in (from.0, from.1, eqb-true from.0.agent p.0 (and_parts (from.0.agent == p.0) (is_above from.0.group p.1) from.2).0)
 
-  -- a pair of an agent is behind its first group
+  -- a pair of an agent comes after its first group
   above : (a : AgentRow) → Among a agents → (p : ℕ × ℕ) → Among p (filter (of_agent a.agent) pairs) → is_above a.group p.1 ≡ true
   above a h p k =
       let was = filter_among (of_agent a.agent) pairs p k in
       let from = seat p was.0 in
       let parts = and_parts (from.0.agent == p.0) (is_above from.0.group p.1) from.2 in
-      let same = one_of own_order (on_total (λ (x : AgentRow). x.agent) nat_cmp_total) agents from.0 a up from.1 h (cmp_self from.0.agent a.agent (eqb-true from.0.agent p.0 parts.0 ∙ eqb-true p.0 a.agent was.1)) in
+      let same = one_of agent_order (on_total (λ (x : AgentRow). x.agent) nat_cmp_total) agents from.0 a up from.1 h (cmp_self from.0.agent a.agent (eqb-true from.0.agent p.0 parts.0 ∙ eqb-true p.0 a.agent was.1)) in
       subst (λ (x : AgentRow). is_above x.group p.1 ≡ true) same parts.1
 
   none_beside : (a : AgentRow) → Among a agents → a.group ≡ None → filter (of_agent a.agent) pairs ≡ []
@@ -190,14 +190,14 @@ module _ (agents : List AgentRow) (pairs : List (ℕ × ℕ)) (up : IsAscending 
   further_one : (a : AgentRow) → Among a agents → further_of (joined_agent pairs a) ≡ filter (of_agent a.agent) pairs
   further_one a h = by a.group refl
     where
-      by : (o : Option ℕ) → a.group ≡ o → map (λ (g : ℕ). (a.agent, g)) (further_groups (behind_first o (groups_beside pairs a.agent))) ≡ filter (of_agent a.agent) pairs
+      by : (o : Option ℕ) → a.group ≡ o → map (λ (g : ℕ). (a.agent, g)) (further_groups (after_first o (groups_beside pairs a.agent))) ≡ filter (of_agent a.agent) pairs
       by None e = ap (λ (ps : List (ℕ × ℕ)). map (λ (g : ℕ). (a.agent, g)) (further_groups (map (λ (p : ℕ × ℕ). p.1) ps))) (none_beside a h e) ∙ sym (none_beside a h e)
       by (Some g) e = rejoin a.agent pairs
 
   part_one : (a : AgentRow) → Among a agents → agent_part (joined_agent pairs a) ≡ a
   part_one a h = ap (λ (o : Option ℕ). regrouped a o) (by a.group refl)
     where
-      by : (o : Option ℕ) → a.group ≡ o → least_group (behind_first o (groups_beside pairs a.agent)) ≡ o
+      by : (o : Option ℕ) → a.group ≡ o → least_group (after_first o (groups_beside pairs a.agent)) ≡ o
       by None e = ap (λ (ps : List (ℕ × ℕ)). least_group (map (λ (p : ℕ × ℕ). p.1) ps)) (none_beside a h e)
       by (Some g) e = refl
 
@@ -216,10 +216,10 @@ module _ (agents : List AgentRow) (pairs : List (ℕ × ℕ)) (up : IsAscending 
   further_rejoined rise = all_further agents (λ a h. h) ∙ turned (λ (p : ℕ × ℕ). p.0) pair_order first_le (λ (a : AgentRow). a.agent) agents pairs up rise there
 
   -- each has eight groups at most, which ascend
-  one_right : IsAscending pair_order pairs → (a : AgentRow) → Among a agents → are_groups (behind_first a.group (groups_beside pairs a.agent)) ≡ true
+  one_right : IsAscending pair_order pairs → (a : AgentRow) → Among a agents → are_groups (after_first a.group (groups_beside pairs a.agent)) ≡ true
   one_right rise a h = by a.group refl
     where
-      by : (o : Option ℕ) → a.group ≡ o → are_groups (behind_first o (groups_beside pairs a.agent)) ≡ true
+      by : (o : Option ℕ) → a.group ≡ o → are_groups (after_first o (groups_beside pairs a.agent)) ≡ true
       by None e = ap (λ (ps : List (ℕ × ℕ)). are_groups (map (λ (p : ℕ × ℕ). p.1) ps)) (none_beside a h e)
       by (Some g) e =
           and_from (nat_le (length (g ∷ groups_beside pairs a.agent)) 8) (ascends nat_cmp (g ∷ groups_beside pairs a.agent))
@@ -257,7 +257,7 @@ of_device n p = p.device == n
 abbrev rank_or_none : ℕ → ℕ → List GroupPriority
 rank_or_none n r = cond (r == 0) [] (record { device = n; priority = r } ∷ [])
 
--- what stands for a group is its priority, and nothing where that is 0
+-- the row of a group is its priority, and there is none where that is 0
 one_rank : (n : ℕ) (ps : List GroupPriority) → IsAscending by_rank ps → ((p : GroupPriority) → Among p ps → (p.priority == 0) ≡ false) → rank_or_none n (priority_of ps n) ≡ filter (of_device n) ps
 one_rank n [] up some = refl
 one_rank n (p ∷ ps) up some = by (p.device == n) refl (one_rank n ps up.1 (λ q h. some q (inr h)))

@@ -110,7 +110,7 @@ report_formed c r h =
     let p = guarded (is_formed c) (Some (report_of c)) r h in
     ap columns_of (sym (some_is (report_of c) r p.1)) ∙ formed c.kind c.device c.call c.agent c.group c.to c.cause c.waited p.0
 
--- a report that is told by its columns is the report
+-- the columns of a report give the report back
 pub report_back : (r : Report) → report_of (columns_of r) ≡ r
 report_back (report.ServiceInitiated call station) = refl
 report_back (report.Originated call station to) = refl
@@ -162,15 +162,15 @@ ok_same (Ok x) q h = ap Ok (some_is x q h)
 ok_same (Err e) q h = absurd (cc h)
 
 -- the columns of the key and the text are those of the request, which is read from its text
-pub record IsOwn (r : Row) (q : Request) : Type 0 where
+pub record IsOfRequest (r : Row) (q : Request) : Type 0 where
   pub requester : column r 1 ≡ Text q.requester
   pub invoke : column r 2 ≡ id_value q.invoke
   pub text : column r 4 ≡ Text (request_text q)
   pub reads : reads_as (request_text q) ≡ Ok q
 
-own : (r : Row) (q : Request) (name : List ℕ) (n : ℕ) (t : List ℕ) → column r 1 ≡ Text name → column r 2 ≡ id_value n → column r 4 ≡ Text t → reads_as t ≡ Ok q
-    → (bytes_eq name q.requester && (n == q.invoke) && bytes_eq t (request_text q)) ≡ true → IsOwn r q
-own r q name n t e f g h test =
+of_request : (r : Row) (q : Request) (name : List ℕ) (n : ℕ) (t : List ℕ) → column r 1 ≡ Text name → column r 2 ≡ id_value n → column r 4 ≡ Text t → reads_as t ≡ Ok q
+    → (bytes_eq name q.requester && (n == q.invoke) && bytes_eq t (request_text q)) ≡ true → IsOfRequest r q
+of_request r q name n t e f g h test =
     let all = all_three (bytes_eq name q.requester) (n == q.invoke) (bytes_eq t (request_text q)) test in
     let same : t ≡ request_text q = (bytes_eq-Decides t (request_text q)).0 all.2 in
     record {
@@ -180,7 +180,7 @@ own r q name n t e f g h test =
       reads = ap reads_as (sym same) ∙ h;
     }
 
-pub request_stored : (r : Row) (q : Request) → request_at r ≡ Some q → IsOwn r q
+pub request_stored : (r : Row) (q : Request) → request_at r ≡ Some q → IsOfRequest r q
 unfolding request_at
 request_stored r q h =
     let requester = bound _ _ q h in
@@ -188,8 +188,8 @@ request_stored r q h =
     let text = bound _ _ q invoke.2 in
     let request = bound _ _ q text.2 in
     let test = guarded _ (Some request.0) q request.2 in
-    subst (IsOwn r) (some_is request.0 q test.1)
-    (own r request.0 requester.0 invoke.0 text.0 (text_stored r 1 _ requester.1) (whole_stored r 2 _ invoke.1) (text_stored r 4 _ text.1) (ok_same (reads_as text.0) request.0 request.1) test.0)
+    subst (IsOfRequest r) (some_is request.0 q test.1)
+    (of_request r request.0 requester.0 invoke.0 text.0 (text_stored r 1 _ requester.1) (whole_stored r 2 _ invoke.1) (text_stored r 4 _ text.1) (ok_same (reads_as text.0) request.0 request.1) test.0)
 
 status_stored : (r : Row) (at n : ℕ) → status_at r at ≡ Some n → column r at ≡ id_value n
 unfolding status_at
@@ -226,5 +226,5 @@ kept_back k h = rw h refl
 
 pub kept_exact : (r : Row) (x y : Kept) → IsReadable y → kept_in r ≡ Some x → r ≡ kept_values y → x ≡ y
 kept_exact r x y good h e =
-    let own = kept_stored r x h in
-    sym (kept_back x own.1) ∙ ap as_kept (sym own.0 ∙ e) ∙ kept_back y good
+    let stored = kept_stored r x h in
+    sym (kept_back x stored.1) ∙ ap as_kept (sym stored.0 ∙ e) ∙ kept_back y good

@@ -17,11 +17,11 @@ use Rattle.sqlite.proofs.Callers.{IsPlain, command_of, reads_as, one_permutation
 use Rattle.sqlite_tied.specs.Compute.{everything}
 use Rattle.acd_book.specs.Content.{Content}
 use Rattle.acd_sql_columns.specs.declared.tables.Table.TheVariants as table
-use Rattle.acd_sql_columns.specs.Schema.{book_schema, nine, two, with_behind, BeginsSchema, names_of}
+use Rattle.acd_sql_columns.specs.Schema.{book_schema, nine, two, with_later, BeginsSchema, names_of}
 use Rattle.acd_sql_columns.specs.Schema as schema
 use Rattle.acd_sql_columns.specs.Rows.{meta_shown}
 use Rattle.acd_sql_columns.specs.Relations.{meta_of}
-use Rattle.acd_sql_columns.specs.Draft.{HoldsContent}
+use Rattle.acd_sql_columns.specs.Transactions.{HoldsContent}
 use Rattle.acd_sql_columns.proofs.Listings.{begun}
 use Rattle.acd_sql_columns.proofs.Scans.{scan, scanned, showing, passing}
 use Rattle.acd_sql_columns.specs.declared.texts.TheConstants.{SELECT_META}
@@ -47,7 +47,7 @@ selected schema text it params old new rows has h =
 
 -- ---- the limits and the counters
 
-unfoldable pub meta_selection : (rest : List Made) (s : Schema) → Selection (with_behind nine rest s) SELECT_META.now
+unfoldable pub meta_selection : (rest : List Made) (s : Schema) → Selection (with_later nine rest s) SELECT_META.now
 unfolding understood everything
 meta_selection rest s = record {
   tree = schema.meta.tree;

@@ -50,7 +50,7 @@ map_twice : {X Y Z : Type 0} (f : Y → Z) (g : X → Y) (xs : List X) → map f
 map_twice f g [] = refl
 map_twice f g (x ∷ xs) = ap (λ l. f (g x) ∷ l) (map_twice f g xs)
 
--- what is shown of the rows that are found
+-- the columns shown of the rows that are found
 shown_keyed : {R : Type 0} (schema : Schema) (text : List ℕ) (key : R → ℕ) (row params : R → Row) (s : Sets schema text key row params) (r : R) (rs : List R) (rows : List Row) → AreRows key row rows rs
     → map (showing (params r) s.it.project) (passing (params r) s.it.terms rows) ≡ map (λ (y : R). showing (params r) s.it.project (row y)) (filter (λ (y : R). key y == key r) rs)
 shown_keyed {R = R} schema text key row params s r rs rows are =
@@ -83,7 +83,7 @@ pub none_has_key : {R : Type 0} (schema : Schema) (text : List ℕ) (key : R →
     → old.now.schema ≡ schema → AreRows key row (old.now.trees s.it.layout.tree) rs → Executes text (params r) old new (Ok count) → count ≡ 0 → filter (λ y. key y == key r) rs ≡ []
 none_has_key {R = R} schema text key row params s r rs old new count has are ran missed =
     let made = updated schema text s.it (params r) old new count has ran in
-    let had = filter (λ (y : R). key y == key r) rs in
+    let old_records = filter (λ (y : R). key y == key r) rs in
     let shown = shown_keyed schema text key row params s r rs (old.now.trees s.it.layout.tree) are in
-    let same = length_permutation (map (λ (y : R). showing (params r) s.it.project (row y)) had) made.rows (subst (λ l. IsPermutation l made.rows) shown made.found) in
-    unmapped (λ (y : R). showing (params r) s.it.project (row y)) had (sym same ∙ (sym made.counted ∙ missed))
+    let same = length_permutation (map (λ (y : R). showing (params r) s.it.project (row y)) old_records) made.rows (subst (λ l. IsPermutation l made.rows) shown made.found) in
+    unmapped (λ (y : R). showing (params r) s.it.project (row y)) old_records (sym same ∙ (sym made.counted ∙ missed))

@@ -1,4 +1,4 @@
--- What a statement does to the state of a connection, of any schema.
+-- The effect of a statement on the state of a connection, of any schema.
 use Rattle.std.proofs.Common.{◌≡◌, ◌≢◌, ◌⊎◌, inl, inr, ℕ, ◌/◌, List, [], ◌∷◌, length, map, slice_get, Bool, true, false, Some, None, Option, Ok, Err, Result, IsTrue, IfOk, refl, sym, ap, subst, subst₂, ◌∙◌, append-nil, if◌then◌else◌, ◌==◌}
 use Rattle.sqlite_value.specs.Order.{Row}
 use Rattle.sqlite_trees.specs.Tree.{Trees}
@@ -27,7 +27,7 @@ use Rattle.sqlite.specs.declared.error.Error.{Error}
 use Rattle.std.proofs.lemmas.Bool.{cases_Bool}
 use Rattle.sqlite.proofs.Callers.{IsPlain, command_of, statement_of, runs_as, one_step}
 use Rattle.acd_sql_columns.specs.Schema.{Layout, table_of}
-use Rattle.acd_sql_columns.specs.Draft.{Works, RanStatement}
+use Rattle.acd_sql_columns.specs.Transactions.{Works, RanStatement}
 
 -- a part that gave a value did not stop on the way
 pub went : {B E R : Type 0} {b : B} {Stops : E → Type 0} → ((stop : E) × Stops stop × (Ok b ≡ Err stop)) ⊎ R → R

@@ -1,4 +1,4 @@
--- Rows as they stand in a database, whatever they hold, and whether their values are in their ranges.
+-- Rows as they are in a database, whatever they hold, and whether their values are in their ranges.
 use Rattle.std.specs.Prelude.{◌≡◌, ℕ, suc, Bool, false, List, [], ◌∷◌, length, map, take, drop, filter, nat_lt, codes, IsTrue}
 use Rattle.std.specs.List.{AllByRecursion, list_all, list_any}
 use Rattle.std.specs.Option.{is_some}
@@ -18,9 +18,9 @@ use Rattle.acd_sql_columns.specs.declared.tables.Version.TheVariants as version
 use Rattle.sqlite.specs.Effect.{Database}
 use Rattle.acd_sql_columns.specs.Content.{tree_of, IsIn}
 use Rattle.acd_sql_columns.specs.Decoding.{as_group, as_priority, as_agent, as_further}
-use Rattle.acd_sql_columns.specs.Relations.{are_behind, are_of_groups}
+use Rattle.acd_sql_columns.specs.Relations.{are_after, are_of_groups}
 use Rattle.acd_sql_columns.specs.Values.{id_value, cells}
-use Rattle.acd_sql_columns.specs.Schema.{Layout, behind_first, nine, BeginsSchema, old_schema, book_schema}
+use Rattle.acd_sql_columns.specs.Schema.{Layout, after_first, nine, BeginsSchema, old_schema, book_schema}
 use Rattle.acd_sql_columns.specs.Schema as schema
 use Rattle.acd_sql_columns.specs.Ranges.{priority_in, further_in, group_in, station_in, agent_in, call_in, connection_in, monitor_in, counters_in, event_in, kept_in}
 
@@ -43,11 +43,11 @@ is_good table.GroupPriority r = is_some (priority_in r)
 unfoldable pub are_good : Table → List Row → Bool
 are_good t rows = list_all (is_good t) rows
 
--- ---- rows as they stand in a database
+-- ---- rows as they are in a database
 
--- the number of the row, which is the key, and the columns behind it
+-- the number of the row, which is the key, and the columns after it
 abbrev pub keyed_in : Layout → Row → Row
-keyed_in l r = column r 0 ∷ cells 2 (behind_first l) r
+keyed_in l r = column r 0 ∷ cells 2 (after_first l) r
 
 -- all columns
 abbrev pub numbered_in : Layout → Row → Row
@@ -75,9 +75,9 @@ rows_in t db = map (values_in t) (db (tree_of t))
 unfoldable pub is_good_in : Table → Trees → Bool
 is_good_in t db = are_good t (rows_in t db)
 
--- each further group is behind the first one of its agent, who has seven at most
+-- each further group comes after the first one of its agent, who has seven at most
 unfoldable pub is_beside : Trees → Bool
-is_beside db = are_behind (map as_agent (rows_in table.Agents db)) (map as_further (rows_in table.AgentGroups db))
+is_beside db = are_after (map as_agent (rows_in table.Agents db)) (map as_further (rows_in table.AgentGroups db))
 
 -- each priority is of a group
 unfoldable pub is_ranked : Trees → Bool
@@ -92,15 +92,15 @@ HaveAllColumns v db =
     × (IsIn v table.AgentGroups → AllByRecursion (λ r. length r ≡ suc (length schema.agent_groups.columns)) (db (tree_of table.AgentGroups)))
 
 -- as a store keeps the rows of a version's tables: they have integers as numbers, which rise
-pub record IsFiledAs (v : Version) (db : Trees) : Type 0 where
+pub record IsCanonicalAs (v : Version) (db : Trees) : Type 0 where
   pub rising : (t : Table) → IsIn v t → IsTable (db (tree_of t))
   pub numbered : (t : Table) → IsIn v t → AllByRecursion (λ r. IsTrue (is_int (rowid r))) (db (tree_of t))
   pub whole : HaveAllColumns v db
 
--- a bad one is there; and where the rows are filed it is told whether there is one
-pub record TellsGood (t : Table) (db : Trees) (good : Bool) : Type 0 where
+-- a bad one is there; and where the rows are canonical the query finds whether there is one
+pub record FindsGood (t : Table) (db : Trees) (good : Bool) : Type 0 where
   pub bad : good ≡ false → is_good_in t db ≡ false
-  pub filed : IsFiledAs version.First db → good ≡ is_good_in t db
+  pub canonical : IsCanonicalAs version.First db → good ≡ is_good_in t db
 
 -- ---- the tables that are read in pages
 
@@ -119,22 +119,22 @@ pub record AreNumbered (l : Log) (db : Trees) (xs : List Numbered) : Type 0 wher
   pub rising : IsTable (db (tree_of (table_of_log l)))
   pub rows : db (tree_of (table_of_log l)) ≡ map (λ (x : Numbered). x.row) xs
 
-abbrev pub values_behind : Log → ℕ → List Numbered → List Row
-values_behind l n xs = map (λ (x : Numbered). values_in (table_of_log l) x.row) (filter (λ (x : Numbered). nat_lt n x.key) xs)
+abbrev pub values_after : Log → ℕ → List Numbered → List Row
+values_after l n xs = map (λ (x : Numbered). values_in (table_of_log l) x.row) (filter (λ (x : Numbered). nat_lt n x.key) xs)
 
 -- its number is one from 1 on
 abbrev pub FromOne : Row → Type 0
 FromOne r = (n : ℕ) × (rowid r ≡ id_value n) × (nat_lt n 1 ≡ false)
 
 -- whether a number is below 1
-pub record TellsLow (l : Log) (db : Trees) (low : List Row) : Type 0 where
+pub record FindsLow (l : Log) (db : Trees) (low : List Row) : Type 0 where
   pub none : low ≡ [] → AllByRecursion (λ r. IsTrue (is_int (rowid r)) → FromOne r) (db (tree_of (table_of_log l)))
   pub some : (low ≡ [] → ⊥) → is_good_in (table_of_log l) db ≡ false
 
 -- the first rows above a number
 pub record IsPageRows (l : Log) (n limit : ℕ) (db : Trees) (rows : List Row) : Type 0 where
   pub known : AllByRecursion (λ r. Has (rows_in (table_of_log l) db) r) rows
-  pub paged : (xs : List Numbered) → AreNumbered l db xs → rows ≡ take limit (values_behind l n xs)
+  pub paged : (xs : List Numbered) → AreNumbered l db xs → rows ≡ take limit (values_after l n xs)
 
 -- ---- versions
 
@@ -143,8 +143,8 @@ schema_of version.First = old_schema
 schema_of version.Second = book_schema
 
 -- of a database with the tables of a version
-abbrev pub IsFiled : Database → Type 0
-IsFiled d = (v : Version) → d.schema ≡ schema_of v → IsFiledAs v d.trees
+abbrev pub IsCanonical : Database → Type 0
+IsCanonical d = (v : Version) → d.schema ≡ schema_of v → IsCanonicalAs v d.trees
 
 -- the table is there as a book has it: each of the nine in either version
 abbrev pub Covers : Schema → Table → Type 0

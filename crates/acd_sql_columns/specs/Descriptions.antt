@@ -1,4 +1,4 @@
--- What a table of records is.
+-- A table of records.
 use Rattle.std.specs.Prelude.{◌≡◌, ℕ, ℤ, [], ◌∷◌, List, Option, None, Some, option_map, Bool, length, drop}
 use Rattle.std.specs.List.{list_all}
 use Rattle.std.specs.Option.{is_some}
@@ -11,7 +11,7 @@ use Rattle.acd_sql_columns.specs.Rows.{keyed_row}
 use Rattle.acd_sql_columns.specs.declared.tables.Table.{Table}
 use Rattle.acd_sql_columns.specs.declared.texts.Texts.{Texts}
 use Rattle.acd_sql_columns.specs.Relations.{Relations}
-use Rattle.acd_sql_columns.specs.Schema.{Layout, behind_first}
+use Rattle.acd_sql_columns.specs.Schema.{Layout, after_first}
 
 -- ---- where the key is the number of a row
 
@@ -24,7 +24,7 @@ pub record Description (R : Type 0) : Type 1 where
   -- the values of the columns, and the record of such values where each is in its range
   pub values : R → Row
   pub in_row : Row → Option R
-  -- what the relations have of it
+  -- its records in the relations
   pub records : Relations → List R
   pub with_records : List R → Relations → Relations
   -- the columns can hold the record
@@ -52,19 +52,19 @@ abbrev pub the_text : Option (List ℕ) → List ℕ
 the_text None = []
 the_text (Some text) = text
 
--- how many columns stand behind the key
-abbrev pub behind : {R : Type 0} → Description R → ℕ
-behind d = behind_first d.layout
+-- how many columns come after the key
+abbrev pub after_key : {R : Type 0} → Description R → ℕ
+after_key d = after_first d.layout
 
--- the row as it stands: the column that is the number of the row is NULL
+-- the row as it is: the column that is the number of the row is NULL
 abbrev pub row_of : {R : Type 0} → Description R → R → Row
 row_of d r = keyed_row (d.values r)
 
--- each row stands for a record
+-- each row represents a record
 unfoldable pub are_read : {R : Type 0} → Description R → List Row → Bool
 are_read d rows = list_all (λ row. is_some (d.in_row row)) rows
 
--- ---- where the key is of the first two columns, so that the rows have numbers of their own
+-- ---- where the key is of the first two columns, so that the rows have separate rowids
 
 pub record Heap (R : Type 0) : Type 1 where
   pub table : Table
@@ -77,15 +77,15 @@ pub record Heap (R : Type 0) : Type 1 where
   -- the values of the columns, and the record of such values where each is in its range
   pub values : R → Row
   pub in_row : Row → Option R
-  -- what the relations have of it
+  -- its records in the relations
   pub records : Relations → List R
   pub with_records : List R → Relations → Relations
   -- the text of the statement that puts a record which has no row
   pub insert : List ℕ
 
--- how many columns stand behind the key
-abbrev pub behind_both : {R : Type 0} → Heap R → ℕ
-behind_both h = length (drop 2 h.layout.columns)
+-- how many columns come after the key
+abbrev pub after_both : {R : Type 0} → Heap R → ℕ
+after_both h = length (drop 2 h.layout.columns)
 
 -- the row with its number
 abbrev pub numbered_row : {R : Type 0} → Heap R → ℤ → R → Row

@@ -1,4 +1,4 @@
--- What a read between transactions finds.
+-- The result of a read between transactions.
 use Rattle.std.specs.Prelude.{List, Result, IfOk, OnOk, IsTrue}
 use Rattle.sqlite.specs.State.{State, HasCleanDisk}
 use Rattle.acd_terms.specs.declared.rows.Rows.{Rows}
@@ -10,7 +10,7 @@ use Rattle.acd_terms.specs.declared.record.ConnectionRecord.{ConnectionRecord}
 use Rattle.acd_terms.specs.declared.record.MonitorRecord.{MonitorRecord}
 use Rattle.acd_book.specs.Content.{Content}
 use Rattle.acd_sql_columns.specs.declared.meta.Meta.{Meta}
-use Rattle.acd_sql_columns.specs.Draft.{HoldsContent, Quiet, NoStop}
+use Rattle.acd_sql_columns.specs.Transactions.{HoldsContent, Quiet, NoStop}
 
 -- it changes nothing, but that a failure may shut the connection, and finds what `IsAnswer` says of the content
 pub record Finds {A E : Type 0} (old new : State) (result : Result A E) (IsAnswer : Content → A → Type 0) : Type 0 where

@@ -10,7 +10,7 @@ pub mod Schema
 pub mod Making
 pub mod Relations
 pub mod Content
-pub mod Draft
+pub mod Transactions
 pub mod Finding
 pub mod InTables
 pub mod Seeing

@@ -52,12 +52,12 @@ pub record Builds (s : State) (schema : Schema) (rows : List (List Row)) : Type 
   pub schema_is : s.now.schema ≡ schema
   pub rows_are : HasRows s.now.trees schema.tables rows
 
--- the version is told to be 2, and nothing else is changed
-pub record TellsSecond (old new : State) : Type 0 where
+-- the version becomes 2, and nothing else is changed
+pub record SetsSecondVersion (old new : State) : Type 0 where
   pub inside : new.in_transaction ≡ old.in_transaction
   pub schema_is : new.now.schema ≡ book_schema
   pub others : AllByRecursion (λ u. u.tree ≢ meta.tree → new.now.trees u.tree ≡ old.now.trees u.tree) book_schema.tables
-  pub told : (m : Meta) → old.now.trees meta.tree ≡ meta_row_as 1 m ∷ [] → new.now.trees meta.tree ≡ meta_row m ∷ []
+  pub version_is : (m : Meta) → old.now.trees meta.tree ≡ meta_row_as 1 m ∷ [] → new.now.trees meta.tree ≡ meta_row m ∷ []
 
 -- the table, before its tree is chosen
 abbrev pub unplaced : Layout → Table

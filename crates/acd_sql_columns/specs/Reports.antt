@@ -66,7 +66,7 @@ abbrev pub admits_cause : EventKind → Option Cause → Bool
 admits_cause k None = true
 admits_cause k (Some why) = has_cause k why
 
--- the seconds that a call had waited stand beside the group in which it had
+-- the seconds that a call waited come with the group in which it did
 abbrev pub are_together : EventKind → Bool → Bool → Bool
 are_together kind.Established group waited = if group then waited else not waited
 are_together _ group waited = true

@@ -1,9 +1,9 @@
--- What a read between transactions sees of a database, whatever that holds.
+-- The view that a read between transactions has of a database, whatever that holds.
 use Rattle.std.specs.Prelude.{◌≡◌, Result, IfOk, OnOk, IsTrue}
 use Rattle.sqlite.specs.Effect.{Database, IsDatabase}
 use Rattle.sqlite.specs.State.{State, HasCleanDisk}
 use Rattle.sqlite.specs.declared.error.Error.{Error}
-use Rattle.acd_sql_columns.specs.Draft.{NoStop}
+use Rattle.acd_sql_columns.specs.Transactions.{NoStop}
 
 -- between transactions: the connection is open, and this is its database
 pub record HasDatabase (s : State) (d : Database) : Type 0 where

@@ -14,7 +14,7 @@ use Rattle.acd_sql_columns.specs.Content.{with_part}
 use Rattle.acd_sql_columns.specs.declared.tables.Table.TheVariants as table
 use Rattle.acd_sql_columns.specs.declared.texts.TheConstants.{UPDATE_GROUP, SELECT_GROUPS, SELECT_STATIONS, UPDATE_AGENT, SELECT_AGENTS, UPDATE_CALL, DELETE_CALL, SELECT_CALLS, UPDATE_MONITOR, DELETE_MONITOR, SELECT_MONITORS, UPDATE_GROUP_PRIORITY, DELETE_GROUP_PRIORITY, SELECT_GROUP_PRIORITY, INSERT_GROUP, INSERT_STATION, INSERT_AGENT, INSERT_CALL, INSERT_CONNECTION, INSERT_MONITOR, INSERT_EVENT, INSERT_KEPT, INSERT_AGENT_GROUP, INSERT_GROUP_PRIORITY}
 use Rattle.acd_sql_columns.specs.Descriptions.{Description, Heap}
-use Rattle.acd_sql_columns.specs.Draft.{Fits, FiguresFitColumns}
+use Rattle.acd_sql_columns.specs.Transactions.{Fits, FiguresFitColumns}
 use Rattle.acd_sql_columns.specs.Ranges.{priority_in, further_in, group_in, station_in, agent_in, call_in, connection_in, monitor_in, event_in, kept_in}
 use Rattle.acd_sql_columns.specs.Rows.{group_values, priority_values, station_values, agent_values, call_values, connection_values, monitor_values, event_values, kept_values, further_values, IsReadable}
 use Rattle.acd_sql_columns.specs.Schema.{nine, two}
@@ -187,7 +187,7 @@ connections = record {
   insert = INSERT_CONNECTION.now;
 }
 
--- an agent and a group that it has behind its first
+-- an agent and a group after its first
 abbrev pub agent_groups : Heap (ℕ × ℕ)
 agent_groups = record {
   table = table.AgentGroups;

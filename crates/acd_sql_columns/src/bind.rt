@@ -6,7 +6,7 @@ ghost use Rattle.sqlite_value.specs.Value.{owned};
 ghost use Rattle.sqlite_value.specs.declared.value.Value.TheVariants.{Text};
 ghost use Rattle.acd_sql_columns.specs.Values.{id_value};
 ghost use Rattle.acd_sql_columns.specs.Codes.{agent_code, pending_code, connection_code, kind_code, cause_code};
-ghost use Rattle.acd_sql_columns.specs.Draft.{Fits};
+ghost use Rattle.acd_sql_columns.specs.Transactions.{Fits};
 
 use crate::codes::{agent_code, cause_code, connection_code, kind_code, pending_code};
 use acd_terms::{

@@ -1,9 +1,9 @@
-//! What stands in a row for a record: the values of its columns, as the parameters of the statement that puts it.
+//! The row of a record: the values of its columns, as the parameters of the statement that puts it.
 
 ghost use Rattle.std.specs.Prelude.{◌≡◌, IfSome};
 ghost use Rattle.sqlite.specs.Values.{bound};
 ghost use Rattle.acd_terms.specs.Columns.{columns_of};
-ghost use Rattle.acd_sql_columns.specs.Draft.{Fits, FiguresFitColumns, MetaFits};
+ghost use Rattle.acd_sql_columns.specs.Transactions.{Fits, FiguresFitColumns, MetaFits};
 ghost use Rattle.acd_sql_columns.specs.Fields.{written};
 ghost use Rattle.acd_sql_columns.specs.Rows.{group_values, priority_values, station_values, agent_values, call_values, connection_values, monitor_values, event_fields, values_of_event, event_values, meta_values, meta_shown};
 
@@ -35,10 +35,10 @@ macro_rules! all {
     };
 }
 
-// Behind the key and the version.
+// After the key and the version.
 macro_rules! counters {
-    ($from:ident, $table:literal $made:tt, $first:literal $of:tt $key:literal $kind:literal, $other:literal $by:tt $second:literal $sort:literal, $($behind:tt)*) => {
-        all!($from, $table $made, $($behind)*)
+    ($from:ident, $table:literal $made:tt, $first:literal $of:tt $key:literal $kind:literal, $other:literal $by:tt $second:literal $sort:literal, $($rest:tt)*) => {
+        all!($from, $table $made, $($rest)*)
     };
 }
 

@@ -1,4 +1,4 @@
--- Two lists in ascending key, gone through together, give each difference once and in order.
+-- Two lists in ascending key, compared in one pass, give each difference once and in order.
 use Rattle.std.proofs.Common.{◌≡◌, inl, inr, Bool, true, false, cond, List, [], ◌∷◌, map, refl, sym, ap, subst, ◌∙◌}
 use Rattle.std.specs.Cmp.{IsTotalOrder}
 use Rattle.std.specs.declared.cmp.Ordering.{Ordering}
@@ -7,7 +7,7 @@ use Rattle.std.specs.Ordering.{match_ordering, ordering_reverse, is_eq}
 use Rattle.std.proofs.lemmas.Cmp.{tied_itself}
 use Rattle.acd_terms.specs.Lists.{Among, Every, AllAfter, IsAscending, put_by, remove_by}
 use Rattle.acd_lemmas.proofs.Lists.{after_among, after_lower, after_same}
-use Rattle.acd_sql_differences.specs.Differing.{Step, gone, put, record_of, stepped, IsNoKey, IsOther, AreSteps, replaced, behind, merged}
+use Rattle.acd_sql_differences.specs.Differing.{Step, gone, put, record_of, stepped, IsNoKey, IsOther, AreSteps, replaced, merged_from, merged}
 
 module _ {T : Type 0} where
   is_gone : Step T → Bool
@@ -51,28 +51,28 @@ module _ {T : Type 0} (cmp : T → T → Ordering) (total : IsTotalOrder cmp) (s
   later z [] h = tt
   later z (x ∷ xs) h = (h.0, later z xs h.1)
 
-  -- what holds of all records holds of those of the steps
+  -- a property of all records is one of those of the steps
   module _ (P : T → Type 0) where
     every_put : (ys : List T) → Every P ys → Every (λ s. P (record_of s)) (map put ys)
     every_put [] h = tt
     every_put (y ∷ ys) h = (h.0, every_put ys h.1)
 
-    every_behind : (x : T) (rest : List T → List (Step T)) → P x → ((ys : List T) → Every P ys → Every (λ s. P (record_of s)) (rest ys)) → (ys : List T) → Every P ys → Every (λ s. P (record_of s)) (behind cmp same x rest ys)
-    every_behind x rest p more [] h = (p, more [] tt)
-    every_behind x rest p more (y ∷ ys) h = go (cmp x y) (every_behind x rest p more ys h.1)
+    every_merged : (x : T) (rest : List T → List (Step T)) → P x → ((ys : List T) → Every P ys → Every (λ s. P (record_of s)) (rest ys)) → (ys : List T) → Every P ys → Every (λ s. P (record_of s)) (merged_from cmp same x rest ys)
+    every_merged x rest p more [] h = (p, more [] tt)
+    every_merged x rest p more (y ∷ ys) h = go (cmp x y) (every_merged x rest p more ys h.1)
       where
         either : (b : Bool) → Every (λ s. P (record_of s)) (cond b (rest ys) (put y ∷ rest ys))
         either true = more ys h.1
         either false = (h.0, more ys h.1)
 
-        go : (o : Ordering) → Every (λ s. P (record_of s)) (behind cmp same x rest ys) → Every (λ s. P (record_of s)) (match_ordering o (gone x ∷ rest (y ∷ ys)) (replaced same x y (rest ys)) (put y ∷ behind cmp same x rest ys))
+        go : (o : Ordering) → Every (λ s. P (record_of s)) (merged_from cmp same x rest ys) → Every (λ s. P (record_of s)) (match_ordering o (gone x ∷ rest (y ∷ ys)) (replaced same x y (rest ys)) (put y ∷ merged_from cmp same x rest ys))
         go Less ih = (p, more (y ∷ ys) h)
         go Equal ih = either (same y x)
         go Greater ih = (h.0, ih)
 
     every_step : (held new : List T) → Every P held → Every P new → Every (λ s. P (record_of s)) (merged cmp same held new)
     every_step [] new h k = every_put new k
-    every_step (x ∷ held) new h k = every_behind x (merged cmp same held) h.0 (λ ys l. every_step held ys h.1 l) new k
+    every_step (x ∷ held) new h k = every_merged x (merged cmp same held) h.0 (λ ys l. every_step held ys h.1 l) new k
 
   after_steps : (z : T) (held new : List T) → AllAfter cmp z held → AllAfter cmp z new → Every (Later z) (merged cmp same held new)
   after_steps z held new h k = every_step (λ x. cmp z x ≡ Less) held new (later z held h) (later z new k)
@@ -84,7 +84,7 @@ module _ {T : Type 0} (cmp : T → T → Ordering) (total : IsTotalOrder cmp) (s
   all_later s [] h = tt
   all_later s (t ∷ steps) h = (h.0, all_later s steps h.1)
 
-  -- y stands before the records of a list whose first is behind it, or is as it
+  -- y comes before the records of a list whose first is after it, or equals it
   module _ (x y : T) (xs : List T) (up : AllAfter cmp x xs) where
     before_all : cmp x y ≡ Greater → AllAfter cmp y xs
     before_all e = after_lower cmp total y x (turned x y Greater e) xs up
@@ -96,10 +96,10 @@ module _ {T : Type 0} (cmp : T → T → Ordering) (total : IsTotalOrder cmp) (s
   ascending_put [] up = tt
   ascending_put (y ∷ ys) up = (all_later (put y) (map put ys) (every_put (λ x. cmp y x ≡ Less) ys (later y ys up.0)), ascending_put ys up.1)
 
-  ascending_behind : (x : T) (held : List T) → AllAfter cmp x held → ((ys : List T) → IsAscending cmp ys → IsAscending by_record (merged cmp same held ys)) → (new : List T) → IsAscending cmp new
+  ascending_merged : (x : T) (held : List T) → AllAfter cmp x held → ((ys : List T) → IsAscending cmp ys → IsAscending by_record (merged cmp same held ys)) → (new : List T) → IsAscending cmp new
       → IsAscending by_record (merged cmp same (x ∷ held) new)
-  ascending_behind x held low more [] up = (all_later (gone x) (merged cmp same held []) (after_steps x held [] low tt), more [] tt)
-  ascending_behind x held low more (y ∷ ys) up = go (cmp x y) refl (ascending_behind x held low more ys up.1)
+  ascending_merged x held low more [] up = (all_later (gone x) (merged cmp same held []) (after_steps x held [] low tt), more [] tt)
+  ascending_merged x held low more (y ∷ ys) up = go (cmp x y) refl (ascending_merged x held low more ys up.1)
     where
       either : (b : Bool) → cmp x y ≡ Equal → IsAscending by_record (cond b (merged cmp same held ys) (put y ∷ merged cmp same held ys))
       either true e = more ys up.1
@@ -114,7 +114,7 @@ module _ {T : Type 0} (cmp : T → T → Ordering) (total : IsTotalOrder cmp) (s
 
   pub ascending_steps : (held new : List T) → IsAscending cmp held → IsAscending cmp new → IsAscending by_record (merged cmp same held new)
   ascending_steps [] new h k = ascending_put new k
-  ascending_steps (x ∷ held) new h k = ascending_behind x held h.0 (λ ys l. ascending_steps held ys h.1 l) new k
+  ascending_steps (x ∷ held) new h k = ascending_merged x held h.0 (λ ys l. ascending_steps held ys h.1 l) new k
 
   -- ---- made
 
@@ -127,27 +127,27 @@ module _ {T : Type 0} (cmp : T → T → Ordering) (total : IsTotalOrder cmp) (s
   passes_gone : (z x : T) (xs : List T) → cmp z x ≡ Less → remove_by (cmp x) (z ∷ xs) ≡ z ∷ remove_by (cmp x) xs
   passes_gone z x xs e = ap (λ o. cond (is_eq o) xs (z ∷ remove_by (cmp x) xs)) (turned z x Less e)
 
-  -- steps behind a record leave it where it is
+  -- steps after a record leave it where it is
   past : (z : T) (xs : List T) (steps : List (Step T)) → begins z steps → stepped cmp (z ∷ xs) steps ≡ z ∷ stepped cmp xs steps
   past z xs [] h = refl
   past z xs (gone x ∷ steps) h = ap (λ l. stepped cmp l steps) (passes_gone z x xs h.0) ∙ past z (remove_by (cmp x) xs) steps h.1
   past z xs (put y ∷ steps) h = ap (λ l. stepped cmp l steps) (passes_put z y xs h.0) ∙ past z (put_by (cmp y) xs y) steps h.1
 
-  own : (x : T) → is_eq (cmp x x) ≡ true
-  own x = ap is_eq (tied_itself total x)
+  equal_itself : (x : T) → is_eq (cmp x x) ≡ true
+  equal_itself x = ap is_eq (tied_itself total x)
 
   first_gone : (x : T) (xs : List T) → remove_by (cmp x) (x ∷ xs) ≡ xs
-  first_gone x xs = ap (λ b. cond b xs (x ∷ remove_by (cmp x) xs)) (own x)
+  first_gone x xs = ap (λ b. cond b xs (x ∷ remove_by (cmp x) xs)) (equal_itself x)
 
   module _ (exact : (x y : T) → same x y ≡ true → x ≡ y) where
     made_put : (new : List T) → IsAscending cmp new → stepped cmp [] (map put new) ≡ new
     made_put [] up = refl
     made_put (y ∷ ys) up = past y [] (map put ys) (every_put (λ x. cmp y x ≡ Less) ys (later y ys up.0)) ∙ ap (λ l. y ∷ l) (made_put ys up.1)
 
-    made_behind : (x : T) (held : List T) → AllAfter cmp x held → ((ys : List T) → IsAscending cmp ys → stepped cmp held (merged cmp same held ys) ≡ ys) → (new : List T) → IsAscending cmp new
+    made_merged : (x : T) (held : List T) → AllAfter cmp x held → ((ys : List T) → IsAscending cmp ys → stepped cmp held (merged cmp same held ys) ≡ ys) → (new : List T) → IsAscending cmp new
         → stepped cmp (x ∷ held) (merged cmp same (x ∷ held) new) ≡ new
-    made_behind x held low more [] up = ap (λ l. stepped cmp l (merged cmp same held [])) (first_gone x held) ∙ more [] tt
-    made_behind x held low more (y ∷ ys) up = go (cmp x y) refl (made_behind x held low more ys up.1)
+    made_merged x held low more [] up = ap (λ l. stepped cmp l (merged cmp same held [])) (first_gone x held) ∙ more [] tt
+    made_merged x held low more (y ∷ ys) up = go (cmp x y) refl (made_merged x held low more ys up.1)
       where
         either : (b : Bool) → same y x ≡ b → cmp x y ≡ Equal → stepped cmp (x ∷ held) (cond b (merged cmp same held ys) (put y ∷ merged cmp same held ys)) ≡ y ∷ ys
         either true k e =
@@ -168,7 +168,7 @@ module _ {T : Type 0} (cmp : T → T → Ordering) (total : IsTotalOrder cmp) (s
 
     pub made_steps : (held new : List T) → IsAscending cmp held → IsAscending cmp new → stepped cmp held (merged cmp same held new) ≡ new
     made_steps [] new h k = made_put new k
-    made_steps (x ∷ held) new h k = made_behind x held h.0 (λ ys l. made_steps held ys h.1 l) new k
+    made_steps (x ∷ held) new h k = made_merged x held h.0 (λ ys l. made_steps held ys h.1 l) new k
 
   -- ---- what is named
 
@@ -194,14 +194,14 @@ module _ {T : Type 0} (cmp : T → T → Ordering) (total : IsTotalOrder cmp) (s
   abbrev NamesGone : List T → List T → Type 0
   NamesGone held new = (z : T) → GoneIn z held new (merged cmp same held new)
 
-  names_behind : (x : T) (held : List T) → AllAfter cmp x held → ((ys : List T) → IsAscending cmp ys → NamesGone held ys) → (new : List T) → IsAscending cmp new → NamesGone (x ∷ held) new
-  names_behind x held low more [] up z = (
+  names_merged : (x : T) (held : List T) → AllAfter cmp x held → ((ys : List T) → IsAscending cmp ys → NamesGone held ys) → (new : List T) → IsAscending cmp new → NamesGone (x ∷ held) new
+  names_merged x held low more [] up z = (
     λ a. elim a [ inl e ↦ (inl (gone_is z x e), tt) | inr k ↦ (inr ((more [] tt z).0 k).0, tt) ],
     λ h. elim h.0 [ inl e ↦ inl (ap gone e) | inr k ↦ inr ((more [] tt z).1 (k, tt)) ],
   )
-  names_behind x held low more (y ∷ ys) up z = go (cmp x y) refl (names_behind x held low more ys up.1 z)
+  names_merged x held low more (y ∷ ys) up z = go (cmp x y) refl (names_merged x held low more ys up.1 z)
     where
-      -- no record of the held list behind x has the key of y, which stands at x or before it
+      -- no record of the held list after x has the key of y, which comes at x or before it
       clear : AllAfter cmp y held → Among z held → cmp z y ≡ Equal → ⊥
       clear after a k = none_keyed y z (after_among cmp y held z after a) k
 
@@ -239,7 +239,7 @@ module _ {T : Type 0} (cmp : T → T → Ordering) (total : IsTotalOrder cmp) (s
 
   pub names_gone : (held new : List T) → IsAscending cmp held → IsAscending cmp new → NamesGone held new
   names_gone [] new h k z = (λ a. absurd (gone_among z new a), λ none. absurd none.0)
-  names_gone (x ∷ held) new h k z = names_behind x held h.0 (λ ys l. names_gone held ys h.1 l) new k z
+  names_gone (x ∷ held) new h k z = names_merged x held h.0 (λ ys l. names_gone held ys h.1 l) new k z
 
   abbrev PutIn : T → List T → List T → List (Step T) → Type 0
   PutIn z held new steps = (Among (put z) steps → Among z new × IsOther cmp same z held) × (Among z new × IsOther cmp same z held → Among (put z) steps)
@@ -247,23 +247,23 @@ module _ {T : Type 0} (cmp : T → T → Ordering) (total : IsTotalOrder cmp) (s
   abbrev NamesPut : List T → List T → Type 0
   NamesPut held new = (z : T) → PutIn z held new (merged cmp same held new)
 
-  puts_behind : (x : T) (held : List T) → AllAfter cmp x held → ((ys : List T) → IsAscending cmp ys → NamesPut held ys) → (new : List T) → IsAscending cmp new → NamesPut (x ∷ held) new
-  puts_behind x held low more [] up z = (
+  puts_merged : (x : T) (held : List T) → AllAfter cmp x held → ((ys : List T) → IsAscending cmp ys → NamesPut held ys) → (new : List T) → IsAscending cmp new → NamesPut (x ∷ held) new
+  puts_merged x held low more [] up z = (
     λ a. elim a [ inl e ↦ absurd (gone_not_put x z (sym e)) | inr k ↦ absurd ((more [] tt z).0 k).0 ],
     λ h. absurd h.0,
   )
-  puts_behind x held low more (y ∷ ys) up z = go (cmp x y) refl (puts_behind x held low more ys up.1 z)
+  puts_merged x held low more (y ∷ ys) up z = go (cmp x y) refl (puts_merged x held low more ys up.1 z)
     where
-      -- x stands before what is behind y, where it stands before y or at it
+      -- x comes before what is after y, where it comes before y or at it
       ahead : cmp x z ≡ Less → cmp x z ≡ Equal → same z x ≡ false
       ahead less k = absurd (not_equal x z Less less refl k)
 
-      behind_level : cmp x y ≡ Equal → Among z ys → cmp x z ≡ Less
-      behind_level e a = after_among cmp x ys z (after_same cmp total x y e ys up.0) a
+      after_level : cmp x y ≡ Equal → Among z ys → cmp x z ≡ Less
+      after_level e a = after_among cmp x ys z (after_same cmp total x y e ys up.0) a
 
       either : (b : Bool) → same y x ≡ b → cmp x y ≡ Equal → PutIn z (x ∷ held) (y ∷ ys) (cond b (merged cmp same held ys) (put y ∷ merged cmp same held ys))
       either true k e = (
-        λ a. let m = (more ys up.1 z).0 a in (inr m.0, (ahead (behind_level e m.0), m.1)),
+        λ a. let m = (more ys up.1 z).0 a in (inr m.0, (ahead (after_level e m.0), m.1)),
         λ h. elim h.0 [
           | inl is ↦ absurd (let never = h.1.0 (ap (cmp x) is ∙ e) in let met : same z x ≡ true = ap (λ v. same v x) is ∙ k in cc)
           | inr m ↦ (more ys up.1 z).1 (m, h.1.1)
@@ -272,7 +272,7 @@ module _ {T : Type 0} (cmp : T → T → Ordering) (total : IsTotalOrder cmp) (s
       either false k e = (
         λ a. elim a [
           | inl is ↦ (inl (put_is z y is), subst (λ v. IsOther cmp same v (x ∷ held)) (sym (put_is z y is)) (λ _. k, other_after y held (level_all x y held low e)))
-          | inr b ↦ let m = (more ys up.1 z).0 b in (inr m.0, (ahead (behind_level e m.0), m.1))
+          | inr b ↦ let m = (more ys up.1 z).0 b in (inr m.0, (ahead (after_level e m.0), m.1))
         ],
         λ h. elim h.0 [ inl is ↦ inl (ap put is) | inr m ↦ inr ((more ys up.1 z).1 (m, h.1.1)) ],
       )
@@ -294,7 +294,7 @@ module _ {T : Type 0} (cmp : T → T → Ordering) (total : IsTotalOrder cmp) (s
 
   pub names_put : (held new : List T) → IsAscending cmp held → IsAscending cmp new → NamesPut held new
   names_put [] new h k z = (λ a. (put_among z new a, tt), λ a. among_put z new a.0)
-  names_put (x ∷ held) new h k z = puts_behind x held h.0 (λ ys l. names_put held ys h.1 l) new k z
+  names_put (x ∷ held) new h k z = puts_merged x held h.0 (λ ys l. names_put held ys h.1 l) new k z
 
   pub are_steps : (held new : List T) → IsAscending cmp held → IsAscending cmp new → AreSteps cmp same held new (merged cmp same held new)
   are_steps held new h k = record {

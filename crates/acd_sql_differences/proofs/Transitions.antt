@@ -40,7 +40,7 @@ pub record Kind {T : Type 0} (cmp : T → T → Ordering) (off on : T → Change
   pub set : Rows → List T → Rows
   pub get_set : (s : Rows) (xs : List T) → get (set s xs) ≡ xs
   pub get_same : (s t : Rows) → HasTables s t → get s ≡ get t
-  pub set_own : (s : Rows) → HasTables s (set s (get s))
+  pub set_itself : (s : Rows) → HasTables s (set s (get s))
   pub set_same : (s t : Rows) (xs : List T) → HasTables s t → HasTables (set s xs) (set t xs)
   pub set_twice : (s : Rows) (xs ys : List T) → HasTables (set (set s xs) ys) (set s ys)
   pub puts : (s : Rows) (y : T) → HasTables (changed s (on y)) (set s (put_by (cmp y) (get s) y))
@@ -54,7 +54,7 @@ module _ {T : Type 0} (cmp : T → T → Ordering) (off on : T → Change) (k : 
       (tables_on _ _ _ (k.set_same next (k.set s xs) (stepped cmp xs steps) h) (k.set_twice s xs (stepped cmp xs steps)))
 
   steps_made : (s : Rows) (steps : List (Step T)) → AreWhole (map (change_by off on) steps) → HasTables (changed_by s (map (change_by off on) steps)) (k.set s (stepped cmp (k.get s) steps))
-  steps_made s [] whole = k.set_own s
+  steps_made s [] whole = k.set_itself s
   steps_made s (gone x ∷ steps) whole =
       tables_on _ _ _ (steps_made (changed s (off x)) steps whole.1) (onward s (changed s (off x)) (remove_by (cmp x) (k.get s)) steps (k.outs s x whole.0))
   steps_made s (put y ∷ steps) whole =
@@ -78,7 +78,7 @@ groups_kind = record {
   set = λ s xs. record s { groups = xs };
   get_set = λ s xs. refl;
   get_same = λ s t h. h.groups;
-  set_own = λ s. record { groups = refl; stations = refl; agents = refl; calls = refl; connections = refl; monitors = refl };
+  set_itself = λ s. record { groups = refl; stations = refl; agents = refl; calls = refl; connections = refl; monitors = refl };
   set_same = λ s t xs h. record { groups = refl; stations = h.stations; agents = h.agents; calls = h.calls; connections = h.connections; monitors = h.monitors };
   set_twice = λ s xs ys. record { groups = refl; stations = refl; agents = refl; calls = refl; connections = refl; monitors = refl };
   puts = λ s y. record { groups = refl; stations = refl; agents = refl; calls = refl; connections = refl; monitors = refl };
@@ -92,7 +92,7 @@ stations_kind = record {
   set = λ s xs. record s { stations = xs };
   get_set = λ s xs. refl;
   get_same = λ s t h. h.stations;
-  set_own = λ s. record { groups = refl; stations = refl; agents = refl; calls = refl; connections = refl; monitors = refl };
+  set_itself = λ s. record { groups = refl; stations = refl; agents = refl; calls = refl; connections = refl; monitors = refl };
   set_same = λ s t xs h. record { groups = h.groups; stations = refl; agents = h.agents; calls = h.calls; connections = h.connections; monitors = h.monitors };
   set_twice = λ s xs ys. record { groups = refl; stations = refl; agents = refl; calls = refl; connections = refl; monitors = refl };
   puts = λ s y. record { groups = refl; stations = refl; agents = refl; calls = refl; connections = refl; monitors = refl };
@@ -106,7 +106,7 @@ agents_kind = record {
   set = λ s xs. record s { agents = xs };
   get_set = λ s xs. refl;
   get_same = λ s t h. h.agents;
-  set_own = λ s. record { groups = refl; stations = refl; agents = refl; calls = refl; connections = refl; monitors = refl };
+  set_itself = λ s. record { groups = refl; stations = refl; agents = refl; calls = refl; connections = refl; monitors = refl };
   set_same = λ s t xs h. record { groups = h.groups; stations = h.stations; agents = refl; calls = h.calls; connections = h.connections; monitors = h.monitors };
   set_twice = λ s xs ys. record { groups = refl; stations = refl; agents = refl; calls = refl; connections = refl; monitors = refl };
   puts = λ s y. record { groups = refl; stations = refl; agents = refl; calls = refl; connections = refl; monitors = refl };
@@ -120,7 +120,7 @@ calls_kind = record {
   set = λ s xs. record s { calls = xs };
   get_set = λ s xs. refl;
   get_same = λ s t h. h.calls;
-  set_own = λ s. record { groups = refl; stations = refl; agents = refl; calls = refl; connections = refl; monitors = refl };
+  set_itself = λ s. record { groups = refl; stations = refl; agents = refl; calls = refl; connections = refl; monitors = refl };
   set_same = λ s t xs h. record { groups = h.groups; stations = h.stations; agents = h.agents; calls = refl; connections = h.connections; monitors = h.monitors };
   set_twice = λ s xs ys. record { groups = refl; stations = refl; agents = refl; calls = refl; connections = refl; monitors = refl };
   puts = λ s y. record { groups = refl; stations = refl; agents = refl; calls = refl; connections = refl; monitors = refl };
@@ -134,7 +134,7 @@ connections_kind = record {
   set = λ s xs. record s { connections = xs };
   get_set = λ s xs. refl;
   get_same = λ s t h. h.connections;
-  set_own = λ s. record { groups = refl; stations = refl; agents = refl; calls = refl; connections = refl; monitors = refl };
+  set_itself = λ s. record { groups = refl; stations = refl; agents = refl; calls = refl; connections = refl; monitors = refl };
   set_same = λ s t xs h. record { groups = h.groups; stations = h.stations; agents = h.agents; calls = h.calls; connections = refl; monitors = h.monitors };
   set_twice = λ s xs ys. record { groups = refl; stations = refl; agents = refl; calls = refl; connections = refl; monitors = refl };
   puts = λ s y. record { groups = refl; stations = refl; agents = refl; calls = refl; connections = refl; monitors = refl };
@@ -148,7 +148,7 @@ monitors_kind = record {
   set = λ s xs. record s { monitors = xs };
   get_set = λ s xs. refl;
   get_same = λ s t h. h.monitors;
-  set_own = λ s. record { groups = refl; stations = refl; agents = refl; calls = refl; connections = refl; monitors = refl };
+  set_itself = λ s. record { groups = refl; stations = refl; agents = refl; calls = refl; connections = refl; monitors = refl };
   set_same = λ s t xs h. record { groups = h.groups; stations = h.stations; agents = h.agents; calls = h.calls; connections = h.connections; monitors = refl };
   set_twice = λ s xs ys. record { groups = refl; stations = refl; agents = refl; calls = refl; connections = refl; monitors = refl };
   puts = λ s y. record { groups = refl; stations = refl; agents = refl; calls = refl; connections = refl; monitors = refl };
@@ -176,18 +176,18 @@ next cmp off on k same exact s t new old now adds up later whole so_far =
     (subst (λ r. HasTables r (k.set t new)) (sym (changed_by_append s old more))
     (leads cmp off on k same exact (changed_by s old) t new more here up later adds.1 (whole_back old more parts)))
 
--- the groups, the stations and the agents, who first stand without the stations that they give up
+-- the groups, the stations and the agents, who are first without the stations that they give up
 pub plan_leads : (held new : Rows) (agents : List AgentRecord) (c0 c1 c2 c3 c4 : List Change) → c0 ≡ []
     → AddsSteps group_order group_eq none_gone PutGroup held.groups new.groups c0 c1 → AddsSteps station_order station_eq none_gone PutStation held.stations new.stations c1 c2
     → AddsSteps agent_order agent_eq none_gone PutAgent held.agents agents c2 c3 → AddsSteps agent_order agent_eq none_gone PutAgent agents new.agents c3 c4
     → (IsAscending agent_order held.agents → IsAscending agent_order agents) → Lead held (with_plan held new) c4
 unfolding groups_kind stations_kind agents_kind
-plan_leads held new agents c0 c1 c2 c3 c4 none a1 a2 a3 a4 agents_up s own o n whole =
+plan_leads held new agents c0 c1 c2 c3 c4 none a1 a2 a3 a4 agents_up s has_tables o n whole =
     let t1 : Rows = record held { groups = new.groups } in
     let t2 : Rows = record t1 { stations = new.stations } in
     let t3 : Rows = record t2 { agents = agents } in
     let rising = agents_up o.agents in
-    let at0 : AreWhole c0 → HasTables (changed_by s c0) held = λ w. subst (λ l. HasTables (changed_by s l) held) (sym none) own in
+    let at0 : AreWhole c0 → HasTables (changed_by s c0) held = λ w. subst (λ l. HasTables (changed_by s l) held) (sym none) has_tables in
     let at1 : AreWhole c1 → HasTables (changed_by s c1) t1 = λ w. next group_order none_gone PutGroup groups_kind group_eq same_group s held new.groups c0 c1 a1 o.groups n.groups w at0 in
     let at2 : AreWhole c2 → HasTables (changed_by s c2) t2 = λ w. next station_order none_gone PutStation stations_kind station_eq same_station s t1 new.stations c1 c2 a2 o.stations n.stations w at1 in
     let at3 : AreWhole c3 → HasTables (changed_by s c3) t3 = λ w. next agent_order none_gone PutAgent agents_kind agent_eq same_agent s t2 agents c2 c3 a3 o.agents rising w at2 in
@@ -202,26 +202,26 @@ pub traffic_leads : (held new : Rows) (connections : List ConnectionRecord) (c0 
     → AddsSteps monitor_order monitor_eq monitor_gone PutMonitor held.monitors new.monitors c3 c4
     → (IsAscending connection_order held.connections → IsAscending connection_order connections) → Lead (with_plan held new) new c4
 unfolding calls_kind connections_kind monitors_kind
-traffic_leads held new connections c0 c1 c2 c3 c4 none a1 a2 a3 a4 connections_up s own o n whole =
+traffic_leads held new connections c0 c1 c2 c3 c4 none a1 a2 a3 a4 connections_up s has_tables o n whole =
     let t0 : Rows = with_plan held new in
     let t1 : Rows = record t0 { connections = connections } in
     let t2 : Rows = record t1 { calls = new.calls } in
     let t3 : Rows = record t2 { connections = new.connections } in
     let rising = connections_up o.connections in
-    let at0 : AreWhole c0 → HasTables (changed_by s c0) t0 = λ w. subst (λ l. HasTables (changed_by s l) t0) (sym none) own in
+    let at0 : AreWhole c0 → HasTables (changed_by s c0) t0 = λ w. subst (λ l. HasTables (changed_by s l) t0) (sym none) has_tables in
     let at1 : AreWhole c1 → HasTables (changed_by s c1) t1 = λ w. next connection_order connection_gone PutConnection connections_kind connection_eq same_connection s t0 connections c0 c1 a1 o.connections rising w at0 in
     let at2 : AreWhole c2 → HasTables (changed_by s c2) t2 = λ w. next call_order call_gone PutCall calls_kind call_eq same_call s t1 new.calls c1 c2 a2 o.calls n.calls w at1 in
     let at3 : AreWhole c3 → HasTables (changed_by s c3) t3 = λ w. next connection_order connection_gone PutConnection connections_kind connection_eq same_connection s t2 new.connections c2 c3 a3 rising n.connections w at2 in
     let last = next monitor_order monitor_gone PutMonitor monitors_kind monitor_eq same_monitor s t3 new.monitors c3 c4 a4 o.monitors n.monitors whole at3 in
     record { groups = last.groups; stations = last.stations; agents = last.agents; calls = last.calls; connections = last.connections; monitors = last.monitors }
 
--- the one behind the other
+-- one after the other
 pub both_lead : (held new : Rows) (plan traffic all : List Change) → all ≡ plan ++ traffic → Lead held (with_plan held new) plan → Lead (with_plan held new) new traffic → Lead held new all
-both_lead held new plan traffic all is first second s own o n whole =
+both_lead held new plan traffic all is first second s has_tables o n whole =
     let parts = subst AreWhole is whole in
     let between : Orders (with_plan held new) =
     record { groups = n.groups; stations = n.stations; agents = n.agents; calls = o.calls; connections = o.connections; monitors = o.monitors } in
-    let there = first s own o between (whole_front plan traffic parts) in
+    let there = first s has_tables o between (whole_front plan traffic parts) in
     subst (λ l. HasTables (changed_by s l) new) (sym is)
     (subst (λ r. HasTables r new) (sym (changed_by_append s plan traffic)) (second (changed_by s plan) there between n (whole_back plan traffic parts)))
 

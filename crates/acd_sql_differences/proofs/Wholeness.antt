@@ -36,7 +36,7 @@ module _ {T : Type 0} (off on : T → Change) where
   whole_at [] s whole a = absurd a
 
   module _ (cmp : T → T → Ordering) (same : T → T → Bool) (puts : (y : T) → on y ≡ Nothing → ⊥) where
-    -- what is taken out is always named
+    -- a removal is always named
     always_whole : ((x : T) → off x ≡ Nothing → ⊥) → (held new : List T) → AreWhole (differences cmp same off on held new)
     always_whole outs held new = whole_from (merged cmp same held new) (λ s a. each s)
       where
@@ -56,7 +56,7 @@ module _ {T : Type 0} (off on : T → Change) where
       whole_keeps never whole =
           every_from (λ x. IsNoKey cmp x new → ⊥) held (λ x a alone. whole_at (merged cmp same held new) (gone x) whole ((names_gone cmp total same held new h k x).1 (a, alone)) (never x))
 
--- ---- agents, who stand between without the stations that they give up
+-- ---- agents, who are in between without the stations that they give up
 
 abbrev StaysIn : List AgentRecord → AgentRecord → Type 0
 StaysIn new x = IsNoKey agent_order x new → ⊥
@@ -123,12 +123,12 @@ module _ (held new : Rows) (o : Orders held) (n : Orders new) where
   whole_plan : AreWhole (plan_differences held new) → KeepsPlan held new
   unfolding plan_differences
   whole_plan whole =
-      let behind_groups = whole_back (differences group_order group_eq none_gone PutGroup held.groups new.groups) _ whole in
-      let behind_stations = whole_back (differences station_order station_eq none_gone PutStation held.stations new.stations) _ behind_groups in
-      let last = whole_back (differences agent_order agent_eq none_gone PutAgent held.agents between) _ behind_stations in
+      let after_groups = whole_back (differences group_order group_eq none_gone PutGroup held.groups new.groups) _ whole in
+      let after_stations = whole_back (differences station_order station_eq none_gone PutStation held.stations new.stations) _ after_groups in
+      let last = whole_back (differences agent_order agent_eq none_gone PutAgent held.agents between) _ after_stations in
       record {
         groups = whole_keeps none_gone PutGroup group_order group_eq no_group groups_total held.groups new.groups o.groups n.groups (λ x. refl) (whole_front _ _ whole);
-        stations = whole_keeps none_gone PutStation station_order station_eq no_station stations_total held.stations new.stations o.stations n.stations (λ x. refl) (whole_front _ _ behind_groups);
+        stations = whole_keeps none_gone PutStation station_order station_eq no_station stations_total held.stations new.stations o.stations n.stations (λ x. refl) (whole_front _ _ after_groups);
         agents = (same_agents new.agents new.agents held.agents).0 (whole_keeps none_gone PutAgent agent_order agent_eq no_agent agents_total between new.agents between_rises n.agents (λ x. refl) last);
       }
 

@@ -1,4 +1,4 @@
--- What leads from one list of records to another, both in ascending key.
+-- The steps from one list of records to another, both in ascending key.
 use Rattle.std.specs.Prelude.{◌≡◌, ◌↔◌, Bool, true, false, List, [], ◌∷◌, map, if◌then◌else◌}
 use Rattle.std.specs.declared.cmp.Ordering.{Ordering}
 use Rattle.std.specs.declared.cmp.Ordering.TheVariants.{Equal}
@@ -6,7 +6,7 @@ use Rattle.std.specs.Ordering.{match_ordering}
 use Rattle.acd_terms.specs.Lists.{Among, Every, IsAscending, put_by, remove_by}
 use Rattle.acd_model.specs.declared.moves.Change.{Change}
 
--- a record is gone, or is put
+-- a record is removed, or is put
 pub data Step (T : Type 0) : Type 0 where
   gone : T → Step T
   put : T → Step T
@@ -33,7 +33,7 @@ IsNoKey cmp x = Every (λ y. cmp x y ≡ Equal → ⊥)
 abbrev pub IsOther : {T : Type 0} → (T → T → Ordering) → (T → T → Bool) → T → List T → Type 0
 IsOther cmp same y = Every (λ x. cmp x y ≡ Equal → same y x ≡ false)
 
--- each record that is gone and each record that isn't equally held is named, in ascending key, and nothing else
+-- each record that is removed and each record that isn't equally held is named, in ascending key, and nothing else
 pub record AreSteps {T : Type 0} (cmp : T → T → Ordering) (same : T → T → Bool) (held new : List T) (steps : List (Step T)) : Type 0 where
   pub ascending : IsAscending (λ a b. cmp (record_of a) (record_of b)) steps
   pub gone_are : (x : T) → Among (gone x) steps ↔ (Among x held × IsNoKey cmp x new)
@@ -46,18 +46,18 @@ abbrev pub LeadTo : {T : Type 0} → (T → T → Ordering) → (T → T → Boo
 LeadTo {T} cmp same off on held new changes =
     IsAscending cmp held → IsAscending cmp new → (steps : List (Step T)) × AreSteps cmp same held new steps × (changes ≡ map (change_by off on) steps)
 
--- ---- the same as both lists are gone through
+-- ---- the same in one pass over both lists
 
 abbrev pub replaced : {T : Type 0} → (T → T → Bool) → T → T → List (Step T) → List (Step T)
 replaced same x y rest = if same y x then rest else put y ∷ rest
 
-abbrev pub behind : {T : Type 0} → (T → T → Ordering) → (T → T → Bool) → T → (List T → List (Step T)) → List T → List (Step T)
-behind cmp same x rest [] = gone x ∷ rest []
-behind cmp same x rest (y ∷ ys) = match_ordering (cmp x y) (gone x ∷ rest (y ∷ ys)) (replaced same x y (rest ys)) (put y ∷ behind cmp same x rest ys)
+abbrev pub merged_from : {T : Type 0} → (T → T → Ordering) → (T → T → Bool) → T → (List T → List (Step T)) → List T → List (Step T)
+merged_from cmp same x rest [] = gone x ∷ rest []
+merged_from cmp same x rest (y ∷ ys) = match_ordering (cmp x y) (gone x ∷ rest (y ∷ ys)) (replaced same x y (rest ys)) (put y ∷ merged_from cmp same x rest ys)
 
 abbrev pub merged : {T : Type 0} → (T → T → Ordering) → (T → T → Bool) → List T → List T → List (Step T)
 merged cmp same [] new = map put new
-merged cmp same (x ∷ held) new = behind cmp same x (merged cmp same held) new
+merged cmp same (x ∷ held) new = merged_from cmp same x (merged cmp same held) new
 
 abbrev pub differences : {T : Type 0} → (T → T → Ordering) → (T → T → Bool) → (T → Change) → (T → Change) → List T → List T → List Change
 differences cmp same off on held new = map (change_by off on) (merged cmp same held new)

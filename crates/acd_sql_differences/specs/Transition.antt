@@ -1,4 +1,4 @@
--- What leads from the tables of one state to those of another.
+-- The changes from the tables of one state to those of another.
 use Rattle.std.specs.Prelude.{◌≡◌, ◌++◌, Bool, List}
 use Rattle.std.specs.declared.cmp.Ordering.{Ordering}
 use Rattle.acd_terms.specs.Lists.{Every}
@@ -19,7 +19,7 @@ pub record HasTables (s t : Rows) : Type 0 where
   pub connections : s.connections ≡ t.connections
   pub monitors : s.monitors ≡ t.monitors
 
--- none of the changes stands for a group, a station or an agent that is gone
+-- none of the changes represents a group, a station or an agent that is missing
 abbrev pub AreWhole : List Change → Type 0
 AreWhole = Every (λ (c : Change). c ≡ Nothing → ⊥)
 

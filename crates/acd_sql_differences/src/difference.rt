@@ -1,4 +1,4 @@
-//! What leads from the records that are held to new ones.
+//! The changes from the records that are held to new ones.
 
 ghost use Rattle.std.specs.Prelude.{◌≡◌, ◌<◌, ◌+◌, ◌++◌, [], None, length, option_to_list, IfSome, IfOk, OnOk};
 ghost use Rattle.acd_model.specs.declared.moves.Change.{Change as Made};
@@ -13,7 +13,7 @@ use std::alloc::{AllocError, Global};
 use std::cmp::Ordering;
 
 /// A record of a working table, and the changes that put it and that take it out.
-pub trait Filed: Keyed + PartialEq {
+pub trait TableRecord: Keyed + PartialEq {
     ghost put_of: { Self → Made };
 
     ghost gone_of: { Self → Made };
@@ -21,12 +21,12 @@ pub trait Filed: Keyed + PartialEq {
     fn put(&self) -> Change
         ensures { result ≡ put_of self.now };
 
-    /// [`Change::Nothing`] for groups, stations and agents, which are never taken out.
+    /// [`Change::Nothing`] for groups, stations and agents, which are never removed.
     fn gone(&self) -> Change
         ensures { result ≡ gone_of self.now };
 }
 
-impl Filed for GroupRecord {
+impl TableRecord for GroupRecord {
     ghost put_of = { GroupPut };
 
     ghost gone_of = { λ r. NoChange };
@@ -40,7 +40,7 @@ impl Filed for GroupRecord {
     }
 }
 
-impl Filed for StationRecord {
+impl TableRecord for StationRecord {
     ghost put_of = { StationPut };
 
     ghost gone_of = { λ r. NoChange };
@@ -54,7 +54,7 @@ impl Filed for StationRecord {
     }
 }
 
-impl Filed for AgentRecord {
+impl TableRecord for AgentRecord {
     ghost put_of = { AgentPut };
 
     ghost gone_of = { λ r. NoChange };
@@ -68,7 +68,7 @@ impl Filed for AgentRecord {
     }
 }
 
-impl Filed for CallRecord {
+impl TableRecord for CallRecord {
     ghost put_of = { CallPut };
 
     ghost gone_of = { λ r. CallGone r.call };
@@ -82,7 +82,7 @@ impl Filed for CallRecord {
     }
 }
 
-impl Filed for ConnectionRecord {
+impl TableRecord for ConnectionRecord {
     ghost put_of = { ConnectionPut };
 
     ghost gone_of = { λ r. ConnectionGone r.call r.device };
@@ -96,7 +96,7 @@ impl Filed for ConnectionRecord {
     }
 }
 
-impl Filed for MonitorRecord {
+impl TableRecord for MonitorRecord {
     ghost put_of = { MonitorPut };
 
     ghost gone_of = { λ r. MonitorGone r.monitor };
@@ -111,7 +111,10 @@ impl Filed for MonitorRecord {
 }
 
 // The change at the first key, if there is one, and what is left of both lists.
-fn turn<'a, R: Filed>(held: &'a [R], new: &'a [R]) -> Option<(Option<Change>, &'a [R], &'a [R])>
+fn turn<'a, R: TableRecord>(
+    held: &'a [R],
+    new: &'a [R],
+) -> Option<(Option<Change>, &'a [R], &'a [R])>
     ensures leads { IfSome result
         (λ t. differences (λ x y. R.Key.cmp (R.key_of x) (R.key_of y)) R.eq R.gone_of R.put_of
         held.now new.now ≡ option_to_list t.0
@@ -136,21 +139,21 @@ fn turn<'a, R: Filed>(held: &'a [R], new: &'a [R]) -> Option<(Option<Change>, &'
     }
 }
 
-// A push of its own, for any type.
-fn note<T: Copy + Drop>(noted: &mut Vec<T>, one: Option<T>) -> Result<(), AllocError>
-    ensures { OnOk result (noted.new.items ≡ noted.old.items ++ option_to_list one) }
+// A separate push, for any type.
+fn push_if_some<T: Copy + Drop>(list: &mut Vec<T>, one: Option<T>) -> Result<(), AllocError>
+    ensures { OnOk result (list.new.items ≡ list.old.items ++ option_to_list one) }
 {
     if let Some(one) = one {
-        noted.push(one)?;
+        list.push(one)?;
     }
     Ok(())
 }
 
-/// The changes from the records that are held to new ones, both in ascending key: each key of `held` that
-/// is gone and each record of `new` that isn't equally in `held`, in ascending key, and nothing else.
+/// The changes from the records that are held to new ones, both in ascending key: each key of `held` that is missing in
+/// `new` and each record of `new` that isn't equally in `held`, in ascending key, and nothing else.
 ///
-/// A group, a station and an agent are never taken out: one that is gone is named by [`Change::Nothing`].
-pub fn row_changes<R: Filed>(
+/// A group, a station and an agent are never removed: [`Change::Nothing`] names one that is missing.
+pub fn row_changes<R: TableRecord>(
     alloc: Global,
     held: &[R],
     new: &[R],
@@ -164,9 +167,9 @@ pub fn row_changes<R: Filed>(
     let mut changes = Vec::new(alloc);
     let mut left = held;
     let mut rest = new;
-    while let Some((change, behind, next)) = turn(left, rest) {
-        note(&mut changes, change)?;
-        left = behind;
+    while let Some((change, held_rest, next)) = turn(left, rest) {
+        push_if_some(&mut changes, change)?;
+        left = held_rest;
         rest = next;
     }
     Ok(changes)

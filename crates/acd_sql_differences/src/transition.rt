@@ -1,25 +1,25 @@
-//! What leads from the tables of one state to those of another, in an order in which each change leaves
-//! all references and keys as the schema wants them.
+//! The changes from the tables of one state to those of another, in an order in which each change leaves all references
+//! and keys as the schema wants them.
 
 ghost use Rattle.std.specs.Prelude.{◌≡◌, ◌↔◌, ◌++◌, filter, map, IfOk, OnOk, IsTrue};
 ghost use Rattle.acd_sql_differences.specs.Leading.{shared_station, station_in, unseated, stays, plan_differences, traffic_differences, rows_differences};
 ghost use Rattle.acd_sql_differences.specs.Transition.{AreWhole, KeepsPlan, Lead, AddsSteps, with_plan};
 ghost use Rattle.acd_lemmas.specs.Orders.{Orders};
 
-use crate::difference::{Filed, row_changes};
+use crate::difference::{TableRecord, row_changes};
 use acd_model::Change;
 use acd_terms::{AgentRecord, ConnectionRecord, DeviceId, Rows, find};
 use std::alloc::{AllocError, Global};
 
-// Adds them all, for any type: the goals of a function of its own are short.
-fn extend<T: Copy + Drop>(noted: &mut Vec<T>, more: &[T]) -> Result<(), AllocError>
-    ensures { OnOk result (noted.new.items ≡ noted.old.items ++ more.now) }
+// Adds them all, for any type: the goals of a separate function are short.
+fn extend<T: Copy + Drop>(list: &mut Vec<T>, more: &[T]) -> Result<(), AllocError>
+    ensures { OnOk result (list.new.items ≡ list.old.items ++ more.now) }
 {
-    noted.extend_from_slice(more)
+    list.extend_from_slice(more)
 }
 
 // Adds the changes from one list to another.
-fn add_changes<R: Filed>(
+fn add_changes<R: TableRecord>(
     alloc: Global,
     changes: &mut Vec<Change>,
     held: &[R],
@@ -171,9 +171,9 @@ fn traffic_changes(alloc: Global, held: &Rows, new: &Rows) -> Result<Vec<Change>
 /// The changes from the tables that are held to new ones, in an order that keeps each reference and each
 /// key at each step, where both states keep them.
 ///
-/// Groups and stations come before agents, and agents give their stations up before others take them.
-/// Connections go before their calls, and calls come before their connections. A group, a station or an
-/// agent that is gone is named by [`Change::Nothing`].
+/// Groups and stations come before agents, and agents give their stations up before others take them. Connections are
+/// removed before their calls, and calls are put before their connections. [`Change::Nothing`] names a group, a station
+/// or an agent that is missing.
 pub fn rows_changes(alloc: Global, held: &Rows, new: &Rows) -> Result<Vec<Change>, AllocError>
     ensures lead { IfOk result (λ changes. Lead held.now new.now changes.items) }
     ensures exact { IfOk result (λ changes. changes.items ≡ rows_differences held.now new.now) }
@@ -186,7 +186,7 @@ pub fn rows_changes(alloc: Global, held: &Rows, new: &Rows) -> Result<Vec<Change
     Ok(changes)
 }
 
-/// Whether no record is gone that is never taken out.
+/// Whether no record is missing that is never removed.
 pub fn are_whole(changes: &[Change]) -> bool
     ensures { IsTrue result ↔ AreWhole changes.now }
 {

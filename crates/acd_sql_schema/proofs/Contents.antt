@@ -1,4 +1,4 @@
--- Rows that are filed, and in their ranges, are those of a content.
+-- Rows that are canonical, and in their ranges, are those of a content.
 use Rattle.std.proofs.Common.{◌≡◌, ◌==◌, ◌&&◌, ◌||◌, ℕ, ℤ, pos, negsuc, zero, suc, length, drop, map, not, slice_get, List, [], ◌∷◌, ◌++◌, inl, inr, Option, Some, None, Bool, true, false, IsTrue, refl, sym, ap, ap₂, subst, subst₂, ◌∙◌, arith, ◌+◌, ◌<◌, ◌≤◌}
 use Rattle.std.specs.List.{AllByRecursion}
 use Rattle.std.specs.Option.{is_some}
@@ -39,19 +39,19 @@ use Rattle.acd_sql_columns.specs.declared.tables.Table.{Table}
 use Rattle.acd_sql_columns.specs.declared.tables.Table.TheVariants as table
 use Rattle.acd_sql_columns.specs.declared.tables.Version.{Version}
 use Rattle.acd_sql_columns.specs.declared.tables.Version.TheVariants as version
-use Rattle.acd_sql_columns.specs.AnyRows.{is_good, are_good, is_good_in, values_in, rows_in, schema_of, IsFiledAs, HaveAllColumns}
+use Rattle.acd_sql_columns.specs.AnyRows.{is_good, are_good, is_good_in, values_in, rows_in, schema_of, IsCanonicalAs, HaveAllColumns}
 use Rattle.acd_sql_schema.specs.Inspecting.{IsOfBook}
 use Rattle.acd_sql_statements.specs.InRange.{is_good_table, IsInRange}
 use Rattle.acd_sql_columns.specs.declared.relations.AgentRow.{AgentRow}
 use Rattle.acd_sql_columns.specs.declared.relations.GroupRow.{GroupRow}
 use Rattle.acd_sql_columns.specs.declared.relations.GroupPriority.{GroupPriority}
 use Rattle.acd_sql_columns.specs.Content.{AreRows, AreHeaped, Encodes, EncodesAs, FitsIn, StoresAs, IsIn, number_of, part, tree_of}
-use Rattle.acd_sql_columns.specs.Descriptions.{Description, Heap, behind, behind_both, row_of, numbered_row, by_both}
+use Rattle.acd_sql_columns.specs.Descriptions.{Description, Heap, after_key, after_both, row_of, numbered_row, by_both}
 use Rattle.acd_sql_columns.specs.InTables.{in_order}
 use Rattle.acd_sql_columns.specs.Ranges.{counters_in}
 use Rattle.acd_sql_columns.specs.Relations.{Relations, pair_order, relations_of, group_part, agent_part, further_in, priorities_in, joined_group, joined_agent}
 use Rattle.acd_sql_columns.specs.Rows.{keyed_row, meta_row_as, meta_shown, group_row, agent_row, further_row, priority_row, group_values, agent_values, further_values, priority_values}
-use Rattle.acd_sql_columns.specs.Schema.{Layout, behind_first, table_of, nine, with_behind, book_schema, BeginsSchema}
+use Rattle.acd_sql_columns.specs.Schema.{Layout, after_first, table_of, nine, with_later, book_schema, BeginsSchema}
 use Rattle.acd_sql_columns.specs.Schema as schema
 use Rattle.acd_sql_columns.specs.Tables.{groups, stations, agents, calls, connections, monitors, events, kept, group_priority, agent_groups}
 use Rattle.acd_sql_columns.specs.Values.{id_value, cells}
@@ -59,7 +59,7 @@ use Rattle.acd_sql_columns.proofs.AgentGroups.{groups_heaped}
 use Rattle.acd_sql_columns.proofs.Asked.{columns}
 use Rattle.acd_sql_columns.proofs.Connections.{connections_heaped}
 use Rattle.acd_sql_columns.proofs.Decoded.{old_in, with_all, ordered, from_order, to_order}
-use Rattle.acd_sql_columns.proofs.Filed.{Filed, tree_is, good, headed, shows_values}
+use Rattle.acd_sql_columns.proofs.Described.{Described, tree_is, good, headed, shows_values}
 use Rattle.acd_sql_columns.proofs.Heaped.{Heaped, key_columns, has_twin, no_twin, starts, agreed, heap_tree}
 use Rattle.acd_sql_columns.proofs.Heaps.{one_number, by_both_total, like_tied, key_met, met_key}
 use Rattle.acd_sql_columns.proofs.KeyedRows.{id_cmp, id_tied}
@@ -69,7 +69,7 @@ use Rattle.acd_sql_columns.proofs.Ranged.{row_is, null_is, whole_stored}
 use Rattle.acd_sql_columns.proofs.Records.{counters_stored}
 use Rattle.acd_sql_columns.proofs.Rejoined.{parts_rejoined, further_rejoined, groups_right, group_parts_rejoined, priorities_rejoined}
 use Rattle.acd_sql_columns.proofs.Scans.{showing, each}
-use Rattle.acd_sql_columns.proofs.TablesFiled.{priorities_filed, groups_filed, stations_filed, agents_filed, calls_filed, monitors_filed, events_filed, kept_filed}
+use Rattle.acd_sql_columns.proofs.TablesDescribed.{priorities_described, groups_described, stations_described, agents_described, calls_described, monitors_described, events_described, kept_described}
 use Rattle.acd_sql_schema.proofs.Places.{Beside, NoneBefore, none_beside, all_beside, longer}
 use Rattle.acd_lemmas.proofs.Numbers.{same_number}
 use Rattle.acd_lemmas.proofs.Keyed.{eqb_self}
@@ -115,7 +115,7 @@ of_width n r w = row_is n r (ap (λ k. k == n) w ∙ eqb_self n)
 next : (n : ℕ) → n + 1 ≡ suc n
 next n = omega arith
 
--- what is shown of some columns
+-- the values shown of some columns
 shown_cells : (start n : ℕ) (r : Row) → showing [] (columns start n) r ≡ cells start n r
 shown_cells start zero r = refl
 shown_cells start (suc n) r = ap (λ l. column r start ∷ l) (shown_cells (start + 1) n r ∙ ap (λ k. cells k n r) (next start))
@@ -140,7 +140,7 @@ width_is columns (v ∷ vs) h last =
     let high = there_at (v ∷ vs) (length columns) last in
     omega (arith, low, high)
 
--- the last column behind the key is never NULL
+-- the last column after the key is never NULL
 abbrev ends : List Column → Bool
 ends [] = false
 ends (c ∷ []) = c.not_null
@@ -156,9 +156,9 @@ above_zero : (n : ℕ) → (0 == n + 1) ≡ false
 above_zero n = grind (arith, nat_tests)
 
 last_there : (cs : List Column) (at : ℕ) (r : Row) → (0 == at) ≡ false → are_present (Some 0) at cs r ≡ true → ends cs ≡ true → is_null (column r (at + length cs)) ≡ false
-last_there [] at r behind h end = absurd (cc end)
-last_there (c ∷ []) at r behind h end = not_null (0 == at) c.not_null (is_null (column r (at + 1))) behind end (and_parts _ _ h).0
-last_there (c ∷ d ∷ cs) at r behind h end =
+last_there [] at r not_first h end = absurd (cc end)
+last_there (c ∷ []) at r not_first h end = not_null (0 == at) c.not_null (is_null (column r (at + 1))) not_first end (and_parts _ _ h).0
+last_there (c ∷ d ∷ cs) at r not_first h end =
     let same : at + 1 + length (d ∷ cs) ≡ at + length (c ∷ d ∷ cs) = omega arith in
     subst (λ k. is_null (column r k) ≡ false) same (last_there (d ∷ cs) (at + 1) r (above_zero at) (and_parts _ _ h).1 end)
 
@@ -220,13 +220,13 @@ meta_form n r m w key null version shown =
 
 -- ---- a table whose first column is the number of the row
 
-module _ {R : Type 0} (d : Description R) (f : Filed d) where
+module _ {R : Type 0} (d : Description R) (f : Described d) where
   key_first : d.layout.key ≡ Some 0
   key_first = ap (λ (t : Option ℕ × ℕ). t.0) f.keyed
 
   -- a number for the row, and the columns
   abbrev width : ℕ
-  width = suc (suc (behind d))
+  width = suc (suc (after_key d))
 
   -- the rows are those of records that are read back
   pub record AreOf (rows : List Row) : Type 0 where
@@ -235,14 +235,14 @@ module _ {R : Type 0} (d : Description R) (f : Filed d) where
     pub read : Every d.IsRead records
     pub are_right : are_good d.table (map d.values records) ≡ true
 
-  values_are : (r : Row) → column r 0 ∷ cells 2 (behind d) r ≡ values_in d.table r
-  values_are r = ap (λ l. column r 0 ∷ l) (sym (shown_cells 2 (behind d) r)) ∙ ap (λ (t : Row × Bool). t.0) (f.of_row r)
+  values_are : (r : Row) → column r 0 ∷ cells 2 (after_key d) r ≡ values_in d.table r
+  values_are r = ap (λ l. column r 0 ∷ l) (sym (shown_cells 2 (after_key d) r)) ∙ ap (λ (t : Row × Bool). t.0) (f.of_row r)
 
   one_of : (r : Row) → length r ≡ width → column r 1 ≡ Null → is_good d.table (values_in d.table r) ≡ true → (x : R) × (r ≡ row_of d x) × d.IsRead x × (is_good d.table (d.values x) ≡ true)
   one_of r w null ok =
       let x = there (d.in_row (values_in d.table r)) (sym (good d f (values_in d.table r)) ∙ ok) in
       let same = f.stored (values_in d.table r) x.0 x.1 in
-      (x.0, of_width width r w ∙ ap (λ v. column r 0 ∷ v ∷ cells 2 (behind d) r) null ∙ ap keyed_row (values_are r ∙ same.0), same.1, ap (is_good d.table) (sym same.0) ∙ ok)
+      (x.0, of_width width r w ∙ ap (λ v. column r 0 ∷ v ∷ cells 2 (after_key d) r) null ∙ ap keyed_row (values_are r ∙ same.0), same.1, ap (is_good d.table) (sym same.0) ∙ ok)
 
   pub are_of : (rows : List Row) → IsTable rows → AllByRecursion (λ r. length r ≡ width) rows → AllByRecursion (λ r. is_typed d.layout r ≡ true) rows → AllByRecursion (λ r. is_good d.table (values_in d.table r) ≡ true) rows → AreOf rows
   are_of rows rising w typed g =
@@ -253,11 +253,11 @@ module _ {R : Type 0} (d : Description R) (f : Filed d) where
           → (xs : List R) × (rows ≡ map (row_of d) xs) × Every d.IsRead xs × (are_good d.table (map d.values xs) ≡ true)
       records_of [] w typed g = ([], refl, tt, none_good d.table)
       records_of (r ∷ rows) w typed g =
-          let x = one_of r w.0 (key_null d.layout (behind d) r key_first w.0 typed.0) g.0 in
+          let x = one_of r w.0 (key_null d.layout (after_key d) r key_first w.0 typed.0) g.0 in
           let more = records_of rows w.1 typed.1 g.1 in
           (x.0 ∷ more.0, ap₂ (λ y ys. y ∷ ys) x.1 more.1, (x.2, more.2), one_more d.table (d.values x.0) (map d.values more.0) x.3 more.3)
 
--- ---- a table whose rows have numbers of their own
+-- ---- a table whose rows have rowids apart from their keys
 
 level : (o : Ordering) → is_true (from_truth (Some (is_ne o))) ≡ false → o ≡ Equal
 level Less h = absurd (cc h)
@@ -271,7 +271,7 @@ levels m n h = level (value_cmp (Int m) (Int n)) h
 module _ {R : Type 0} (h : Heap R) (f : Heaped h) where
   -- a number for the row, and the columns
   abbrev heap_width : ℕ
-  heap_width = suc (suc (suc (behind_both h)))
+  heap_width = suc (suc (suc (after_both h)))
 
   heap_good : (r : Row) → is_good h.table r ≡ is_some (h.in_row r)
   heap_good r = ap (λ (t : Row × Bool). t.1) (f.of_row r)
@@ -286,7 +286,7 @@ module _ {R : Type 0} (h : Heap R) (f : Heaped h) where
   linked_one r int w ok =
       let x = there (h.in_row (values_in h.table r)) (sym (heap_good (values_in h.table r)) ∙ ok) in
       let same = f.stored (values_in h.table r) x.0 x.1 in
-      let shown = sym (shown_cells 1 (suc (suc (behind_both h))) r) ∙ ap (λ (t : Row × Bool). t.0) (f.of_row r) in
+      let shown = sym (shown_cells 1 (suc (suc (after_both h))) r) ∙ ap (λ (t : Row × Bool). t.0) (f.of_row r) in
       (id_in (rowid r), x.0, of_width heap_width r w ∙ ap (λ l. column r 0 ∷ l) (shown ∙ same) ∙ ap (λ v. v ∷ h.values x.0) (int_is (rowid r) int), ap h.in_row (sym same) ∙ x.1)
 
   linked : (rows : List Row) → AllByRecursion (λ r. IsTrue (is_int (rowid r))) rows → AllByRecursion (λ r. length r ≡ heap_width) rows → AllByRecursion (λ r. is_good h.table (values_in h.table r) ≡ true) rows → (xs : List R) × AreLinked rows xs
@@ -303,7 +303,7 @@ module _ {R : Type 0} (h : Heap R) (f : Heaped h) where
         back = λ y a. elim a [ inl e ↦ subst (λ z. h.in_row (h.values z) ≡ Some z) (sym e) back | inr b ↦ more.back y b ];
       }
 
-  -- the rows are those of records that are read back, which stand in the order of their keys
+  -- the rows are those of records that are read back, which are in the order of their keys
   pub record IsHeapOf (rows : List Row) : Type 0 where
     pub records : List R
     pub are : AreHeaped (by_both h) (numbered_row h) rows records
@@ -347,43 +347,43 @@ module _ {R : Type 0} (h : Heap R) (f : Heaped h) where
 
 -- ---- the whole
 
-rules_of : (d : Database) (b : BeginsSchema nine d.schema) → IsDatabase d → (rule : Constraint) → Keeps rule (with_behind nine b.0 d.schema) d.trees
+rules_of : (d : Database) (b : BeginsSchema nine d.schema) → IsDatabase d → (rule : Constraint) → Keeps rule (with_later nine b.0 d.schema) d.trees
 rules_of d b obeys rule = subst (λ s. Keeps rule s d.trees) (begun nine d.schema b) (obeys.obeys.rules rule)
 
 good_rows : (t : Table) (db : Trees) → is_good_in t db ≡ true → AllByRecursion (λ r. is_good t (values_in t r) ≡ true) (db (tree_of t))
 unfolding is_good_in
 good_rows t db h = of_mapped (λ r. is_good t r ≡ true) (values_in t) (db (tree_of t)) (each_good t (rows_in t db) h)
 
--- what each table holds
+-- the content of each table
 record Parts (v : Version) (db : Trees) : Type 0 where
   pub meta : Meta
   pub meta_is : db (tree_of table.Meta) ≡ meta_row_as (number_of v) meta ∷ []
   pub meta_good : is_some (counters_in (meta_shown meta)) ≡ true
-  pub groups : AreOf groups groups_filed (db (tree_of table.Groups))
-  pub stations : AreOf stations stations_filed (db (tree_of table.Stations))
-  pub agents : AreOf agents agents_filed (db (tree_of table.Agents))
-  pub calls : AreOf calls calls_filed (db (tree_of table.Calls))
+  pub groups : AreOf groups groups_described (db (tree_of table.Groups))
+  pub stations : AreOf stations stations_described (db (tree_of table.Stations))
+  pub agents : AreOf agents agents_described (db (tree_of table.Agents))
+  pub calls : AreOf calls calls_described (db (tree_of table.Calls))
   pub connections : IsHeapOf connections connections_heaped (db (tree_of table.Connections))
-  pub monitors : AreOf monitors monitors_filed (db (tree_of table.Monitors))
-  pub events : AreOf events events_filed (db (tree_of table.Events))
-  pub kept : AreOf kept kept_filed (db (tree_of table.Kept))
+  pub monitors : AreOf monitors monitors_described (db (tree_of table.Monitors))
+  pub events : AreOf events events_described (db (tree_of table.Events))
+  pub kept : AreOf kept kept_described (db (tree_of table.Kept))
   pub beside : Beside v db agents.records groups.records
 
--- the nine are filed as in version 1
-pub as_first : (v : Version) (db : Trees) → IsFiledAs v db → IsFiledAs version.First db
+-- the nine are canonical as in version 1
+pub as_first : (v : Version) (db : Trees) → IsCanonicalAs v db → IsCanonicalAs version.First db
 as_first v db h = record { rising = λ t old. h.rising t (old_in v t old); numbered = λ t old. h.numbered t (old_in v t old); whole = (h.whole.0, h.whole.1, h.whole.2, λ here. absurd here) }
 
-module _ (v : Version) (d : Database) (book : IsOfBook v d) (obeys : IsDatabase d) (filed : IsFiledAs v d.trees) where
+module _ (v : Version) (d : Database) (book : IsOfBook v d) (obeys : IsDatabase d) (canonical : IsCanonicalAs v d.trees) where
   in_range : (t : Table) → IsIn v t → AllByRecursion (λ r. is_good t (values_in t r) ≡ true) (d.trees (tree_of t))
-  in_range t here = good_rows t d.trees (book.in_range (as_first v d.trees filed) t here)
+  in_range t here = good_rows t d.trees (book.in_range (as_first v d.trees canonical) t here)
 
   nine_there : BeginsSchema nine d.schema
   nine_there = version_begins v d.schema book.schema_is
 
   abbrev its_schema : Schema
-  its_schema = with_behind nine nine_there.0 d.schema
+  its_schema = with_later nine nine_there.0 d.schema
 
-  -- what a rule says of a table of the nine
+  -- a rule on a table of the nine
   ruled : (rule : Constraint) (l : Layout) (place : ℕ) → slice_get nine place ≡ Some (table_of l) → AllByRecursion (λ r. passes rule its_schema d.trees (table_of l) r ≡ true) (d.trees l.tree)
   ruled rule l place here =
       all_has (λ t. AllByRecursion (λ r. passes rule its_schema d.trees t r ≡ true) (d.trees t.tree)) (nine ++ nine_there.0) (table_of l) (rules_of d nine_there obeys rule)
@@ -397,35 +397,35 @@ module _ (v : Version) (d : Database) (book : IsOfBook v d) (obeys : IsDatabase 
       (λ r k.
       whole_row l r key end (all_has (λ r. is_typed l r ≡ true) rows r (ruled rule.Datatype l place here) k) (all_has (λ r. are_present l.key 0 l.columns r ≡ true) rows r (ruled rule.NotNull l place here) k))
 
-  module _ {R : Type 0} (e : Description R) (f : Filed e) (old : IsIn version.First e.table) (here : slice_get nine e.place ≡ Some (table_of e.layout)) where
-    described : AllByRecursion (λ r. length r ≡ suc (suc (behind e))) (d.trees (tree_of e.table)) → AreOf e f (d.trees (tree_of e.table))
+  module _ {R : Type 0} (e : Description R) (f : Described e) (old : IsIn version.First e.table) (here : slice_get nine e.place ≡ Some (table_of e.layout)) where
+    described : AllByRecursion (λ r. length r ≡ suc (suc (after_key e))) (d.trees (tree_of e.table)) → AreOf e f (d.trees (tree_of e.table))
     described w =
-        are_of e f (d.trees (tree_of e.table)) (filed.rising e.table (old_in v e.table old)) w (subst (λ n. AllByRecursion (λ r. is_typed e.layout r ≡ true) (d.trees n)) (tree_is e f) (ruled rule.Datatype e.layout e.place here)) (in_range e.table (old_in v e.table old))
+        are_of e f (d.trees (tree_of e.table)) (canonical.rising e.table (old_in v e.table old)) w (subst (λ n. AllByRecursion (λ r. is_typed e.layout r ≡ true) (d.trees n)) (tree_is e f) (ruled rule.Datatype e.layout e.place here)) (in_range e.table (old_in v e.table old))
 
     ended : ends (drop 1 e.layout.columns) ≡ true → AreOf e f (d.trees (tree_of e.table))
     ended end = described (subst₂ (λ n m. AllByRecursion (λ r. length r ≡ suc m) (d.trees n)) (tree_is e f) (ap (λ (t : Option ℕ × ℕ). t.1) f.keyed) (whole_rows e.layout e.place here (key_first e f) end))
 
-  heaped : {R : Type 0} (h : Heap R) (f : Heaped h) → IsIn v h.table → AllByRecursion (λ r. length r ≡ suc (suc (suc (behind_both h)))) (d.trees (tree_of h.table)) → IsHeapOf h f (d.trees (tree_of h.table))
+  heaped : {R : Type 0} (h : Heap R) (f : Heaped h) → IsIn v h.table → AllByRecursion (λ r. length r ≡ suc (suc (suc (after_both h)))) (d.trees (tree_of h.table)) → IsHeapOf h f (d.trees (tree_of h.table))
   heaped h f here w =
       let rows = d.trees (tree_of h.table) in
-      let links = linked h f rows (filed.numbered h.table here) w (in_range h.table here) in
+      let links = linked h f rows (canonical.numbered h.table here) w (in_range h.table here) in
       let alone = f.alone v here d.trees (subst (λ s. Keeps rule.Unique s d.trees) book.schema_is (obeys.obeys.rules rule.Unique)) in
-      heap_of h f rows links.0 links.1 (filed.rising h.table here) (subst (λ n. AllByRecursion (λ r. (not (has_twin (d.trees n) r) && true) ≡ true) (d.trees n)) (heap_tree h f) alone)
+      heap_of h f rows links.0 links.1 (canonical.rising h.table here) (subst (λ n. AllByRecursion (λ r. (not (has_twin (d.trees n) r) && true) ≡ true) (d.trees n)) (heap_tree h f) alone)
 
--- ---- what stands beside agents and groups
+-- ---- rows beside agents and groups
 
--- what a rule says of a table of version 2
+-- a rule on a table of version 2
 in_second : (d : Database) → IsDatabase d → d.schema ≡ book_schema → (rule : Constraint) (l : Layout) (place : ℕ) → slice_get book_schema.tables place ≡ Some (table_of l)
     → AllByRecursion (λ r. passes rule book_schema d.trees (table_of l) r ≡ true) (d.trees l.tree)
 in_second d obeys is rule l place here =
     all_has (λ t. AllByRecursion (λ r. passes rule book_schema d.trees t r ≡ true) (d.trees t.tree)) book_schema.tables (table_of l) (subst (λ s. Keeps rule s d.trees) is (obeys.obeys.rules rule)) (has_got book_schema.tables place (table_of l) here)
 
-beside_of : (v : Version) (d : Database) → IsOfBook v d → IsDatabase d → IsFiledAs v d.trees → (seats : AreOf agents agents_filed (d.trees (tree_of table.Agents))) (queues : AreOf groups groups_filed (d.trees (tree_of table.Groups)))
+beside_of : (v : Version) (d : Database) → IsOfBook v d → IsDatabase d → IsCanonicalAs v d.trees → (seats : AreOf agents agents_described (d.trees (tree_of table.Agents))) (queues : AreOf groups groups_described (d.trees (tree_of table.Groups)))
     → Beside v d.trees seats.records queues.records
-beside_of version.First d book obeys filed seats queues = none_beside d.trees seats.records queues.records
-beside_of version.Second d book obeys filed seats queues =
+beside_of version.First d book obeys canonical seats queues = none_beside d.trees seats.records queues.records
+beside_of version.Second d book obeys canonical seats queues =
     let rows = d.trees (tree_of table.GroupPriority) in
-    let further = heaped version.Second d book obeys filed agent_groups groups_heaped tt (filed.whole.3 tt) in
+    let further = heaped version.Second d book obeys canonical agent_groups groups_heaped tt (canonical.whole.3 tt) in
     let typed = in_second d obeys book.schema_is rule.Datatype schema.group_priority 10 refl in
     let present = in_second d obeys book.schema_is rule.NotNull schema.group_priority 10 refl in
     let wide =
@@ -434,7 +434,7 @@ beside_of version.Second d book obeys filed seats queues =
     whole_row schema.group_priority r refl refl (all_has (λ r. is_typed schema.group_priority r ≡ true) rows r typed k)
     (all_has (λ r. are_present schema.group_priority.key 0 schema.group_priority.columns r ≡ true) rows r present k))
     in
-    let ranks = are_of group_priority priorities_filed rows (filed.rising table.GroupPriority tt) wide typed (in_range version.Second d book obeys filed table.GroupPriority tt) in
+    let ranks = are_of group_priority priorities_described rows (canonical.rising table.GroupPriority tt) wide typed (in_range version.Second d book obeys canonical table.GroupPriority tt) in
     all_beside d.trees seats.records queues.records further.records ranks.records seats.are queues.are further.are ranks.are book.placed further.are_right ranks.are_right
 
 fits_of : (v : Version) (r : Relations) → NoneBefore v r.further r.priorities → FitsIn v r
@@ -443,43 +443,43 @@ fits_of version.Second r h = tt
 
 -- ---- each table
 
-module _ (v : Version) (d : Database) (book : IsOfBook v d) (obeys : IsDatabase d) (filed : IsFiledAs v d.trees) where
+module _ (v : Version) (d : Database) (book : IsOfBook v d) (obeys : IsDatabase d) (canonical : IsCanonicalAs v d.trees) where
   meta_whole : AllByRecursion (λ r. length r ≡ suc (length schema.meta.columns)) (d.trees (tree_of table.Meta))
-  meta_whole = whole_rows v d book obeys filed schema.meta 0 refl refl refl
+  meta_whole = whole_rows v d book obeys canonical schema.meta 0 refl refl refl
 
   one_row : (r : Row) × (d.trees (tree_of table.Meta) ≡ r ∷ []) × (rowid r ≡ id_value 1) × (column r 2 ≡ id_value (number_of v))
   one_row =
-      let told = book.version in
-      let here = ones (d.trees (tree_of table.Meta)) (filed.numbered table.Meta (old_in v table.Meta tt)) (ruled v d book obeys filed rule.Check schema.meta 0 refl) in
-      (told.0, alone (d.trees (tree_of table.Meta)) told.0 told.1 here (filed.rising table.Meta (old_in v table.Meta tt)), all_has (λ r. rowid r ≡ id_value 1) (d.trees (tree_of table.Meta)) told.0 here told.1, whole_stored told.0 2 (number_of v) told.2)
+      let version_row = book.version in
+      let here = ones (d.trees (tree_of table.Meta)) (canonical.numbered table.Meta (old_in v table.Meta tt)) (ruled v d book obeys canonical rule.Check schema.meta 0 refl) in
+      (version_row.0, alone (d.trees (tree_of table.Meta)) version_row.0 version_row.1 here (canonical.rising table.Meta (old_in v table.Meta tt)), all_has (λ r. rowid r ≡ id_value 1) (d.trees (tree_of table.Meta)) version_row.0 here version_row.1, whole_stored version_row.0 2 (number_of v) version_row.2)
 
-  its_groups : AreOf groups groups_filed (d.trees (tree_of table.Groups))
-  its_groups = ended v d book obeys filed groups groups_filed tt refl refl
+  its_groups : AreOf groups groups_described (d.trees (tree_of table.Groups))
+  its_groups = ended v d book obeys canonical groups groups_described tt refl refl
 
-  its_agents : AreOf agents agents_filed (d.trees (tree_of table.Agents))
-  its_agents = ended v d book obeys filed agents agents_filed tt refl refl
+  its_agents : AreOf agents agents_described (d.trees (tree_of table.Agents))
+  its_agents = ended v d book obeys canonical agents agents_described tt refl refl
 
   parts : Parts v d.trees
   parts =
       let row = one_row in
       let whole = subst (AllByRecursion (λ r. length r ≡ suc (length schema.meta.columns))) row.1 meta_whole in
-      let typed = subst (AllByRecursion (λ r. is_typed schema.meta r ≡ true)) row.1 (ruled v d book obeys filed rule.Datatype schema.meta 0 refl) in
-      let good = subst (AllByRecursion (λ r. is_some (counters_in (values_in table.Meta r)) ≡ true)) row.1 (in_range v d book obeys filed table.Meta (old_in v table.Meta tt)) in
+      let typed = subst (AllByRecursion (λ r. is_typed schema.meta r ≡ true)) row.1 (ruled v d book obeys canonical rule.Datatype schema.meta 0 refl) in
+      let good = subst (AllByRecursion (λ r. is_some (counters_in (values_in table.Meta r)) ≡ true)) row.1 (in_range v d book obeys canonical table.Meta (old_in v table.Meta tt)) in
       let m = there (counters_in (values_in table.Meta row.0)) good.0 in
       let shown = counters_stored (values_in table.Meta row.0) m.0 m.1 in
       record {
         meta = m.0;
-        meta_is = row.1 ∙ ap (λ r. r ∷ []) (meta_form (number_of v) row.0 m.0 whole.0 row.2 (key_null schema.meta (behind_first schema.meta) row.0 refl whole.0 typed.0) row.3 shown);
+        meta_is = row.1 ∙ ap (λ r. r ∷ []) (meta_form (number_of v) row.0 m.0 whole.0 row.2 (key_null schema.meta (after_first schema.meta) row.0 refl whole.0 typed.0) row.3 shown);
         meta_good = ap (λ r. is_some (counters_in r)) (sym shown) ∙ good.0;
         groups = its_groups;
-        stations = described v d book obeys filed stations stations_filed tt refl filed.whole.0;
+        stations = described v d book obeys canonical stations stations_described tt refl canonical.whole.0;
         agents = its_agents;
-        calls = ended v d book obeys filed calls calls_filed tt refl refl;
-        connections = heaped v d book obeys filed connections connections_heaped (old_in v table.Connections tt) filed.whole.1;
-        monitors = ended v d book obeys filed monitors monitors_filed tt refl refl;
-        events = described v d book obeys filed events events_filed tt refl filed.whole.2;
-        kept = ended v d book obeys filed kept kept_filed tt refl refl;
-        beside = beside_of v d book obeys filed its_agents its_groups;
+        calls = ended v d book obeys canonical calls calls_described tt refl refl;
+        connections = heaped v d book obeys canonical connections connections_heaped (old_in v table.Connections tt) canonical.whole.1;
+        monitors = ended v d book obeys canonical monitors monitors_described tt refl refl;
+        events = described v d book obeys canonical events events_described tt refl canonical.whole.2;
+        kept = ended v d book obeys canonical kept kept_described tt refl refl;
+        beside = beside_of v d book obeys canonical its_agents its_groups;
       }
 
 module _ (v : Version) (db : Trees) (p : Parts v db) where
@@ -491,10 +491,10 @@ module _ (v : Version) (db : Trees) (p : Parts v db) where
   groups_same = group_parts_rejoined p.beside.priorities p.groups.records
 
   agents_same : map agent_part (map (joined_agent p.beside.further) p.agents.records) ≡ p.agents.records
-  agents_same = parts_rejoined p.agents.records p.beside.further p.agents.are.ascending p.beside.behind
+  agents_same = parts_rejoined p.agents.records p.beside.further p.agents.are.ascending p.beside.after
 
   further_same : further_in (map (joined_agent p.beside.further) p.agents.records) ≡ p.beside.further
-  further_same = further_rejoined p.agents.records p.beside.further p.agents.are.ascending p.beside.behind p.beside.further_rise
+  further_same = further_rejoined p.agents.records p.beside.further p.agents.are.ascending p.beside.after p.beside.further_rise
 
   priorities_same : priorities_in (map (joined_group p.beside.priorities) p.groups.records) ≡ p.beside.priorities
   priorities_same = priorities_rejoined p.groups.records p.beside.priorities p.groups.are.ascending p.beside.priorities_rise p.beside.ranked p.beside.known
@@ -532,14 +532,14 @@ module _ (v : Version) (db : Trees) (p : Parts v db) where
   tables_right table.GroupPriority = ap (λ l. are_good table.GroupPriority (map priority_values l)) priorities_same ∙ p.beside.priorities_good
 
   parts_in_range : IsInRange whole_content
-  parts_in_range = record { tables = tables_right; groups = groups_right p.agents.records p.beside.further p.agents.are.ascending p.beside.behind p.beside.further_rise }
+  parts_in_range = record { tables = tables_right; groups = groups_right p.agents.records p.beside.further p.agents.are.ascending p.beside.after p.beside.further_rise }
 
-pub content_in : (v : Version) (d : Database) → IsOfBook v d → IsDatabase d → IsFiledAs v d.trees → (c : Content) × EncodesAs v d.trees c × IsInRange c
-content_in v d book obeys filed = let p = parts v d book obeys filed in (whole_content v d.trees p, parts_encode v d.trees p, parts_in_range v d.trees p)
+pub content_in : (v : Version) (d : Database) → IsOfBook v d → IsDatabase d → IsCanonicalAs v d.trees → (c : Content) × EncodesAs v d.trees c × IsInRange c
+content_in v d book obeys canonical = let p = parts v d book obeys canonical in (whole_content v d.trees p, parts_encode v d.trees p, parts_in_range v d.trees p)
 
--- ---- the rows of a content are filed
+-- ---- the rows of a content are canonical
 
-record AreFiled (width : ℕ) (rows : List Row) : Type 0 where
+record AreCanonical (width : ℕ) (rows : List Row) : Type 0 where
   pub rising : IsTable rows
   pub numbered : AllByRecursion (λ r. IsTrue (is_int (rowid r))) rows
   pub whole : AllByRecursion (λ r. length r ≡ width) rows
@@ -549,48 +549,48 @@ shown_length start zero r = refl
 shown_length start (suc n) r = ap suc (shown_length (suc start) n r)
 
 module _ (db : Trees) (c : Content) (is : Encodes db c) where
-  records_filed : {R : Type 0} (d : Description R) (f : Filed d) → AreFiled (suc (suc (behind d))) (db (tree_of d.table))
-  records_filed {R = R} d f =
+  records_canonical : {R : Type 0} (d : Description R) (f : Described d) → AreCanonical (suc (suc (after_key d))) (db (tree_of d.table))
+  records_canonical {R = R} d f =
       let are = (f.held (relations_of c) db is).0 in
-      let wide = λ (x : R). ap (λ r. length (keyed_row r)) (sym (shows_values d f x) ∙ ap (λ l. column (row_of d x) 0 ∷ l) (shown_cells 2 (behind d) (row_of d x))) ∙ ap (λ n. suc (suc n)) (shown_length 2 (behind d) (row_of d x)) in
-      subst (λ rows. AreFiled (suc (suc (behind d))) rows) (sym (ap db (sym (tree_is d f)) ∙ are.rows_are)) (record {
+      let wide = λ (x : R). ap (λ r. length (keyed_row r)) (sym (shows_values d f x) ∙ ap (λ l. column (row_of d x) 0 ∷ l) (shown_cells 2 (after_key d) (row_of d x))) ∙ ap (λ n. suc (suc n)) (shown_length 2 (after_key d) (row_of d x)) in
+      subst (λ rows. AreCanonical (suc (suc (after_key d))) rows) (sym (ap db (sym (tree_is d f)) ∙ are.rows_are)) (record {
         rising = rising_of d.key (row_of d) (λ x. ap rowid (headed d f x)) (d.records (relations_of c)) are.ascending;
         numbered = mapped_all (λ r. IsTrue (is_int (rowid r))) (row_of d) (d.records (relations_of c)) (each (λ x. IsTrue (is_int (rowid (row_of d x)))) (d.records (relations_of c)) (λ x. ap (λ r. is_int (rowid r)) (headed d f x)));
-        whole = mapped_all (λ r. length r ≡ suc (suc (behind d))) (row_of d) (d.records (relations_of c)) (each (λ x. length (row_of d x) ≡ suc (suc (behind d))) (d.records (relations_of c)) wide);
+        whole = mapped_all (λ r. length r ≡ suc (suc (after_key d))) (row_of d) (d.records (relations_of c)) (each (λ x. length (row_of d x) ≡ suc (suc (after_key d))) (d.records (relations_of c)) wide);
       })
 
-  heap_filed : {R : Type 0} (h : Heap R) (f : Heaped h) → AreFiled (suc (suc (suc (behind_both h)))) (db (tree_of h.table))
-  heap_filed h f =
+  heap_canonical : {R : Type 0} (h : Heap R) (f : Heaped h) → AreCanonical (suc (suc (suc (after_both h)))) (db (tree_of h.table))
+  heap_canonical h f =
       let rows = db h.layout.tree in
       let are = f.held (relations_of c) db is in
-      subst (λ n. AreFiled (suc (suc (suc (behind_both h)))) (db n)) (heap_tree h f) (record {
+      subst (λ n. AreCanonical (suc (suc (suc (after_both h)))) (db n)) (heap_tree h f) (record {
         rising = are.rising;
         numbered = all_from (λ r. IsTrue (is_int (rowid r))) rows (λ r k. ap (λ s. is_int (rowid s)) (are.known r k).2);
-        whole = all_from (λ r. length r ≡ suc (suc (suc (behind_both h)))) rows
+        whole = all_from (λ r. length r ≡ suc (suc (suc (after_both h)))) rows
             (λ r k.
             let from = are.known r k in
             let row = numbered_row h from.0 from.1 in
-            ap length from.2 ∙ ap (λ l. suc (length l)) (sym (f.shows from.0 from.1) ∙ shown_cells 1 (suc (suc (behind_both h))) row) ∙ ap suc (shown_length 1 (suc (suc (behind_both h))) row));
+            ap length from.2 ∙ ap (λ l. suc (length l)) (sym (f.shows from.0 from.1) ∙ shown_cells 1 (suc (suc (after_both h))) row) ∙ ap suc (shown_length 1 (suc (suc (after_both h))) row));
       })
 
-  each_filed : (t : Table) → (width : ℕ) × AreFiled width (db (tree_of t))
-  each_filed table.Meta = (suc (length schema.meta.columns), subst (AreFiled (suc (length schema.meta.columns))) (sym (is table.Meta)) (record { rising = (tt, tt); numbered = (refl, tt); whole = (refl, tt) }))
-  each_filed table.Groups = (_, records_filed groups groups_filed)
-  each_filed table.Stations = (_, records_filed stations stations_filed)
-  each_filed table.Agents = (_, records_filed agents agents_filed)
-  each_filed table.Calls = (_, records_filed calls calls_filed)
-  each_filed table.Connections = (_, heap_filed connections connections_heaped)
-  each_filed table.Monitors = (_, records_filed monitors monitors_filed)
-  each_filed table.Events = (_, records_filed events events_filed)
-  each_filed table.Kept = (_, records_filed kept kept_filed)
-  each_filed table.AgentGroups = (_, heap_filed agent_groups groups_heaped)
-  each_filed table.GroupPriority = (_, records_filed group_priority priorities_filed)
+  each_canonical : (t : Table) → (width : ℕ) × AreCanonical width (db (tree_of t))
+  each_canonical table.Meta = (suc (length schema.meta.columns), subst (AreCanonical (suc (length schema.meta.columns))) (sym (is table.Meta)) (record { rising = (tt, tt); numbered = (refl, tt); whole = (refl, tt) }))
+  each_canonical table.Groups = (_, records_canonical groups groups_described)
+  each_canonical table.Stations = (_, records_canonical stations stations_described)
+  each_canonical table.Agents = (_, records_canonical agents agents_described)
+  each_canonical table.Calls = (_, records_canonical calls calls_described)
+  each_canonical table.Connections = (_, heap_canonical connections connections_heaped)
+  each_canonical table.Monitors = (_, records_canonical monitors monitors_described)
+  each_canonical table.Events = (_, records_canonical events events_described)
+  each_canonical table.Kept = (_, records_canonical kept kept_described)
+  each_canonical table.AgentGroups = (_, heap_canonical agent_groups groups_heaped)
+  each_canonical table.GroupPriority = (_, records_canonical group_priority priorities_described)
 
-  pub filed_in : IsFiledAs version.Second db
-  filed_in = record {
-    rising = λ t here. (each_filed t).1.rising;
-    numbered = λ t here. (each_filed t).1.numbered;
-    whole = ((records_filed stations stations_filed).whole, (heap_filed connections connections_heaped).whole, (records_filed events events_filed).whole, λ here. (heap_filed agent_groups groups_heaped).whole);
+  pub canonical_in : IsCanonicalAs version.Second db
+  canonical_in = record {
+    rising = λ t here. (each_canonical t).1.rising;
+    numbered = λ t here. (each_canonical t).1.numbered;
+    whole = ((records_canonical stations stations_described).whole, (heap_canonical connections connections_heaped).whole, (records_canonical events events_described).whole, λ here. (heap_canonical agent_groups groups_heaped).whole);
   }
 
 -- ---- the rows of a store that isn't broken
@@ -623,9 +623,9 @@ each_shape version.Second shapes h table.AgentGroups here = h.1.1.1.1.1.1.1.1.1.
 each_shape version.Second shapes h table.GroupPriority here = h.1.1.1.1.1.1.1.1.1.1.0
 
 -- they have integers as numbers, which rise, whatever they hold
-pub filed_by_store : (v : Version) (w : View) (s : Schema) → s ≡ schema_of v → IsDatabase (record { schema = s; trees = w.trees }) → IsListed (w.trees catalog_tree) w.shape w.reals → IsOrdered w.shape w.trees → HaveAllColumns v w.trees
-    → IsFiledAs v w.trees
-filed_by_store v w s is obeys listed ordered whole =
+pub canonical_by_store : (v : Version) (w : View) (s : Schema) → s ≡ schema_of v → IsDatabase (record { schema = s; trees = w.trees }) → IsListed (w.trees catalog_tree) w.shape w.reals → IsOrdered w.shape w.trees → HaveAllColumns v w.trees
+    → IsCanonicalAs v w.trees
+canonical_by_store v w s is obeys listed ordered whole =
     let laid = laid_out listed (objects_rise w listed ordered) obeys.lists.listed in
     let shapes = each_shape v w.shape (subst (λ (x : Schema). AllByRecursion (λ (t : Made). w.shape t.tree ≡ shape.Table) x.tables) is laid.tables) in
     record { rising = λ t here. (shaped_as w (tree_of t) (shapes t here) ordered).0; numbered = λ t here. (shaped_as w (tree_of t) (shapes t here) ordered).1; whole = whole }

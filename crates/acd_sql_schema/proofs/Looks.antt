@@ -1,4 +1,4 @@
--- Reads that are made one after the other, before a connection is taken for a book.
+-- Reads that are made one after the other, before a connection is adopted as a book.
 use Rattle.std.proofs.lemmas.Grind.{common_steps}
 use Rattle.std.proofs.lemmas.Bool.Decides.{nat_tests}
 use Rattle.std.proofs.lemmas.List.Sorted.{length_permutation}
@@ -23,13 +23,13 @@ use Rattle.acd_sql_schema.specs.declared.fault.AdoptFault.TheVariants.{WrongVers
 use Rattle.acd_sql_columns.specs.declared.tables.Log.{Log}
 use Rattle.acd_sql_schema.specs.declared.fault.Found.{Found}
 use Rattle.acd_sql_schema.specs.declared.fault.Found.TheVariants.{Book, Fault}
-use Rattle.acd_sql_schema.specs.declared.verdict.Told.{Told}
-use Rattle.acd_sql_schema.specs.declared.verdict.Told.TheVariants.{Of, Faulty}
+use Rattle.acd_sql_schema.specs.declared.verdict.VersionRead.{VersionRead}
+use Rattle.acd_sql_schema.specs.declared.verdict.VersionRead.TheVariants.{Of, Faulty}
 use Rattle.acd_sql_schema.specs.declared.verdict.Page.{Page}
 use Rattle.acd_sql_schema.specs.declared.verdict.Page.TheVariants.{Bad, Last, More}
-use Rattle.acd_sql_columns.specs.AnyRows.{is_good, is_good_in, are_good, rows_in, table_of_log, has_meta, Numbered, AreNumbered, AreSameFirst, BeginsAsBook, schema_of, Covers, is_beside, is_ranked, IsFiledAs, TellsGood, TellsLow, IsPageRows}
-use Rattle.acd_sql_schema.specs.Inspecting.{is_good_behind, told_by, told_of, tables_of, TellsBehind, IsBadOf, IsPageOfLog, IsLogPage, IsVersionTold, IsToldIn, IsRowFound, IsPlaceFound, IsFound, IsUnlike}
-use Rattle.acd_sql_columns.specs.Draft.{NoStop}
+use Rattle.acd_sql_columns.specs.AnyRows.{is_good, is_good_in, are_good, rows_in, table_of_log, has_meta, Numbered, AreNumbered, AreSameFirst, BeginsAsBook, schema_of, Covers, is_beside, is_ranked, IsCanonicalAs, FindsGood, FindsLow, IsPageRows}
+use Rattle.acd_sql_schema.specs.Inspecting.{is_good_after, version_read_in, version_read_of, tables_of, FindsGoodAfter, IsBadOf, IsPageOfLog, IsLogPage, IsVersionRead, IsVersionIn, IsRowFound, IsPlaceFound, IsFound, IsUnlike}
+use Rattle.acd_sql_columns.specs.Transactions.{NoStop}
 use Rattle.acd_sql_columns.specs.Values.{whole_at}
 use Rattle.acd_sql_columns.specs.declared.tables.Version.{Version}
 use Rattle.acd_sql_columns.specs.declared.tables.Version.TheVariants as version
@@ -40,7 +40,7 @@ use Rattle.acd_sql_columns.specs.Seeing.{HasDatabase, Sees, HasLooked}
 use Rattle.acd_sql_columns.proofs.KeyedRows.{apart}
 use Rattle.acd_sql_columns.proofs.Looked.{mapped_all, moved_all}
 use Rattle.acd_sql_columns.proofs.Listings.{version_begins}
-use Rattle.acd_sql_schema.proofs.Paged.{page_is, log_told}
+use Rattle.acd_sql_schema.proofs.Paged.{page_is, log_found}
 use Rattle.acd_sql_columns.proofs.Seen.{sees_on, sees_fail, sees_then, sees_here}
 use Rattle.acd_lemmas.proofs.Numbers.{same_number}
 
@@ -68,11 +68,11 @@ no_rows : (f : Row → Row) (rows : List Row) → length (map f rows) ≡ 0 → 
 no_rows f [] h = refl
 no_rows f (row ∷ rows) h = absurd (omega (arith, h))
 
-told : (d : Database) (b : BeginsAsBook d.schema) (r : Row) → Has (d.trees schema.meta.tree) r → (o : Option ℕ) → whole_at r 2 ≡ o → IsVersionTold d (told_of o)
-told d b row h None e = inr (inl (refl, b, (row, h, e)))
-told d b row h (Some n) e = go (n == 1) (n == 2) refl refl
+is_version_read : (d : Database) (b : BeginsAsBook d.schema) (r : Row) → Has (d.trees schema.meta.tree) r → (o : Option ℕ) → whole_at r 2 ≡ o → IsVersionRead d (version_read_of o)
+is_version_read d b row h None e = inr (inl (refl, b, (row, h, e)))
+is_version_read d b row h (Some n) e = go (n == 1) (n == 2) refl refl
   where
-    go : (one two : Bool) → (n == 1) ≡ one → (n == 2) ≡ two → IsVersionTold d (cond one (Of version.First) (cond two (Of version.Second) (Faulty (WrongVersion n))))
+    go : (one two : Bool) → (n == 1) ≡ one → (n == 2) ≡ two → IsVersionRead d (cond one (Of version.First) (cond two (Of version.Second) (Faulty (WrongVersion n))))
     go true two is other = (row, h, e ∙ ap Some (sym (same_number n 1 is)))
     go false true is other = (row, h, e ∙ ap Some (sym (same_number n 2 other)))
     go false false is other = (apart n 1 is, apart n 2 other, inr (b, inr (row, h, e)))
@@ -80,89 +80,89 @@ told d b row h (Some n) e = go (n == 1) (n == 2) refl refl
 abbrev Shows : Trees → Row → Type 0
 Shows db shown = (r : Row) × Has (db schema.meta.tree) r × (shown ≡ column r 2 ∷ [])
 
-version_found : (d : Database) (b : BeginsAsBook d.schema) (rows : List Row) → IsPermutation (map (λ r. column r 2 ∷ []) (d.trees schema.meta.tree)) rows → AllByRecursion (Shows d.trees) rows → IsVersionTold d (told_by rows)
+version_found : (d : Database) (b : BeginsAsBook d.schema) (rows : List Row) → IsPermutation (map (λ r. column r 2 ∷ []) (d.trees schema.meta.tree)) rows → AllByRecursion (Shows d.trees) rows → IsVersionRead d (version_read_in rows)
 version_found d b [] same all = (apart 0 1 refl, apart 0 2 refl, inr (b, inl (no_rows (λ r. column r 2 ∷ []) (d.trees schema.meta.tree) (sym (length_permutation _ [] same)), refl)))
 version_found d b (shown ∷ rows) same all =
     let from = all.0 in
-    subst (λ r. IsVersionTold d (told_of (whole_at r 0))) (sym from.2) (told d b from.0 from.1 (whole_at from.0 2) refl)
+    subst (λ r. IsVersionRead d (version_read_of (whole_at r 0))) (sym from.2) (is_version_read d b from.0 from.1 (whole_at from.0 2) refl)
 
-pub version_told : (d : Database) (old new : State) (rows : Vec Row Global) (t : Told) → BeginsAsBook d.schema → t ≡ told_by rows.items
-    → Sees d old new (Ok rows) (λ rows. IsPermutation (map (λ r. column r 2 ∷ []) (d.trees schema.meta.tree)) rows.items) → Sees d old new (Ok t) (λ t. IsVersionTold d t)
-version_told d old new rows t b is h =
-    sees_on d old new rows (λ rows. IsPermutation (map (λ r. column r 2 ∷ []) (d.trees schema.meta.tree)) rows.items) (λ t. IsVersionTold d t) (Ok t) h
-    (λ had same.
+pub version_read : (d : Database) (old new : State) (rows : Vec Row Global) (t : VersionRead) → BeginsAsBook d.schema → t ≡ version_read_in rows.items
+    → Sees d old new (Ok rows) (λ rows. IsPermutation (map (λ r. column r 2 ∷ []) (d.trees schema.meta.tree)) rows.items) → Sees d old new (Ok t) (λ t. IsVersionRead d t)
+version_read d old new rows t b is h =
+    sees_on d old new rows (λ rows. IsPermutation (map (λ r. column r 2 ∷ []) (d.trees schema.meta.tree)) rows.items) (λ t. IsVersionRead d t) (Ok t) h
+    (λ old_database same.
     let here = moved_all (Shows d.trees) _ rows.items same (mapped_all (Shows d.trees) (λ r. column r 2 ∷ []) (d.trees schema.meta.tree) (all_from (λ r. Shows d.trees (column r 2 ∷ [])) (d.trees schema.meta.tree) (λ r k. (r, k, refl)))) in
-    subst (IsVersionTold d) (sym is) (version_found d b rows.items same here))
+    subst (IsVersionRead d) (sym is) (version_found d b rows.items same here))
 
--- what was told of the version is a fault
-pub fault_told : (d : Database) (old new : State) (f : AdoptFault) → Sees d old new (Ok (Faulty f)) (λ t. IsVersionTold d t) → Sees d old new (Ok (Fault f)) (λ f. IsFound d f)
-fault_told d old new f h = sees_on d old new (Faulty f) (λ t. IsVersionTold d t) (λ f. IsFound d f) (Ok (Fault f)) h (λ had p. p)
+-- what was read of the version is a fault
+pub fault_read : (d : Database) (old new : State) (f : AdoptFault) → Sees d old new (Ok (Faulty f)) (λ t. IsVersionRead d t) → Sees d old new (Ok (Fault f)) (λ f. IsFound d f)
+fault_read d old new f h = sees_on d old new (Faulty f) (λ t. IsVersionRead d t) (λ f. IsFound d f) (Ok (Fault f)) h (λ old_database p. p)
 
 -- the version is that of other tables
-pub other_told : (d : Database) (old new : State) (v : Version) → (IsToldIn d.trees (Some (number_of v)) → IsUnlike d) → Sees d old new (Ok (Of v)) (λ t. IsVersionTold d t) → Sees d old new (Ok (Fault Store)) (λ f. IsFound d f)
-other_told d old new v unlike h = sees_on d old new (Of v) (λ t. IsVersionTold d t) (λ f. IsFound d f) (Ok (Fault Store)) h (λ had p. unlike p)
+pub other_read : (d : Database) (old new : State) (v : Version) → (IsVersionIn d.trees (Some (number_of v)) → IsUnlike d) → Sees d old new (Ok (Of v)) (λ t. IsVersionRead d t) → Sees d old new (Ok (Fault Store)) (λ f. IsFound d f)
+other_read d old new v unlike h = sees_on d old new (Of v) (λ t. IsVersionRead d t) (λ f. IsFound d f) (Ok (Fault Store)) h (λ old_database p. unlike p)
 
 abbrev pub IsFoundIn : Version → Database → Found → Type 0
-IsFoundIn v d f = IsToldIn d.trees (Some (number_of v)) → IsFound d f
+IsFoundIn v d f = IsVersionIn d.trees (Some (number_of v)) → IsFound d f
 
 pub row_fault : (v : Version) (d : Database) (old new : State) (f : AdoptFault) → Sees d old new (Ok (Some f)) (λ f. IsRowFound v d f) → Sees d old new (Ok (Fault f)) (λ f. IsFoundIn v d f)
-row_fault v d old new f h = sees_on d old new (Some f) (λ f. IsRowFound v d f) (λ f. IsFoundIn v d f) (Ok (Fault f)) h (λ had p told. p)
+row_fault v d old new f h = sees_on d old new (Some f) (λ f. IsRowFound v d f) (λ f. IsFoundIn v d f) (Ok (Fault f)) h (λ old_database p read. p)
 
 pub rows_good : (v : Version) (d : Database) (old new : State) → d.schema ≡ schema_of v → Sees d old new (Ok None) (λ f. IsRowFound v d f) → Sees d old new (Ok (Book v)) (λ f. IsFoundIn v d f)
 rows_good v d old new is h =
-    sees_on d old new None (λ f. IsRowFound v d f) (λ f. IsFoundIn v d f) (Ok (Book v)) h (λ had p told. record { schema_is = is; version = told; in_range = p.1; placed = p.0 })
+    sees_on d old new None (λ f. IsRowFound v d f) (λ f. IsFoundIn v d f) (Ok (Book v)) h (λ old_database p read. record { schema_is = is; version = read; in_range = p.1; placed = p.0 })
 
-pub rows_behind : (v other : Version) (d : Database) (old mid new : State) (r : Result Found Error) → other ≡ v → Sees d old mid (Ok (Of other)) (λ t. IsVersionTold d t) → Sees d mid new r (λ f. IsFoundIn v d f)
+pub rows_after : (v other : Version) (d : Database) (old mid new : State) (r : Result Found Error) → other ≡ v → Sees d old mid (Ok (Of other)) (λ t. IsVersionRead d t) → Sees d mid new r (λ f. IsFoundIn v d f)
     → Sees d old new r (λ f. IsFound d f)
-rows_behind v other d old mid new r same first next =
-    sees_then d old mid new (Of other) (λ t. IsVersionTold d t) first (λ f. IsFoundIn v d f) (λ f. IsFound d f) r (λ p f q. q (subst (λ u. IsToldIn d.trees (Some (number_of u))) same p)) next
+rows_after v other d old mid new r same first next =
+    sees_then d old mid new (Of other) (λ t. IsVersionRead d t) first (λ f. IsFoundIn v d f) (λ f. IsFound d f) r (λ p f q. q (subst (λ u. IsVersionIn d.trees (Some (number_of u))) same p)) next
 
 -- ---- tables that are read in pages
 
-pub page_told : (d : Database) (old new : State) (l : Log) (n : ℕ) (rows : Vec Row Global) (r : Result Page Error) → IfOk r (λ page. IsLogPage l n rows.items page)
+pub page_found : (d : Database) (old new : State) (l : Log) (n : ℕ) (rows : Vec Row Global) (r : Result Page Error) → IfOk r (λ page. IsLogPage l n rows.items page)
     → Sees d old new (Ok rows) (λ rows. IsPageRows l n 1000 d.trees rows.items) → Sees d old new r (λ page. IsPageOfLog l n d.trees page)
-page_told d old new l n rows (Ok page) is h =
-    sees_on d old new rows (λ rows. IsPageRows l n 1000 d.trees rows.items) (λ page. IsPageOfLog l n d.trees page) (Ok page) h (λ had are. page_is l n d rows.items page are is)
-page_told d old new l n rows (Err e) is h =
-    sees_on d old new rows (λ rows. IsPageRows l n 1000 d.trees rows.items) (λ page. IsPageOfLog l n d.trees page) (Err e) h (λ had are. tt)
+page_found d old new l n rows (Ok page) is h =
+    sees_on d old new rows (λ rows. IsPageRows l n 1000 d.trees rows.items) (λ page. IsPageOfLog l n d.trees page) (Ok page) h (λ old_database are. page_is l n d rows.items page are is)
+page_found d old new l n rows (Err e) is h =
+    sees_on d old new rows (λ rows. IsPageRows l n 1000 d.trees rows.items) (λ page. IsPageOfLog l n d.trees page) (Err e) h (λ old_database are. tt)
 
 abbrev pub Left : Log → ℕ → Trees → Unit {0} → Type 0
-Left l n db x = (xs : List Numbered) → AreNumbered l db xs → is_good_behind l n xs ≡ is_good_behind l 0 xs
+Left l n db x = (xs : List Numbered) → AreNumbered l db xs → is_good_after l n xs ≡ is_good_after l 0 xs
 
 module _ (d : Database) (old mid new : State) (l : Log) (n : ℕ) (first : Sees d old mid (Ok tt) (Left l n d.trees)) where
-  pub pages_bad : Sees d mid new (Ok Bad) (λ page. IsPageOfLog l n d.trees page) → Sees d old new (Ok false) (λ good. TellsBehind l d.trees good)
+  pub pages_bad : Sees d mid new (Ok Bad) (λ page. IsPageOfLog l n d.trees page) → Sees d old new (Ok false) (λ good. FindsGoodAfter l d.trees good)
   pages_bad next =
-      sees_on d old new Bad (λ page. IsPageOfLog l n d.trees page) (λ good. TellsBehind l d.trees good) (Ok false)
+      sees_on d old new Bad (λ page. IsPageOfLog l n d.trees page) (λ good. FindsGoodAfter l d.trees good) (Ok false)
       (sees_then d old mid new tt (Left l n d.trees) first (λ page. IsPageOfLog l n d.trees page) (λ page. IsPageOfLog l n d.trees page) (Ok Bad) (λ p b q. q) next)
-      (λ had bad. record { bad = λ e. bad; filed = λ e. absurd (cc e) })
+      (λ old_database bad. record { bad = λ e. bad; canonical = λ e. absurd (cc e) })
 
-  pub pages_last : Sees d mid new (Ok Last) (λ page. IsPageOfLog l n d.trees page) → Sees d old new (Ok true) (λ good. TellsBehind l d.trees good)
+  pub pages_last : Sees d mid new (Ok Last) (λ page. IsPageOfLog l n d.trees page) → Sees d old new (Ok true) (λ good. FindsGoodAfter l d.trees good)
   pages_last next =
-      sees_on d old new Last (λ page. IsPageOfLog l n d.trees page × Left l n d.trees tt) (λ good. TellsBehind l d.trees good) (Ok true)
+      sees_on d old new Last (λ page. IsPageOfLog l n d.trees page × Left l n d.trees tt) (λ good. FindsGoodAfter l d.trees good) (Ok true)
       (sees_then d old mid new tt (Left l n d.trees) first (λ page. IsPageOfLog l n d.trees page) (λ page. IsPageOfLog l n d.trees page × Left l n d.trees tt) (Ok Last) (λ p b q. (q, p)) next)
-      (λ had both. record { bad = λ e. absurd (cc e); filed = λ e xs are. sym (both.1 xs are) ∙ both.0 xs are })
+      (λ old_database both. record { bad = λ e. absurd (cc e); canonical = λ e xs are. sym (both.1 xs are) ∙ both.0 xs are })
 
   pub pages_more : (m : ℕ) → Sees d mid new (Ok (More m)) (λ page. IsPageOfLog l n d.trees page) → Sees d old new (Ok tt) (Left l m d.trees)
   pages_more m next =
       sees_on d old new (More m) (λ page. IsPageOfLog l n d.trees page × Left l n d.trees tt) (Left l m d.trees) (Ok tt)
       (sees_then d old mid new tt (Left l n d.trees) first (λ page. IsPageOfLog l n d.trees page) (λ page. IsPageOfLog l n d.trees page × Left l n d.trees tt) (Ok (More m)) (λ p b q. (q, p)) next)
-      (λ had both xs are. sym (both.0 xs are) ∙ both.1 xs are)
+      (λ old_database both xs are. sym (both.0 xs are) ∙ both.1 xs are)
 
-  pub pages_fail : (e : Error) → Sees d mid new (Err e) (λ page. IsPageOfLog l n d.trees page) → Sees d old new (Err e) (λ good. TellsBehind l d.trees good)
+  pub pages_fail : (e : Error) → Sees d mid new (Err e) (λ page. IsPageOfLog l n d.trees page) → Sees d old new (Err e) (λ good. FindsGoodAfter l d.trees good)
   pages_fail e next =
-      sees_then d old mid new tt (Left l n d.trees) first (λ good. TellsBehind l d.trees good) (λ good. TellsBehind l d.trees good) (Err e) (λ p b q. q)
-      (sees_fail d mid new e (λ page. IsPageOfLog l n d.trees page) (λ good. TellsBehind l d.trees good) next)
+      sees_then d old mid new tt (Left l n d.trees) first (λ good. FindsGoodAfter l d.trees good) (λ good. FindsGoodAfter l d.trees good) (Err e) (λ p b q. q)
+      (sees_fail d mid new e (λ page. IsPageOfLog l n d.trees page) (λ good. FindsGoodAfter l d.trees good) next)
 
-module _ (d : Database) (old mid : State) (l : Log) (low : Vec Row Global) (first : Sees d old mid (Ok low) (λ rows. TellsLow l d.trees rows.items)) where
-  pub log_low : (low.items ≡ [] → ⊥) → Sees d old mid (Ok false) (λ good. TellsGood (table_of_log l) d.trees good)
+module _ (d : Database) (old mid : State) (l : Log) (low : Vec Row Global) (first : Sees d old mid (Ok low) (λ rows. FindsLow l d.trees rows.items)) where
+  pub log_low : (low.items ≡ [] → ⊥) → Sees d old mid (Ok false) (λ good. FindsGood (table_of_log l) d.trees good)
   log_low some =
-      sees_on d old mid low (λ rows. TellsLow l d.trees rows.items) (λ good. TellsGood (table_of_log l) d.trees good) (Ok false) first
-      (λ had tells. record { bad = λ e. tells.some some; filed = λ filed. sym (tells.some some) })
+      sees_on d old mid low (λ rows. FindsLow l d.trees rows.items) (λ good. FindsGood (table_of_log l) d.trees good) (Ok false) first
+      (λ old_database finds. record { bad = λ e. finds.some some; canonical = λ canonical. sym (finds.some some) })
 
-  pub log_pages : (new : State) (r : Result Bool Error) → low.items ≡ [] → Sees d mid new r (λ good. TellsBehind l d.trees good) → Sees d old new r (λ good. TellsGood (table_of_log l) d.trees good)
+  pub log_pages : (new : State) (r : Result Bool Error) → low.items ≡ [] → Sees d mid new r (λ good. FindsGoodAfter l d.trees good) → Sees d old new r (λ good. FindsGood (table_of_log l) d.trees good)
   log_pages new r none next =
-      sees_then d old mid new low (λ rows. TellsLow l d.trees rows.items) first (λ good. TellsBehind l d.trees good) (λ good. TellsGood (table_of_log l) d.trees good) r
-      (λ tells good behind. log_told l d.trees good (tells.none none) behind) next
+      sees_then d old mid new low (λ rows. FindsLow l d.trees rows.items) first (λ good. FindsGoodAfter l d.trees good) (λ good. FindsGood (table_of_log l) d.trees good) r
+      (λ finds good after. log_found l d.trees good (finds.none none) after) next
 
 -- ---- the tables, one after the other
 
@@ -182,32 +182,32 @@ every_at P (t ∷ ts) zero d all low = all.0
 every_at P (t ∷ ts) (suc i) d all low = every_at P ts i d all.1 (omega (arith, low))
 
 abbrev pub Good : List Table → Trees → Unit {0} → Type 0
-Good tables db x = IsFiledAs version.First db → Every (λ t. is_good_in t db ≡ true) tables
+Good tables db x = IsCanonicalAs version.First db → Every (λ t. is_good_in t db ≡ true) tables
 
 module _ (d : Database) (old mid new : State) (tables : List Table) (i : ℕ) (first : Sees d old mid (Ok tt) (Good (take i tables) d.trees)) where
-  pub tables_next : (t x : Table) (good : Bool) → t ≡ get_or tables i x → i < length tables → good ≡ true → Sees d mid new (Ok good) (λ good. TellsGood t d.trees good)
+  pub tables_next : (t x : Table) (good : Bool) → t ≡ get_or tables i x → i < length tables → good ≡ true → Sees d mid new (Ok good) (λ good. FindsGood t d.trees good)
       → Sees d old new (Ok tt) (Good (take (i + 1) tables) d.trees)
   tables_next t x good at low is next =
-      sees_on d old new good (λ good. TellsGood t d.trees good × Good (take i tables) d.trees tt) (Good (take (i + 1) tables) d.trees) (Ok tt)
-      (sees_then d old mid new tt (Good (take i tables) d.trees) first (λ good. TellsGood t d.trees good) (λ good. TellsGood t d.trees good × Good (take i tables) d.trees tt) (Ok good) (λ p b q. (q, p)) next)
-      (λ had both filed.
+      sees_on d old new good (λ good. FindsGood t d.trees good × Good (take i tables) d.trees tt) (Good (take (i + 1) tables) d.trees) (Ok tt)
+      (sees_then d old mid new tt (Good (take i tables) d.trees) first (λ good. FindsGood t d.trees good) (λ good. FindsGood t d.trees good × Good (take i tables) d.trees tt) (Ok good) (λ p b q. (q, p)) next)
+      (λ old_database both canonical.
       subst (Every (λ t. is_good_in t d.trees ≡ true)) (sym (one_more tables i x low))
-      (every_pushed (λ t. is_good_in t d.trees ≡ true) (take i tables) (get_or tables i x) (both.1 filed) (subst (λ t. is_good_in t d.trees ≡ true) at (sym (both.0.filed filed) ∙ is))))
+      (every_pushed (λ t. is_good_in t d.trees ≡ true) (take i tables) (get_or tables i x) (both.1 canonical) (subst (λ t. is_good_in t d.trees ≡ true) at (sym (both.0.canonical canonical) ∙ is))))
 
-  pub tables_bad : (t : Table) (good : Bool) → Covers d.schema t → good ≡ false → Sees d mid new (Ok good) (λ good. TellsGood t d.trees good) → Sees d old new (Ok (Some t)) (λ bad. IsBadOf tables d bad)
+  pub tables_bad : (t : Table) (good : Bool) → Covers d.schema t → good ≡ false → Sees d mid new (Ok good) (λ good. FindsGood t d.trees good) → Sees d old new (Ok (Some t)) (λ bad. IsBadOf tables d bad)
   tables_bad t good covers is next =
-      sees_on d old new good (λ good. TellsGood t d.trees good) (λ bad. IsBadOf tables d bad) (Ok (Some t))
-      (sees_then d old mid new tt (Good (take i tables) d.trees) first (λ good. TellsGood t d.trees good) (λ good. TellsGood t d.trees good) (Ok good) (λ p b q. q) next)
-      (λ had tells. (covers, tells.bad is))
+      sees_on d old new good (λ good. FindsGood t d.trees good) (λ bad. IsBadOf tables d bad) (Ok (Some t))
+      (sees_then d old mid new tt (Good (take i tables) d.trees) first (λ good. FindsGood t d.trees good) (λ good. FindsGood t d.trees good) (Ok good) (λ p b q. q) next)
+      (λ old_database finds. (covers, finds.bad is))
 
-  pub tables_fail : (t : Table) (e : Error) → Sees d mid new (Err e) (λ good. TellsGood t d.trees good) → Sees d old new (Err e) (λ bad. IsBadOf tables d bad)
+  pub tables_fail : (t : Table) (e : Error) → Sees d mid new (Err e) (λ good. FindsGood t d.trees good) → Sees d old new (Err e) (λ bad. IsBadOf tables d bad)
   tables_fail t e next =
       sees_then d old mid new tt (Good (take i tables) d.trees) first (λ bad. IsBadOf tables d bad) (λ bad. IsBadOf tables d bad) (Err e) (λ p b q. q)
-      (sees_fail d mid new e (λ good. TellsGood t d.trees good) (λ bad. IsBadOf tables d bad) next)
+      (sees_fail d mid new e (λ good. FindsGood t d.trees good) (λ bad. IsBadOf tables d bad) next)
 
 pub tables_end : (d : Database) (old new : State) (tables : List Table) (i : ℕ) → Sees d old new (Ok tt) (Good (take i tables) d.trees) → length tables ≤ i → Sees d old new (Ok None) (λ bad. IsBadOf tables d bad)
 tables_end d old new tables i h all =
-    sees_on d old new tt (Good (take i tables) d.trees) (λ bad. IsBadOf tables d bad) (Ok None) h (λ had p filed. subst (Every (λ t. is_good_in t d.trees ≡ true)) (taken tables i all) (p filed))
+    sees_on d old new tt (Good (take i tables) d.trees) (λ bad. IsBadOf tables d bad) (Ok None) h (λ old_database p canonical. subst (Every (λ t. is_good_in t d.trees ≡ true)) (taken tables i all) (p canonical))
 
 pub each_good : (v : Version) (db : Trees) → Every (λ t. is_good_in t db ≡ true) (tables_of v) → (t : Table) → IsIn v t → is_good_in t db ≡ true
 each_good version.First db h table.Meta here = h.0
@@ -238,32 +238,32 @@ pub covered : (v : Version) (s : Schema) → s ≡ schema_of v → Every (Covers
 covered version.First s is = let b = version_begins version.First s is in (b, (b, (b, (b, (b, (b, (b, (b, (b, tt)))))))))
 covered version.Second s is = let b = version_begins version.Second s is in (b, (b, (b, (b, (b, (b, (b, (b, (b, (is, (is, tt)))))))))))
 
-pub bad_told : (v : Version) (d : Database) (old new : State) (t : Table) → Sees d old new (Ok (Some t)) (λ bad. IsBadOf (tables_of v) d bad) → Sees d old new (Ok (Some (BadRow t))) (λ f. IsRowFound v d f)
-bad_told v d old new t h = sees_on d old new (Some t) (λ bad. IsBadOf (tables_of v) d bad) (λ f. IsRowFound v d f) (Ok (Some (BadRow t))) h (λ had bad. inl bad)
+pub bad_found : (v : Version) (d : Database) (old new : State) (t : Table) → Sees d old new (Ok (Some t)) (λ bad. IsBadOf (tables_of v) d bad) → Sees d old new (Ok (Some (BadRow t))) (λ f. IsRowFound v d f)
+bad_found v d old new t h = sees_on d old new (Some t) (λ bad. IsBadOf (tables_of v) d bad) (λ f. IsRowFound v d f) (Ok (Some (BadRow t))) h (λ old_database bad. inl bad)
 
--- where each table is good by itself, what is misplaced is what is found
-pub place_behind : (v : Version) (d : Database) (old mid new : State) (r : Result (Option AdoptFault) Error) → Sees d old mid (Ok None) (λ bad. IsBadOf (tables_of v) d bad) → Sees d mid new r (λ f. IsPlaceFound v d f)
+-- where each table is good by itself, the look finds the misplaced row
+pub place_after : (v : Version) (d : Database) (old mid new : State) (r : Result (Option AdoptFault) Error) → Sees d old mid (Ok None) (λ bad. IsBadOf (tables_of v) d bad) → Sees d mid new r (λ f. IsPlaceFound v d f)
     → Sees d old new r (λ f. IsRowFound v d f)
-place_behind v d old mid new r first next = sees_then d old mid new None (λ bad. IsBadOf (tables_of v) d bad) first (λ f. IsPlaceFound v d f) (λ f. IsRowFound v d f) r both next
+place_after v d old mid new r first next = sees_then d old mid new None (λ bad. IsBadOf (tables_of v) d bad) first (λ f. IsPlaceFound v d f) (λ f. IsRowFound v d f) r both next
   where
     both : IsBadOf (tables_of v) d None → (f : Option AdoptFault) → IsPlaceFound v d f → IsRowFound v d f
-    both all None placed = (placed, λ filed. each_good v d.trees (all filed))
+    both all None placed = (placed, λ canonical. each_good v d.trees (all canonical))
     both all (Some f) fault = fault
 
--- ---- what stands beside rows that it belongs to
+-- ---- rows beside the rows that they belong to
 
 abbrev pub IsRankFound : Database → Option AdoptFault → Type 0
 IsRankFound d f = is_beside d.trees ≡ true → IsPlaceFound version.Second d f
 
 module _ (d : Database) (old mid : State) (is : d.schema ≡ book_schema) where
   pub ranks_right : Sees d old mid (Ok true) (λ placed. placed ≡ is_ranked d.trees) → Sees d old mid (Ok None) (λ f. IsRankFound d f)
-  ranks_right h = sees_on d old mid true (λ placed. placed ≡ is_ranked d.trees) (λ f. IsRankFound d f) (Ok None) h (λ had p beside. (beside, sym p))
+  ranks_right h = sees_on d old mid true (λ placed. placed ≡ is_ranked d.trees) (λ f. IsRankFound d f) (Ok None) h (λ old_database p beside. (beside, sym p))
 
   pub ranks_wrong : Sees d old mid (Ok false) (λ placed. placed ≡ is_ranked d.trees) → Sees d old mid (Ok (Some (BadRow table.GroupPriority))) (λ f. IsRankFound d f)
-  ranks_wrong h = sees_on d old mid false (λ placed. placed ≡ is_ranked d.trees) (λ f. IsRankFound d f) (Ok (Some (BadRow table.GroupPriority))) h (λ had p beside. inr (inr (is, sym p)))
+  ranks_wrong h = sees_on d old mid false (λ placed. placed ≡ is_ranked d.trees) (λ f. IsRankFound d f) (Ok (Some (BadRow table.GroupPriority))) h (λ old_database p beside. inr (inr (is, sym p)))
 
   pub further_wrong : Sees d old mid (Ok false) (λ placed. placed ≡ is_beside d.trees) → Sees d old mid (Ok (Some (BadRow table.AgentGroups))) (λ f. IsPlaceFound version.Second d f)
-  further_wrong h = sees_on d old mid false (λ placed. placed ≡ is_beside d.trees) (λ f. IsPlaceFound version.Second d f) (Ok (Some (BadRow table.AgentGroups))) h (λ had p. inr (inr (is, sym p)))
+  further_wrong h = sees_on d old mid false (λ placed. placed ≡ is_beside d.trees) (λ f. IsPlaceFound version.Second d f) (Ok (Some (BadRow table.AgentGroups))) h (λ old_database p. inr (inr (is, sym p)))
 
   pub further_right : (new : State) (r : Result (Option AdoptFault) Error) → Sees d old mid (Ok true) (λ placed. placed ≡ is_beside d.trees) → Sees d mid new r (λ f. IsRankFound d f)
       → Sees d old new r (λ f. IsPlaceFound version.Second d f)
@@ -285,23 +285,23 @@ begins_back [] h = absurd (cc h.1)
 begins_back (t ∷ rest) h = cc h.1
 
 -- and one whose first table isn't that of a book doesn't begin with it
-pub begins_not : (a b : List Made) (s own : Schema) → a ≡ s.tables → b ≡ own.tables → own ≡ old_schema → BeginsAsBook s → AreSameFirst a b
-begins_not a b s own first second is begins = subst₂ AreSameFirst (sym first) (sym (second ∙ ap (λ (x : Schema). x.tables) is)) (begins_back s.tables begins)
+pub begins_not : (a b : List Made) (s of_book : Schema) → a ≡ s.tables → b ≡ of_book.tables → of_book ≡ old_schema → BeginsAsBook s → AreSameFirst a b
+begins_not a b s of_book first second is begins = subst₂ AreSameFirst (sym first) (sym (second ∙ ap (λ (x : Schema). x.tables) is)) (begins_back s.tables begins)
 
-pub begins_of : (a b : List Made) (s own : Schema) → AreSameFirst a b → a ≡ s.tables → b ≡ own.tables → own ≡ old_schema → BeginsAsBook s
-begins_of a b s own same first second is = begins_of_first s.tables (subst₂ AreSameFirst first (second ∙ ap (λ (x : Schema). x.tables) is) same)
+pub begins_of : (a b : List Made) (s of_book : Schema) → AreSameFirst a b → a ≡ s.tables → b ≡ of_book.tables → of_book ≡ old_schema → BeginsAsBook s
+begins_of a b s of_book same first second is = begins_of_first s.tables (subst₂ AreSameFirst first (second ∙ ap (λ (x : Schema). x.tables) is) same)
 
--- what is seen of the database that is there
+-- the view of the database that is there
 pub sees_at : {A : Type 0} (d : Database) (old new : State) (r : Result A Error) (P : Database → A → Type 0) → Sees old.now old new r (P old.now) → Sees d old new r (P d)
 sees_at d old new r P h =
-    let there : HasDatabase old d → Sees d old new r (P d) = λ had. subst (λ x. Sees x old new r (P x)) had.now h in
+    let there : HasDatabase old d → Sees d old new r (P d) = λ old_database. subst (λ x. Sees x old new r (P x)) old_database.now h in
     record {
       clean = h.clean;
       was_open = h.was_open;
-      up = λ k had. (there had).up k had;
-      same = λ k had up. (there had).same k had up;
-      stops = λ k had. (there had).stops k had;
-      answer = λ k had. (there had).answer k had;
+      up = λ k old_database. (there old_database).up k old_database;
+      same = λ k old_database up. (there old_database).same k old_database up;
+      stops = λ k old_database. (there old_database).stops k old_database;
+      answer = λ k old_database. (there old_database).answer k old_database;
     }
 
 module _ {A : Type 0} (old mid new : State) (r : Result A Error) (P : Database → A → Type 0) where
@@ -309,15 +309,15 @@ module _ {A : Type 0} (old mid new : State) (r : Result A Error) (P : Database �
       → (IsTrue old.is_open → IsDatabase old.now) → Sees mid.now mid new r (P mid.now) → HasLooked old new r P
   looked first up still settled obeys next =
       let here = sees_at old.now mid new r P next in
-      let had : HasCleanDisk mid → HasDatabase mid old.now = λ m.
+      let old_database : HasCleanDisk mid → HasDatabase mid old.now = λ m.
       let was = first.was_open m (up m) in
       first.same m (record { is_open = was; now = refl; committed = sym (settled was) }) (up m) in
       record {
         seen = sees_then old.now old mid new tt (λ (x : Unit {0}). ⊤) first (P old.now) (P old.now) r (λ p b q. q) here;
-        up = λ k. here.up k (had (here.clean k));
+        up = λ k. here.up k (old_database (here.clean k));
         settled = settled;
         obeys = obeys;
-        stops = λ k db left. still (here.clean k) db (here.stops k (had (here.clean k)) db left);
+        stops = λ k db left. still (here.clean k) db (here.stops k (old_database (here.clean k)) db left);
       }
 
 pub looked_not : {A : Type 0} (old new : State) (e : Error) (P : Database → A → Type 0) → Sees {A = Unit {0}} old.now old new (Err e) (λ _. ⊤) → (HasCleanDisk new → NoStop old new)

@@ -1,4 +1,4 @@
--- The new tables behind the nine, and the version told, inside a transaction and behind it.
+-- The new tables after the nine, and the new version, inside a transaction and after it.
 use Rattle.std.proofs.Common.{◌≡◌, ◌≢◌, ◌≤◌, ℕ, inl, inr, List, [], ◌∷◌, ◌++◌, false, Result, Ok, Err, IsTrue, OnOk, OnErr, IfErr, refl, sym, ap, subst, ◌∙◌}
 use Rattle.sqlite_value.specs.Order.{Row}
 use Rattle.sqlite_trees.specs.Tree.{Trees}
@@ -10,9 +10,9 @@ use Rattle.acd_sql_columns.specs.declared.tables.Table.{Table}
 use Rattle.acd_sql_columns.specs.declared.tables.Table.TheVariants as table
 use Rattle.acd_sql_columns.specs.declared.tables.Version.TheVariants as version
 use Rattle.acd_sql_columns.specs.Content.{tree_of, IsIn}
-use Rattle.acd_sql_columns.specs.Making.{Builds, TellsSecond}
+use Rattle.acd_sql_columns.specs.Making.{Builds, SetsSecondVersion}
 use Rattle.acd_sql_columns.specs.Schema.{old_schema, book_schema}
-use Rattle.acd_sql_columns.specs.Draft.{Works}
+use Rattle.acd_sql_columns.specs.Transactions.{Works}
 use Rattle.acd_sql_columns.specs.declared.texts.TheConstants.{UPDATE_VERSION}
 use Rattle.acd_sql_statements.specs.Failing.{Refuses, FailsToWrite}
 use Rattle.acd_sql_statements.proofs.Failures.{failed_after, failed_before}
@@ -32,7 +32,7 @@ old_builds old inside is = record { inside = inside; schema_is = is; rows_are = 
 
 -- ---- inside the transaction
 
-module _ (old mid new : State) (b : Builds mid book_schema ((rows_of old.now.trees ++ [] ∷ []) ++ [] ∷ [])) (t : TellsSecond mid new) where
+module _ (old mid new : State) (b : Builds mid book_schema ((rows_of old.now.trees ++ [] ∷ []) ++ [] ∷ [])) (t : SetsSecondVersion mid new) where
   kept_as : (u : Table) → IsIn version.First u → tree_of u ≢ tree_of table.Meta → new.now.trees (tree_of u) ≡ old.now.trees (tree_of u)
   kept_as table.Meta here other = absurd (other refl)
   kept_as table.Groups here other = t.others.1.0 other ∙ b.rows_are.1.0
@@ -51,7 +51,7 @@ module _ (old mid new : State) (b : Builds mid book_schema ((rows_of old.now.tre
     inside = t.inside ∙ b.inside;
     schema_is = t.schema_is;
     tables = record {
-      told = λ m is. t.told m (b.rows_are.0 ∙ is);
+      version_is = λ m is. t.version_is m (b.rows_are.0 ∙ is);
       kept = kept_as;
       further = t.others.1.1.1.1.1.1.1.1.1.0 (λ e. cc e) ∙ b.rows_are.1.1.1.1.1.1.1.1.1.0;
       priorities = t.others.1.1.1.1.1.1.1.1.1.1.0 (λ e. cc e) ∙ b.rows_are.1.1.1.1.1.1.1.1.1.1.0;
@@ -59,12 +59,12 @@ module _ (old mid new : State) (b : Builds mid book_schema ((rows_of old.now.tre
   }
 
 pub altered_if : (old mid new : State) (r : Result (Unit {0}) Error) → ((rows : List (List Row)) → Builds old old_schema rows → Builds mid book_schema ((rows ++ [] ∷ []) ++ [] ∷ []))
-    → OnOk r (mid.now.schema ≡ book_schema → TellsSecond mid new) → IsTrue old.in_transaction → old.now.schema ≡ old_schema → OnOk r (IsAltered old new)
-altered_if old mid new (Err e) makes told inside is = tt
-altered_if old mid new (Ok x) makes told inside is =
-    let b = makes (rows_of old.now.trees) (old_builds old inside is) in altered old mid new b (told b.schema_is)
+    → OnOk r (mid.now.schema ≡ book_schema → SetsSecondVersion mid new) → IsTrue old.in_transaction → old.now.schema ≡ old_schema → OnOk r (IsAltered old new)
+altered_if old mid new (Err e) makes set inside is = tt
+altered_if old mid new (Ok x) makes set inside is =
+    let b = makes (rows_of old.now.trees) (old_builds old inside is) in altered old mid new b (set b.schema_is)
 
--- ---- behind it
+-- ---- after it
 
 pub made_of : (old mid new : State) (r : Result (Unit {0}) Error) → IsAltered old mid → OnOk r (IsTrue mid.in_transaction × Shows mid new mid.now mid.now false × KeepsCounts mid new × (new.marks ≡ [])) → OnOk r (IsMade old new)
 made_of old mid new (Err e) a ended = tt
@@ -118,15 +118,15 @@ pub unmade : (old new : State) (e : Error) → FailsToMake old new e → FailsTo
 unmade old new e (inl memory) = inl memory
 unmade old new e (inr failed) = inr (inl failed)
 
-untold : (old mid new : State) (e : Error) → Works old mid → HasCleanDisk mid → mid.faults ≤ new.faults → Builds mid book_schema ((rows_of old.now.trees ++ [] ∷ []) ++ [] ∷ []) → FailsToWrite mid new UPDATE_VERSION.now [] e → FailsToMigrate old new e
-untold old mid new e w k counts b (inl memory) = inl memory
-untold old mid new e w k counts b (inr (inl failed)) = inr (inl (failed_after old mid new w.survives k counts failed))
-untold old mid new e w k counts b (inr (inr refused)) = inr (inr (mid.now, beside old.now.trees mid b, subst (λ l. Refuses l mid.now UPDATE_VERSION.now []) w.survives.limit refused))
+version_refused : (old mid new : State) (e : Error) → Works old mid → HasCleanDisk mid → mid.faults ≤ new.faults → Builds mid book_schema ((rows_of old.now.trees ++ [] ∷ []) ++ [] ∷ []) → FailsToWrite mid new UPDATE_VERSION.now [] e → FailsToMigrate old new e
+version_refused old mid new e w k counts b (inl memory) = inl memory
+version_refused old mid new e w k counts b (inr (inl failed)) = inr (inl (failed_after old mid new w.survives k counts failed))
+version_refused old mid new e w k counts b (inr (inr refused)) = inr (inr (mid.now, beside old.now.trees mid b, subst (λ l. Refuses l mid.now UPDATE_VERSION.now []) w.survives.limit refused))
 
-pub untold_if : (old mid new : State) (r : Result (Unit {0}) Error) → Works old mid → HasCleanDisk mid → mid.faults ≤ new.faults → Builds mid book_schema ((rows_of old.now.trees ++ [] ∷ []) ++ [] ∷ []) → IfErr r (FailsToWrite mid new UPDATE_VERSION.now [])
+pub version_refused_if : (old mid new : State) (r : Result (Unit {0}) Error) → Works old mid → HasCleanDisk mid → mid.faults ≤ new.faults → Builds mid book_schema ((rows_of old.now.trees ++ [] ∷ []) ++ [] ∷ []) → IfErr r (FailsToWrite mid new UPDATE_VERSION.now [])
     → IfErr r (FailsToMigrate old new)
-untold_if old mid new (Ok x) w k counts b h = tt
-untold_if old mid new (Err e) w k counts b h = untold old mid new e w k counts b h
+version_refused_if old mid new (Ok x) w k counts b h = tt
+version_refused_if old mid new (Err e) w k counts b h = version_refused old mid new e w k counts b h
 
 pub still_unmade : (old mid new : State) (e : Error) → mid.faults ≤ new.faults → FailsToMigrate old mid e → FailsToMigrate old new e
 still_unmade old mid new e counts (inl memory) = inl memory

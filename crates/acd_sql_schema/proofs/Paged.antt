@@ -1,4 +1,4 @@
--- A log that is read page by page: what is left behind a page tells of all.
+-- A log that is read page by page: what is left after a page decides about all.
 use Rattle.std.proofs.Common.{◌≡◌, ℕ, ◌+◌, ◌<◌, ◌≤◌, suc, length, drop, get_or, zero, take, ◌⊎◌, Result, Ok, Err, IfErr, IfSome, filter, nat_lt, List, [], ◌∷◌, map, cond, Option, Some, None, Bool, true, false, IsTrue, refl, sym, ap, subst, ◌∙◌, inl, inr, arith}
 use Rattle.std.specs.Prelude.{option_map}
 use Rattle.std.specs.List.{AllByRecursion}
@@ -24,9 +24,9 @@ use Rattle.acd_sql_columns.specs.declared.tables.Log.{Log}
 use Rattle.acd_sql_columns.specs.declared.tables.Log.TheVariants as log
 use Rattle.acd_sql_schema.specs.declared.verdict.Page.{Page}
 use Rattle.acd_sql_schema.specs.declared.verdict.Page.TheVariants.{Bad, Last, More}
-use Rattle.acd_sql_columns.specs.AnyRows.{is_good, are_good, is_good_in, rows_in, values_in, table_of_log, Numbered, AreNumbered, FromOne, IsFiledAs, TellsGood, IsPageRows}
-use Rattle.acd_sql_columns.specs.Draft.{Fits}
-use Rattle.acd_sql_schema.specs.Inspecting.{is_good_behind, number_if_good, last_good, TellsBehind, IsLogPage, IsPageOfLog, HasNoRise}
+use Rattle.acd_sql_columns.specs.AnyRows.{is_good, are_good, is_good_in, rows_in, values_in, table_of_log, Numbered, AreNumbered, FromOne, IsCanonicalAs, FindsGood, IsPageRows}
+use Rattle.acd_sql_columns.specs.Transactions.{Fits}
+use Rattle.acd_sql_schema.specs.Inspecting.{is_good_after, number_if_good, last_good, FindsGoodAfter, IsLogPage, IsPageOfLog, HasNoRise}
 use Rattle.acd_sql_statements.specs.Failing.{IsMemory}
 use Rattle.acd_sql_statements.specs.Looking.{FailsToLook}
 use Rattle.acd_sql_columns.specs.declared.tables.Version.TheVariants as version
@@ -47,8 +47,8 @@ not_above n m k low h = grind (arith, nat_tests)
 up_to : (n k m : ℕ) → nat_lt n k ≡ true → k ≤ m → n ≤ m
 up_to n k m h low = grind (arith, nat_tests)
 
-not_behind : (k m : ℕ) → k ≤ m → nat_lt m k ≡ false
-not_behind k m h = grind (arith, nat_tests)
+not_after : (k m : ℕ) → k ≤ m → nat_lt m k ≡ false
+not_after k m h = grind (arith, nat_tests)
 
 self : (n : ℕ) → n ≤ n
 self n = omega arith
@@ -60,38 +60,38 @@ module _ {R : Type 0} (l : Log) (key : R → ℕ) (values : R → Row) (keyed : 
   abbrev good : R → Bool
   good x = is_good (table_of_log l) (values x)
 
-  abbrev behind : ℕ → List R → List R
-  behind n xs = filter (λ x. nat_lt n (key x)) xs
+  abbrev after : ℕ → List R → List R
+  after n xs = filter (λ x. nat_lt n (key x)) xs
 
   abbrev all_good : List R → Bool
   all_good xs = are_good (table_of_log l) (map values xs)
 
-  further : (n m : ℕ) → n ≤ m → (xs : List R) → behind m (behind n xs) ≡ behind m xs
+  further : (n m : ℕ) → n ≤ m → (xs : List R) → after m (after n xs) ≡ after m xs
   further n m low [] = refl
   further n m low (x ∷ xs) =
-      (elim (nat_lt n (key x)) as (λ b. nat_lt n (key x) ≡ b → behind m (cond b (x ∷ behind n xs) (behind n xs)) ≡ cond (nat_lt m (key x)) (x ∷ behind m xs) (behind m xs)) [
+      (elim (nat_lt n (key x)) as (λ b. nat_lt n (key x) ≡ b → after m (cond b (x ∷ after n xs) (after n xs)) ≡ cond (nat_lt m (key x)) (x ∷ after m xs) (after m xs)) [
         | true ↦ λ e. ap (λ r. cond (nat_lt m (key x)) (x ∷ r) r) (further n m low xs)
         | false ↦ λ e. rw (not_above n m (key x) low e) (further n m low xs)
       ]) refl
 
   -- the rows up to the last one of a page are good, or one isn't
-  abbrev Tells : ℕ → List R → Option ℕ → Type 0
-  Tells n ys None = all_good ys ≡ false
-  Tells n ys (Some m) = (n ≤ m) × (all_good ys ≡ all_good (behind m ys))
+  abbrev Finds : ℕ → List R → Option ℕ → Type 0
+  Finds n ys None = all_good ys ≡ false
+  Finds n ys (Some m) = (n ≤ m) × (all_good ys ≡ all_good (after m ys))
 
   -- a good row before the others
-  good_first : (n : ℕ) (y : R) (ys : List R) → good y ≡ true → nat_lt n (key y) ≡ true → (r : Option ℕ) → Tells (key y) ys r → Tells n (y ∷ ys) r
+  good_first : (n : ℕ) (y : R) (ys : List R) → good y ≡ true → nat_lt n (key y) ≡ true → (r : Option ℕ) → Finds (key y) ys r → Finds n (y ∷ ys) r
   unfolding are_good
   good_first n y ys e low None h = rw e h
-  good_first n y ys e low (Some m) h = (up_to n (key y) m low h.0, rw (e, not_behind (key y) m h.0) h.1)
+  good_first n y ys e low (Some m) h = (up_to n (key y) m low h.0, rw (e, not_after (key y) m h.0) h.1)
 
-  pub page_tells : (k n : ℕ) (ys : List R) → ((x : R) → Among x ys → nat_lt n (key x) ≡ true) → IsAscending (by_key key) ys → Tells n ys (last_good l n (map values (take k ys)))
+  pub page_finds : (k n : ℕ) (ys : List R) → ((x : R) → Among x ys → nat_lt n (key x) ≡ true) → IsAscending (by_key key) ys → Finds n ys (last_good l n (map values (take k ys)))
   unfolding last_good are_good
-  page_tells zero n ys all up = (self n, ap all_good (sym (filter_all (λ x. nat_lt n (key x)) ys all)))
-  page_tells (suc k) n [] all up = (self n, refl)
-  page_tells (suc k) n (y ∷ ys) all up =
-      (elim (good y) as (λ b. good y ≡ b → Tells n (y ∷ ys) (cond b (whole_at (values y) 0) None >>= (λ m. last_good l m (map values (take k ys))))) [
-        | true ↦ λ e. rw (keyed y) (good_first n y ys e (all y (inl refl)) (last_good l (key y) (map values (take k ys))) (page_tells k (key y) ys (λ x a. above (key y) (key x) (after_among (by_key key) y ys x up.0 a)) up.1))
+  page_finds zero n ys all up = (self n, ap all_good (sym (filter_all (λ x. nat_lt n (key x)) ys all)))
+  page_finds (suc k) n [] all up = (self n, refl)
+  page_finds (suc k) n (y ∷ ys) all up =
+      (elim (good y) as (λ b. good y ≡ b → Finds n (y ∷ ys) (cond b (whole_at (values y) 0) None >>= (λ m. last_good l m (map values (take k ys))))) [
+        | true ↦ λ e. rw (keyed y) (good_first n y ys e (all y (inl refl)) (last_good l (key y) (map values (take k ys))) (page_finds k (key y) ys (λ x a. above (key y) (key x) (after_among (by_key key) y ys x up.0 a)) up.1))
         | false ↦ λ e. rw e refl
       ]) refl
 
@@ -105,8 +105,8 @@ module _ {R : Type 0} (l : Log) (key : R → ℕ) (values : R → Row) (keyed : 
   page_rises k n (y ∷ ys) m all up some is low =
       (elim (good y) as (λ b. good y ≡ b → (cond b (whole_at (values y) 0) None >>= (λ m. last_good l m (map values (take k ys)))) ≡ Some m → ⊥) [
         | true ↦ λ e at.
-            let told = page_tells k (key y) ys (λ x a. above (key y) (key x) (after_among (by_key key) y ys x up.0 a)) up.1 in
-            up_from n (key y) m (all y (inl refl)) (subst (Tells (key y) ys) (rw (keyed y) at at) told).0 low
+            let found = page_finds k (key y) ys (λ x a. above (key y) (key x) (after_among (by_key key) y ys x up.0 a)) up.1 in
+            up_from n (key y) m (all y (inl refl)) (subst (Finds (key y) ys) (rw (keyed y) at at) found).0 low
         | false ↦ λ e at. cc at
       ]) refl is
 
@@ -115,17 +115,17 @@ module _ {R : Type 0} (l : Log) (key : R → ℕ) (values : R → Row) (keyed : 
   none_taken k (y ∷ ys) h = absurd (cc h)
 
   abbrev Leaves : ℕ → List R → Page → Type 0
-  Leaves n xs Bad = all_good (behind n xs) ≡ false
-  Leaves n xs Last = all_good (behind n xs) ≡ true
-  Leaves n xs (More m) = all_good (behind n xs) ≡ all_good (behind m xs)
+  Leaves n xs Bad = all_good (after n xs) ≡ false
+  Leaves n xs Last = all_good (after n xs) ≡ true
+  Leaves n xs (More m) = all_good (after n xs) ≡ all_good (after m xs)
 
-  page_leaves : (k n : ℕ) (xs : List R) (rows : List Row) (page : Page) → IsAscending (by_key key) xs → rows ≡ map values (take (suc k) (behind n xs)) → IsLogPage l n rows page → Leaves n xs page
+  page_leaves : (k n : ℕ) (xs : List R) (rows : List Row) (page : Page) → IsAscending (by_key key) xs → rows ≡ map values (take (suc k) (after n xs)) → IsLogPage l n rows page → Leaves n xs page
   unfolding are_good
-  page_leaves k n xs rows Bad up are is = subst (Tells n (behind n xs)) (ap (last_good l n) (sym are) ∙ is) (page_tells (suc k) n (behind n xs) (λ x a. (filter_among (λ y. nat_lt n (key y)) xs x a).1) (ascending-filter (by_key key) (λ y. nat_lt n (key y)) xs up))
-  page_leaves k n xs rows Last up are is = ap all_good (none_taken k (behind n xs) (sym are ∙ is))
+  page_leaves k n xs rows Bad up are is = subst (Finds n (after n xs)) (ap (last_good l n) (sym are) ∙ is) (page_finds (suc k) n (after n xs) (λ x a. (filter_among (λ y. nat_lt n (key y)) xs x a).1) (ascending-filter (by_key key) (λ y. nat_lt n (key y)) xs up))
+  page_leaves k n xs rows Last up are is = ap all_good (none_taken k (after n xs) (sym are ∙ is))
   page_leaves k n xs rows (More m) up are is =
-      let told = subst (Tells n (behind n xs)) (ap (last_good l n) (sym are) ∙ is) (page_tells (suc k) n (behind n xs) (λ x a. (filter_among (λ y. nat_lt n (key y)) xs x a).1) (ascending-filter (by_key key) (λ y. nat_lt n (key y)) xs up)) in
-      told.1 ∙ ap all_good (further n m told.0 xs)
+      let found = subst (Finds n (after n xs)) (ap (last_good l n) (sym are) ∙ is) (page_finds (suc k) n (after n xs) (λ x a. (filter_among (λ y. nat_lt n (key y)) xs x a).1) (ascending-filter (by_key key) (λ y. nat_lt n (key y)) xs up)) in
+      found.1 ∙ ap all_good (further n m found.0 xs)
 
 -- ---- the rows of a log
 
@@ -143,21 +143,21 @@ number_stored r e is = ap (λ x. whole_at x 0) (event_stored r e is)
 stamp_stored : (r : Row) (k : Kept) → kept_in r ≡ Some k → whole_at r 0 ≡ Some k.stamp
 stamp_stored r k is = ap (λ x. whole_at x 0) (kept_stored r k is).0
 
--- a good row tells its number
+-- a good row gives its number
 good_number : (l : Log) (r : Row) → is_good (table_of_log l) r ≡ true → (n : ℕ) × (whole_at r 0 ≡ Some n)
 good_number log.Events r h = let e = number_there (event_in r) h in (e.0.number, number_stored r e.0 e.1)
 good_number log.Kept r h = let k = stamp_there (kept_in r) h in (k.0.stamp, stamp_stored r k.0 k.1)
 
 -- the number of a record is that of its row
-own_number : {R : Type 0} (number : R → ℕ) (o : Option R) (n : Option ℕ) → ((x : R) → o ≡ Some x → n ≡ Some (number x)) → option_map number o ≡ cond (is_some o) n None
-own_number number None n stored = refl
-own_number number (Some x) n stored = sym (stored x refl)
+number_read : {R : Type 0} (number : R → ℕ) (o : Option R) (n : Option ℕ) → ((x : R) → o ≡ Some x → n ≡ Some (number x)) → option_map number o ≡ cond (is_some o) n None
+number_read number None n stored = refl
+number_read number (Some x) n stored = sym (stored x refl)
 
 pub event_numbered : (r : Row) → event_number r ≡ number_if_good log.Events r
-event_numbered r = own_number (λ (e : Event). e.number) (event_in r) (whole_at r 0) (number_stored r)
+event_numbered r = number_read (λ (e : Event). e.number) (event_in r) (whole_at r 0) (number_stored r)
 
 pub kept_numbered : (r : Row) → kept_stamp r ≡ number_if_good log.Kept r
-kept_numbered r = own_number (λ (k : Kept). k.stamp) (kept_in r) (whole_at r 0) (stamp_stored r)
+kept_numbered r = number_read (λ (k : Kept). k.stamp) (kept_in r) (whole_at r 0) (stamp_stored r)
 
 bad_row_in : (l : Log) (n : ℕ) (rows : List Row) → last_good l n rows ≡ None → (r : Row) × Has rows r × (is_good (table_of_log l) r ≡ false)
 unfolding last_good
@@ -202,9 +202,9 @@ page_fails l n d rows old new (Ok p) page xs lacks = tt
 page_fails l n d rows old new (Err e) page xs (inl memory) = inl memory
 page_fails l n d rows old new (Err e) page xs (inr none) = absurd (page_above l n d rows page xs.0 xs.1 none)
 
--- what a page leaves of a database
+-- the rest that a page leaves of a database
 pub page_is : (l : Log) (n : ℕ) (d : Database) (rows : List Row) (p : Page) → IsPageRows l n 1000 d.trees rows → IsLogPage l n rows p → IsPageOfLog l n d.trees p
-unfolding is_good_behind
+unfolding is_good_after
 page_is l n d rows Bad page is = page_bad l n 1000 d.trees rows page is
 page_is l n d rows Last page is = λ (xs : List Numbered) (are : AreNumbered l d.trees xs). page_left l n d rows page xs are Last is
 page_is l n d rows (More m) page is = λ (xs : List Numbered) (are : AreNumbered l d.trees xs). page_left l n d rows page xs are (More m) is
@@ -230,22 +230,22 @@ old_log : (l : Log) → IsIn version.First (table_of_log l)
 old_log log.Events = tt
 old_log log.Kept = tt
 
--- where its rows are filed, and no number is below 1, the numbers rise from 0
-pub numbers_of : (l : Log) (db : Trees) → AllByRecursion (λ r. IsTrue (is_int (rowid r)) → FromOne r) (db (tree_of (table_of_log l))) → IsFiledAs version.First db → (xs : List Numbered) × AreNumbered l db xs
-numbers_of l db low filed =
-    let xs = numbered_of (db (tree_of (table_of_log l))) (each_from_one (db (tree_of (table_of_log l))) (filed.numbered (table_of_log l) (old_log l)) low) in
-    (xs.0, record { rising = filed.rising (table_of_log l) (old_log l); rows = xs.1 })
+-- where its rows are canonical, and no number is below 1, the numbers rise from 0
+pub numbers_of : (l : Log) (db : Trees) → AllByRecursion (λ r. IsTrue (is_int (rowid r)) → FromOne r) (db (tree_of (table_of_log l))) → IsCanonicalAs version.First db → (xs : List Numbered) × AreNumbered l db xs
+numbers_of l db low canonical =
+    let xs = numbered_of (db (tree_of (table_of_log l))) (each_from_one (db (tree_of (table_of_log l))) (canonical.numbered (table_of_log l) (old_log l)) low) in
+    (xs.0, record { rising = canonical.rising (table_of_log l) (old_log l); rows = xs.1 })
 
--- where no number is below 1, those above 0 tell of all
-pub log_told : (l : Log) (db : Trees) (good : Bool) → AllByRecursion (λ r. IsTrue (is_int (rowid r)) → FromOne r) (db (tree_of (table_of_log l))) → TellsBehind l db good → TellsGood (table_of_log l) db good
-unfolding is_good_in is_good_behind
-log_told l db false low h = record { bad = h.bad; filed = λ filed. sym (h.bad refl) }
-log_told l db true low h = record {
+-- where no number is below 1, those above 0 decide about all
+pub log_found : (l : Log) (db : Trees) (good : Bool) → AllByRecursion (λ r. IsTrue (is_int (rowid r)) → FromOne r) (db (tree_of (table_of_log l))) → FindsGoodAfter l db good → FindsGood (table_of_log l) db good
+unfolding is_good_in is_good_after
+log_found l db false low h = record { bad = h.bad; canonical = λ canonical. sym (h.bad refl) }
+log_found l db true low h = record {
   bad = h.bad;
-  filed = λ filed.
-      let xs = numbered_of (db (tree_of (table_of_log l))) (each_from_one (db (tree_of (table_of_log l))) (filed.numbered (table_of_log l) (old_log l)) low) in
-      let behind = h.filed refl xs.0 (record { rising = filed.rising (table_of_log l) (old_log l); rows = xs.1 }) in
-      sym behind ∙ ap (λ ys. are_good (table_of_log l) (map (number_values l) ys)) (all_above xs.0 xs.2)
+  canonical = λ canonical.
+      let xs = numbered_of (db (tree_of (table_of_log l))) (each_from_one (db (tree_of (table_of_log l))) (canonical.numbered (table_of_log l) (old_log l)) low) in
+      let after = h.canonical refl xs.0 (record { rising = canonical.rising (table_of_log l) (old_log l); rows = xs.1 }) in
+      sym after ∙ ap (λ ys. are_good (table_of_log l) (map (number_values l) ys)) (all_above xs.0 xs.2)
       ∙ ap (are_good (table_of_log l)) (sym (map-map (values_in (table_of_log l)) (λ (x : Numbered). x.row) xs.0)) ∙ ap (λ rows. are_good (table_of_log l) (map (values_in (table_of_log l)) rows)) (sym xs.1);
 }
 

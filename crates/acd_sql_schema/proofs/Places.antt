@@ -1,4 +1,4 @@
--- What stands beside the rows of agents and of groups: nothing in version 1.
+-- The rows beside those of agents and of groups: none in version 1.
 use Rattle.std.proofs.Common.{◌≡◌, ◌==◌, ◌&&◌, ◌≤◌, ℕ, ℤ, suc, Bool, true, false, cond, List, [], ◌∷◌, length, map, filter, drop, nat_le, inl, inr, Option, Some, None, refl, sym, ap, ap₂, subst, ◌∙◌, arith}
 use Rattle.std.specs.List.{AllByRecursion, list_all, list_any}
 use Rattle.std.specs.Option.{is_some}
@@ -23,7 +23,7 @@ use Rattle.acd_sql_columns.specs.AnyRows.{is_good, are_good, values_in, rows_in,
 use Rattle.acd_sql_columns.specs.Content.{AreRows, AreHeaped, IsIn, tree_of}
 use Rattle.acd_sql_columns.specs.Decoding.{as_group, as_priority, as_agent, as_further}
 use Rattle.acd_sql_columns.specs.InTables.{in_order}
-use Rattle.acd_sql_columns.specs.Relations.{pair_order, groups_beside, is_behind, are_behind, are_of_groups}
+use Rattle.acd_sql_columns.specs.Relations.{pair_order, groups_beside, is_after, are_after, are_of_groups}
 use Rattle.acd_sql_columns.specs.Rows.{agent_row, group_row, priority_row, priority_values, further_row, further_values}
 use Rattle.acd_sql_columns.specs.Ranges.{priority_in}
 use Rattle.acd_sql_columns.specs.Tables.{agent_groups}
@@ -97,12 +97,12 @@ module _ (n : ℕ) where
       (subst (λ k. cond (p.0 == n) (suc (count (in_order pair_order ps))) (count (in_order pair_order ps)) ≤ k) (sym (one_more p ps))
       (longer_by (p.0 == n) (count (in_order pair_order ps)) (count ps) (in_order_at_most ps))))
 
--- they are behind the first groups of their agents in whatever order they come
-behind_in_order : (agents : List AgentRow) (pairs : List (ℕ × ℕ)) → are_behind agents pairs ≡ true → are_behind agents (in_order pair_order pairs) ≡ true
-behind_in_order agents pairs h =
-    let parts = and_parts (list_all (λ (p : ℕ × ℕ). list_any (λ (a : AgentRow). is_behind a p) agents) pairs) (list_all (λ (a : AgentRow). nat_le (length (groups_beside pairs a.agent)) 7) agents) h in
+-- they come after the first groups of their agents in whatever order they come
+after_in_order : (agents : List AgentRow) (pairs : List (ℕ × ℕ)) → are_after agents pairs ≡ true → are_after agents (in_order pair_order pairs) ≡ true
+after_in_order agents pairs h =
+    let parts = and_parts (list_all (λ (p : ℕ × ℕ). list_any (λ (a : AgentRow). is_after a p) agents) pairs) (list_all (λ (a : AgentRow). nat_le (length (groups_beside pairs a.agent)) 7) agents) h in
     and_from _ _
-    (all_from (λ (p : ℕ × ℕ). list_any (λ (a : AgentRow). is_behind a p) agents) (in_order pair_order pairs) (λ p k. all_true (λ (q : ℕ × ℕ). list_any (λ (a : AgentRow). is_behind a q) agents) pairs parts.0 p (from_order pair_order pairs p k)))
+    (all_from (λ (p : ℕ × ℕ). list_any (λ (a : AgentRow). is_after a p) agents) (in_order pair_order pairs) (λ p k. all_true (λ (q : ℕ × ℕ). list_any (λ (a : AgentRow). is_after a q) agents) pairs parts.0 p (from_order pair_order pairs p k)))
     (all_from (λ (a : AgentRow). nat_le (length (groups_beside (in_order pair_order pairs) a.agent)) 7) agents
     (λ a k. few _ _ (in_order_at_most a.agent pairs) (all_true (λ (x : AgentRow). nat_le (length (groups_beside pairs x.agent)) 7) agents parts.1 a k)))
 
@@ -149,7 +149,7 @@ abbrev pub NoneBefore : Version → List (ℕ × ℕ) → List GroupPriority →
 NoneBefore version.First further priorities = (further ≡ []) × (priorities ≡ [])
 NoneBefore version.Second further priorities = Unit {0}
 
--- further groups behind the first ones of these agents, and priorities of these groups
+-- further groups after the first ones of these agents, and priorities of these groups
 pub record Beside (v : Version) (db : Trees) (agents : List AgentRow) (groups : List GroupRow) : Type 0 where
   pub further : List (ℕ × ℕ)
   pub priorities : List GroupPriority
@@ -158,7 +158,7 @@ pub record Beside (v : Version) (db : Trees) (agents : List AgentRow) (groups : 
   pub priorities_are : IsIn v table.GroupPriority → AreRows (λ (p : GroupPriority). p.device) priority_row (db (tree_of table.GroupPriority)) priorities
   pub further_rise : IsAscending pair_order further
   pub priorities_rise : IsAscending by_rank priorities
-  pub behind : are_behind agents further ≡ true
+  pub after : are_after agents further ≡ true
   pub known : are_of_groups groups priorities ≡ true
   pub ranked : (p : GroupPriority) → Among p priorities → (p.priority == 0) ≡ false
   pub further_good : are_good table.AgentGroups (map further_values further) ≡ true
@@ -178,7 +178,7 @@ none_beside db agents groups = record {
   priorities_are = λ here. absurd here;
   further_rise = tt;
   priorities_rise = tt;
-  behind = all_few agents;
+  after = all_few agents;
   known = refl;
   ranked = λ p h. absurd h;
   further_good = refl;
@@ -202,10 +202,10 @@ module _ (db : Trees) (agents : List AgentRow) (groups : List GroupRow) (further
       ap (in_order pair_order) (pairs_seen (db (tree_of table.AgentGroups)) (λ r k. let from = further_are.known r k in (from.0, from.1, from.2)))
       ∙ heap_back pair_order (by_both_total agent_groups) further_row as_further (λ id p. further_back p) (db (tree_of table.AgentGroups)) further further_are
 
-  are_all_behind : is_beside db ≡ true → are_behind agents further ≡ true
+  are_all_after : is_beside db ≡ true → are_after agents further ≡ true
   unfolding is_beside
-  are_all_behind h =
-      subst (λ ps. are_behind agents ps ≡ true) further_seen (behind_in_order agents (map as_further (rows_in table.AgentGroups db)) (subst (λ rows. are_behind rows (map as_further (rows_in table.AgentGroups db)) ≡ true) agents_seen h))
+  are_all_after h =
+      subst (λ ps. are_after agents ps ≡ true) further_seen (after_in_order agents (map as_further (rows_in table.AgentGroups db)) (subst (λ rows. are_after rows (map as_further (rows_in table.AgentGroups db)) ≡ true) agents_seen h))
 
   are_all_known : is_ranked db ≡ true → are_of_groups groups priorities ≡ true
   unfolding is_ranked
@@ -220,7 +220,7 @@ module _ (db : Trees) (agents : List AgentRow) (groups : List GroupRow) (further
     priorities_are = λ here. priorities_are;
     further_rise = further_are.ascending;
     priorities_rise = priorities_are.ascending;
-    behind = are_all_behind placed.0;
+    after = are_all_after placed.0;
     known = are_all_known placed.1;
     ranked = all_ranked priorities ranks;
     further_good = right;

@@ -9,7 +9,7 @@ use Rattle.sqlite.specs.Change.{created}
 use Rattle.sqlite.specs.Held.{Held, state}
 use Rattle.sqlite.specs.State.{State, HasCleanDisk}
 use Rattle.sqlite.specs.declared.error.Error.{Error}
-use Rattle.acd_sql_columns.specs.Draft.{RanStatement}
+use Rattle.acd_sql_columns.specs.Transactions.{RanStatement}
 use Rattle.acd_sql_columns.specs.Making.{MakesTable, Builds}
 use Rattle.acd_sql_columns.proofs.Endings.{works_on}
 use Rattle.acd_sql_statements.specs.Failing.{FailsToWrite}
@@ -42,7 +42,7 @@ module _ {S : Type 0} {g : Ghosts S} where
     failed = λ clean b. one_failed text (state g old.now) (state g new.now) r s t rows makes taken b (run.failed clean b.inside);
   }
 
-  -- the second behind the first, which succeeded
+  -- the second after the first, which succeeded
   pub followed : {old mid new : MutBor (Held S)} {x : Unit {0}} {r : Result (Unit {0}) Error} {a b c : Schema} {p q s : List (List Row)} → MakesTables g old mid (Ok x) (stage a p) (stage b q) → MakesTables g mid new r (stage b q) (stage c s) → MakesTables g old new r (stage a p) (stage c s)
   followed {old} {mid} {new} {x} {r} {a} {b} {c} {p} {q} {s} first second = record {
     same = second.same ∙ first.same;

@@ -1,4 +1,4 @@
--- The store never refuses to make a table of a book behind those before it.
+-- The store never refuses to make a table of a book after those before it.
 use Rattle.std.proofs.Common.{◌≡◌, ◌⊎◌, inl, inr, ℕ, zero, suc, get_or, ◌<◌, ◌+◌, ◌*◌, ◌^◌, ◌≤◌, nat_le, nat_lt, List, [], ◌∷◌, length, codes, Bool, true, false, ◌||◌, Option, None, Some, Result, Ok, Err, refl, sym, ap, subst, ◌∙◌, arith}
 use Rattle.std.specs.List.{list_all, list_any}
 use Rattle.std.specs.Ordering.{is_eq}
@@ -71,7 +71,7 @@ fit_for name text same free creates virtual =
 
 any_has : {X : Type 0} (p : X → Bool) (xs : List X) (x : X) → list_any p xs ≡ false → Has xs x → p x ≡ true → ⊥
 any_has p [] x none h is = h
-any_has p (y ∷ xs) x none (inl same) is = absurd (let own = sym (ap p same) ∙ is in let clash = rw own at none in cc)
+any_has p (y ∷ xs) x none (inl same) is = absurd (let passes = sym (ap p same) ∙ is in let clash = rw passes at none in cc)
 any_has p (y ∷ xs) x none (inr h) is = any_has p xs x (rest (p y) (list_any p xs) none) h is
   where
     rest : (a b : Bool) → (a || b) ≡ false → b ≡ false
@@ -84,39 +84,39 @@ all_has p (y ∷ xs) x all (inl same) = ap p same ∙ (and_parts (p y) (list_all
 all_has p (y ∷ xs) x all (inr h) = all_has p xs x (and_parts (p y) (list_all p xs) all).1 h
 
 module _ (s : Schema) (text : List ℕ) (t : Table) (m : MakesTable s text t) (k : IsTaken s text t) where
-  -- what the text defines is this table
-  own : (u : Table) → table_defined_by text ≡ Ok u → u ≡ t
-  own u is = cc (sym is ∙ m.defined)
+  -- the text defines this table
+  same_table : (u : Table) → table_defined_by text ≡ Ok u → u ≡ t
+  same_table u is = cc (sym is ∙ m.defined)
 
   refuses : (reason : Refusal) → RefusesTable s text reason → ⊥
   refuses (why.Invalid e) h = absurd (let apart = sym h ∙ m.defined in cc)
-  refuses why.NameTaken h = elim (subst (λ u. (is_used s u.name ≡ true) ⊎ ((index : Index) × Has (automatics u 0 0 u.uniques) index × (is_used s index.name ≡ true))) (own h.0 h.1) h.2) [
+  refuses why.NameTaken h = elim (subst (λ u. (is_used s u.name ≡ true) ⊎ ((index : Index) × Has (automatics u 0 0 u.uniques) index × (is_used s index.name ≡ true))) (same_table h.0 h.1) h.2) [
     | inl used ↦ absurd (let apart = sym used ∙ k.free.0 in cc)
     | inr some ↦ any_has (λ (i : Index). is_used s i.name) (automatics t 0 0 t.uniques) some.0 k.free.1 some.1 some.2
   ]
   refuses why.BadName h = elim h.2 [
-    | inl unread ↦ unread (subst (λ u. IsUtf8 u.name) (sym (own h.0 h.1)) (utf8_ascii t.name k.ascii.1))
-    | inr reserved ↦ absurd (let apart = sym (subst (λ u. is_reserved u.name ≡ true) (own h.0 h.1) reserved.0) ∙ k.plain in cc)
+    | inl unread ↦ unread (subst (λ u. IsUtf8 u.name) (sym (same_table h.0 h.1)) (utf8_ascii t.name k.ascii.1))
+    | inr reserved ↦ absurd (let apart = sym (subst (λ u. is_reserved u.name ≡ true) (same_table h.0 h.1) reserved.0) ∙ k.plain in cc)
   ]
-  refuses why.TooBig h = elim (subst (λ u. (65536 ≤ next_tree s + length u.uniques) ⊎ ((2 ^ 64 ≤ table_reals u) ⊎ ((key : List ℕ) × Has u.uniques key × (2 ^ 64 ≤ index_reals (table_reals u) key)))) (own h.0 h.1) h.2) [
+  refuses why.TooBig h = elim (subst (λ u. (65536 ≤ next_tree s + length u.uniques) ⊎ ((2 ^ 64 ≤ table_reals u) ⊎ ((key : List ℕ) × Has u.uniques key × (2 ^ 64 ≤ index_reals (table_reals u) key)))) (same_table h.0 h.1) h.2) [
     | inl many ↦ no_more _ _ k.low many
     | inr wide ↦ elim wide [
       | inl reals ↦ no_more _ _ k.reals.0 reals
       | inr key ↦ no_more _ _ (all_has (λ (key : List ℕ). nat_lt (index_reals (table_reals t) key) (2 ^ 64)) t.uniques key.0 k.reals.1 key.1) key.2
     ]
   ]
-  refuses why.BadKey h = absurd (let apart = sym (subst (λ u. is_formed u ≡ false) (own h.0 h.1) h.2) ∙ k.formed in cc)
-  refuses why.BadText h = absurd (let apart = sym (subst (λ u. is_fit (Text (codes "table")) (Text u.name) (Text u.name) (Text text) ≡ false) (own h.0 h.1) h.2) ∙ fit_for t.name text k.fit.0 k.fit.1 k.fit.2 k.fit.3 in cc)
+  refuses why.BadKey h = absurd (let apart = sym (subst (λ u. is_formed u ≡ false) (same_table h.0 h.1) h.2) ∙ k.formed in cc)
+  refuses why.BadText h = absurd (let apart = sym (subst (λ u. is_fit (Text (codes "table")) (Text u.name) (Text u.name) (Text text) ≡ false) (same_table h.0 h.1) h.2) ∙ fit_for t.name text k.fit.0 k.fit.1 k.fit.2 k.fit.3 in cc)
   refuses (why.Violates rule) h = h
 
   unmade : (d : Database) → d.schema ≡ s → (stop : Option Error) → MakesAsked text d (Err stop) → ⊥
-  unmade d is None h = no_more _ _ k.short (subst (λ u. 10 ^ 9 ≤ 2 * length u.name + length text + 200) (own h.0 h.1) h.2)
+  unmade d is None h = no_more _ _ k.short (subst (λ u. 10 ^ 9 ≤ 2 * length u.name + length text + 200) (same_table h.0 h.1) h.2)
   unmade d is (Some e) (inl h) = h.0 (utf8_ascii text k.ascii.0)
   unmade d is (Some e) (inr h) = refuses h.0 (subst (λ x. RefusesTable x text h.0) is h.1)
 
   unnumbered : (d after : Database) → d.schema ≡ s → MakesAsked text d (Ok after) → (stop : Option Error) → MakesSequence after (Err stop) → ⊥
   unnumbered d after is made stop h =
-      let same : after.schema ≡ created s t = made.is ∙ ap (λ x. created x made.table) is ∙ ap (created s) (own made.table made.defined) in
+      let same : after.schema ≡ created s t = made.is ∙ ap (λ x. created x made.table) is ∙ ap (created s) (same_table made.table made.defined) in
       absurd (let none = rw (ap lacks_sequence same ∙ m.uncounted) at h in cc)
 
   undone : (limit : Option ℕ) (d : Database) → d.schema ≡ s → (stop : Option Error) → Does limit at_once [] d text None CreateTable (Err stop) → ⊥
@@ -169,7 +169,7 @@ module _ (s : Schema) (text : List ℕ) (t : Table) (m : MakesTable s text t) (k
           | inr run ↦
               let none : timed [] h.0.formats run.0 ≡ [] = ap (λ f. timed [] f run.0) plain.1 in
               elim run.1 [
-                | inl told ↦ against limit d is (Some told.0) (timed [] h.0.formats run.0) (text_of text h.0) h.0.returning h.0.command none same plain.0 makes told.1
+                | inl read ↦ against limit d is (Some read.0) (timed [] h.0.formats run.0) (text_of text h.0) h.0.returning h.0.command none same plain.0 makes read.1
                 | inr large ↦ against limit d is None (timed [] h.0.formats run.0) (text_of text h.0) h.0.returning h.0.command none same plain.0 makes large
               ]
         ]

@@ -1,4 +1,4 @@
--- When a connection is taken for a book: its version is that of these tables, and each value is in its range.
+-- A connection is adopted as a book if its version is that of these tables, and each value is in its range.
 use Rattle.std.specs.Prelude.{◌==◌, ◌≡◌, ◌≢◌, ◌⊎◌, ◌<◌, ◌≤◌, ℕ, Bool, true, false, List, [], ◌∷◌, Option, None, Some, Result, if◌then◌else◌, ⊤}
 use Rattle.sqlite_value.specs.Order.{Row}
 use Rattle.sqlite_trees.specs.Tree.{Trees}
@@ -22,16 +22,16 @@ use Rattle.acd_sql_schema.specs.declared.fault.Found.{Found}
 use Rattle.acd_sql_schema.specs.declared.fault.Found.TheVariants.{Book, Fault}
 use Rattle.acd_sql_schema.specs.declared.verdict.Likeness.{Likeness}
 use Rattle.acd_sql_schema.specs.declared.verdict.Likeness.TheVariants.{Whole, First, Other}
-use Rattle.acd_sql_schema.specs.declared.verdict.Told.{Told}
-use Rattle.acd_sql_schema.specs.declared.verdict.Told.TheVariants.{Of, Faulty}
+use Rattle.acd_sql_schema.specs.declared.verdict.VersionRead.{VersionRead}
+use Rattle.acd_sql_schema.specs.declared.verdict.VersionRead.TheVariants.{Of, Faulty}
 use Rattle.acd_sql_schema.specs.declared.verdict.Page.{Page}
 use Rattle.acd_sql_schema.specs.declared.verdict.Page.TheVariants.{Bad, Last, More}
 use Rattle.acd_sql_columns.specs.Content.{IsIn, number_of}
-use Rattle.acd_sql_columns.specs.Draft.{Fits}
-use Rattle.acd_sql_columns.specs.AnyRows.{is_good, are_good, is_good_in, is_beside, is_ranked, IsFiledAs, table_of_log, Numbered, AreNumbered, values_behind, has_meta, BeginsAsBook, schema_of, Covers, TellsGood}
+use Rattle.acd_sql_columns.specs.Transactions.{Fits}
+use Rattle.acd_sql_columns.specs.AnyRows.{is_good, are_good, is_good_in, is_beside, is_ranked, IsCanonicalAs, table_of_log, Numbered, AreNumbered, values_after, has_meta, BeginsAsBook, schema_of, Covers, FindsGood}
 use Rattle.acd_sql_columns.specs.Schema.{book_schema, nine, BeginsSchema}
 use Rattle.acd_sql_columns.specs.Schema as schema
-use Rattle.acd_sql_statements.specs.Looking.{BlamesLook, SeesOver}
+use Rattle.acd_sql_statements.specs.Looking.{HasLookCause, SeesOver}
 use Rattle.acd_sql_columns.specs.Values.{◌>>=◌, whole_at}
 
 -- the tables of a version, in the order in which they are looked at
@@ -45,21 +45,21 @@ tables_of version.Second =
 abbrev pub CoversAll : List Table → Schema → Type 0
 CoversAll tables s = Every (Covers s) tables
 
--- one that isn't good or, of rows that are filed, none
+-- one that isn't good or, of rows that are canonical, none
 abbrev pub IsBadOf : List Table → Database → Option Table → Type 0
-IsBadOf tables d None = IsFiledAs version.First d.trees → Every (λ t. is_good_in t d.trees ≡ true) tables
+IsBadOf tables d None = IsCanonicalAs version.First d.trees → Every (λ t. is_good_in t d.trees ≡ true) tables
 IsBadOf tables d (Some t) = Covers d.schema t × (is_good_in t d.trees ≡ false)
 
--- what a look sees of the rows of each database of such a schema
+-- the rows that a look sees of each database of such a schema
 abbrev pub SeesRows : {S A : Type 0} → (Schema → Type 0) → Ghosts S → Held S → Held S → Result A Error → (Trees → A → Type 0) → Type 0
 SeesRows Has g old new result IsAnswer = SeesOver Has g old new result (λ (d : Database). IsAnswer d.trees)
 
 -- whether each value of the table is in its range
 abbrev pub SeesGood : {S : Type 0} → Table → (Schema → Type 0) → Ghosts S → Held S → Held S → Result Bool Error → Type 0
-SeesGood t Has g old new result = SeesRows Has g old new result (TellsGood t)
+SeesGood t Has g old new result = SeesRows Has g old new result (FindsGood t)
 
-unfoldable pub is_good_behind : Log → ℕ → List Numbered → Bool
-is_good_behind l n xs = are_good (table_of_log l) (values_behind l n xs)
+unfoldable pub is_good_after : Log → ℕ → List Numbered → Bool
+is_good_after l n xs = are_good (table_of_log l) (values_after l n xs)
 
 abbrev pub number_if_good : Log → Row → Option ℕ
 number_if_good l r = if is_good (table_of_log l) r then whole_at r 0 else None
@@ -69,22 +69,22 @@ unfoldable pub last_good : Log → ℕ → List Row → Option ℕ
 last_good l n [] = Some n
 last_good l n (row ∷ rows) = number_if_good l row >>= (λ m. last_good l m rows)
 
--- what the rows of a page tell
+-- the rows of a page give this
 abbrev pub IsLogPage : Log → ℕ → List Row → Page → Type 0
 IsLogPage l n rows Bad = last_good l n rows ≡ None
 IsLogPage l n rows Last = rows ≡ []
 IsLogPage l n rows (More m) = last_good l n rows ≡ Some m
 
--- what is left behind a page
+-- what is left after a page
 abbrev pub IsPageOfLog : Log → ℕ → Trees → Page → Type 0
 IsPageOfLog l n db Bad = is_good_in (table_of_log l) db ≡ false
-IsPageOfLog l n db Last = (xs : List Numbered) → AreNumbered l db xs → is_good_behind l n xs ≡ true
-IsPageOfLog l n db (More m) = (xs : List Numbered) → AreNumbered l db xs → is_good_behind l n xs ≡ is_good_behind l m xs
+IsPageOfLog l n db Last = (xs : List Numbered) → AreNumbered l db xs → is_good_after l n xs ≡ true
+IsPageOfLog l n db (More m) = (xs : List Numbered) → AreNumbered l db xs → is_good_after l n xs ≡ is_good_after l m xs
 
 -- of the rows above 0
-pub record TellsBehind (l : Log) (db : Trees) (good : Bool) : Type 0 where
+pub record FindsGoodAfter (l : Log) (db : Trees) (good : Bool) : Type 0 where
   pub bad : good ≡ false → is_good_in (table_of_log l) db ≡ false
-  pub filed : good ≡ true → (xs : List Numbered) → AreNumbered l db xs → is_good_behind l 0 xs ≡ true
+  pub canonical : good ≡ true → (xs : List Numbered) → AreNumbered l db xs → is_good_after l 0 xs ≡ true
 
 -- the number of its last row is above
 abbrev pub IsPageAbove : ℕ → Page → Type 0
@@ -118,17 +118,17 @@ IsLike s (Whole v) = s ≡ schema_of v
 IsLike s First = BeginsAsBook s × IsNoBook s
 IsLike s Other = (¬ (BeginsAsBook s)) × IsNoBook s
 
--- a row of the first table tells this version
-abbrev pub IsToldIn : Trees → Option ℕ → Type 0
-IsToldIn db version = (r : Row) × Has (db schema.meta.tree) r × (whole_at r 2 ≡ version)
+-- a row of the first table holds this version
+abbrev pub IsVersionIn : Trees → Option ℕ → Type 0
+IsVersionIn db version = (r : Row) × Has (db schema.meta.tree) r × (whole_at r 2 ≡ version)
 
 -- the version of a database: 0 where it has no table `meta`, or no row in it
 abbrev pub IsVersion : Database → ℕ → Type 0
 IsVersion d n =
     ((has_meta d.schema.tables ≡ false) × (n ≡ 0))
-    ⊎ (BeginsAsBook d.schema × (((d.trees schema.meta.tree ≡ []) × (n ≡ 0)) ⊎ IsToldIn d.trees (Some n)))
+    ⊎ (BeginsAsBook d.schema × (((d.trees schema.meta.tree ≡ []) × (n ≡ 0)) ⊎ IsVersionIn d.trees (Some n)))
 
--- a further group, or a priority, doesn't belong to what stands beside it
+-- a further group, or a priority, doesn't belong to the row beside it
 abbrev pub IsMisplaced : Table → Trees → Type 0
 IsMisplaced table.AgentGroups db = is_beside db ≡ false
 IsMisplaced table.GroupPriority db = is_ranked db ≡ false
@@ -137,24 +137,24 @@ IsMisplaced _ db = ⊥
 -- a value of the table is out of its range, or its rows don't belong to those of another
 abbrev pub IsBadIn : Table → Database → Type 0
 IsBadIn t d =
-    (Covers d.schema t × (is_good_in t d.trees ≡ false)) ⊎ ((t ≡ table.Meta) × BeginsAsBook d.schema × IsToldIn d.trees None)
+    (Covers d.schema t × (is_good_in t d.trees ≡ false)) ⊎ ((t ≡ table.Meta) × BeginsAsBook d.schema × IsVersionIn d.trees None)
     ⊎ ((d.schema ≡ book_schema) × IsMisplaced t d.trees)
 
-abbrev pub told_of : Option ℕ → Told
-told_of None = Faulty (BadRow table.Meta)
-told_of (Some n) = if n == 1 then Of version.First else if n == 2 then Of version.Second else Faulty (WrongVersion n)
+abbrev pub version_read_of : Option ℕ → VersionRead
+version_read_of None = Faulty (BadRow table.Meta)
+version_read_of (Some n) = if n == 1 then Of version.First else if n == 2 then Of version.Second else Faulty (WrongVersion n)
 
--- what the rows of versions tell
-abbrev pub told_by : List Row → Told
-told_by [] = Faulty (WrongVersion 0)
-told_by (r ∷ rows) = told_of (whole_at r 0)
+-- the rows of versions give this
+abbrev pub version_read_in : List Row → VersionRead
+version_read_in [] = Faulty (WrongVersion 0)
+version_read_in (r ∷ rows) = version_read_of (whole_at r 0)
 
--- a version of a book is told, and the tables are those of no version; or they are those of another
+-- the version of a book is read, and the tables are those of no version; or they are those of another
 pub data IsUnlike (d : Database) : Type 0 where
   -- a table has the name `meta`, and isn't the first one as a book has it
   other : has_meta d.schema.tables ≡ true → ¬ (BeginsAsBook d.schema) → IsUnlike d
-  none : (v : Version) → IsToldIn d.trees (Some (number_of v)) → BeginsAsBook d.schema → IsNoBook d.schema → IsUnlike d
-  apart : (v told : Version) → d.schema ≡ schema_of v → told ≢ v → IsToldIn d.trees (Some (number_of told)) → IsUnlike d
+  none : (v : Version) → IsVersionIn d.trees (Some (number_of v)) → BeginsAsBook d.schema → IsNoBook d.schema → IsUnlike d
+  apart : (v read : Version) → d.schema ≡ schema_of v → read ≢ v → IsVersionIn d.trees (Some (number_of read)) → IsUnlike d
 
 -- ---- faults
 
@@ -165,38 +165,39 @@ IsAdoptStoreFault (BadRow t) = ⊥
 IsAdoptStoreFault NoMemory = ⊤
 IsAdoptStoreFault Store = ⊤
 
--- a version that is told is that of the database, and is none of a book; a table that is told has a value out of its range
+-- a version that is answered is that of the database, and is none of a book; a table that is answered has a value out of
+-- its range
 abbrev pub IsAdoptFaultOf : Database → AdoptFault → Type 0
 IsAdoptFaultOf d (WrongVersion n) = (n ≢ 1) × (n ≢ 2) × IsVersion d n
 IsAdoptFaultOf d (BadRow t) = IsBadIn t d
 IsAdoptFaultOf d NoMemory = ⊤
 IsAdoptFaultOf d Store = ⊤
 
--- the same of a fault that a look has found: the store hasn't failed, and where no other fault is told, the tables are unlike a book's
+-- the same of a fault that a look found: the store hasn't failed, and where no other fault is found, the tables are unlike a book's
 abbrev pub IsFoundFaultOf : Database → AdoptFault → Type 0
 IsFoundFaultOf d (WrongVersion n) = IsAdoptFaultOf d (WrongVersion n)
 IsFoundFaultOf d (BadRow t) = IsAdoptFaultOf d (BadRow t)
 IsFoundFaultOf d NoMemory = ⊥
 IsFoundFaultOf d Store = IsUnlike d
 
--- further groups and priorities belong to what stands beside them
+-- further groups and priorities belong to the rows beside them
 abbrev pub ArePlaced : Version → Trees → Type 0
 ArePlaced version.First db = ⊤
 ArePlaced version.Second db = (is_beside db ≡ true) × (is_ranked db ≡ true)
 
--- the tables are those of a book of this version, and where their rows are filed, each value is in its range
+-- the tables are those of a book of this version, and where their rows are canonical, each value is in its range
 pub record IsOfBook (v : Version) (d : Database) : Type 0 where
   pub schema_is : d.schema ≡ schema_of v
-  pub in_range : IsFiledAs version.First d.trees → (t : Table) → IsIn v t → is_good_in t d.trees ≡ true
-  pub version : IsToldIn d.trees (Some (number_of v))
+  pub in_range : IsCanonicalAs version.First d.trees → (t : Table) → IsIn v t → is_good_in t d.trees ≡ true
+  pub version : IsVersionIn d.trees (Some (number_of v))
   pub placed : ArePlaced v d.trees
 
--- what the rows tell of tables that are a book's
+-- the rows of tables that are a book's give this
 abbrev pub IsRowFound : Version → Database → Option AdoptFault → Type 0
-IsRowFound v d None = ArePlaced v d.trees × (IsFiledAs version.First d.trees → (t : Table) → IsIn v t → is_good_in t d.trees ≡ true)
+IsRowFound v d None = ArePlaced v d.trees × (IsCanonicalAs version.First d.trees → (t : Table) → IsIn v t → is_good_in t d.trees ≡ true)
 IsRowFound v d (Some f) = IsFoundFaultOf d f
 
--- what further groups and priorities tell
+-- further groups and priorities give this
 abbrev pub IsPlaceFound : Version → Database → Option AdoptFault → Type 0
 IsPlaceFound v d None = ArePlaced v d.trees
 IsPlaceFound v d (Some f) = IsFoundFaultOf d f
@@ -210,9 +211,9 @@ IsFound d (Book v) = IsOfBook v d
 IsFound d (Fault f) = IsFoundFaultOf d f
 
 -- the version is that of a book, or a fault
-abbrev pub IsVersionTold : Database → Told → Type 0
-IsVersionTold d (Of v) = IsToldIn d.trees (Some (number_of v))
-IsVersionTold d (Faulty f) = IsFoundFaultOf d f
+abbrev pub IsVersionRead : Database → VersionRead → Type 0
+IsVersionRead d (Of v) = IsVersionIn d.trees (Some (number_of v))
+IsVersionRead d (Faulty f) = IsFoundFaultOf d f
 
 -- want of memory is no failure of the store
 abbrev pub adopt_fault_of : Error → AdoptFault
@@ -222,12 +223,12 @@ adopt_fault_of _ = Store
 -- ---- why a look fails
 
 -- why a look at a database of which this is so fails
-abbrev pub BlamesIn : {S A : Type 0} → (Database → Type 0) → Ghosts S → Held S → Held S → Result A Error → Type 0
-BlamesIn Is g old new result = BlamesLook Is (state g old) (state g new) result
+abbrev pub HasLookCauseIn : {S A : Type 0} → (Database → Type 0) → Ghosts S → Held S → Held S → Result A Error → Type 0
+HasLookCauseIn Is g old new result = HasLookCause Is (state g old) (state g new) result
 
--- the schema is one of these, and the rows of the nine tables are filed
-abbrev pub HasFiled : (Schema → Type 0) → Database → Type 0
-HasFiled Has d = Has d.schema × IsFiledAs version.First d.trees
+-- the schema is one of these, and the rows of the nine tables are canonical
+abbrev pub HasCanonical : (Schema → Type 0) → Database → Type 0
+HasCanonical Has d = Has d.schema × IsCanonicalAs version.First d.trees
 
 -- the nine tables are there, and the numbers of the rows of this one rise from 0
 abbrev pub IsPaged : Log → Database → Type 0

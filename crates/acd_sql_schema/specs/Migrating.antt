@@ -1,4 +1,4 @@
--- What a migration makes of version 1, and what a crash leaves of it.
+-- The result of a migration of version 1, and what a crash leaves of it.
 use Rattle.std.specs.Prelude.{◌≡◌, ◌≢◌, ◌⊎◌, ℕ, true, [], ◌∷◌, Option, IsTrue}
 use Rattle.sqlite_trees.specs.Tree.{Trees}
 use Rattle.sqlite_trees.specs.declared.store.Store.{Ghosts}
@@ -18,7 +18,7 @@ use Rattle.acd_sql_statements.specs.Failing.{IsMemory, StoreHasFailed, Refuses}
 
 -- the nine tables as they were but for the version, and two empty ones
 pub record IsMigration (old new : Trees) : Type 0 where
-  pub told : (m : Meta) → old (tree_of table.Meta) ≡ meta_row_as 1 m ∷ [] → new (tree_of table.Meta) ≡ meta_row m ∷ []
+  pub version_is : (m : Meta) → old (tree_of table.Meta) ≡ meta_row_as 1 m ∷ [] → new (tree_of table.Meta) ≡ meta_row m ∷ []
   pub kept : (t : Table) → IsIn version.First t → tree_of t ≢ tree_of table.Meta → new (tree_of t) ≡ old (tree_of t)
   pub further : new (tree_of table.AgentGroups) ≡ []
   pub priorities : new (tree_of table.GroupPriority) ≡ []
@@ -37,7 +37,7 @@ pub record IsAltered (old new : State) : Type 0 where
   pub schema_is : new.now.schema ≡ book_schema
   pub tables : IsMigration old.now.trees new.now.trees
 
--- behind it
+-- after it
 pub record IsMade (old new : State) : Type 0 where
   pub is_open : IsTrue new.is_open
   pub idle : new.now ≡ new.committed
@@ -55,17 +55,17 @@ MayAlter old new = (db : Trees) → new.may_leave db → old.may_leave db ⊎ Is
 
 -- ---- failures
 
--- the nine tables with these rows, and two empty ones behind them
+-- the nine tables with these rows, and two empty ones after them
 pub record AreBeside (old : Trees) (d : Database) : Type 0 where
   pub schema_is : d.schema ≡ book_schema
   pub kept : (t : Table) → IsIn version.First t → d.trees (tree_of t) ≡ old (tree_of t)
   pub further : d.trees (tree_of table.AgentGroups) ≡ []
   pub priorities : d.trees (tree_of table.GroupPriority) ≡ []
 
--- the store refuses to tell version 2 in them
-abbrev pub IsUntold : Option ℕ → Trees → Type 0
-IsUntold limit old = (d : Database) × AreBeside old d × Refuses limit d UPDATE_VERSION.now []
+-- the store refuses to write version 2 into them
+abbrev pub IsVersionRefused : Option ℕ → Trees → Type 0
+IsVersionRefused limit old = (d : Database) × AreBeside old d × Refuses limit d UPDATE_VERSION.now []
 
 -- why version 2 isn't made
 abbrev pub FailsToMigrate : State → State → Error → Type 0
-FailsToMigrate old new e = IsMemory e ⊎ (StoreHasFailed old new ⊎ IsUntold old.step_limit old.now.trees)
+FailsToMigrate old new e = IsMemory e ⊎ (StoreHasFailed old new ⊎ IsVersionRefused old.step_limit old.now.trees)

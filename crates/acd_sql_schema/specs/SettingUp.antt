@@ -1,4 +1,4 @@
--- What a crash leaves of the making of the tables, and why they aren't made.
+-- The making of the tables: what a crash leaves of it, and why they aren't made.
 use Rattle.std.specs.Prelude.{◌≡◌, ◌⊎◌, ◌++◌, ◌∷◌, [], ℕ, List, Option, Result, IfErr, OnOk}
 use Rattle.std.specs.Borrow.{MutBor}
 use Rattle.sqlite_value.specs.Order.{Row}
@@ -17,13 +17,13 @@ use Rattle.acd_sql_columns.specs.declared.tables.Version.TheVariants as version
 use Rattle.acd_sql_columns.specs.declared.texts.TheConstants.{INSERT_META}
 use Rattle.acd_sql_columns.specs.AnyRows.{schema_of}
 use Rattle.acd_sql_columns.specs.Content.{Encodes}
-use Rattle.acd_sql_columns.specs.Draft.{Works}
+use Rattle.acd_sql_columns.specs.Transactions.{Works}
 use Rattle.acd_sql_columns.specs.Making.{Builds, HasRows, no_rows, plan_schema, state_schema}
 use Rattle.acd_sql_columns.specs.Rows.{meta_values}
 use Rattle.acd_sql_columns.specs.Schema.{book_schema, no_schema}
 use Rattle.acd_sql_statements.specs.Failing.{IsMemory, StoreHasFailed, Refuses}
 
--- this holds of the states before and behind, where no disk lied
+-- this holds of the states before and after, where no disk broke a promise
 abbrev pub IfClean : {S : Type 0} → Ghosts S → Held S → Held S → (State → State → Type 0) → Type 0
 IfClean g old new Fact = HasCleanDisk (state g new) → Fact (state g old) (state g new)
 
@@ -82,7 +82,7 @@ state_made = stage state_schema (no_rows 7)
 abbrev pub made_of : Version → Stage
 made_of version = stage (schema_of version) (no_rows (tables_in version))
 
--- the nine tables of version 1 with these rows, and two without one behind them
+-- the nine tables of version 1 with these rows, and two without one after them
 abbrev pub eleven_with : List (List Row) → Stage
 eleven_with rows = stage book_schema ((rows ++ [] ∷ []) ++ [] ∷ [])
 

@@ -6,7 +6,7 @@ ghost use Rattle.sqlite.specs.State.{HasCleanDisk};
 ghost use Rattle.sqlite.specs.Held.{state};
 ghost use Rattle.acd_sql_columns.specs.Schema.{no_schema, old_schema};
 ghost use Rattle.acd_sql_columns.specs.AnyRows.{schema_of};
-ghost use Rattle.acd_sql_columns.specs.Draft.{HoldsContent, LimitsFit};
+ghost use Rattle.acd_sql_columns.specs.Transactions.{HoldsContent, LimitsFit};
 ghost use Rattle.acd_book.specs.Content.{empty_content};
 ghost use Rattle.acd_sql_schema.specs.SettingUp.{MakesTables, stage, none_made, plan_made, state_made, made_of, eleven_with, IfClean, MayMake, FailsBy, FailsToMake, FailsToSetUp};
 ghost use Rattle.acd_sql_statements.specs.Between.{IsUp};
@@ -47,7 +47,7 @@ fn make_plan<S: Alter>(tx: &mut Transaction<'_, S>) -> Result<(), Error>
     make(tx, CREATE_AGENTS)
 }
 
-// What changes from call to call.
+// The part that changes from call to call.
 fn make_state<S: Alter>(tx: &mut Transaction<'_, S>) -> Result<(), Error>
     ensures { MakesTables S.Store tx.old.conn tx.new.conn result plan_made state_made }
 {
@@ -74,7 +74,7 @@ fn make_nine<S: Alter>(tx: &mut Transaction<'_, S>) -> Result<(), Error>
     make_log(tx)
 }
 
-/// Makes the two tables of version 2 behind the nine, whatever rows these have.
+/// Makes the two tables of version 2 after the nine, whatever rows these have.
 pub(crate) fn make_two<S: Alter>(tx: &mut Transaction<'_, S>) -> Result<(), Error>
     ensures { (rows : List (List Values)) → MakesTables S.Store tx.old.conn tx.new.conn result
         (stage old_schema rows) (eleven_with rows) }

@@ -1,4 +1,4 @@
-//! What a look at a connection finds, and why one was not adopted.
+//! The result of a look at a connection, and why one was not adopted.
 
 use acd_sql_columns::{Table, Version};
 use thiserror::Error;
@@ -18,11 +18,11 @@ pub enum AdoptFault {
     Store,
 }
 
-/// What a look at a connection has found.
+/// The result of a look at a connection.
 #[derive(Clone, Copy)]
 pub enum Found {
     /// A book of a version, with each value in its range.
     Book(Version),
-    /// Why it isn't taken for one.
+    /// Why it isn't adopted.
     Fault(AdoptFault),
 }

@@ -3,19 +3,19 @@
 ghost use Rattle.std.specs.Prelude.{◌≡◌, ◌≢◌, ◌⊎◌, [], true, false, None, Some, IfErr, IfOk, IfSome};
 ghost use Rattle.sqlite.specs.Held.{state};
 ghost use Rattle.acd_sql_columns.specs.declared.tables.Table.TheVariants as table;
-ghost use Rattle.acd_sql_columns.specs.AnyRows.{is_beside, table_of_log, are_good, schema_of, BeginsAsBook, Covers, IsFiled};
+ghost use Rattle.acd_sql_columns.specs.AnyRows.{is_beside, table_of_log, are_good, schema_of, BeginsAsBook, Covers, IsCanonical};
 ghost use Rattle.acd_sql_columns.specs.Content.{number_of};
-ghost use Rattle.acd_sql_schema.specs.Inspecting.{CoversAll, IsSchemaOf, SeesRows, SeesGood, SeesPlaces, HasNoRise, IsPageAbove, HasFiled, IsPaged, HasGoodTables, number_if_good, last_good, tables_of, told_by, IsLike, TellsBehind, IsBadOf, IsPageOfLog, IsLogPage, PageFits, IsFound, IsRowFound, IsPlaceFound, IsVersionTold, IsToldIn, IsAdoptStoreFault, adopt_fault_of, BlamesIn};
-ghost use Rattle.acd_sql_columns.specs.Draft.{Fits};
+ghost use Rattle.acd_sql_schema.specs.Inspecting.{CoversAll, IsSchemaOf, SeesRows, SeesGood, SeesPlaces, HasNoRise, IsPageAbove, HasCanonical, IsPaged, HasGoodTables, number_if_good, last_good, tables_of, version_read_in, IsLike, FindsGoodAfter, IsBadOf, IsPageOfLog, IsLogPage, PageFits, IsFound, IsRowFound, IsPlaceFound, IsVersionRead, IsVersionIn, IsAdoptStoreFault, adopt_fault_of, HasLookCauseIn};
+ghost use Rattle.acd_sql_columns.specs.Transactions.{Fits};
 ghost use Rattle.acd_sql_columns.specs.Schema.{nine, book_schema, BeginsSchema};
 ghost use Rattle.acd_sql_columns.specs.Seeing.{Sees, HasLooked};
 ghost use Rattle.acd_sql_statements.specs.Between.{IsBookSchema};
 ghost use Rattle.acd_sql_statements.specs.Failing.{IsMemory};
-ghost use Rattle.acd_sql_statements.specs.Looking.{BlamesOver, SeesOver};
+ghost use Rattle.acd_sql_statements.specs.Looking.{HasLookCauseOver, SeesOver};
 
 use crate::create::set_up_empty;
 use crate::fault::{AdoptFault, Found};
-use crate::verdict::{Likeness, Page, Told};
+use crate::verdict::{Likeness, Page, VersionRead};
 use acd_sql_columns::decode::{KeptReader, connection_in, counters_in, event_number, further_in};
 use acd_sql_columns::{AgentRow, GroupPriority, GroupRow, Log, Table, Version, values};
 use acd_sql_statements::fitting::{number_of, too_large};
@@ -47,7 +47,7 @@ fn are_connections(rows: &[Row]) -> bool
 // Whether the limits and the counters are in their ranges.
 fn is_good_meta<S: Alter>(conn: &mut Connection<S>) -> Result<bool, Error>
     ensures seen { SeesGood table.Meta (BeginsSchema nine) S.Store conn.old conn.new result }
-    ensures looked { BlamesOver (BeginsSchema nine) [] S.Store conn.old conn.new result }
+    ensures looked { HasLookCauseOver (BeginsSchema nine) [] S.Store conn.old conn.new result }
 {
     let rows = meta_rows(conn)?;
     Ok(are_counters(&rows))
@@ -56,7 +56,7 @@ fn is_good_meta<S: Alter>(conn: &mut Connection<S>) -> Result<bool, Error>
 // Whether each value of the connections is in its range.
 fn are_good_connections<S: Alter>(conn: &mut Connection<S>) -> Result<bool, Error>
     ensures seen { SeesGood table.Connections (BeginsSchema nine) S.Store conn.old conn.new result }
-    ensures looked { BlamesOver (BeginsSchema nine) [] S.Store conn.old conn.new result }
+    ensures looked { HasLookCauseOver (BeginsSchema nine) [] S.Store conn.old conn.new result }
 {
     let rows = unordered_connection_rows(conn)?;
     Ok(are_connections(&rows))
@@ -72,7 +72,7 @@ fn are_further(rows: &[Row]) -> bool
 // Whether each value of the further groups is in its range.
 fn are_good_further<S: Alter>(conn: &mut Connection<S>) -> Result<bool, Error>
     ensures seen { SeesGood table.AgentGroups IsBookSchema S.Store conn.old conn.new result }
-    ensures looked { BlamesOver IsBookSchema [] S.Store conn.old conn.new result }
+    ensures looked { HasLookCauseOver IsBookSchema [] S.Store conn.old conn.new result }
 {
     let rows = further_rows(conn)?;
     Ok(are_further(&rows))
@@ -117,10 +117,10 @@ fn last_good(
     Ok(Some(last))
 }
 
-// What the rows above a number tell.
+// What the rows above a number give.
 fn page_of(kept: &mut KeptReader, log: Log, number: u64, rows: &[Row]) -> Result<Page, Error>
     requires { Fits number }
-    ensures tells { IfOk result (λ page. IsLogPage log number rows.now page) }
+    ensures finds { IfOk result (λ page. IsLogPage log number rows.now page) }
     ensures fits { IfOk result (λ page. PageFits page) }
     ensures rises { IfOk result (λ page. IsPageAbove number page) }
     ensures lacks { IfErr result (λ e. IsMemory e ⊎ HasNoRise log number rows.now) }
@@ -137,7 +137,7 @@ fn page_of(kept: &mut KeptReader, log: Log, number: u64, rows: &[Row]) -> Result
 }
 
 // The page of a log above a number.
-fn page_behind<S: Alter>(
+fn page_after<S: Alter>(
     kept: &mut KeptReader,
     conn: &mut Connection<S>,
     log: Log,
@@ -148,7 +148,7 @@ fn page_behind<S: Alter>(
         (IsPageOfLog log number) }
     ensures fits { IfOk result (λ page. PageFits page) }
     ensures rises { IfOk result (λ page. IsPageAbove number page) }
-    ensures looked { BlamesIn (IsPaged log) S.Store conn.old conn.new result }
+    ensures looked { HasLookCauseIn (IsPaged log) S.Store conn.old conn.new result }
 {
     let rows = rows_above(log, conn, number)?;
     page_of(kept, log, number, &rows)
@@ -161,12 +161,12 @@ fn are_pages_good<S: Alter>(
     log: Log,
 ) -> Result<bool, Error>
     ensures seen { SeesRows (BeginsSchema nine) S.Store conn.old conn.new result
-        (TellsBehind log) }
-    ensures looked { BlamesIn (IsPaged log) S.Store conn.old conn.new result }
+        (FindsGoodAfter log) }
+    ensures looked { HasLookCauseIn (IsPaged log) S.Store conn.old conn.new result }
 {
     let mut number = 0;
     loop {
-        let page = page_behind(kept, conn, log, number)?;
+        let page = page_after(kept, conn, log, number)?;
         match page {
             Page::Bad => return Ok(false),
             Page::Last => return Ok(true),
@@ -183,7 +183,8 @@ fn is_good_log<S: Alter>(
 ) -> Result<bool, Error>
     ensures seen { SeesGood (table_of_log log) (BeginsSchema nine) S.Store conn.old conn.new
         result }
-    ensures looked { BlamesIn (HasFiled (BeginsSchema nine)) S.Store conn.old conn.new result }
+    ensures looked { HasLookCauseIn
+        (HasCanonical (BeginsSchema nine)) S.Store conn.old conn.new result }
 {
     let low = low_rows(log, conn)?;
     if low.is_empty() {
@@ -200,7 +201,8 @@ fn is_good_table<S: Alter>(
     table: Table,
 ) -> Result<bool, Error>
     ensures seen { SeesGood table (λ s. Covers s table) S.Store conn.old conn.new result }
-    ensures looked { BlamesIn (HasFiled (λ s. Covers s table)) S.Store conn.old conn.new result }
+    ensures looked { HasLookCauseIn
+        (HasCanonical (λ s. Covers s table)) S.Store conn.old conn.new result }
 {
     match table {
         Table::Meta => is_good_meta(conn),
@@ -225,7 +227,8 @@ fn bad_table<S: Alter>(
 ) -> Result<Option<Table>, Error>
     ensures seen { SeesOver (CoversAll tables.now) S.Store conn.old conn.new result
         (IsBadOf tables.now) }
-    ensures looked { BlamesIn (HasFiled (CoversAll tables.now)) S.Store conn.old conn.new result }
+    ensures looked { HasLookCauseIn
+        (HasCanonical (CoversAll tables.now)) S.Store conn.old conn.new result }
 {
     for table in tables {
         let good = is_good_table(kept, conn, *table)?;
@@ -261,14 +264,14 @@ fn tables_of(version: Version) -> &'static [Table]
     }
 }
 
-// What further groups and priorities tell that don't belong to what stands beside them.
+// Further groups and priorities that don't belong to the rows beside them.
 fn misplaced<S: Alter>(
     alloc: Global,
     conn: &mut Connection<S>,
     version: Version,
 ) -> Result<Option<AdoptFault>, Error>
     ensures seen { SeesPlaces version S.Store conn.old conn.new result }
-    ensures looked { BlamesIn (HasGoodTables version) S.Store conn.old conn.new result }
+    ensures looked { HasLookCauseIn (HasGoodTables version) S.Store conn.old conn.new result }
 {
     match version {
         Version::First => Ok(None),
@@ -281,7 +284,8 @@ fn found_misplaced<S: Alter>(
     conn: &mut Connection<S>,
 ) -> Result<Option<AdoptFault>, Error>
     ensures seen { SeesPlaces Version.Second S.Store conn.old conn.new result }
-    ensures looked { BlamesIn (HasGoodTables Version.Second) S.Store conn.old conn.new result }
+    ensures looked { HasLookCauseIn
+        (HasGoodTables Version.Second) S.Store conn.old conn.new result }
 {
     let placed = are_further_placed(alloc, conn)?;
     if placed {
@@ -297,7 +301,8 @@ fn ranks_misplaced<S: Alter>(
 ) -> Result<Option<AdoptFault>, Error>
     ensures seen { SeesOver IsBookSchema S.Store conn.old conn.new result
         (λ d fault. is_beside d.trees ≡ true → IsPlaceFound Version.Second d fault) }
-    ensures looked { BlamesIn (HasGoodTables Version.Second) S.Store conn.old conn.new result }
+    ensures looked { HasLookCauseIn
+        (HasGoodTables Version.Second) S.Store conn.old conn.new result }
 {
     let placed = are_priorities_placed(alloc, conn)?;
     if placed {
@@ -306,7 +311,7 @@ fn ranks_misplaced<S: Alter>(
     Ok(Some(AdoptFault::BadRow(Table::GroupPriority)))
 }
 
-// What the tables tell against a book of the version.
+// The first fault in the tables of a book of the version.
 fn bad_row<S: Alter>(
     alloc: Global,
     conn: &mut Connection<S>,
@@ -314,7 +319,8 @@ fn bad_row<S: Alter>(
 ) -> Result<Option<AdoptFault>, Error>
     ensures seen { SeesOver (IsSchemaOf version) S.Store conn.old conn.new result
         (IsRowFound version) }
-    ensures looked { BlamesIn (HasFiled (IsSchemaOf version)) S.Store conn.old conn.new result }
+    ensures looked { HasLookCauseIn
+        (HasCanonical (IsSchemaOf version)) S.Store conn.old conn.new result }
 {
     let mut kept = KeptReader::new(alloc);
     let bad = bad_table(&mut kept, conn, tables_of(version))?;
@@ -324,31 +330,31 @@ fn bad_row<S: Alter>(
     }
 }
 
-// What the rows of versions tell.
-fn told_by(rows: &[Row]) -> Told
-    ensures { result ≡ told_by rows.now }
+// What the rows of versions give.
+fn version_read_in(rows: &[Row]) -> VersionRead
+    ensures { result ≡ version_read_in rows.now }
 {
     if rows.is_empty() {
-        return Told::Faulty(AdoptFault::WrongVersion(0));
+        return VersionRead::Faulty(AdoptFault::WrongVersion(0));
     }
     match values::whole(&rows[0], 0) {
-        Some(1) => Told::Of(Version::First),
-        Some(2) => Told::Of(Version::Second),
-        Some(version) => Told::Faulty(AdoptFault::WrongVersion(version)),
-        None => Told::Faulty(AdoptFault::BadRow(Table::Meta)),
+        Some(1) => VersionRead::Of(Version::First),
+        Some(2) => VersionRead::Of(Version::Second),
+        Some(version) => VersionRead::Faulty(AdoptFault::WrongVersion(version)),
+        None => VersionRead::Faulty(AdoptFault::BadRow(Table::Meta)),
     }
 }
 
-fn version_told<S: Alter>(conn: &mut Connection<S>) -> Result<Told, Error>
-    ensures seen { SeesOver BeginsAsBook S.Store conn.old conn.new result IsVersionTold }
-    ensures looked { BlamesOver BeginsAsBook [] S.Store conn.old conn.new result }
+fn version_read<S: Alter>(conn: &mut Connection<S>) -> Result<VersionRead, Error>
+    ensures seen { SeesOver BeginsAsBook S.Store conn.old conn.new result IsVersionRead }
+    ensures looked { HasLookCauseOver BeginsAsBook [] S.Store conn.old conn.new result }
 {
     let rows = version_rows(conn)?;
-    Ok(told_by(&rows))
+    Ok(version_read_in(&rows))
 }
 
 // The tables of a new book of the version, in memory.
-fn own_tables(alloc: Global, version: Version) -> Result<Connection<MemStore>, Error>
+fn tables_in_memory(alloc: Global, version: Version) -> Result<Connection<MemStore>, Error>
     ensures made { IfOk result (λ conn. conn.schema ≡ schema_of version) }
     ensures lacks { IfErr result IsMemory }
 {
@@ -367,12 +373,12 @@ fn compared_to_old(alloc: Global, schema: &Schema) -> Result<Likeness, Error>
         → IfOk result (λ likeness. IsLike schema.now likeness) }
     ensures lacks { IfErr result IsMemory }
 {
-    let book = own_tables(alloc, Version::First)?;
-    let own = book.schema();
-    if is_same_schema(schema, own) {
+    let book = tables_in_memory(alloc, Version::First)?;
+    let of_book = book.schema();
+    if is_same_schema(schema, of_book) {
         return Ok(Likeness::Whole(Version::First));
     }
-    if is_same_first(schema.tables.as_slice(), own.tables.as_slice()) {
+    if is_same_first(schema.tables.as_slice(), of_book.tables.as_slice()) {
         return Ok(Likeness::First);
     }
     Ok(Likeness::Other)
@@ -383,34 +389,35 @@ fn compared(alloc: Global, schema: &Schema) -> Result<Likeness, Error>
     ensures like { IfOk result (λ likeness. IsLike schema.now likeness) }
     ensures lacks { IfErr result IsMemory }
 {
-    let book = own_tables(alloc, Version::Second)?;
+    let book = tables_in_memory(alloc, Version::Second)?;
     if is_same_schema(schema, book.schema()) {
         return Ok(Likeness::Whole(Version::Second));
     }
     compared_to_old(alloc, schema)
 }
 
-// Why a database whose first table alone is that of a book isn't taken.
+// Why a database whose first table alone is that of a book isn't adopted.
 fn found_in_first<S: Alter>(conn: &mut Connection<S>) -> Result<Found, Error>
     ensures seen { SeesOver (λ s. IsLike s Likeness.First) S.Store conn.old conn.new result
         IsFound }
-    ensures looked { BlamesOver BeginsAsBook [] S.Store conn.old conn.new result }
+    ensures looked { HasLookCauseOver BeginsAsBook [] S.Store conn.old conn.new result }
 {
-    match version_told(conn)? {
-        Told::Faulty(fault) => Ok(Found::Fault(fault)),
-        Told::Of(_) => Ok(Found::Fault(AdoptFault::Store)),
+    match version_read(conn)? {
+        VersionRead::Faulty(fault) => Ok(Found::Fault(fault)),
+        VersionRead::Of(_) => Ok(Found::Fault(AdoptFault::Store)),
     }
 }
 
-// What the rows tell of tables of a version that is told.
+// What the rows give of tables of a version that was read.
 fn found_in_rows<S: Alter>(
     alloc: Global,
     conn: &mut Connection<S>,
     version: Version,
 ) -> Result<Found, Error>
     ensures seen { SeesOver (IsSchemaOf version) S.Store conn.old conn.new result
-        (λ d found. IsToldIn d.trees (Some (number_of version)) → IsFound d found) }
-    ensures looked { BlamesIn (HasFiled (IsSchemaOf version)) S.Store conn.old conn.new result }
+        (λ d found. IsVersionIn d.trees (Some (number_of version)) → IsFound d found) }
+    ensures looked { HasLookCauseIn
+        (HasCanonical (IsSchemaOf version)) S.Store conn.old conn.new result }
 {
     match bad_row(alloc, conn, version)? {
         Some(fault) => Ok(Found::Fault(fault)),
@@ -418,28 +425,29 @@ fn found_in_rows<S: Alter>(
     }
 }
 
-// What is found where the tables are those of a version: another that is told is no book's.
+// What is found where the tables are those of a version: another that is read is no book's.
 fn found_in_whole<S: Alter>(
     alloc: Global,
     conn: &mut Connection<S>,
     version: Version,
 ) -> Result<Found, Error>
     ensures seen { SeesOver (IsSchemaOf version) S.Store conn.old conn.new result IsFound }
-    ensures looked { BlamesIn (HasFiled (IsSchemaOf version)) S.Store conn.old conn.new result }
+    ensures looked { HasLookCauseIn
+        (HasCanonical (IsSchemaOf version)) S.Store conn.old conn.new result }
 {
-    let told = version_told(conn)?;
-    match told {
-        Told::Faulty(fault) => Ok(Found::Fault(fault)),
-        Told::Of(other) if other == version => found_in_rows(alloc, conn, version),
-        Told::Of(_) => Ok(Found::Fault(AdoptFault::Store)),
+    let read = version_read(conn)?;
+    match read {
+        VersionRead::Faulty(fault) => Ok(Found::Fault(fault)),
+        VersionRead::Of(other) if other == version => found_in_rows(alloc, conn, version),
+        VersionRead::Of(_) => Ok(Found::Fault(AdoptFault::Store)),
     }
 }
 
-// What is found where the store serves.
+// What is found where the store works.
 fn found_in<S: Alter>(alloc: Global, conn: &mut Connection<S>) -> Result<Found, Error>
     ensures seen { Sees (state S.Store conn.old).now (state S.Store conn.old)
         (state S.Store conn.new) result (IsFound (state S.Store conn.old).now) }
-    ensures looked { BlamesIn IsFiled S.Store conn.old conn.new result }
+    ensures looked { HasLookCauseIn IsCanonical S.Store conn.old conn.new result }
 {
     if !has_meta(conn.schema()) {
         return Ok(Found::Fault(AdoptFault::WrongVersion(0)));
@@ -452,14 +460,14 @@ fn found_in<S: Alter>(alloc: Global, conn: &mut Connection<S>) -> Result<Found, 
     }
 }
 
-/// Whether a connection holds a book, and of which version, or else why it isn't taken for one. Nothing is changed.
+/// Whether a connection holds a book, and of which version, or else why it isn't adopted. Nothing is changed.
 pub fn look_over<S: Alter>(alloc: Global, conn: &mut Connection<S>) -> Result<Found, Error>
     requires { conn.old.in_transaction ≡ false }
     ensures looked { HasLooked (state S.Store conn.old) (state S.Store conn.new) result
         IsFound }
-    ensures blamed { BlamesIn IsFiled S.Store conn.old conn.new result }
+    ensures cause { HasLookCauseIn IsCanonical S.Store conn.old conn.new result }
 {
-    // What these two promise holds of the connection before anything is read; their answers aren't needed.
+    // The promises of these two hold of the connection before anything is read; their answers aren't needed.
     let _settled = conn.is_autocommit();
     let _obeyed = conn.schema();
     probe(conn)?;

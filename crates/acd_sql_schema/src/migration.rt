@@ -3,11 +3,11 @@
 ghost use Rattle.std.specs.Prelude.{◌≡◌, ◌≤◌, false, IsTrue, IfErr, OnErr, OnOk};
 ghost use Rattle.sqlite.specs.State.{HasCleanDisk};
 ghost use Rattle.sqlite.specs.Held.{state};
-ghost use Rattle.acd_sql_columns.specs.Draft.{Works};
+ghost use Rattle.acd_sql_columns.specs.Transactions.{Works};
 ghost use Rattle.acd_sql_schema.specs.Migrating.{IfFirst, IfFirstInside, IsAltered, IsMade, IsRestored, MayAlter, FailsToMigrate};
 
 use crate::create::make_two;
-use acd_sql_statements::write::tell_second;
+use acd_sql_statements::write::set_second_version;
 use sqlite::{Alter, Connection, Error, Transaction};
 
 // The new tables, and then the version.
@@ -20,7 +20,7 @@ fn alter<S: Alter>(tx: &mut Transaction<'_, S>) -> Result<(), Error>
         (λ old new. IfErr result (FailsToMigrate old new)) }
 {
     make_two(tx)?;
-    tell_second(tx)
+    set_second_version(tx)
 }
 
 /// Makes version 2 of the tables of version 1, in one transaction: two tables more, which are empty, and the version.

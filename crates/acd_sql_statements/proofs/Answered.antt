@@ -21,7 +21,7 @@ use Rattle.sqlite_tied.specs.Compute.{everything}
 use Rattle.sqlite.specs.Clock.{timed}
 use Rattle.sqlite.specs.Effect.{Database}
 use Rattle.sqlite.specs.Listing.{understood, reads_listing, IsSourceOf}
-use Rattle.acd_sql_columns.specs.Schema.{book_schema, meta, nine, table_of, two, with_behind}
+use Rattle.acd_sql_columns.specs.Schema.{book_schema, meta, nine, table_of, two, with_later}
 use Rattle.acd_sql_columns.proofs.Listings.{begun, book_begins, whole_begins}
 use Rattle.acd_sql_columns.specs.Values.{id_value}
 use Rattle.acd_sql_columns.specs.declared.texts.TheConstants.{SELECT_META, SELECT_GROUPS, SELECT_GROUP_PRIORITY, SELECT_STATIONS, SELECT_AGENTS, SELECT_AGENT_GROUPS, SELECT_CALLS, SELECT_CONNECTIONS, SELECT_MONITORS, SELECT_MONITOR, SELECT_KEPT_OF_REQUEST, SELECT_KEPT_AFTER, SELECT_EVENTS_AFTER, SELECT_EVENTS_AT_DEVICE, SELECT_LOW_EVENT, SELECT_LOW_KEPT, SELECT_STANDING_AGENT_GROUPS, SELECT_STANDING_CONNECTIONS, SELECT_VERSION}
@@ -64,29 +64,29 @@ module _ (s : Schema) (text : List ℕ) (params : Row) where
     readable : IsUnreadText s text params → ⊥
     readable (inl h) = subst IsWhole h.1 whole
     readable (inr h) =
-        let own = subst IsWhole h.1 whole in
+        let is_whole = subst IsWhole h.1 whole in
         elim h.2 [
-          | inl short ↦ short (within (length text) h.0.tail own.0)
-          | inr other ↦ elim other [ inl given ↦ given own.1 | inr dated ↦ dated own.2 ]
+          | inl short ↦ short (within (length text) h.0.tail is_whole.0)
+          | inr other ↦ elim other [ inl given ↦ given is_whole.1 | inr dated ↦ dated is_whole.2 ]
         ]
 
     pub answered : (d : Database) → d.schema ≡ s → ¬ (RefusesToShow d text params)
     unfolding RefusesToShow
     answered d is (inl unread) = readable (subst (λ x. IsUnreadText x text params) is unread)
     answered d is (inr h) =
-        let own = subst IsWhole (sym (ap (λ x. understood x text) is) ∙ h.1) whole in
+        let is_whole = subst IsWhole (sym (ap (λ x. understood x text) is) ∙ h.1) whole in
         elim h.2 [
-          | inl returns ↦ absurd (let apart = sym own.3 ∙ returns.1 in cc)
+          | inl returns ↦ absurd (let apart = sym is_whole.3 ∙ returns.1 in cc)
           | inr run ↦
               let same = subst (λ b. IsSourceOf b d run.1) (ap (λ x. reads_listing x text) is ∙ unlisted) run.2 in
-              let bare = ap (λ f. timed params f run.0) own.2 ∙ append-nil params in
-              never h.0.command run.1 (ap (λ (x : Database). x.schema) same ∙ is) own.4 (subst (IsUnanswered h.0.command run.1) bare run.3)
+              let bare = ap (λ f. timed params f run.0) is_whole.2 ∙ append-nil params in
+              never h.0.command run.1 (ap (λ (x : Database). x.schema) same ∙ is) is_whole.4 (subst (IsUnanswered h.0.command run.1) bare run.3)
         ]
 
--- whatever lies behind the tables
-pub over : (base : List Table) (text : List ℕ) (params : Row) → ((rest : List Table) (s : Schema) → (reads_listing (with_behind base rest s) text ≡ false) × IsWhole (with_behind base rest s) text params (understood (with_behind base rest s) text))
+-- whatever tables come later
+pub over : (base : List Table) (text : List ℕ) (params : Row) → ((rest : List Table) (s : Schema) → (reads_listing (with_later base rest s) text ≡ false) × IsWhole (with_later base rest s) text params (understood (with_later base rest s) text))
     → IsAnsweredOver base text params
-over base text params whole d b = answered (with_behind base b.0 d.schema) text params (whole b.0 d.schema).0 (whole b.0 d.schema).1 d (begun base d.schema b)
+over base text params whole d b = answered (with_later base b.0 d.schema) text params (whole b.0 d.schema).0 (whole b.0 d.schema).1 d (begun base d.schema b)
 
 -- ---- the texts
 

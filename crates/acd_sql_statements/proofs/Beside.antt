@@ -1,4 +1,4 @@
--- What belongs to rows belongs to them in whatever order they are seen.
+-- A row belongs to others in whatever order they are seen.
 use Rattle.std.proofs.Common.{◌≡◌, ◌==◌, ◌&&◌, ◌||◌, ℕ, Bool, true, false, not, List, [], ◌∷◌, length, map, filter, nat_le, Some, Result, Ok, Err, IfOk, refl, sym, ap, ap₂, subst, ◌∙◌}
 use Rattle.std.specs.Prelude.{Vec, IsPermutation}
 use Rattle.std.specs.declared.alloc.Global.{Global}
@@ -16,7 +16,7 @@ use Rattle.acd_sql_columns.specs.declared.tables.Table.TheVariants as table
 use Rattle.acd_sql_columns.specs.AnyRows.{rows_in, is_beside, is_ranked}
 use Rattle.acd_sql_columns.specs.Decoding.{as_group, as_priority, as_agent, as_further}
 use Rattle.acd_sql_columns.specs.Ranges.{further_in}
-use Rattle.acd_sql_columns.specs.Relations.{groups_beside, is_behind, are_behind, are_of_groups}
+use Rattle.acd_sql_columns.specs.Relations.{groups_beside, is_after, are_after, are_of_groups}
 use Rattle.acd_sql_columns.specs.Rows.{group_values, priority_values, agent_values, further_values}
 use Rattle.acd_sql_columns.specs.Seeing.{Sees}
 use Rattle.acd_sql_columns.proofs.Records.{group_back, priority_back, agent_back, further_back, further_stored}
@@ -44,11 +44,11 @@ beside_moved : (ps qs : List (ℕ × ℕ)) (n : ℕ) → IsPermutation ps qs →
 beside_moved ps qs n same =
     sym (length_permutation (groups_beside ps n) (groups_beside qs n) (IsPermutation-map (λ (p : ℕ × ℕ). p.1) (filter (λ (p : ℕ × ℕ). p.0 == n) ps) (filter (λ (p : ℕ × ℕ). p.0 == n) qs) (IsPermutation-filter (λ (p : ℕ × ℕ). p.0 == n) ps qs same)))
 
-pub behind_moved : (xs ys : List AgentRow) (ps qs : List (ℕ × ℕ)) → IsPermutation xs ys → IsPermutation ps qs → are_behind xs ps ≡ are_behind ys qs
-behind_moved xs ys ps qs agents pairs =
+pub after_moved : (xs ys : List AgentRow) (ps qs : List (ℕ × ℕ)) → IsPermutation xs ys → IsPermutation ps qs → are_after xs ps ≡ are_after ys qs
+after_moved xs ys ps qs agents pairs =
     ap₂ ◌&&◌
-    (all_like (λ (p : ℕ × ℕ). list_any (λ (a : AgentRow). is_behind a p) xs) (λ (p : ℕ × ℕ). list_any (λ (a : AgentRow). is_behind a p) ys) (λ p. list_any-IsPermutation (λ (a : AgentRow). is_behind a p) xs ys agents) ps
-    ∙ all_moved (λ (p : ℕ × ℕ). list_any (λ (a : AgentRow). is_behind a p) ys) ps qs pairs)
+    (all_like (λ (p : ℕ × ℕ). list_any (λ (a : AgentRow). is_after a p) xs) (λ (p : ℕ × ℕ). list_any (λ (a : AgentRow). is_after a p) ys) (λ p. list_any-IsPermutation (λ (a : AgentRow). is_after a p) xs ys agents) ps
+    ∙ all_moved (λ (p : ℕ × ℕ). list_any (λ (a : AgentRow). is_after a p) ys) ps qs pairs)
     (all_like (λ (a : AgentRow). nat_le (length (groups_beside ps a.agent)) 7) (λ (a : AgentRow). nat_le (length (groups_beside qs a.agent)) 7) (λ a. ap (λ n. nat_le n 7) (beside_moved ps qs a.agent pairs)) xs
     ∙ all_moved (λ (a : AgentRow). nat_le (length (groups_beside qs a.agent)) 7) xs ys agents)
 
@@ -79,30 +79,30 @@ pub pairs_seen : (d : Database) (old new : State) (rows : Vec Row Global) (r : R
     → Sees d old new (Ok rows) (λ rows. IsPermutation (rows_in table.AgentGroups d.trees) rows.items) → Sees d old new r (λ pairs. IsPermutation (map as_further (rows_in table.AgentGroups d.trees)) pairs.items)
 pairs_seen d old new rows (Ok found) read h =
     sees_on d old new rows (λ rows. IsPermutation (rows_in table.AgentGroups d.trees) rows.items) (λ pairs. IsPermutation (map as_further (rows_in table.AgentGroups d.trees)) pairs.items) (Ok found) h
-    (λ had same. shown_moved as_further further_values further_back (rows_in table.AgentGroups d.trees) found.items (subst (IsPermutation (rows_in table.AgentGroups d.trees)) (pairs_read rows.items found.items read) same))
+    (λ old_database same. shown_moved as_further further_values further_back (rows_in table.AgentGroups d.trees) found.items (subst (IsPermutation (rows_in table.AgentGroups d.trees)) (pairs_read rows.items found.items read) same))
 pairs_seen d old new rows (Err e) read h =
-    sees_on d old new rows (λ rows. IsPermutation (rows_in table.AgentGroups d.trees) rows.items) (λ pairs. IsPermutation (map as_further (rows_in table.AgentGroups d.trees)) pairs.items) (Err e) h (λ had same. tt)
+    sees_on d old new rows (λ rows. IsPermutation (rows_in table.AgentGroups d.trees) rows.items) (λ pairs. IsPermutation (map as_further (rows_in table.AgentGroups d.trees)) pairs.items) (Err e) h (λ old_database same. tt)
 
-pub agents_seen : (d : Database) (old new : State) (agents : Vec AgentRow Global) (pairs : List (ℕ × ℕ)) (placed : Bool) → placed ≡ are_behind agents.items pairs
-    → Sees d old new (Ok agents) (λ found. IsPermutation (rows_in table.Agents d.trees) (map agent_values found.items)) → Sees d old new (Ok placed) (λ placed. placed ≡ are_behind (map as_agent (rows_in table.Agents d.trees)) pairs)
+pub agents_seen : (d : Database) (old new : State) (agents : Vec AgentRow Global) (pairs : List (ℕ × ℕ)) (placed : Bool) → placed ≡ are_after agents.items pairs
+    → Sees d old new (Ok agents) (λ found. IsPermutation (rows_in table.Agents d.trees) (map agent_values found.items)) → Sees d old new (Ok placed) (λ placed. placed ≡ are_after (map as_agent (rows_in table.Agents d.trees)) pairs)
 agents_seen d old new agents pairs placed is h =
-    sees_on d old new agents (λ found. IsPermutation (rows_in table.Agents d.trees) (map agent_values found.items)) (λ placed. placed ≡ are_behind (map as_agent (rows_in table.Agents d.trees)) pairs) (Ok placed) h
-    (λ had same. is ∙ sym (behind_moved (map as_agent (rows_in table.Agents d.trees)) agents.items pairs pairs (shown_moved as_agent agent_values agent_back (rows_in table.Agents d.trees) agents.items same) (IsPermutation-refl pairs)))
+    sees_on d old new agents (λ found. IsPermutation (rows_in table.Agents d.trees) (map agent_values found.items)) (λ placed. placed ≡ are_after (map as_agent (rows_in table.Agents d.trees)) pairs) (Ok placed) h
+    (λ old_database same. is ∙ sym (after_moved (map as_agent (rows_in table.Agents d.trees)) agents.items pairs pairs (shown_moved as_agent agent_values agent_back (rows_in table.Agents d.trees) agents.items same) (IsPermutation-refl pairs)))
 
 pub further_seen : (d : Database) (old mid new : State) (pairs : Vec (ℕ × ℕ) Global) (qs : List (ℕ × ℕ)) (r : Result Bool Error) → qs ≡ pairs.items → Sees d old mid (Ok pairs) (λ pairs. IsPermutation (map as_further (rows_in table.AgentGroups d.trees)) pairs.items)
-    → Sees d mid new r (λ placed. placed ≡ are_behind (map as_agent (rows_in table.Agents d.trees)) qs) → Sees d old new r (λ placed. placed ≡ is_beside d.trees)
+    → Sees d mid new r (λ placed. placed ≡ are_after (map as_agent (rows_in table.Agents d.trees)) qs) → Sees d old new r (λ placed. placed ≡ is_beside d.trees)
 unfolding is_beside
 further_seen d old mid new pairs qs r at first next =
-    sees_then d old mid new pairs (λ pairs. IsPermutation (map as_further (rows_in table.AgentGroups d.trees)) pairs.items) first (λ placed. placed ≡ are_behind (map as_agent (rows_in table.Agents d.trees)) qs) (λ placed. placed ≡ are_behind (map as_agent (rows_in table.Agents d.trees)) (map as_further (rows_in table.AgentGroups d.trees))) r
+    sees_then d old mid new pairs (λ pairs. IsPermutation (map as_further (rows_in table.AgentGroups d.trees)) pairs.items) first (λ placed. placed ≡ are_after (map as_agent (rows_in table.Agents d.trees)) qs) (λ placed. placed ≡ are_after (map as_agent (rows_in table.Agents d.trees)) (map as_further (rows_in table.AgentGroups d.trees))) r
     (λ same placed is.
-    is ∙ ap (are_behind (map as_agent (rows_in table.Agents d.trees))) at
-    ∙ sym (behind_moved (map as_agent (rows_in table.Agents d.trees)) (map as_agent (rows_in table.Agents d.trees)) (map as_further (rows_in table.AgentGroups d.trees)) pairs.items (IsPermutation-refl _) same)) next
+    is ∙ ap (are_after (map as_agent (rows_in table.Agents d.trees))) at
+    ∙ sym (after_moved (map as_agent (rows_in table.Agents d.trees)) (map as_agent (rows_in table.Agents d.trees)) (map as_further (rows_in table.AgentGroups d.trees)) pairs.items (IsPermutation-refl _) same)) next
 
 pub groups_seen : (d : Database) (old new : State) (groups : Vec GroupRow Global) (ps : List GroupPriority) (placed : Bool) → placed ≡ are_of_groups groups.items ps
     → Sees d old new (Ok groups) (λ found. IsPermutation (rows_in table.Groups d.trees) (map group_values found.items)) → Sees d old new (Ok placed) (λ placed. placed ≡ are_of_groups (map as_group (rows_in table.Groups d.trees)) ps)
 groups_seen d old new groups ps placed is h =
     sees_on d old new groups (λ found. IsPermutation (rows_in table.Groups d.trees) (map group_values found.items)) (λ placed. placed ≡ are_of_groups (map as_group (rows_in table.Groups d.trees)) ps) (Ok placed) h
-    (λ had same. is ∙ sym (of_groups_moved (map as_group (rows_in table.Groups d.trees)) groups.items ps ps (shown_moved as_group group_values group_back (rows_in table.Groups d.trees) groups.items same) (IsPermutation-refl ps)))
+    (λ old_database same. is ∙ sym (of_groups_moved (map as_group (rows_in table.Groups d.trees)) groups.items ps ps (shown_moved as_group group_values group_back (rows_in table.Groups d.trees) groups.items same) (IsPermutation-refl ps)))
 
 pub priorities_seen : (d : Database) (old mid new : State) (ps : Vec GroupPriority Global) (qs : List GroupPriority) (r : Result Bool Error) → qs ≡ ps.items → Sees d old mid (Ok ps) (λ found. IsPermutation (rows_in table.GroupPriority d.trees) (map priority_values found.items))
     → Sees d mid new r (λ placed. placed ≡ are_of_groups (map as_group (rows_in table.Groups d.trees)) qs) → Sees d old new r (λ placed. placed ≡ is_ranked d.trees)

@@ -13,7 +13,7 @@ use Rattle.acd_terms.specs.declared.record.MonitorRecord.{MonitorRecord}
 use Rattle.acd_book.specs.Content.{Content}
 use Rattle.acd_sql_columns.specs.Relations.{meta_of}
 use Rattle.acd_sql_columns.specs.declared.meta.Meta.{Meta}
-use Rattle.acd_sql_columns.specs.Draft.{HoldsContent, Quiet, NoStop}
+use Rattle.acd_sql_columns.specs.Transactions.{HoldsContent, Quiet, NoStop}
 use Rattle.acd_sql_columns.specs.Rows.{meta_shown}
 use Rattle.acd_sql_columns.specs.Finding.{Finds, joined_rows}
 
@@ -66,22 +66,22 @@ module _ {A B : Type 0} (old mid new : State) (a : A) (P : Content → A → Typ
     answer = λ k. tt;
   }
 
--- what was found is also what follows of it
+-- a consequence of the answer is found too
 pub finds_so : {A : Type 0} (old new : State) (r : Result A Error) (P Q : Content → A → Type 0) → ((c : Content) → HoldsContent old c → (a : A) → P c a → Q c a) → Finds old new r P → Finds old new r Q
 finds_so old new (Ok a) P Q so h = record { up = h.up; quiet = h.quiet; stops = h.stops; answer = λ k c held. so c held a (h.answer k c held) }
 finds_so old new (Err e) P Q so h = record { up = λ k. tt; quiet = h.quiet; stops = h.stops; answer = λ k. tt }
 
--- what was found goes on to what is made of it
+-- the answer is used for the next result
 pub finds_on : {A B : Type 0} (old new : State) (a : A) (r : Result B Error) (P : Content → A → Type 0) (Q : Content → B → Type 0) → Finds {E = Error} old new (Ok a) P
     → IfOk r (λ (b : B). (c : Content) → P c a → Q c b) → Finds old new r Q
 finds_on old new a (Ok b) P Q h on = record { up = h.up; quiet = h.quiet; stops = h.stops; answer = λ k c held. on c (h.answer k c held) }
 finds_on old new a (Err e) P Q h on = record { up = λ k. tt; quiet = h.quiet; stops = h.stops; answer = λ k. tt }
 
--- the last of two tells what was asked for
-pub behind : {A B : Type 0} (old mid new : State) (a : A) (r : Result B Error) (P : Content → A → Type 0) (Q W : Content → B → Type 0) → Finds {E = Error} old mid (Ok a) P
+-- the last of two answers what was asked for
+pub finds_after : {A B : Type 0} (old mid new : State) (a : A) (r : Result B Error) (P : Content → A → Type 0) (Q W : Content → B → Type 0) → Finds {E = Error} old mid (Ok a) P
     → ((c : Content) (b : B) → P c a → Q c b → W c b) → Finds mid new r Q → Finds old new r W
-behind old mid new a (Ok b) P Q W first both second = chained old mid new a P Q first b b W (λ c p q. both c b p q) second
-behind old mid new a (Err e) P Q W first both second = broken old mid new a P Q first e W second
+finds_after old mid new a (Ok b) P Q W first both second = chained old mid new a P Q first b b W (λ c p q. both c b p q) second
+finds_after old mid new a (Err e) P Q W first both second = broken old mid new a P Q first e W second
 
 pub joined_is : (s : Rows) (m : Meta) (groups : List GroupRecord) (stations : List StationRecord) (agents : List AgentRecord) (calls : List CallRecord) (connections : List ConnectionRecord) (monitors : List MonitorRecord)
     → m ≡ meta_of s → groups ≡ s.groups → stations ≡ s.stations → agents ≡ s.agents → calls ≡ s.calls → connections ≡ s.connections → monitors ≡ s.monitors

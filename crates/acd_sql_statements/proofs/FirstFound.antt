@@ -9,14 +9,14 @@ use Rattle.acd_terms.specs.Lists.{Every, find_by}
 use Rattle.acd_terms.specs.declared.event.Event.{Event}
 use Rattle.acd_terms.specs.declared.record.MonitorRecord.{MonitorRecord}
 use Rattle.acd_model.specs.Scans.{at_monitor, monitor_of}
-use Rattle.acd_book.specs.Content.{Content, is_told, watched_by, events_of_monitor, kept_behind}
+use Rattle.acd_book.specs.Content.{Content, is_at_after, watched_by, events_of_monitor, records_after}
 use Rattle.acd_book.specs.declared.kept.Kept.{Kept}
 use Rattle.acd_sql_columns.specs.declared.tables.Table.TheVariants as table
 use Rattle.acd_sql_columns.specs.Rows.{IsReadable, monitor_values}
-use Rattle.acd_sql_columns.specs.Draft.{HoldsContent}
+use Rattle.acd_sql_columns.specs.Transactions.{HoldsContent}
 use Rattle.acd_sql_columns.specs.Finding.{Finds}
 use Rattle.acd_sql_columns.specs.Ranges.{monitor_in}
-use Rattle.acd_sql_statements.proofs.Chained.{finds_on, behind}
+use Rattle.acd_sql_statements.proofs.Chained.{finds_on, finds_after}
 use Rattle.acd_sql_columns.proofs.Records.{monitor_exact}
 use Rattle.acd_lemmas.proofs.Lists.{head_is, every-take, every-filter}
 
@@ -53,7 +53,7 @@ found_every P p (x ∷ xs) h = elim (p x) as (λ t. IfSome (cond t (Some x) (fin
 pub found_readable : (s : State) (p : Kept → Bool) (c : Content) → HoldsContent s c → IfSome (find p c.kept) IsReadable
 found_readable s p c held = found_every IsReadable p c.kept (held.encodes table.Kept).1
 
-pub page_readable : (s : State) (stamp limit : ℕ) (c : Content) → HoldsContent s c → Every IsReadable (kept_behind c.kept stamp limit)
+pub page_readable : (s : State) (stamp limit : ℕ) (c : Content) → HoldsContent s c → Every IsReadable (records_after c.kept stamp limit)
 page_readable s stamp limit c held =
     every-take IsReadable limit (filter (λ (k : Kept). nat_lt stamp k.stamp) c.kept) (every-filter IsReadable (λ (k : Kept). nat_lt stamp k.stamp) c.kept (held.encodes table.Kept).1)
 
@@ -76,9 +76,9 @@ monitor_first old new n rows r h read =
 
 -- its events
 pub watched : (old mid new : State) (monitor number above limit : ℕ) (o : Option MonitorRecord) (w : MonitorRecord) (r : Result (Vec Event Global) Error) → o ≡ Some w → Finds {E = Error} old mid (Ok o) (λ c found. found ≡ monitor_of c.rows monitor)
-    → above ≡ max number w.after_event → Finds mid new r (λ c events. events.items ≡ take limit (filter (is_told (Some w.device) above) c.events))
+    → above ≡ max number w.after_event → Finds mid new r (λ c events. events.items ≡ take limit (filter (is_at_after (Some w.device) above) c.events))
     → Finds old new r (λ c events. events.items ≡ events_of_monitor c monitor number limit)
 watched old mid new monitor number above limit o w r there h is =
-    behind old mid new o r (λ (c : Content) (found : Option MonitorRecord). found ≡ monitor_of c.rows monitor) (λ (c : Content) (events : Vec Event Global). events.items ≡ take limit (filter (is_told (Some w.device) above) c.events))
+    finds_after old mid new o r (λ (c : Content) (found : Option MonitorRecord). found ≡ monitor_of c.rows monitor) (λ (c : Content) (events : Vec Event Global). events.items ≡ take limit (filter (is_at_after (Some w.device) above) c.events))
     (λ (c : Content) (events : Vec Event Global). events.items ≡ events_of_monitor c monitor number limit) h
-    (λ c events p q. q ∙ ap (λ n. take limit (filter (is_told (Some w.device) n) c.events)) is ∙ ap (λ o. watched_by o c.events number limit) (sym there ∙ p))
+    (λ c events p q. q ∙ ap (λ n. take limit (filter (is_at_after (Some w.device) n) c.events)) is ∙ ap (λ o. watched_by o c.events number limit) (sym there ∙ p))

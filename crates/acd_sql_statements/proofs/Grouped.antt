@@ -1,4 +1,4 @@
--- What isn't taken for the groups of an agent is more than eight, or doesn't ascend.
+-- A list that isn't accepted as the groups of an agent is longer than eight, or doesn't ascend.
 use Rattle.std.proofs.Common.{◌≡◌, ℕ, ◌≤◌, ◌==◌, nat_le, nat_eq, Bool, true, false, List, [], ◌∷◌, ◌++◌, length, Option, Some, None, inl, inr, refl, sym, ap, ap₂, subst, ◌∙◌, append_assoc, append-nil, length-append, arith}
 use Rattle.std.specs.Cmp.Lexicographic.{pointwise}
 use Rattle.std.specs.Ordering.{nat_cmp, match_ordering}
@@ -12,7 +12,7 @@ use Rattle.acd_terms.specs.Lists.{ascends, put_by, AllAfter, IsAscending}
 use Rattle.acd_lemmas.proofs.Decided.{ascending_from}
 use Rattle.acd_lemmas.proofs.Numbers.{greater_is}
 
--- one behind all that stand there
+-- one after all that are there
 below : (g : ℕ) (front : List ℕ) (d : ℕ) (rest : List ℕ) → AllAfter nat_cmp g (front ++ d ∷ rest) → nat_cmp g d ≡ Less
 below g [] d rest h = h.0
 below g (x ∷ front) d rest h = below g front d rest h.1
@@ -53,10 +53,10 @@ not_groups list other = elim (cases_Bool (are_groups list)) [
 
 pub equal_self : (xs : List ℕ) → pointwise nat_eq xs xs ≡ true
 equal_self [] = refl
-equal_self (x ∷ xs) = rw (own x) (equal_self xs)
+equal_self (x ∷ xs) = rw (reflexive x) (equal_self xs)
   where
-    own : (n : ℕ) → nat_eq n n ≡ true
-    own n = grind (arith, nat_tests)
+    reflexive : (n : ℕ) → nat_eq n n ≡ true
+    reflexive n = grind (arith, nat_tests)
 
 pub not_made : (list slice : List ℕ) (o : Option (List ℕ)) → o ≡ None → o ≡ with_all [] slice → slice ≡ list → are_groups list ≡ false
 not_made list slice o none is same = not_groups list (λ some. absurd (let apart = sym none ∙ is ∙ ap (with_all []) same ∙ some in cc))
@@ -64,5 +64,5 @@ not_made list slice o none is same = not_groups list (λ some. absurd (let apart
 pub not_same : (list slice groups xs ys : List ℕ) (o : Option (List ℕ)) (b : Bool) → o ≡ Some groups → o ≡ with_all [] slice → slice ≡ list → b ≡ pointwise nat_eq xs ys → b ≡ false → xs ≡ groups → ys ≡ list → are_groups list ≡ false
 not_same list slice groups xs ys o b made is same tests apart xs-are ys-are =
     not_groups list (λ some.
-    let own : groups ≡ list = cc (sym made ∙ is ∙ ap (with_all []) same ∙ some) in
-    absurd (let clash = sym (equal_self list) ∙ sym (ap₂ (pointwise nat_eq) (xs-are ∙ own) ys-are) ∙ sym tests ∙ apart in cc))
+    let same_groups : groups ≡ list = cc (sym made ∙ is ∙ ap (with_all []) same ∙ some) in
+    absurd (let clash = sym (equal_self list) ∙ sym (ap₂ (pointwise nat_eq) (xs-are ∙ same_groups) ys-are) ∙ sym tests ∙ apart in cc))

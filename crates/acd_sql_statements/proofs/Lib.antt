@@ -7,10 +7,10 @@ mod Pages
 pub mod Failures
 pub mod Refused
 pub mod Answered
-pub mod Blamed
+pub mod ReadCauses
 pub mod Lookings
-mod BlamedRows
-mod BlamedPlan
+mod RowCauses
+mod PlanCauses
 mod Grouped
 mod Picked
 mod Compared

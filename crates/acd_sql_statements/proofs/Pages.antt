@@ -10,8 +10,8 @@ use Rattle.sqlite_value.specs.Order.{Row}
 use Rattle.sqlite.specs.declared.error.Error.{Error}
 use Rattle.sqlite.specs.State.{State}
 use Rattle.acd_terms.specs.declared.event.Event.{Event}
-use Rattle.acd_book.specs.Content.{Content, is_at, is_told}
-use Rattle.acd_sql_columns.specs.Draft.{Fits}
+use Rattle.acd_book.specs.Content.{Content, is_at, is_at_after}
+use Rattle.acd_sql_columns.specs.Transactions.{Fits}
 use Rattle.acd_sql_columns.specs.Finding.{Finds}
 use Rattle.acd_lemmas.proofs.Numbers.{still_below}
 
@@ -107,5 +107,5 @@ module _ {X : Type 0} (test : ℕ → X → Bool) (falls : (a b : ℕ) (x : X) �
 
 -- ---- tests of a number
 
-pub falls_told : (device : Option ℕ) (a b : ℕ) (e : Event) → a ≤ b → is_told device b e ≡ true → is_told device a e ≡ true
-falls_told device a b e low h = let both = and_parts (is_at device e) (nat_lt b e.number) h in and_from (is_at device e) (nat_lt a e.number) both.0 (still_below a b e.number low both.1)
+pub falls_at_after : (device : Option ℕ) (a b : ℕ) (e : Event) → a ≤ b → is_at_after device b e ≡ true → is_at_after device a e ≡ true
+falls_at_after device a b e low h = let both = and_parts (is_at device e) (nat_lt b e.number) h in and_from (is_at device e) (nat_lt a e.number) both.0 (still_below a b e.number low both.1)

@@ -12,7 +12,7 @@ use Rattle.acd_terms.specs.Lists.{put_by}
 use Rattle.acd_sql_columns.specs.declared.relations.AgentRow.{AgentRow}
 use Rattle.acd_sql_columns.specs.declared.relations.GroupPriority.{GroupPriority}
 use Rattle.acd_sql_columns.specs.declared.tables.Table.TheVariants as table
-use Rattle.acd_sql_columns.specs.Draft.{Drafts}
+use Rattle.acd_sql_columns.specs.Transactions.{HoldsUncommitted}
 use Rattle.acd_sql_columns.specs.Finding.{Finds}
 use Rattle.acd_sql_columns.specs.Relations.{Relations, pair_order, group_part, agent_part, further_in, priorities_in, joined_group, joined_agent, all_put}
 use Rattle.acd_sql_columns.proofs.Decoded.{groups_rise, agents_rise}
@@ -20,7 +20,7 @@ use Rattle.acd_sql_columns.proofs.Joined.{groups_joined, agents_joined}
 use Rattle.acd_sql_columns.proofs.Listings.{stored}
 use Rattle.acd_lemmas.proofs.Lists.{take-push, map-push}
 
--- ---- what is found
+-- ---- the result
 
 pub ranked_so : (old new : State) (ps : Vec GroupPriority Global) (parts qs : List _) (r : Result (Vec GroupRecord Global) Error) → qs ≡ ps.items → Finds {E = Error} old new (Ok ps) (λ c ps. ps.items ≡ priorities_in c.rows.groups)
     → IfOk r (λ gs. gs.items ≡ map (joined_group qs) parts) → Finds old new r (λ c gs. parts ≡ map group_part c.rows.groups → gs.items ≡ c.rows.groups)
@@ -65,11 +65,11 @@ same_numbers (x ∷ xs) (y ∷ ys) h = let both = and_parts (nat_eq x y) (pointw
 
 -- ---- statements, one after the other
 
-pub leaves_on : (old mid new : State) (r : Result (Unit {0}) Error) (f g h : Relations → Relations) → ((x : Relations) → Drafts old x → Drafts mid (f x)) → OnOk r ((x : Relations) → Drafts mid x → Drafts new (g x)) → ((x : Relations) → g (f x) ≡ h x)
-    → OnOk r ((x : Relations) → Drafts old x → Drafts new (h x))
+pub leaves_on : (old mid new : State) (r : Result (Unit {0}) Error) (f g h : Relations → Relations) → ((x : Relations) → HoldsUncommitted old x → HoldsUncommitted mid (f x)) → OnOk r ((x : Relations) → HoldsUncommitted mid x → HoldsUncommitted new (g x)) → ((x : Relations) → g (f x) ≡ h x)
+    → OnOk r ((x : Relations) → HoldsUncommitted old x → HoldsUncommitted new (h x))
 leaves_on old mid new (Err e) f g h first next same = tt
-leaves_on old mid new (Ok y) f g h first next same = λ (x : Relations) (d : Drafts old x). subst (Drafts new) (same x) (next (f x) (first x d))
+leaves_on old mid new (Ok y) f g h first next same = λ (x : Relations) (d : HoldsUncommitted old x). subst (HoldsUncommitted new) (same x) (next (f x) (first x d))
 
-pub leaves_as : (old new : State) (r : Result (Unit {0}) Error) (f g : Relations → Relations) → OnOk r ((x : Relations) → Drafts old x → Drafts new (f x)) → ((x : Relations) → f x ≡ g x) → OnOk r ((x : Relations) → Drafts old x → Drafts new (g x))
+pub leaves_as : (old new : State) (r : Result (Unit {0}) Error) (f g : Relations → Relations) → OnOk r ((x : Relations) → HoldsUncommitted old x → HoldsUncommitted new (f x)) → ((x : Relations) → f x ≡ g x) → OnOk r ((x : Relations) → HoldsUncommitted old x → HoldsUncommitted new (g x))
 leaves_as old new (Err e) f g put same = tt
-leaves_as old new (Ok y) f g put same = λ (x : Relations) (d : Drafts old x). subst (Drafts new) (same x) (put x d)
+leaves_as old new (Ok y) f g put same = λ (x : Relations) (d : HoldsUncommitted old x). subst (HoldsUncommitted new) (same x) (put x d)

@@ -5,20 +5,20 @@ use Rattle.sqlite_value.specs.Order.{Row}
 use Rattle.sqlite.specs.declared.error.Error.{Error}
 use Rattle.sqlite.specs.State.{State, HasCleanDisk, Executes}
 use Rattle.acd_terms.specs.declared.record.ConnectionRecord.{ConnectionRecord}
-use Rattle.acd_sql_columns.specs.Descriptions.{Description, behind}
-use Rattle.acd_sql_columns.specs.Draft.{Drafts, Works}
+use Rattle.acd_sql_columns.specs.Descriptions.{Description, after_key}
+use Rattle.acd_sql_columns.specs.Transactions.{HoldsUncommitted, Works}
 use Rattle.acd_sql_columns.specs.Relations.{Relations}
 use Rattle.acd_sql_columns.specs.Rows.{connection_values}
 use Rattle.acd_sql_columns.specs.Schema.{book_schema}
 use Rattle.acd_sql_columns.specs.declared.texts.TheConstants.{UPDATE_CONNECTION}
-use Rattle.acd_sql_columns.proofs.Connections.{behind_none}
+use Rattle.acd_sql_columns.proofs.Connections.{after_none}
 use Rattle.acd_sql_columns.proofs.Common.{inert}
-use Rattle.acd_sql_columns.proofs.Filed.{Filed, Updates, by_first, columns_given}
+use Rattle.acd_sql_columns.proofs.Described.{Described, Updates, by_first, columns_given}
 use Rattle.acd_sql_columns.proofs.Statements.{inert_works}
 use Rattle.acd_sql_columns.proofs.Updates.{Updating}
 use Rattle.acd_sql_columns.proofs.Sets.{set_none}
 use Rattle.acd_sql_statements.specs.Failing.{FailsToWrite}
-use Rattle.acd_sql_statements.specs.Refusing.{RefusesOn, FailsToLeave, IsBlamed}
+use Rattle.acd_sql_statements.specs.Refusing.{RefusesOn, FailsToLeave, HasWriteCause}
 use Rattle.acd_sql_statements.proofs.Failures.{failed_after}
 
 -- nothing is said of a success where there was none
@@ -28,12 +28,12 @@ unless_ok {A} P e r is = subst (λ (r : Result A Error). OnOk r P) (sym is) tt
 -- ---- one statement
 
 module _ (old new : State) (sql : List ℕ) (params : Row) where
-  pub refused_on : (e : Error) (r : Relations) → Drafts old r → FailsToWrite old new sql params e → FailsToLeave (RefusesOn sql params) r old new e
+  pub refused_on : (e : Error) (r : Relations) → HoldsUncommitted old r → FailsToWrite old new sql params e → FailsToLeave (RefusesOn sql params) r old new e
   refused_on e r d (inl memory) = inl memory
   refused_on e r d (inr (inl failed)) = inr (inl failed)
   refused_on e r d (inr (inr refused)) = inr (inr (record { database = old.now; schema = d.schema; tables = d.tables; refuses = refused }))
 
-  pub by_one : {A : Type 0} (result : Result A Error) → (HasCleanDisk new → IsTrue old.in_transaction → IfErr result (FailsToWrite old new sql params)) → IsBlamed (RefusesOn sql params) old new result
+  pub by_one : {A : Type 0} (result : Result A Error) → (HasCleanDisk new → IsTrue old.in_transaction → IfErr result (FailsToWrite old new sql params)) → HasWriteCause (RefusesOn sql params) old new result
   by_one (Ok x) h = λ clean r d. tt
   by_one (Err e) h = λ clean r d. refused_on e r d (h clean d.inside)
 
@@ -41,12 +41,12 @@ module _ (old new : State) (sql : List ℕ) (params : Row) where
 
 module _ (old new : State) where
   -- the same error in an answer of another kind
-  pub by_same : {B : Type 0} (R : Option ℕ → Relations → Type 0) (e : Error) (result : Result B Error) → result ≡ Err e → (HasCleanDisk new → (r : Relations) → Drafts old r → FailsToLeave R r old new e) → IsBlamed R old new result
+  pub by_same : {B : Type 0} (R : Option ℕ → Relations → Type 0) (e : Error) (result : Result B Error) → result ≡ Err e → (HasCleanDisk new → (r : Relations) → HoldsUncommitted old r → FailsToLeave R r old new e) → HasWriteCause R old new result
   by_same R e result is h = λ clean r d. subst (λ b. IfErr b (FailsToLeave R r old new)) (sym is) (h clean r d)
 
-  -- where something more is known of what was seen
-  pub by_known : {A : Type 0} (Is : Relations → Type 0) (P Q : Option ℕ → Relations → Type 0) (result : Result A Error) → (HasCleanDisk new → (r : Relations) → Drafts old r → Is r)
-      → ((limit : Option ℕ) (r : Relations) → Is r → P limit r → Q limit r) → IsBlamed P old new result → IsBlamed Q old new result
+  -- where something more is known of the view
+  pub by_known : {A : Type 0} (Is : Relations → Type 0) (P Q : Option ℕ → Relations → Type 0) (result : Result A Error) → (HasCleanDisk new → (r : Relations) → HoldsUncommitted old r → Is r)
+      → ((limit : Option ℕ) (r : Relations) → Is r → P limit r → Q limit r) → HasWriteCause P old new result → HasWriteCause Q old new result
   by_known Is P Q (Ok x) known so h = λ clean r d. tt
   by_known Is P Q (Err e) known so h = λ clean r d. each r (known clean r d) (h clean r d)
     where
@@ -55,12 +55,12 @@ module _ (old new : State) where
       each r is (inr (inl failed)) = inr (inl failed)
       each r is (inr (inr p)) = inr (inr (so old.step_limit r is p))
 
-  pub by_more : {A : Type 0} (P Q : Option ℕ → Relations → Type 0) (result : Result A Error) → ((limit : Option ℕ) (r : Relations) → P limit r → Q limit r) → IsBlamed P old new result → IsBlamed Q old new result
+  pub by_more : {A : Type 0} (P Q : Option ℕ → Relations → Type 0) (result : Result A Error) → ((limit : Option ℕ) (r : Relations) → P limit r → Q limit r) → HasWriteCause P old new result → HasWriteCause Q old new result
   by_more P Q result so = by_known (λ r. Unit {0}) P Q result (λ clean r d. tt) (λ limit r known p. so limit r p)
 
--- behind what was written before
+-- after what was written before
 pub by_later : {A : Type 0} (old mid new : State) (change : Relations → Relations) (Q : Option ℕ → Relations → Type 0) (result : Result A Error) → Works old mid → Works mid new
-    → (HasCleanDisk mid → (r : Relations) → Drafts old r → Drafts mid (change r)) → IsBlamed Q mid new result → IsBlamed (λ limit r. Q limit (change r)) old new result
+    → (HasCleanDisk mid → (r : Relations) → HoldsUncommitted old r → HoldsUncommitted mid (change r)) → HasWriteCause Q mid new result → HasWriteCause (λ limit r. Q limit (change r)) old new result
 by_later old mid new change Q (Ok x) first second made h = λ clean r d. tt
 by_later old mid new change Q (Err e) first second made h =
     λ clean r d. let middle : HasCleanDisk mid = omega (arith, clean, second.survives.clean) in each r middle (h clean (change r) (made middle r d))
@@ -72,33 +72,33 @@ by_later old mid new change Q (Err e) first second made h =
 
 -- ---- an UPDATE that changed no row
 
-updating : {R : Type 0} (d : Description R) (f : Filed d) (text : List ℕ) → Updates d text → Updating book_schema text
+updating : {R : Type 0} (d : Description R) (f : Described d) (text : List ℕ) → Updates d text → Updating book_schema text
 updating d f text u = record {
   at = d.place;
   layout = d.layout;
   terms = by_first;
-  project = columns_given (behind d);
+  project = columns_given (after_key d);
   place = ap (λ t. t.0) f.computes;
   command = u.updates;
   plain = u.plain;
   inert = inert_works book_schema inert d.layout.tree;
 }
 
-pub still_drafts : {R : Type 0} (d : Description R) (f : Filed d) (text : List ℕ) (u : Updates d text) (x : R) (r : Relations) (old mid : State) (none : ℕ) → Drafts old r → Executes text (d.values x) old mid (Ok none) → none ≡ 0 → Drafts mid r
+pub still_uncommitted : {R : Type 0} (d : Description R) (f : Described d) (text : List ℕ) (u : Updates d text) (x : R) (r : Relations) (old mid : State) (none : ℕ) → HoldsUncommitted old r → Executes text (d.values x) old mid (Ok none) → none ≡ 0 → HoldsUncommitted mid r
 unfolding updating
-still_drafts d f text u x r old mid none drafts ran missed =
-    let still = set_none book_schema text (updating d f text u) (d.values x) old mid none drafts.schema ran missed in
-    let had = f.held r old.now.trees drafts.tables in
-    subst (Drafts mid) (f.unchanged r) (record {
-      inside = still.mode ∙ drafts.inside;
+still_uncommitted d f text u x r old mid none uncommitted ran missed =
+    let still = set_none book_schema text (updating d f text u) (d.values x) old mid none uncommitted.schema ran missed in
+    let held = f.held r old.now.trees uncommitted.tables in
+    subst (HoldsUncommitted mid) (f.unchanged r) (record {
+      inside = still.mode ∙ uncommitted.inside;
       schema = still.schema_is;
-      tables = f.framed (d.records r) (old.now.trees d.layout.tree) old.now.trees mid.now.trees r had.0 had.1 still.rows_are still.others drafts.tables;
+      tables = f.framed (d.records r) (old.now.trees d.layout.tree) old.now.trees mid.now.trees r held.0 held.1 still.rows_are still.others uncommitted.tables;
     })
 
-pub still_connected : (x : ConnectionRecord) (r : Relations) (old mid : State) (none : ℕ) → Drafts old r → Executes UPDATE_CONNECTION.now (connection_values x) old mid (Ok none) → none ≡ 0 → Drafts mid r
-still_connected x r old mid none drafts ran missed = behind_none x (λ r. r) old mid mid none (Ok tt) ran missed (λ r d. d) r drafts
+pub still_connected : (x : ConnectionRecord) (r : Relations) (old mid : State) (none : ℕ) → HoldsUncommitted old r → Executes UPDATE_CONNECTION.now (connection_values x) old mid (Ok none) → none ≡ 0 → HoldsUncommitted mid r
+still_connected x r old mid none uncommitted ran missed = after_none x (λ r. r) old mid mid none (Ok tt) ran missed (λ r d. d) r uncommitted
 
--- ---- further groups, one behind the other
+-- ---- further groups, one after the other
 
 pub any_default : (xs : List ℕ) (i d e : ℕ) → i < length xs → get_or xs i d ≡ get_or xs i e
 any_default xs i d e low = grind (arith, common_steps)

@@ -20,16 +20,16 @@ use Rattle.acd_lemmas.proofs.Lists.{ascending-put}
 use Rattle.acd_sql_columns.specs.declared.tables.Table.TheVariants as table
 use Rattle.acd_sql_columns.specs.declared.texts.TheConstants.{INSERT_EVENT}
 use Rattle.acd_sql_columns.specs.Content.{with_part}
-use Rattle.acd_sql_columns.specs.Draft.{Drafts}
+use Rattle.acd_sql_columns.specs.Transactions.{HoldsUncommitted}
 use Rattle.acd_sql_columns.specs.Relations.{Relations}
 use Rattle.acd_sql_columns.specs.Rows.{event_row}
 use Rattle.acd_sql_columns.specs.Schema.{book_schema, table_of}
 use Rattle.acd_sql_columns.specs.Schema as schema
 use Rattle.acd_sql_columns.proofs.Common.{run, inert}
-use Rattle.acd_sql_columns.proofs.Frames.{drafted}
+use Rattle.acd_sql_columns.proofs.Frames.{holds_replaced}
 use Rattle.acd_sql_columns.proofs.KeyedRows.{by_key, by_key_total, puts}
 use Rattle.acd_sql_columns.proofs.Statements.{Insertion, insertion_edit, inserted, replaces, inert_works}
-use Rattle.acd_sql_columns.proofs.TablesFiled.{events_filed}
+use Rattle.acd_sql_columns.proofs.TablesDescribed.{events_described}
 use Rattle.acd_sql_statements.specs.Several.{values_of, text_of, with_all}
 use Rattle.acd_sql_statements.specs.declared.several.TheConstants.{INSERT_TWO_EVENTS, INSERT_THREE_EVENTS, INSERT_FOUR_EVENTS}
 
@@ -65,16 +65,16 @@ puts_four : (a b c d : Event) → Puts INSERT_FOUR_EVENTS.now (rows_from 0 4) (a
 unfolding understood everything
 puts_four a b c d = record { command = refl; plain = (refl, refl); source = refl }
 
--- ---- what the table has behind it
+-- ---- what the table has after it
 
--- one put behind the other
+-- one put after the other
 abbrev all_put : List Event → List Event → List Event
 all_put [] rs = rs
 all_put (e ∷ es) rs = all_put es (put_by (by_key number e) rs e)
 
 are_cast : (es : List Event) → map (λ s. cast_row (table_of schema.events) (drop 0 s)) (map event_row es) ≡ map event_row es
 are_cast [] = refl
-are_cast (e ∷ es) = ap₂ (λ (x : Row) (xs : List Row). x ∷ xs) (events_filed.casts e) (are_cast es)
+are_cast (e ∷ es) = ap₂ (λ (x : Row) (xs : List Row). x ∷ xs) (events_described.casts e) (are_cast es)
 
 have_numbers : (rows : List Row) (es : List Event) → numbered Chosen rows (map event_row es) ≡ map event_row es
 have_numbers rows [] = refl
@@ -99,7 +99,7 @@ module _ (text : List ℕ) (terms : List Term) (es : List Event) (p : Puts text 
   abbrev insertion : Insertion book_schema text
   insertion = record { at = 7; layout = schema.events; terms = terms; width = 11; place = refl; command = p.command; plain = p.plain; inert = inert_works book_schema inert schema.events.tree }
 
-  put_at_once : (r : Relations) (old new : State) (count : ℕ) → Drafts old r → Executes text (values_of es) old new (Ok count) → Drafts new (with_all es r)
+  put_at_once : (r : Relations) (old new : State) (count : ℕ) → HoldsUncommitted old r → Executes text (values_of es) old new (Ok count) → HoldsUncommitted new (with_all es r)
   put_at_once r old new count d ran =
       let db = old.now.trees in
       let are = d.tables table.Events in
@@ -108,11 +108,11 @@ module _ (text : List ℕ) (terms : List Term) (es : List Event) (p : Puts text 
       let source = ap (λ (l : List Row). edited db (edit_of db (table_of schema.events) [] Chosen 0 l)) p.source in
       let numbers = ap (put_all rows) (are_numbered rows es) in
       let before = ap (λ (l : List Row). put_all l (map event_row es)) are.rows_are in
-      subst (Drafts new) (all_are es r)
-      (drafted table.Events (all_put es r.events) (map event_row (all_put es r.events)) old new r (record { rows_are = refl; ascending = still_ascending es r.events are.ascending })
+      subst (HoldsUncommitted new) (all_are es r)
+      (holds_replaced table.Events (all_put es r.events) (map event_row (all_put es r.events)) old new r (record { rows_are = refl; ascending = still_ascending es r.events are.ascending })
       (replaces book_schema old new (insertion_edit insertion (values_of es) db) (map event_row (all_put es r.events)) made (source ∙ numbers ∙ before ∙ rows_put es r.events)) d)
 
-pub put_several : (es : List Event) → es ≢ [] → length es ≤ 4 → (r : Relations) (old new : State) (count : ℕ) → Drafts old r → Executes (text_of (length es)) (values_of es) old new (Ok count) → Drafts new (with_all es r)
+pub put_several : (es : List Event) → es ≢ [] → length es ≤ 4 → (r : Relations) (old new : State) (count : ℕ) → HoldsUncommitted old r → Executes (text_of (length es)) (values_of es) old new (Ok count) → HoldsUncommitted new (with_all es r)
 put_several [] some few = absurd (some refl)
 put_several (a ∷ []) some few = put_at_once _ _ _ (puts_one a)
 put_several (a ∷ b ∷ []) some few = put_at_once _ _ _ (puts_two a b)

@@ -16,8 +16,8 @@ use Rattle.sqlite.proofs.Callers.{IsPlain, command_of}
 use Rattle.acd_terms.specs.Lists.{Among}
 use Rattle.acd_terms.specs.declared.record.ConnectionRecord.{ConnectionRecord}
 use Rattle.acd_lemmas.proofs.Lists.{filter_among}
-use Rattle.acd_sql_columns.specs.Descriptions.{behind_both, numbered_row}
-use Rattle.acd_sql_columns.specs.Draft.{Drafts}
+use Rattle.acd_sql_columns.specs.Descriptions.{after_both, numbered_row}
+use Rattle.acd_sql_columns.specs.Transactions.{HoldsUncommitted}
 use Rattle.acd_sql_columns.specs.Relations.{Relations}
 use Rattle.acd_sql_columns.specs.Rows.{connection_values}
 use Rattle.acd_sql_columns.specs.Schema.{book_schema}
@@ -31,7 +31,7 @@ use Rattle.acd_sql_columns.proofs.Statements.{inert_works}
 use Rattle.acd_sql_columns.proofs.Updates.{Updating, updated}
 use Rattle.acd_sql_statements.specs.Refusing.{HasNoConnection}
 
-updates : command_of (understood book_schema UPDATE_CONNECTION.now) ≡ Update connections.place (record { lets = []; body = scan connections.layout.tree by_two (columns_given (behind_both connections)) [] })
+updates : command_of (understood book_schema UPDATE_CONNECTION.now) ≡ Update connections.place (record { lets = []; body = scan connections.layout.tree by_two (columns_given (after_both connections)) [] })
 unfolding understood everything
 updates = refl
 
@@ -44,7 +44,7 @@ updating = record {
   at = connections.place;
   layout = connections.layout;
   terms = by_two;
-  project = columns_given (behind_both connections);
+  project = columns_given (after_both connections);
   place = ap (λ (t : Option MadeTable × ℕ × Command). t.0) connections_heaped.computes;
   command = updates;
   plain = plain;
@@ -59,15 +59,15 @@ none_left : {X : Type 0} (p : X → Bool) (xs left : List X) → filter p xs ≡
 none_left p xs [] is never = is
 none_left p xs (x ∷ left) is never = absurd (let met = filter_among p xs x (subst (Among x) (sym is) (inl refl)) in never x met.0 met.1)
 
-pub none_connected : (x : ConnectionRecord) (r : Relations) (old mid : State) (none : ℕ) → Drafts old r → Executes UPDATE_CONNECTION.now (connection_values x) old mid (Ok none) → none ≡ 0 → HasNoConnection x r
-none_connected x r old mid none drafts ran missed =
+pub none_connected : (x : ConnectionRecord) (r : Relations) (old mid : State) (none : ℕ) → HoldsUncommitted old r → Executes UPDATE_CONNECTION.now (connection_values x) old mid (Ok none) → none ≡ 0 → HasNoConnection x r
+none_connected x r old mid none uncommitted ran missed =
     let rows = old.now.trees connections.layout.tree in
     let passes : Row → Bool = λ (row : Row). list_all (holds (connection_values x ∷ row ∷ [])) by_two in
-    let made = updated book_schema UPDATE_CONNECTION.now updating (connection_values x) old mid none drafts.schema ran in
-    let shows = showing (connection_values x) (columns_given (behind_both connections)) in
+    let made = updated book_schema UPDATE_CONNECTION.now updating (connection_values x) old mid none uncommitted.schema ran in
+    let shows = showing (connection_values x) (columns_given (after_both connections)) in
     let same = length_permutation (map shows (passing (connection_values x) by_two rows)) made.rows made.found in
     let empty : filter passes rows ≡ [] = none_shown shows (filter passes rows) (sym same ∙ (sym made.counted ∙ missed)) in
-    let are = connections_heaped.held r old.now.trees drafts.tables in
+    let are = connections_heaped.held r old.now.trees uncommitted.tables in
     none_left (λ (y : ConnectionRecord). (y.call == x.call) && (y.device == x.device)) r.connections _ refl (λ y among met.
     let at = are.stored y among in
     let row = numbered_row connections at.0 y in

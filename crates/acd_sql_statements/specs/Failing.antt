@@ -25,7 +25,7 @@ use Rattle.acd_sql_columns.specs.Rows.{meta_values}
 abbrev pub IsMemory : Error → Type 0
 IsMemory e = e ≡ SqliteFailure OutOfMemory
 
--- the store's own count of faults rose, or the connection was shut before
+-- the store's count of faults rose, or the connection was shut before
 abbrev pub StoreHasFailed : State → State → Type 0
 StoreHasFailed old new = MoreFaults old.faults new.faults ⊎ (old.is_open ≡ false)
 

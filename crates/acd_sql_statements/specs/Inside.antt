@@ -1,4 +1,5 @@
--- What a statement inside a transaction leaves, and why it fails. The transaction keeps its connection, and a crash leaves what it left before.
+-- A statement inside a transaction: what it leaves, and why it fails. The transaction keeps its connection, and a crash leaves what it left
+-- before.
 use Rattle.std.specs.Prelude.{◌≡◌, ℕ, List, Option, Result, Ok, IfErr, IfOk, IsTrue, OnOk}
 use Rattle.std.specs.Borrow.{MutBor}
 use Rattle.sqlite_value.specs.Order.{Row}
@@ -6,10 +7,10 @@ use Rattle.sqlite_trees.specs.declared.store.Store.{Ghosts}
 use Rattle.sqlite.specs.Held.{Held, state}
 use Rattle.sqlite.specs.State.{HasCleanDisk, Executes}
 use Rattle.sqlite.specs.declared.error.Error.{Error}
-use Rattle.acd_sql_columns.specs.Draft.{Works, RanStatement}
+use Rattle.acd_sql_columns.specs.Transactions.{Works, RanStatement}
 use Rattle.acd_sql_columns.specs.Relations.{Relations}
 use Rattle.acd_sql_statements.specs.Failing.{FailsToWrite}
-use Rattle.acd_sql_statements.specs.Refusing.{IsBlamed}
+use Rattle.acd_sql_statements.specs.Refusing.{HasWriteCause}
 use Rattle.acd_sql_statements.specs.Writing.{LeavesRelations}
 
 -- a text with parameters ran, or it failed for a cause that is known
@@ -31,4 +32,4 @@ pub record WritesRow {S : Type 0} (g : Ghosts S) (old new : MutBor (Held S)) (re
   pub same : new.ghost_name ≡ old.ghost_name
   pub works : Works (state g old.now) (state g new.now)
   pub put : LeavesRelations (state g old.now) (state g new.now) result change
-  pub failed : IsBlamed Refused (state g old.now) (state g new.now) result
+  pub failed : HasWriteCause Refused (state g old.now) (state g new.now) result

@@ -22,7 +22,7 @@ abbrev pub FailsToLook : State → State → Error → Type 0
 FailsToLook old new e = IsMemory e ⊎ (MoreFaults old.faults new.faults ⊎ IsSome old.step_limit)
 
 -- why a look fails at a database of which this is so
-pub record BlamesLook {A : Type 0} (Is : Database → Type 0) (old new : State) (result : Result A Error) : Type 0 where
+pub record HasLookCause {A : Type 0} (Is : Database → Type 0) (old new : State) (result : Result A Error) : Type 0 where
   pub spares : Spares old new
   pub cause : HasCleanDisk new → (d : Database) → HasDatabase old d → Is d → IfErr result (FailsToLook old new)
 
@@ -30,10 +30,10 @@ pub record BlamesLook {A : Type 0} (Is : Database → Type 0) (old new : State) 
 abbrev pub HasGood : (Schema → Type 0) → List Table → Database → Type 0
 HasGood Has tables d = Has d.schema × Every (λ t. is_good_in t d.trees ≡ true) tables
 
-abbrev pub BlamesOver : {S A : Type 0} → (Schema → Type 0) → List Table → Ghosts S → Held S → Held S → Result A Error → Type 0
-BlamesOver Has tables g old new result = BlamesLook (HasGood Has tables) (state g old) (state g new) result
+abbrev pub HasLookCauseOver : {S A : Type 0} → (Schema → Type 0) → List Table → Ghosts S → Held S → Held S → Result A Error → Type 0
+HasLookCauseOver Has tables g old new result = HasLookCause (HasGood Has tables) (state g old) (state g new) result
 
--- what a look sees of each database of such a schema
+-- the view of a look at each database of such a schema
 abbrev pub SeesOver : {S A : Type 0} → (Schema → Type 0) → Ghosts S → Held S → Held S → Result A Error → (Database → A → Type 0) → Type 0
 SeesOver Has g old new result IsAnswer = (d : Database) → Has d.schema → Sees d (state g old) (state g new) result (IsAnswer d)
 

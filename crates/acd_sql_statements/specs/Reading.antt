@@ -19,7 +19,7 @@ use Rattle.acd_terms.specs.Groups.{are_groups}
 use Rattle.acd_book.specs.Content.{Content}
 use Rattle.acd_sql_columns.specs.declared.relations.AgentRow.{AgentRow}
 use Rattle.acd_sql_columns.specs.Descriptions.{Description}
-use Rattle.acd_sql_columns.specs.Draft.{Fits, HoldsContent}
+use Rattle.acd_sql_columns.specs.Transactions.{Fits, HoldsContent}
 use Rattle.acd_sql_columns.specs.Relations.{joined_agent, relations_of}
 use Rattle.acd_sql_columns.specs.Schema.{book_schema}
 use Rattle.acd_sql_columns.specs.Values.{whole_at}
@@ -51,7 +51,7 @@ IsAnswered sql params = (d : Database) → d.schema ≡ book_schema → ¬ (Refu
 
 -- ---- of rows
 
--- one of them stands for no record
+-- one of them represents no record
 abbrev pub HasBad : {R : Type 0} → (Row → Option R) → List Row → Type 0
 HasBad in_row rows = (row : Row) × Has rows row × (in_row row ≡ None)
 
@@ -69,25 +69,26 @@ HasStray further parts = (part : AgentRow) × Has parts part × (are_groups (joi
 
 -- ---- of a content
 
--- what is said of its table's values is said of the records
-abbrev pub IsToldOf : {R : Type 0} → Description R → Type 0
-IsToldOf d = (c : Content) → values_of d.table c ≡ map d.values (d.records (relations_of c))
+-- a statement on its table's values is one on the records
+abbrev pub HasTableValues : {R : Type 0} → Description R → Type 0
+HasTableValues d = (c : Content) → values_of d.table c ≡ map d.values (d.records (relations_of c))
 
 -- no memory, a fault of the store, a limit of steps that was set, or a value out of its range
 abbrev pub FailsToRead : Content → State → State → Error → Type 0
 FailsToRead c old new e = IsMemory e ⊎ (MoreFaults old.faults new.faults ⊎ (IsSome old.step_limit ⊎ (¬ (IsInRange c))))
 
--- what no read changes: its store's count doesn't fall, the limit of steps stays, and between transactions none is begun
+-- no read changes these: its store's count doesn't fall, the limit of steps stays, and between transactions none is
+-- begun
 pub record Spares (old new : State) : Type 0 where
   pub counts : old.faults ≤ new.faults
   pub limit : new.step_limit ≡ old.step_limit
   pub idle : old.in_transaction ≡ false → new.in_transaction ≡ false
 
 -- why a read fails where this holds of the content
-pub record BlamesIf {A : Type 0} (P : Content → Type 0) (old new : State) (result : Result A Error) : Type 0 where
+pub record HasReadCauseIf {A : Type 0} (P : Content → Type 0) (old new : State) (result : Result A Error) : Type 0 where
   pub spares : Spares old new
   pub cause : HasCleanDisk new → (c : Content) → HoldsContent old c → P c → IfErr result (FailsToRead c old new)
 
 -- of any content
-abbrev pub Blames : {A : Type 0} → State → State → Result A Error → Type 0
-Blames old new result = BlamesIf (λ _. ⊤) old new result
+abbrev pub HasReadCause : {A : Type 0} → State → State → Result A Error → Type 0
+HasReadCause old new result = HasReadCauseIf (λ _. ⊤) old new result

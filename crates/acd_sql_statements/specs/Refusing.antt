@@ -10,7 +10,7 @@ use Rattle.acd_terms.specs.declared.record.GroupRecord.{GroupRecord}
 use Rattle.acd_terms.specs.Groups.{further_groups}
 use Rattle.acd_sql_columns.specs.Content.{AreTables, with_part}
 use Rattle.acd_sql_columns.specs.Descriptions.{Description}
-use Rattle.acd_sql_columns.specs.Draft.{Drafts}
+use Rattle.acd_sql_columns.specs.Transactions.{HoldsUncommitted}
 use Rattle.acd_sql_columns.specs.Relations.{Relations, all_put, agent_part, group_part, priority_part}
 use Rattle.acd_sql_columns.specs.Rows.{connection_values, further_values}
 use Rattle.acd_sql_columns.specs.Schema.{book_schema}
@@ -28,7 +28,7 @@ pub record RefusesOn (sql : List ℕ) (params : Row) (limit : Option ℕ) (r : R
   pub tables : AreTables database.trees r
   pub refuses : Refuses limit database sql params
 
--- the further groups of an agent taken out
+-- the further groups of an agent removed
 abbrev pub without_further : ℕ → Relations → Relations
 without_further agent r = with_part table.AgentGroups (filter (λ (p : ℕ × ℕ). not (p.0 == agent)) r.further) r
 
@@ -54,17 +54,17 @@ abbrev pub RefusesPriority : GroupRecord → Option ℕ → Relations → Type 0
 RefusesPriority g limit r =
     RefusesOn DELETE_GROUP_PRIORITY.now (id_value g.device ∷ []) limit r ⊎ RefusesPut group_priority UPDATE_GROUP_PRIORITY.now (priority_part g) limit r
 
--- a group, or its priority behind it
+-- a group, or its priority after it
 abbrev pub RefusesGroup : GroupRecord → Option ℕ → Relations → Type 0
 RefusesGroup g limit r = RefusesPut groups UPDATE_GROUP.now (group_part g) limit r ⊎ RefusesPriority g limit (with_put groups (group_part g) r)
 
--- one of an agent's further groups, behind those before it
+-- one of an agent's further groups, after those before it
 abbrev pub RefusesFurther : ℕ → List ℕ → Option ℕ → Relations → Type 0
 RefusesFurther agent gs limit r =
     (i : ℕ) × (i < length gs) × RefusesOn INSERT_AGENT_GROUP.now (further_values (agent, get_or gs i 0)) limit
     (with_part table.AgentGroups (all_put (map (λ (g : ℕ). (agent, g)) (take i gs)) r.further) r)
 
--- an agent, its further groups that are taken out behind it, or those that are put behind that
+-- an agent, its further groups that are removed after it, or those that are put after that
 abbrev pub RefusesAgent : AgentRecord → Option ℕ → Relations → Type 0
 RefusesAgent a limit r =
     RefusesPut agents UPDATE_AGENT.now (agent_part a) limit r
@@ -76,5 +76,5 @@ abbrev pub FailsToLeave : (Option ℕ → Relations → Type 0) → Relations �
 FailsToLeave R r old new e = IsMemory e ⊎ (StoreHasFailed old new ⊎ R old.step_limit r)
 
 -- it fails by this alone
-abbrev pub IsBlamed : {A : Type 0} → (Option ℕ → Relations → Type 0) → State → State → Result A Error → Type 0
-IsBlamed R old new result = HasCleanDisk new → (r : Relations) → Drafts old r → IfErr result (FailsToLeave R r old new)
+abbrev pub HasWriteCause : {A : Type 0} → (Option ℕ → Relations → Type 0) → State → State → Result A Error → Type 0
+HasWriteCause R old new result = HasCleanDisk new → (r : Relations) → HoldsUncommitted old r → IfErr result (FailsToLeave R r old new)

@@ -9,7 +9,7 @@ use Rattle.acd_sql_statements.specs.Refusing.{RefusesOn}
 use Rattle.acd_sql_statements.specs.Writing.{with_put}
 use Rattle.acd_sql_statements.specs.declared.several.TheConstants.{INSERT_TWO_EVENTS, INSERT_THREE_EVENTS, INSERT_FOUR_EVENTS}
 
--- the values of each, one behind the other
+-- the values of each, one after the other
 abbrev pub values_of : List Event → Row
 values_of [] = []
 values_of (e ∷ es) = events.values e ++ values_of es
@@ -18,7 +18,7 @@ values_of (e ∷ es) = events.values e ++ values_of es
 abbrev pub text_of : ℕ → List ℕ
 text_of n = cond (n == 1) INSERT_EVENT.now (cond (n == 2) INSERT_TWO_EVENTS.now (cond (n == 3) INSERT_THREE_EVENTS.now INSERT_FOUR_EVENTS.now))
 
--- one put behind the other
+-- one put after the other
 abbrev pub with_all : List Event → Relations → Relations
 with_all [] r = r
 with_all (e ∷ es) r = with_all es (with_put events e r)

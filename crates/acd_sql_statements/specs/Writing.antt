@@ -1,4 +1,4 @@
--- What a statement leaves of what the tables held.
+-- A statement: what it leaves of what the tables held before.
 use Rattle.std.specs.Prelude.{ℕ, Result, OnOk}
 use Rattle.std.specs.Ordering.{nat_cmp}
 use Rattle.sqlite.specs.State.{State, HasCleanDisk}
@@ -10,12 +10,12 @@ use Rattle.acd_book.specs.declared.kept.Kept.{Kept}
 use Rattle.acd_sql_columns.specs.Content.{with_part}
 use Rattle.acd_sql_columns.specs.Relations.{Relations}
 use Rattle.acd_sql_columns.specs.declared.tables.Table.TheVariants as table
-use Rattle.acd_sql_columns.specs.Draft.{Drafts}
+use Rattle.acd_sql_columns.specs.Transactions.{HoldsUncommitted}
 use Rattle.acd_sql_columns.specs.Descriptions.{Description}
 
--- where it succeeds, a transaction that saw these relations sees what was made of them
+-- where it succeeds, a transaction that saw these relations sees their new ones
 abbrev pub LeavesRelations : State → State → Result (Unit {0}) Error → (Relations → Relations) → Type 0
-LeavesRelations old new result change = HasCleanDisk new → OnOk result ((r : Relations) → Drafts old r → Drafts new (change r))
+LeavesRelations old new result change = HasCleanDisk new → OnOk result ((r : Relations) → HoldsUncommitted old r → HoldsUncommitted new (change r))
 
 abbrev pub with_put : {R : Type 0} → Description R → R → Relations → Relations
 with_put d x r = d.with_records (put_by (λ y. nat_cmp (d.key x) (d.key y)) (d.records r) x) r

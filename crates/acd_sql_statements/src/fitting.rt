@@ -1,7 +1,7 @@
 //! Which numbers an INTEGER column can hold.
 
 ghost use Rattle.std.specs.Prelude.{◌≡◌, ◌↔◌, IsTrue, IfSome};
-ghost use Rattle.acd_sql_columns.specs.Draft.{Fits};
+ghost use Rattle.acd_sql_columns.specs.Transactions.{Fits};
 ghost use Rattle.acd_sql_columns.specs.Values.{whole_at};
 
 use sqlite::types::ValueRef;

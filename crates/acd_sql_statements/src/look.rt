@@ -1,15 +1,15 @@
-//! The queries by which a connection is looked at before it is taken for a book.
+//! The queries that look at a connection before it is adopted as a book.
 
 ghost use Rattle.std.specs.Prelude.{◌≡◌, ◌∷◌, [], map, codes, IsPermutation};
 ghost use Rattle.std.specs.Str.{bytes_eq};
 ghost use Rattle.sqlite_value.specs.Order.{column};
 ghost use Rattle.acd_sql_columns.specs.declared.tables.Log.TheVariants as log;
 ghost use Rattle.acd_sql_columns.specs.declared.tables.Table.TheVariants as table;
-ghost use Rattle.acd_sql_columns.specs.AnyRows.{has_meta, rows_in, BeginsAsBook, TellsLow};
+ghost use Rattle.acd_sql_columns.specs.AnyRows.{has_meta, rows_in, BeginsAsBook, FindsLow};
 ghost use Rattle.acd_sql_columns.specs.Content.{tree_of};
 ghost use Rattle.acd_sql_columns.specs.Schema.{nine, BeginsSchema};
 ghost use Rattle.acd_sql_statements.specs.Between.{LooksAt, IsBookSchema};
-ghost use Rattle.acd_sql_statements.specs.Looking.{BlamesOver};
+ghost use Rattle.acd_sql_statements.specs.Looking.{HasLookCauseOver};
 
 use crate::read::read;
 use acd_sql_columns::texts::{
@@ -33,30 +33,31 @@ pub fn has_meta(schema: &Schema) -> bool
     schema.tables.as_slice().iter().any(|table| is_meta(table))
 }
 
-/// The versions that the table tells.
+/// The versions that the table holds.
 pub fn version_rows<S: Alter>(conn: &mut Connection<S>) -> Result<Vec<Row>, Error>
     ensures looks { LooksAt BeginsAsBook S.Store conn.old conn.new result
         (λ d rows. IsPermutation
         (map (λ r. column r 2 ∷ []) (d.trees (tree_of table.Meta))) rows.items) }
-    ensures looked { BlamesOver BeginsAsBook [] S.Store conn.old conn.new result }
+    ensures looked { HasLookCauseOver BeginsAsBook [] S.Store conn.old conn.new result }
 {
     read(conn, SELECT_VERSION, &[])
 }
 
-/// The rows of connections in the order in which they stand. Their key isn't the number of a row, so that to put them in its order takes longer than to read them.
+/// The rows of connections in the order of the file. Their key isn't the number of a row, so that to put them in its
+/// order takes longer than to read them.
 pub fn unordered_connection_rows<S: Alter>(conn: &mut Connection<S>) -> Result<Vec<Row>, Error>
     ensures looks { LooksAt (BeginsSchema nine) S.Store conn.old conn.new result
         (λ d rows. IsPermutation (rows_in table.Connections d.trees) rows.items) }
-    ensures looked { BlamesOver (BeginsSchema nine) [] S.Store conn.old conn.new result }
+    ensures looked { HasLookCauseOver (BeginsSchema nine) [] S.Store conn.old conn.new result }
 {
     read(conn, SELECT_STANDING_CONNECTIONS, &[])
 }
 
-/// The rows of further groups, in the order in which they stand.
+/// The rows of further groups, in the order of the file.
 pub fn further_rows<S: Alter>(conn: &mut Connection<S>) -> Result<Vec<Row>, Error>
     ensures looks { LooksAt IsBookSchema S.Store conn.old conn.new result
         (λ d rows. IsPermutation (rows_in table.AgentGroups d.trees) rows.items) }
-    ensures looked { BlamesOver IsBookSchema [] S.Store conn.old conn.new result }
+    ensures looked { HasLookCauseOver IsBookSchema [] S.Store conn.old conn.new result }
 {
     read(conn, SELECT_STANDING_AGENT_GROUPS, &[])
 }
@@ -64,8 +65,8 @@ pub fn further_rows<S: Alter>(conn: &mut Connection<S>) -> Result<Vec<Row>, Erro
 /// An event whose number is below 1.
 pub(crate) fn low_event_rows<S: Alter>(conn: &mut Connection<S>) -> Result<Vec<Row>, Error>
     ensures looks { LooksAt (BeginsSchema nine) S.Store conn.old conn.new result
-        (λ d rows. TellsLow log.Events d.trees rows.items) }
-    ensures looked { BlamesOver (BeginsSchema nine) [] S.Store conn.old conn.new result }
+        (λ d rows. FindsLow log.Events d.trees rows.items) }
+    ensures looked { HasLookCauseOver (BeginsSchema nine) [] S.Store conn.old conn.new result }
 {
     read(conn, SELECT_LOW_EVENT, &[])
 }
@@ -73,8 +74,8 @@ pub(crate) fn low_event_rows<S: Alter>(conn: &mut Connection<S>) -> Result<Vec<R
 /// A kept record whose stamp is below 1.
 pub(crate) fn low_kept_rows<S: Alter>(conn: &mut Connection<S>) -> Result<Vec<Row>, Error>
     ensures looks { LooksAt (BeginsSchema nine) S.Store conn.old conn.new result
-        (λ d rows. TellsLow log.Kept d.trees rows.items) }
-    ensures looked { BlamesOver (BeginsSchema nine) [] S.Store conn.old conn.new result }
+        (λ d rows. FindsLow log.Kept d.trees rows.items) }
+    ensures looked { HasLookCauseOver (BeginsSchema nine) [] S.Store conn.old conn.new result }
 {
     read(conn, SELECT_LOW_KEPT, &[])
 }

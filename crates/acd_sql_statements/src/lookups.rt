@@ -1,13 +1,13 @@
 //! Reads between transactions by key and in pages, as records.
 //!
-//! A number or a limit that no INTEGER column can hold is asked for as the greatest that one can. Nothing
-//! stands above that, and no answer is so long, which is seen to before the rows are handed on.
+//! A query asks for a number or a limit that no INTEGER column can hold as the greatest that one can. No number is
+//! above that, and no answer is so long, which is checked before the rows are handed on.
 
 ghost use Rattle.std.specs.Prelude.{◌≡◌, ◌⊎◌, ◌-◌, ◌^◌, ◌<◌, [], length, map, take, filter, Some, IfErr, IfOk, OnOk};
 ghost use Rattle.acd_model.specs.Scans.{monitor_of};
-ghost use Rattle.acd_book.specs.Content.{events_behind, events_of_monitor, is_told, kept_of, kept_behind};
+ghost use Rattle.acd_book.specs.Content.{events_after, events_of_monitor, is_at_after, kept_of, records_after};
 ghost use Rattle.acd_sql_columns.specs.Rows.{event_values, kept_values};
-ghost use Rattle.acd_sql_columns.specs.Draft.{Fits};
+ghost use Rattle.acd_sql_columns.specs.Transactions.{Fits};
 ghost use Rattle.acd_sql_statements.specs.Failing.{IsMemory};
 ghost use Rattle.acd_sql_statements.specs.Reading.{HasFitting};
 ghost use Rattle.acd_sql_statements.specs.Between.{LooksUp};
@@ -50,7 +50,7 @@ fn event_page<S: Alter>(
     limit: u64,
 ) -> Result<Vec<Row>, Error>
     ensures { LooksUp S.Store conn.old conn.new result
-        (λ c rows. rows.items ≡ map event_values (events_behind c.events number limit)) }
+        (λ c rows. rows.items ≡ map event_values (events_after c.events number limit)) }
 {
     let rows = event_rows(conn, number.min(GREATEST), limit.min(GREATEST))?;
     meant(rows, number, limit)
@@ -64,7 +64,7 @@ fn event_page_at<S: Alter>(
 ) -> Result<Vec<Row>, Error>
     ensures { LooksUp S.Store conn.old conn.new result
         (λ c rows. rows.items
-        ≡ map event_values (take limit (filter (is_told (Some device) number) c.events))) }
+        ≡ map event_values (take limit (filter (is_at_after (Some device) number) c.events))) }
 {
     let rows = event_rows_at(conn, device, number.min(GREATEST), limit.min(GREATEST))?;
     meant(rows, number, limit)
@@ -73,13 +73,13 @@ fn event_page_at<S: Alter>(
 // The rows of the first kept records above a stamp.
 fn kept_page<S: Alter>(conn: &mut Connection<S>, stamp: u64, limit: u64) -> Result<Vec<Row>, Error>
     ensures { LooksUp S.Store conn.old conn.new result
-        (λ c rows. rows.items ≡ map kept_values (kept_behind c.kept stamp limit)) }
+        (λ c rows. rows.items ≡ map kept_values (records_after c.kept stamp limit)) }
 {
     let rows = kept_rows(conn, stamp.min(GREATEST), limit.min(GREATEST))?;
     meant(rows, stamp, limit)
 }
 
-/// What is kept under a key.
+/// The record kept under a key.
 pub fn kept_under<S: Alter>(
     alloc: Global,
     conn: &mut Connection<S>,
@@ -94,28 +94,28 @@ pub fn kept_under<S: Alter>(
 }
 
 /// The first kept records above a stamp.
-pub fn kept_behind<S: Alter>(
+pub fn records_after<S: Alter>(
     alloc: Global,
     conn: &mut Connection<S>,
     stamp: u64,
     limit: usize,
 ) -> Result<Vec<Kept>, Error>
     ensures { LooksUp S.Store conn.old conn.new result
-        (λ c records. records.items ≡ kept_behind c.kept stamp limit) }
+        (λ c records. records.items ≡ records_after c.kept stamp limit) }
 {
     let rows = kept_page(conn, stamp, limit as u64)?;
     records(alloc, &rows)
 }
 
 /// The first events above a number.
-pub fn events_behind<S: Alter>(
+pub fn events_after<S: Alter>(
     alloc: Global,
     conn: &mut Connection<S>,
     number: u64,
     limit: usize,
 ) -> Result<Vec<Event>, Error>
     ensures { LooksUp S.Store conn.old conn.new result
-        (λ c events. events.items ≡ events_behind c.events number limit) }
+        (λ c events. events.items ≡ events_after c.events number limit) }
 {
     let rows = event_page(conn, number, limit as u64)?;
     records(alloc, &rows)
@@ -130,7 +130,8 @@ pub fn events_at<S: Alter>(
     limit: usize,
 ) -> Result<Vec<Event>, Error>
     ensures { LooksUp S.Store conn.old conn.new result
-        (λ c events. events.items ≡ take limit (filter (is_told (Some device) number) c.events)) }
+        (λ c events. events.items ≡ take limit
+        (filter (is_at_after (Some device) number) c.events)) }
 {
     let rows = event_page_at(conn, device, number, limit as u64)?;
     records(alloc, &rows)

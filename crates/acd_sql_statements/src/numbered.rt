@@ -2,13 +2,13 @@
 
 ghost use Rattle.std.specs.Prelude.{◌≡◌, ◌++◌, ◌-◌, IfErr, OnOk};
 ghost use Rattle.sqlite.specs.Held.{state};
-ghost use Rattle.acd_book.specs.Content.{events_behind};
+ghost use Rattle.acd_book.specs.Content.{events_after};
 ghost use Rattle.acd_sql_columns.specs.Finding.{Finds};
 ghost use Rattle.acd_sql_statements.specs.Failing.{IsMemory};
-ghost use Rattle.acd_sql_statements.specs.Picking.{picked, Serves};
-ghost use Rattle.acd_sql_statements.specs.Reading.{Blames};
+ghost use Rattle.acd_sql_statements.specs.Picking.{picked, IsOpenIfClean};
+ghost use Rattle.acd_sql_statements.specs.Reading.{HasReadCause};
 
-use crate::lookups::events_behind;
+use crate::lookups::events_after;
 use acd_terms::Event;
 use sqlite::{Alter, Connection, Error, ErrorCode};
 use std::alloc::Global;
@@ -31,24 +31,24 @@ fn add_numbered<S: Alter>(
     number: u64,
 ) -> Result<(), Error>
     ensures found { Finds (state S.Store conn.old) (state S.Store conn.new) result
-        (λ c done. found.new.items ≡ found.old.items ++ events_behind c.events (number - 1) 1) }
-    ensures blamed { Blames (state S.Store conn.old) (state S.Store conn.new) result }
+        (λ c done. found.new.items ≡ found.old.items ++ events_after c.events (number - 1) 1) }
+    ensures cause { HasReadCause (state S.Store conn.old) (state S.Store conn.new) result }
 {
-    let more = events_behind(alloc, conn, number.saturating_sub(1), 1)?;
+    let more = events_after(alloc, conn, number.saturating_sub(1), 1)?;
     add_all(found, &more)
 }
 
-/// For each of these numbers the first event that isn't below it, over a connection that serves.
+/// For each of these numbers the first event that isn't below it, over a connection that works.
 pub fn events_numbered<S: Alter>(
     alloc: Global,
     conn: &mut Connection<S>,
     numbers: &[u64],
 ) -> Result<Vec<Event>, Error>
-    ensures found { Serves (state S.Store conn.old)
+    ensures found { IsOpenIfClean (state S.Store conn.old)
         → Finds (state S.Store conn.old) (state S.Store conn.new) result
         (λ c events. events.items ≡ picked c.events numbers.now) }
-    ensures blamed { Serves (state S.Store conn.old)
-        → Blames (state S.Store conn.old) (state S.Store conn.new) result }
+    ensures cause { IsOpenIfClean (state S.Store conn.old)
+        → HasReadCause (state S.Store conn.old) (state S.Store conn.new) result }
 {
     let mut found = Vec::new(alloc);
     for number in numbers {

@@ -1,9 +1,9 @@
-//! The statements that put a group and an agent, each with what stands of it in another table.
+//! The statements that put a group and an agent, each with its rows in another table.
 
 ghost use Rattle.std.specs.Prelude.{ℕ, ◌∷◌, [], map};
 ghost use Rattle.acd_terms.specs.Lists.{put_by};
 ghost use Rattle.acd_sql_columns.specs.Content.{with_part};
-ghost use Rattle.acd_sql_columns.specs.Draft.{Fits, FiguresFitColumns};
+ghost use Rattle.acd_sql_columns.specs.Transactions.{Fits, FiguresFitColumns};
 ghost use Rattle.acd_sql_columns.specs.Relations.{pair_order, all_put, with_priority_of, with_group_parts, with_agent_parts};
 ghost use Rattle.acd_sql_columns.specs.declared.texts.TheConstants.{INSERT_AGENT_GROUP, DELETE_AGENT_GROUPS};
 ghost use Rattle.acd_sql_columns.specs.Rows.{further_values};

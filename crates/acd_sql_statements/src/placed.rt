@@ -1,14 +1,14 @@
-//! Whether further groups and priorities belong to what stands beside them.
+//! Whether further groups and priorities belong to the rows beside them.
 
 ghost use Rattle.std.specs.Prelude.{◌≡◌, ◌==◌, ◌∷◌, [], false, nat_le, length, map, IsPermutation};
 ghost use Rattle.std.specs.List.{list_any, list_all};
 ghost use Rattle.acd_sql_columns.specs.declared.tables.Table.TheVariants as table;
 ghost use Rattle.acd_sql_columns.specs.AnyRows.{rows_in, is_beside, is_ranked};
 ghost use Rattle.acd_sql_columns.specs.Decoding.{as_group, as_agent, as_further};
-ghost use Rattle.acd_sql_columns.specs.Relations.{groups_beside, is_above, is_behind, are_behind, are_of_groups};
+ghost use Rattle.acd_sql_columns.specs.Relations.{groups_beside, is_above, is_after, are_after, are_of_groups};
 ghost use Rattle.acd_sql_columns.specs.Schema.{nine, BeginsSchema};
 ghost use Rattle.acd_sql_statements.specs.Between.{LooksAt, IsBookSchema};
-ghost use Rattle.acd_sql_statements.specs.Looking.{BlamesOver};
+ghost use Rattle.acd_sql_statements.specs.Looking.{HasLookCauseOver};
 
 use crate::look::further_rows;
 use crate::reads::records;
@@ -27,16 +27,16 @@ fn is_above(first: Option<DeviceId>, group: DeviceId) -> bool
     }
 }
 
-fn is_behind(agent: &AgentRow, pair: &(AgentId, DeviceId)) -> bool
-    ensures { result ≡ is_behind agent.now pair.now }
+fn is_after(agent: &AgentRow, pair: &(AgentId, DeviceId)) -> bool
+    ensures { result ≡ is_after agent.now pair.now }
 {
     agent.agent == pair.0 && is_above(agent.group, pair.1)
 }
 
 fn has_agent(agents: &[AgentRow], pair: &(AgentId, DeviceId)) -> bool
-    ensures { result ≡ list_any (λ a. is_behind a pair.now) agents.now }
+    ensures { result ≡ list_any (λ a. is_after a pair.now) agents.now }
 {
-    agents.iter().any(|agent| is_behind(agent, pair))
+    agents.iter().any(|agent| is_after(agent, pair))
 }
 
 fn count_of(pairs: &[(AgentId, DeviceId)], agent: AgentId) -> usize
@@ -58,7 +58,7 @@ fn has_few(pairs: &[(AgentId, DeviceId)], agent: &AgentRow) -> bool
 }
 
 fn have_agents(agents: &[AgentRow], pairs: &[(AgentId, DeviceId)]) -> bool
-    ensures { result ≡ list_all (λ p. list_any (λ a. is_behind a p) agents.now) pairs.now }
+    ensures { result ≡ list_all (λ p. list_any (λ a. is_after a p) agents.now) pairs.now }
 {
     pairs.iter().all(|pair| has_agent(agents, pair))
 }
@@ -70,28 +70,28 @@ fn have_few(agents: &[AgentRow], pairs: &[(AgentId, DeviceId)]) -> bool
     agents.iter().all(|agent| has_few(pairs, agent))
 }
 
-fn are_behind(agents: &[AgentRow], pairs: &[(AgentId, DeviceId)]) -> bool
-    ensures { result ≡ are_behind agents.now pairs.now }
+fn are_after(agents: &[AgentRow], pairs: &[(AgentId, DeviceId)]) -> bool
+    ensures { result ≡ are_after agents.now pairs.now }
 {
     have_agents(agents, pairs) && have_few(agents, pairs)
 }
 
-// Whether the pairs belong to the agents that stand there.
-fn are_behind_agents<S: Alter>(
+// Whether the pairs belong to the agents that are there.
+fn are_of_agents_there<S: Alter>(
     alloc: Global,
     conn: &mut Connection<S>,
     pairs: &[(AgentId, DeviceId)],
 ) -> Result<bool, Error>
     ensures looks { LooksAt (BeginsSchema nine) S.Store conn.old conn.new result
-        (λ d placed. placed ≡ are_behind (map as_agent (rows_in table.Agents d.trees)) pairs.now) }
-    ensures looked { BlamesOver (BeginsSchema nine) (table.Agents ∷ [])
+        (λ d placed. placed ≡ are_after (map as_agent (rows_in table.Agents d.trees)) pairs.now) }
+    ensures looked { HasLookCauseOver (BeginsSchema nine) (table.Agents ∷ [])
         S.Store conn.old conn.new result }
 {
     let agents = select::records::<AgentRow, S>(alloc, conn)?;
-    Ok(are_behind(&agents, pairs))
+    Ok(are_after(&agents, pairs))
 }
 
-// The pairs, in the order in which they stand.
+// The pairs, in the order of the file.
 fn further_pairs<S: Alter>(
     alloc: Global,
     conn: &mut Connection<S>,
@@ -99,23 +99,23 @@ fn further_pairs<S: Alter>(
     ensures looks { LooksAt IsBookSchema S.Store conn.old conn.new result
         (λ d pairs. IsPermutation
         (map as_further (rows_in table.AgentGroups d.trees)) pairs.items) }
-    ensures looked { BlamesOver IsBookSchema (table.AgentGroups ∷ [])
+    ensures looked { HasLookCauseOver IsBookSchema (table.AgentGroups ∷ [])
         S.Store conn.old conn.new result }
 {
     let rows = further_rows(conn)?;
     records(alloc, &rows)
 }
 
-/// Whether each further group is behind the first one of its agent, who has seven at most. A value that is out of its range is a
-/// failure of the store.
+/// Whether each further group comes after the first one of its agent, who has seven at most. A value that is out of its
+/// range is a failure of the store.
 pub fn are_further_placed<S: Alter>(alloc: Global, conn: &mut Connection<S>) -> Result<bool, Error>
     ensures looks { LooksAt IsBookSchema S.Store conn.old conn.new result
         (λ d placed. placed ≡ is_beside d.trees) }
-    ensures looked { BlamesOver IsBookSchema (table.AgentGroups ∷ table.Agents ∷ [])
+    ensures looked { HasLookCauseOver IsBookSchema (table.AgentGroups ∷ table.Agents ∷ [])
         S.Store conn.old conn.new result }
 {
     let pairs = further_pairs(alloc, conn)?;
-    are_behind_agents(alloc, conn, &pairs)
+    are_of_agents_there(alloc, conn, &pairs)
 }
 
 fn has_group(groups: &[GroupRow], priority: &GroupPriority) -> bool
@@ -132,7 +132,7 @@ fn are_of_groups(groups: &[GroupRow], priorities: &[GroupPriority]) -> bool
         .all(|priority| has_group(groups, priority))
 }
 
-// Whether the priorities belong to the groups that stand there.
+// Whether the priorities belong to the groups that are there.
 fn are_of_groups_there<S: Alter>(
     alloc: Global,
     conn: &mut Connection<S>,
@@ -141,7 +141,7 @@ fn are_of_groups_there<S: Alter>(
     ensures looks { LooksAt (BeginsSchema nine) S.Store conn.old conn.new result
         (λ d placed. placed
         ≡ are_of_groups (map as_group (rows_in table.Groups d.trees)) priorities.now) }
-    ensures looked { BlamesOver (BeginsSchema nine) (table.Groups ∷ [])
+    ensures looked { HasLookCauseOver (BeginsSchema nine) (table.Groups ∷ [])
         S.Store conn.old conn.new result }
 {
     let groups = select::records::<GroupRow, S>(alloc, conn)?;
@@ -155,7 +155,7 @@ pub fn are_priorities_placed<S: Alter>(
 ) -> Result<bool, Error>
     ensures looks { LooksAt IsBookSchema S.Store conn.old conn.new result
         (λ d placed. placed ≡ is_ranked d.trees) }
-    ensures looked { BlamesOver IsBookSchema (table.GroupPriority ∷ table.Groups ∷ [])
+    ensures looked { HasLookCauseOver IsBookSchema (table.GroupPriority ∷ table.Groups ∷ [])
         S.Store conn.old conn.new result }
 {
     let priorities = select::records::<GroupPriority, S>(alloc, conn)?;

@@ -5,8 +5,8 @@ ghost use Rattle.sqlite.specs.Held.{state};
 ghost use Rattle.acd_terms.specs.Groups.{are_groups};
 ghost use Rattle.acd_sql_columns.specs.Finding.{Finds};
 ghost use Rattle.acd_sql_statements.specs.Failing.{IsMemory};
-ghost use Rattle.acd_sql_statements.specs.Reading.{BlamesIf, HasStray};
-ghost use Rattle.acd_sql_columns.specs.Relations.{group_part, agent_part, priority_of, joined_group, groups_beside, behind_first, joined_agent, further_in};
+ghost use Rattle.acd_sql_statements.specs.Reading.{HasReadCauseIf, HasStray};
+ghost use Rattle.acd_sql_columns.specs.Relations.{group_part, agent_part, priority_of, joined_group, groups_beside, after_first, joined_agent, further_in};
 ghost use Rattle.acd_sql_statements.specs.Between.{LooksUp};
 
 use crate::query::further_rows;
@@ -17,7 +17,7 @@ use acd_terms::{AgentId, AgentRecord, DeviceId, Few, GroupRecord, Groups, Priori
 use sqlite::{Alter, Connection, Error, ErrorCode};
 use std::alloc::Global;
 
-// The priority that stands for a group, and 0 where none does.
+// The priority of a group, and 0 where there is none.
 fn priority_of(priorities: &[GroupPriority], device: DeviceId) -> Priority
     ensures { result ≡ priority_of priorities.now device }
 {
@@ -86,12 +86,12 @@ fn first(group: Option<DeviceId>) -> Few
     }
 }
 
-// The groups of an agent: its first one, and those that stand beside it. None where they are more than eight.
+// The groups of an agent: its first one, and those beside it. None where they are more than eight.
 fn groups_of(part: &AgentRow, further: &[(AgentId, DeviceId)]) -> Option<Few>
     ensures groups { IfSome result (λ groups.
-        groups ≡ behind_first part.now.group (groups_beside further.now part.now.agent)) }
+        groups ≡ after_first part.now.group (groups_beside further.now part.now.agent)) }
     ensures many { result ≡ None
-        → 8 < length (behind_first part.now.group (groups_beside further.now part.now.agent)) }
+        → 8 < length (after_first part.now.group (groups_beside further.now part.now.agent)) }
 {
     let mut groups = first(part.group);
     for item in further {
@@ -166,7 +166,7 @@ fn grouped<S: Alter>(
 ) -> Result<Vec<AgentRecord>, Error>
     ensures found { Finds (state S.Store conn.old) (state S.Store conn.new) result
         (λ c agents. parts.now ≡ map agent_part c.rows.agents → agents.items ≡ c.rows.agents) }
-    ensures blamed { BlamesIf (λ c. parts.now ≡ map agent_part c.rows.agents)
+    ensures cause { HasReadCauseIf (λ c. parts.now ≡ map agent_part c.rows.agents)
         (state S.Store conn.old) (state S.Store conn.new) result }
 {
     let further = further(alloc, conn)?;

@@ -1,8 +1,9 @@
-//! The statements that put a record and take it out. Each works inside a transaction: what it writes is there, and no stop is added.
+//! The statements that put a record and remove it. Each works inside a transaction: its writes are there, and no stop
+//! is added.
 
 ghost use Rattle.std.specs.Prelude.{◌≡◌, ◌∷◌, [], IsSome};
 ghost use Rattle.acd_sql_columns.specs.Descriptions.{the_text};
-ghost use Rattle.acd_sql_columns.specs.Draft.{Fits};
+ghost use Rattle.acd_sql_columns.specs.Transactions.{Fits};
 ghost use Rattle.acd_sql_columns.specs.Values.{id_value};
 ghost use Rattle.acd_sql_statements.specs.Refusing.{RefusesOn, RefusesPut};
 ghost use Rattle.acd_sql_statements.specs.Writing.{with_put, without};

@@ -3,18 +3,18 @@
 ghost use Rattle.std.specs.Prelude.{◌≡◌, [], Some, map, take, filter, option_to_list, IsPermutation};
 ghost use Rattle.sqlite.specs.Held.{state};
 ghost use Rattle.acd_model.specs.Scans.{monitor_of};
-ghost use Rattle.acd_book.specs.Content.{events_behind, is_told, kept_of, kept_behind};
+ghost use Rattle.acd_book.specs.Content.{events_after, is_at_after, kept_of, records_after};
 ghost use Rattle.acd_sql_columns.specs.Relations.{further_in};
 ghost use Rattle.acd_sql_columns.specs.Rows.{further_values, connection_values, monitor_values, event_values, kept_values};
 ghost use Rattle.acd_sql_columns.specs.declared.tables.Log.TheVariants as log;
 ghost use Rattle.acd_sql_columns.specs.declared.tables.Table.TheVariants as table;
 ghost use Rattle.acd_sql_columns.specs.AnyRows.{rows_in, IsPageRows};
-ghost use Rattle.acd_sql_columns.specs.Draft.{Fits};
+ghost use Rattle.acd_sql_columns.specs.Transactions.{Fits};
 ghost use Rattle.acd_sql_columns.specs.Finding.{Finds};
 ghost use Rattle.acd_sql_columns.specs.Schema.{nine, BeginsSchema};
-ghost use Rattle.acd_sql_statements.specs.Reading.{Blames};
+ghost use Rattle.acd_sql_statements.specs.Reading.{HasReadCause};
 ghost use Rattle.acd_sql_statements.specs.Between.{LooksUp, SeesOf};
-ghost use Rattle.acd_sql_statements.specs.Looking.{BlamesOver};
+ghost use Rattle.acd_sql_statements.specs.Looking.{HasLookCauseOver};
 
 use crate::read::read;
 use acd_sql_columns::bind;
@@ -43,11 +43,11 @@ pub fn event_rows<S: Alter>(
     requires number { Fits number }
     requires limit { Fits limit }
     ensures found { Finds (state S.Store conn.old) (state S.Store conn.new) result
-        (λ c rows. rows.items ≡ map event_values (events_behind c.events number limit)) }
+        (λ c rows. rows.items ≡ map event_values (events_after c.events number limit)) }
     ensures seen { SeesOf (BeginsSchema nine) S.Store conn.old conn.new result
         (λ d rows. IsPageRows log.Events number limit d.trees rows.items) }
-    ensures blamed { Blames (state S.Store conn.old) (state S.Store conn.new) result }
-    ensures looked { BlamesOver (BeginsSchema nine) [] S.Store conn.old conn.new result }
+    ensures cause { HasReadCause (state S.Store conn.old) (state S.Store conn.new) result }
+    ensures looked { HasLookCauseOver (BeginsSchema nine) [] S.Store conn.old conn.new result }
 {
     read(
         conn,
@@ -65,11 +65,11 @@ pub fn kept_rows<S: Alter>(
     requires stamp { Fits stamp }
     requires limit { Fits limit }
     ensures found { Finds (state S.Store conn.old) (state S.Store conn.new) result
-        (λ c rows. rows.items ≡ map kept_values (kept_behind c.kept stamp limit)) }
+        (λ c rows. rows.items ≡ map kept_values (records_after c.kept stamp limit)) }
     ensures seen { SeesOf (BeginsSchema nine) S.Store conn.old conn.new result
         (λ d rows. IsPageRows log.Kept stamp limit d.trees rows.items) }
-    ensures blamed { Blames (state S.Store conn.old) (state S.Store conn.new) result }
-    ensures looked { BlamesOver (BeginsSchema nine) [] S.Store conn.old conn.new result }
+    ensures cause { HasReadCause (state S.Store conn.old) (state S.Store conn.new) result }
+    ensures looked { HasLookCauseOver (BeginsSchema nine) [] S.Store conn.old conn.new result }
 {
     read(
         conn,
@@ -103,7 +103,7 @@ pub fn connection_rows<S: Alter>(conn: &mut Connection<S>) -> Result<Vec<Row>, E
         (λ c rows. rows.items ≡ map connection_values c.rows.connections) }
     ensures seen { SeesOf (BeginsSchema nine) S.Store conn.old conn.new result
         (λ d rows. IsPermutation (rows_in table.Connections d.trees) rows.items) }
-    ensures blamed { Blames (state S.Store conn.old) (state S.Store conn.new) result }
+    ensures cause { HasReadCause (state S.Store conn.old) (state S.Store conn.new) result }
 {
     read(conn, SELECT_CONNECTIONS, &[])
 }
@@ -127,7 +127,7 @@ pub fn event_rows_at<S: Alter>(
     requires limit { Fits limit }
     ensures { LooksUp S.Store conn.old conn.new result
         (λ c rows. rows.items
-        ≡ map event_values (take limit (filter (is_told (Some device) number) c.events))) }
+        ≡ map event_values (take limit (filter (is_at_after (Some device) number) c.events))) }
 {
     read(
         conn,

@@ -1,8 +1,8 @@
 //! Reads between transactions: they change nothing, but that a failure may shut the connection.
 
 ghost use Rattle.std.specs.Prelude.{◌≡◌, ◌∷◌, [], IfOk, IsPermutation, ⊤};
-ghost use Rattle.acd_sql_statements.specs.Reading.{IsAnswered, RefusesToShow, Blames};
-ghost use Rattle.acd_sql_statements.specs.Looking.{BlamesLook, BlamesOver};
+ghost use Rattle.acd_sql_statements.specs.Reading.{IsAnswered, RefusesToShow, HasReadCause};
+ghost use Rattle.acd_sql_statements.specs.Looking.{HasLookCause, HasLookCauseOver};
 ghost use Rattle.sqlite.specs.Given.{IsPlain};
 ghost use Rattle.sqlite.specs.Listing.{understood};
 ghost use Rattle.sqlite.specs.Effect.{Database};
@@ -15,7 +15,7 @@ ghost use Rattle.acd_sql_columns.specs.Relations.{meta_of};
 ghost use Rattle.acd_sql_columns.specs.Rows.{meta_shown};
 ghost use Rattle.acd_sql_columns.specs.AnyRows.{rows_in};
 ghost use Rattle.acd_sql_columns.specs.declared.tables.Table.TheVariants as table;
-ghost use Rattle.acd_sql_columns.specs.Draft.{HoldsContent, Quiet, NoStop};
+ghost use Rattle.acd_sql_columns.specs.Transactions.{HoldsContent, Quiet, NoStop};
 ghost use Rattle.acd_sql_columns.specs.Finding.{Finds};
 ghost use Rattle.acd_sql_columns.specs.Seeing.{Sees};
 ghost use Rattle.acd_sql_statements.specs.Between.{SeesOf, IsUp};
@@ -24,7 +24,7 @@ use acd_sql_columns::texts::SELECT_META;
 use sqlite::types::ValueRef;
 use sqlite::{Alter, Connection, Error, Row};
 
-/// Tells whether the store still serves.
+/// Finds whether the store still works.
 pub fn probe<S: Alter>(conn: &mut Connection<S>) -> Result<(), Error>
     ensures up { IsUp (state S.Store conn.new) result }
     ensures quiet { Quiet (state S.Store conn.old) (state S.Store conn.new) }
@@ -32,8 +32,8 @@ pub fn probe<S: Alter>(conn: &mut Connection<S>) -> Result<(), Error>
         → NoStop (state S.Store conn.old) (state S.Store conn.new) }
     ensures seen { (d : Database)
         → Sees d (state S.Store conn.old) (state S.Store conn.new) result (λ _. ⊤) }
-    ensures blamed { Blames (state S.Store conn.old) (state S.Store conn.new) result }
-    ensures looked { BlamesLook (λ _. ⊤)
+    ensures cause { HasReadCause (state S.Store conn.old) (state S.Store conn.new) result }
+    ensures looked { HasLookCause (λ _. ⊤)
         (state S.Store conn.old) (state S.Store conn.new) result }
 {
     conn.query_row("SELECT 1", &[])?;
@@ -57,9 +57,9 @@ pub(crate) fn read<S: Alter>(
     ensures seen { SeesOf (λ schema. IsPlain (understood schema sql.now)) S.Store conn.old conn.new
         result (λ d rows. Shown sql.now (bound params.now)
         (state S.Store conn.old) (state S.Store conn.new) rows.items) }
-    ensures blamed { IsAnswered sql.now (bound params.now)
-        → Blames (state S.Store conn.old) (state S.Store conn.new) result }
-    ensures looked { BlamesLook (λ d. ¬ (RefusesToShow d sql.now (bound params.now)))
+    ensures cause { IsAnswered sql.now (bound params.now)
+        → HasReadCause (state S.Store conn.old) (state S.Store conn.new) result }
+    ensures looked { HasLookCause (λ d. ¬ (RefusesToShow d sql.now (bound params.now)))
         (state S.Store conn.old) (state S.Store conn.new) result }
 {
     conn.query_all(sql, params)
@@ -71,8 +71,8 @@ pub fn meta_rows<S: Alter>(conn: &mut Connection<S>) -> Result<Vec<Row>, Error>
         (λ c rows. rows.items ≡ meta_shown (meta_of c.rows) ∷ []) }
     ensures seen { SeesOf (BeginsSchema nine) S.Store conn.old conn.new result
         (λ d rows. IsPermutation (rows_in table.Meta d.trees) rows.items) }
-    ensures blamed { Blames (state S.Store conn.old) (state S.Store conn.new) result }
-    ensures looked { BlamesOver (BeginsSchema nine) [] S.Store conn.old conn.new result }
+    ensures cause { HasReadCause (state S.Store conn.old) (state S.Store conn.new) result }
+    ensures looked { HasLookCauseOver (BeginsSchema nine) [] S.Store conn.old conn.new result }
 {
     read(conn, SELECT_META, &[])
 }

@@ -29,7 +29,7 @@ type Plan = (Vec<GroupRecord>, Vec<StationRecord>, Vec<AgentRecord>);
 
 type Traffic = (Vec<CallRecord>, Vec<ConnectionRecord>, Vec<MonitorRecord>);
 
-/// A record that a row stands for, where each value is in its range.
+/// A record that a row represents, where each value is in its range.
 pub(crate) trait Decoded: Drop {
     ghost in_row: { Values → Option Self };
 
@@ -45,7 +45,7 @@ impl Decoded for ConnectionRecord {
     }
 }
 
-// An agent and a group that it has behind its first.
+// An agent and a group after its first.
 impl Decoded for (AgentId, DeviceId) {
     ghost in_row = { further_in };
 
@@ -89,7 +89,7 @@ fn read_one<R: Decoded>(alloc: Global, row: &Row) -> Result<R, Error>
     }
 }
 
-/// Adds a record behind others.
+/// Adds a record after others.
 pub(crate) fn add<R: Drop>(records: &mut Vec<R>, one: R) -> Result<(), Error>
     ensures added { OnOk result (records.new.items ≡ records.old.items ++ one ∷ []) }
     ensures full { IfErr result IsMemory }
@@ -125,7 +125,7 @@ pub(crate) fn first<R: Decoded>(alloc: Global, rows: &[Row]) -> Result<Option<R>
     }
 }
 
-// What the one row of the table holds. Neither more rows nor a value out of its range is the book's.
+// The content of the table's one row. Neither more rows nor a value out of its range is the book's.
 fn only_meta(rows: &[Row]) -> Result<Meta, Error>
     ensures found { IfOk result (λ meta. (m : MetaRow) → rows.now ≡ meta_shown m ∷ [] → meta ≡ m) }
     ensures bad { IfErr result (λ e. (m : MetaRow) → rows.now ≡ meta_shown m ∷ []

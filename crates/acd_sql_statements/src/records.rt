@@ -34,9 +34,9 @@ impl Stored for GroupRow {
         decode::group_in(row)
     }
 
-    ghost use Rattle.acd_sql_columns.proofs.TablesFiled.{groups_filed};
+    ghost use Rattle.acd_sql_columns.proofs.TablesDescribed.{groups_described};
 
-    ghost filed = { groups_filed };
+    ghost described = { groups_described };
 
     ghost reads = { λ r. tt };
 }
@@ -63,9 +63,9 @@ impl Stored for GroupPriority {
         decode::priority_in(row)
     }
 
-    ghost use Rattle.acd_sql_columns.proofs.TablesFiled.{priorities_filed};
+    ghost use Rattle.acd_sql_columns.proofs.TablesDescribed.{priorities_described};
 
-    ghost filed = { priorities_filed };
+    ghost described = { priorities_described };
 
     ghost reads = { λ r. tt };
 }
@@ -92,9 +92,9 @@ impl Stored for StationRecord {
         decode::station_in(row)
     }
 
-    ghost use Rattle.acd_sql_columns.proofs.TablesFiled.{stations_filed};
+    ghost use Rattle.acd_sql_columns.proofs.TablesDescribed.{stations_described};
 
-    ghost filed = { stations_filed };
+    ghost described = { stations_described };
 
     ghost reads = { λ r. tt };
 }
@@ -121,9 +121,9 @@ impl Stored for AgentRow {
         decode::agent_in(row)
     }
 
-    ghost use Rattle.acd_sql_columns.proofs.TablesFiled.{agents_filed};
+    ghost use Rattle.acd_sql_columns.proofs.TablesDescribed.{agents_described};
 
-    ghost filed = { agents_filed };
+    ghost described = { agents_described };
 
     ghost reads = { λ r. tt };
 }
@@ -150,9 +150,9 @@ impl Stored for CallRecord {
         decode::call_in(row)
     }
 
-    ghost use Rattle.acd_sql_columns.proofs.TablesFiled.{calls_filed};
+    ghost use Rattle.acd_sql_columns.proofs.TablesDescribed.{calls_described};
 
-    ghost filed = { calls_filed };
+    ghost described = { calls_described };
 
     ghost reads = { λ r. tt };
 }
@@ -179,9 +179,9 @@ impl Stored for MonitorRecord {
         decode::monitor_in(row)
     }
 
-    ghost use Rattle.acd_sql_columns.proofs.TablesFiled.{monitors_filed};
+    ghost use Rattle.acd_sql_columns.proofs.TablesDescribed.{monitors_described};
 
-    ghost filed = { monitors_filed };
+    ghost described = { monitors_described };
 
     ghost reads = { λ r. tt };
 }

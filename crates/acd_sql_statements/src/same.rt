@@ -14,7 +14,7 @@ use sqlite_sql::ops::BinaryOp;
 use sqlite_value::keys::Order;
 use sqlite_value::value::Value;
 
-// What may be the same as another.
+// Values that may be the same as others.
 trait Same {
     // it has nothing that no table of a book has
     ghost is_plain: { Self → Bool };
@@ -78,7 +78,7 @@ fn leaf_of(op: &Op) -> Option<Leaf>
     }
 }
 
-// What the term at a place is, if it is no term of others. Beyond the nodes, and where none may be read, it is NULL.
+// The term at a place, if it is no term of others. Beyond the nodes, and where none may be read, it is NULL.
 fn leaf_at(ops: &[Op], depth: usize, at: usize) -> Option<Leaf>
     ensures { result ≡ leaf_of (term_to ops.now depth at) }
 {
@@ -110,9 +110,9 @@ fn is_same_term(a: &[Op], depth: usize, at: usize, b: &[Op], other: usize, there
     ensures back { IsTrue (is_plain_term (term_to b.now other there))
         → term_to a.now depth at ≡ term_to b.now other there → IsTrue result }
 {
-    let own = leaf_at(b, other, there);
-    if own.is_some() {
-        return leaf_at(a, depth, at) == own;
+    let leaf = leaf_at(b, other, there);
+    if leaf.is_some() {
+        return leaf_at(a, depth, at) == leaf;
     }
     match binary_at(b, other, there) {
         None => false,

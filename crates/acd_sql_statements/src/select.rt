@@ -2,14 +2,14 @@
 
 ghost use Rattle.std.specs.Prelude.{◌≡◌, ◌∷◌, [], Some, map, IfErr, IfOk, IsSome, IsPermutation};
 ghost use Rattle.sqlite.specs.Held.{state};
-ghost use Rattle.acd_sql_columns.specs.AnyRows.{rows_in, TellsGood};
+ghost use Rattle.acd_sql_columns.specs.AnyRows.{rows_in, FindsGood};
 ghost use Rattle.acd_sql_columns.specs.Finding.{Finds};
 ghost use Rattle.acd_sql_columns.specs.Relations.{relations_of};
 ghost use Rattle.acd_sql_columns.specs.Schema.{BeginsSchema};
 ghost use Rattle.acd_sql_columns.specs.Descriptions.{are_read, the_text};
-ghost use Rattle.acd_sql_statements.specs.Reading.{IsAnswered, IsToldOf, FailsToDecode, Blames};
+ghost use Rattle.acd_sql_statements.specs.Reading.{IsAnswered, HasTableValues, FailsToDecode, HasReadCause};
 ghost use Rattle.acd_sql_statements.specs.Between.{LooksAt, SeesOf};
-ghost use Rattle.acd_sql_statements.specs.Looking.{BlamesOver, IsAnsweredOver};
+ghost use Rattle.acd_sql_statements.specs.Looking.{HasLookCauseOver, IsAnsweredOver};
 
 use crate::read::read;
 use crate::reads::add;
@@ -31,10 +31,10 @@ pub fn rows<R: Stored, S: Alter>(conn: &mut Connection<S>) -> Result<Vec<Row>, E
         (λ c rows. rows.items ≡ map R.descr.values (R.descr.records (relations_of c))) }
     ensures seen { SeesOf (BeginsSchema R.descr.base) S.Store conn.old conn.new result
         (λ d rows. IsPermutation (rows_in R.descr.table d.trees) rows.items) }
-    ensures blamed { IsAnswered (the_text R.descr.select) []
-        → Blames (state S.Store conn.old) (state S.Store conn.new) result }
+    ensures cause { IsAnswered (the_text R.descr.select) []
+        → HasReadCause (state S.Store conn.old) (state S.Store conn.new) result }
     ensures looked { IsAnsweredOver R.descr.base (the_text R.descr.select) []
-        → BlamesOver (BeginsSchema R.descr.base) [] S.Store conn.old conn.new result }
+        → HasLookCauseOver (BeginsSchema R.descr.base) [] S.Store conn.old conn.new result }
 {
     read(conn, select_text::<R>(), &[])
 }
@@ -73,10 +73,10 @@ pub fn records<R: Stored, S: Alter>(
     ensures seen { SeesOf (BeginsSchema R.descr.base) S.Store conn.old conn.new result
         (λ d found. IsPermutation
         (rows_in R.descr.table d.trees) (map R.descr.values found.items)) }
-    ensures blamed { IsAnswered (the_text R.descr.select) [] → IsToldOf R.descr
-        → Blames (state S.Store conn.old) (state S.Store conn.new) result }
+    ensures cause { IsAnswered (the_text R.descr.select) [] → HasTableValues R.descr
+        → HasReadCause (state S.Store conn.old) (state S.Store conn.new) result }
     ensures looked { IsAnsweredOver R.descr.base (the_text R.descr.select) []
-        → BlamesOver (BeginsSchema R.descr.base) (R.descr.table ∷ [])
+        → HasLookCauseOver (BeginsSchema R.descr.base) (R.descr.table ∷ [])
         S.Store conn.old conn.new result }
 {
     let rows = rows::<R, S>(conn)?;
@@ -94,9 +94,9 @@ fn are_read<R: Stored>(rows: &[Row]) -> bool
 pub fn is_good<R: Stored, S: Alter>(conn: &mut Connection<S>) -> Result<bool, Error>
     requires selects { IsSome R.descr.select }
     ensures looks { LooksAt (BeginsSchema R.descr.base) S.Store conn.old conn.new result
-        (λ d good. TellsGood R.descr.table d.trees good) }
+        (λ d good. FindsGood R.descr.table d.trees good) }
     ensures looked { IsAnsweredOver R.descr.base (the_text R.descr.select) []
-        → BlamesOver (BeginsSchema R.descr.base) [] S.Store conn.old conn.new result }
+        → HasLookCauseOver (BeginsSchema R.descr.base) [] S.Store conn.old conn.new result }
 {
     let rows = rows::<R, S>(conn)?;
     Ok(are_read::<R>(&rows))

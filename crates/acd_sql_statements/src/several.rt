@@ -69,7 +69,7 @@ fn fill(values: &mut [ValueRef<'static>], at: usize, event: &Event) -> usize
     end
 }
 
-// The values of the events, one event behind the other, and NULL behind them.
+// The values of the events, one event after the other, and NULL after them.
 fn values_of(items: &[Event]) -> [ValueRef<'static>; MOST * COLUMNS]
     requires fits { Every events.Fits items.now }
     requires few { length items.now ≤ 4 }

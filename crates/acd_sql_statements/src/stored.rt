@@ -1,4 +1,5 @@
-//! What is asked of a record that a table holds. What the table is `acd_sql_columns` says, with the evidence that its texts do what they say.
+//! The operations needed of a record that a table holds. `acd_sql_columns` describes the table, with the evidence that
+//! its texts do what they say.
 
 ghost use Rattle.std.specs.Prelude.{◌≡◌};
 ghost use Rattle.acd_sql_columns.specs.Descriptions.{Description, AreTexts};
@@ -7,7 +8,7 @@ ghost use Rattle.acd_sql_statements.specs.Inside.{CountsRows};
 use acd_sql_columns::texts::Texts;
 use sqlite::{Alter, Error, Row, Transaction};
 
-/// A record with a table of its own, whose key is the number of its row.
+/// A record with a separate table, whose key is the number of its row.
 pub trait Stored: Drop {
     ghost descr: { Description Self };
 
@@ -25,9 +26,9 @@ pub trait Stored: Drop {
     fn decode(row: &Row) -> Option<Self>
         ensures { result ≡ descr.in_row row.now };
 
-    ghost use Rattle.acd_sql_columns.proofs.Filed.{Filed};
+    ghost use Rattle.acd_sql_columns.proofs.Described.{Described};
 
-    ghost filed: { Filed descr };
+    ghost described: { Described descr };
 
     ghost reads: { (r : Self) → descr.IsRead r };
 }

@@ -1,5 +1,6 @@
-//! The statements of the limits and the counters, of kept records and of connections, one a function. Each works inside a
-//! transaction: what it writes is there, and no stop is added. Those of events are in `several`, those of every other table in `put`.
+//! The statements of the limits and the counters, of kept records and of connections, one a function. Each works inside
+//! a transaction: its writes are there, and no stop is added. Those of events are in `several`, those of every other
+//! table in `put`.
 
 ghost use Rattle.std.specs.Prelude.{◌≡◌, ◌∷◌, [], IfSome, IfErr, IsTrue, OnOk};
 ghost use Rattle.sqlite.specs.State.{HasCleanDisk};
@@ -8,10 +9,10 @@ ghost use Rattle.sqlite.specs.Values.{bound};
 ghost use Rattle.acd_codec.specs.RequestTexts.{request_text};
 ghost use Rattle.acd_book.specs.Content.{empty_content};
 ghost use Rattle.acd_sql_columns.specs.Schema.{book_schema};
-ghost use Rattle.acd_sql_columns.specs.Making.{Builds, no_rows, TellsSecond};
+ghost use Rattle.acd_sql_columns.specs.Making.{Builds, no_rows, SetsSecondVersion};
 ghost use Rattle.acd_sql_columns.specs.Relations.{relations_of};
 ghost use Rattle.acd_sql_columns.specs.Content.{with_part};
-ghost use Rattle.acd_sql_columns.specs.Draft.{Drafts, Works, Fits, MetaFits};
+ghost use Rattle.acd_sql_columns.specs.Transactions.{HoldsUncommitted, Works, Fits, MetaFits};
 ghost use Rattle.acd_sql_columns.specs.declared.texts.TheConstants.{INSERT_KEPT, UPDATE_META, UPDATE_VERSION, INSERT_CONNECTION, DELETE_CONNECTION};
 ghost use Rattle.acd_sql_columns.specs.Rows.{kept_values, meta_shown, connection_values};
 ghost use Rattle.acd_sql_columns.specs.Values.{id_value};
@@ -88,7 +89,7 @@ pub fn insert_meta<S: Alter>(tx: &mut Transaction<'_, S>, meta: &Meta) -> Result
     ensures works { Works (state S.Store tx.old.conn.now) (state S.Store tx.new.conn.now) }
     ensures start { HasCleanDisk (state S.Store tx.new.conn.now) → OnOk result
         (Builds (state S.Store tx.old.conn.now) book_schema (no_rows 11)
-        → Drafts (state S.Store tx.new.conn.now)
+        → HoldsUncommitted (state S.Store tx.new.conn.now)
         (with_part Table.Meta meta.now (relations_of (empty_content meta.now.limits)))) }
     ensures failed { HasCleanDisk (state S.Store tx.new.conn.now)
         → IsTrue (state S.Store tx.old.conn.now).in_transaction → IfErr result (FailsToStart
@@ -106,13 +107,13 @@ pub fn set_meta<S: Alter>(tx: &mut Transaction<'_, S>, meta: &Meta) -> Result<()
     write(tx, UPDATE_META, &encode::counters_values(meta))
 }
 
-/// Tells version 2 in tables of version 1, which the new ones lie behind.
-pub fn tell_second<S: Alter>(tx: &mut Transaction<'_, S>) -> Result<(), Error>
+/// Writes version 2 into tables of version 1, which the new ones follow.
+pub fn set_second_version<S: Alter>(tx: &mut Transaction<'_, S>) -> Result<(), Error>
     ensures same { tx.new.conn.ghost_name ≡ tx.old.conn.ghost_name }
     ensures works { Works (state S.Store tx.old.conn.now) (state S.Store tx.new.conn.now) }
-    ensures told { HasCleanDisk (state S.Store tx.new.conn.now) → OnOk result
+    ensures version { HasCleanDisk (state S.Store tx.new.conn.now) → OnOk result
         ((state S.Store tx.old.conn.now).now.schema ≡ book_schema
-        → TellsSecond (state S.Store tx.old.conn.now) (state S.Store tx.new.conn.now)) }
+        → SetsSecondVersion (state S.Store tx.old.conn.now) (state S.Store tx.new.conn.now)) }
     ensures failed { HasCleanDisk (state S.Store tx.new.conn.now)
         → IsTrue (state S.Store tx.old.conn.now).in_transaction
         → IfErr result (FailsToWrite (state S.Store tx.old.conn.now)

@@ -11,15 +11,15 @@ use Rattle.acd_book.specs.Content.{Content, Within}
 use Rattle.acd_book.specs.Order.{IsOrdered as IsInOrder}
 use Rattle.acd_sql_schema.specs.declared.fault.AdoptFault.{AdoptFault}
 use Rattle.acd_sql_schema.specs.declared.fault.AdoptFault.TheVariants.{WrongVersion, BadRow, NoMemory, Store}
-use Rattle.acd_sql_columns.specs.AnyRows.{IsFiled, IsFiledAs, HaveAllColumns}
+use Rattle.acd_sql_columns.specs.AnyRows.{IsCanonical, IsCanonicalAs, HaveAllColumns}
 use Rattle.acd_sql_schema.specs.declared.fault.Found.{Found}
 use Rattle.acd_sql_schema.specs.declared.fault.Found.TheVariants.{Book, Fault}
 use Rattle.acd_sql_statements.specs.InRange.{IsInRange}
 use Rattle.acd_sql_schema.specs.Inspecting.{IsFound, IsOfBook, IsAdoptFaultOf, IsAdoptStoreFault, IsFoundFaultOf, adopt_fault_of}
-use Rattle.acd_sql_schema.specs.Migrating.{FailsToMigrate, IsMigration, IsMade, IsRestored, IsUntold, MayAlter}
+use Rattle.acd_sql_schema.specs.Migrating.{FailsToMigrate, IsMigration, IsMade, IsRestored, IsVersionRefused, MayAlter}
 use Rattle.std.proofs.lemmas.Bool.{cases_Bool}
 use Rattle.acd_sql_statements.specs.Failing.{IsMemory}
-use Rattle.acd_sql_statements.specs.Looking.{BlamesLook, FailsToLook}
+use Rattle.acd_sql_statements.specs.Looking.{HasLookCause, FailsToLook}
 use Rattle.acd_sql_columns.specs.declared.tables.Table.TheVariants as table
 use Rattle.acd_sql_columns.specs.declared.tables.Version.{Version}
 use Rattle.acd_sql_columns.specs.declared.tables.Version.TheVariants as version
@@ -36,7 +36,7 @@ use Rattle.acd_sqlbook.proofs.BookStates.{Settles, Stays}
 use Rattle.acd_sqlbook.proofs.Caused.{never_limited}
 use Rattle.acd_sql_columns.proofs.Decoded.{decoded, decoded_as}
 use Rattle.acd_sql_columns.proofs.Frames.{none_heaped}
-use Rattle.acd_sql_schema.proofs.Contents.{content_in, filed_in, filed_by_store}
+use Rattle.acd_sql_schema.proofs.Contents.{content_in, canonical_in, canonical_by_store}
 use Rattle.acd_sqlbook.proofs.Rising.{stored_ordered}
 
 -- ---- what a migration leaves of a content
@@ -45,7 +45,7 @@ apart_schemas : book_schema ≡ old_schema → ⊥
 apart_schemas e = let many : ◌≡◌ {A = ℕ} 11 9 = ap (λ (s : Schema). length s.tables) e in cc many
 
 pub migrated_encodes : (old new : Trees) (c : Content) → EncodesAs version.First old c → IsMigration old new → Encodes new c
-migrated_encodes old new c is m table.Meta = m.told (meta_of c.rows) (is.tables table.Meta tt)
+migrated_encodes old new c is m table.Meta = m.version_is (meta_of c.rows) (is.tables table.Meta tt)
 migrated_encodes old new c is m table.Groups = subst (λ rows. Stores table.Groups rows (part table.Groups (relations_of c))) (sym (m.kept table.Groups tt (λ e. cc e))) (is.tables table.Groups tt)
 migrated_encodes old new c is m table.Stations = subst (λ rows. Stores table.Stations rows (part table.Stations (relations_of c))) (sym (m.kept table.Stations tt (λ e. cc e))) (is.tables table.Stations tt)
 migrated_encodes old new c is m table.Agents = subst (λ rows. Stores table.Agents rows (part table.Agents (relations_of c))) (sym (m.kept table.Agents tt (λ e. cc e))) (is.tables table.Agents tt)
@@ -60,34 +60,34 @@ migrated_encodes old new c is m table.GroupPriority = subst (Stores table.GroupP
 second_encodes : (db : Trees) (c : Content) → EncodesAs version.Second db c → Encodes db c
 second_encodes db c is = λ t. is.tables t tt
 
-second_filed : (d : Database) (c : Content) → d.schema ≡ book_schema → Encodes d.trees c → IsFiled d
-second_filed d c is stored version.First e = absurd (apart_schemas (sym is ∙ e))
-second_filed d c is stored version.Second e = filed_in d.trees c stored
+second_canonical : (d : Database) (c : Content) → d.schema ≡ book_schema → Encodes d.trees c → IsCanonical d
+second_canonical d c is stored version.First e = absurd (apart_schemas (sym is ∙ e))
+second_canonical d c is stored version.Second e = canonical_in d.trees c stored
 
--- ---- the connection as a book, behind the look
+-- ---- the connection as a book, after the look
 
 module _ (old mid : State) (settles : Settles old) (k : HasCleanDisk mid) where
-  had_before : (r : Result Found Error) → HasLooked old mid r IsFound → IsTrue old.is_open → HasDatabase old old.now
-  had_before r h was = record { is_open = was; now = refl; committed = sym (h.settled was) }
+  old_database : (r : Result Found Error) → HasLooked old mid r IsFound → IsTrue old.is_open → HasDatabase old old.now
+  old_database r h was = record { is_open = was; now = refl; committed = sym (h.settled was) }
 
   pub untouched : (r : Result Found Error) → HasLooked old mid r IsFound → IsUntouched old mid
-  untouched r h = record { same = λ up. h.seen.same k (had_before r h (h.seen.was_open k up)) up; stops = h.stops k }
+  untouched r h = record { same = λ up. h.seen.same k (old_database r h (h.seen.was_open k up)) up; stops = h.stops k }
 
   pub leaves : (r : Result Found Error) → HasLooked old mid r IsFound → MayMigrate old mid
   leaves r h db left = inl (h.stops k db left)
 
-  -- what was found, and what the connection has then
+  -- the finding, and what the connection has then
   pub was_up : (f : Found) → HasLooked old mid (Ok f) IsFound → IsTrue old.is_open
   was_up f h = h.seen.was_open k (h.up k)
 
   pub found_in : (f : Found) → HasLooked old mid (Ok f) IsFound → IsFound old.now f
-  found_in f h = h.seen.answer k (had_before (Ok f) h (was_up f h))
+  found_in f h = h.seen.answer k (old_database (Ok f) h (was_up f h))
 
   pub after_look : (f : Found) → HasLooked old mid (Ok f) IsFound → HasDatabase mid old.now
-  after_look f h = h.seen.same k (had_before (Ok f) h (was_up f h)) (h.up k)
+  after_look f h = h.seen.same k (old_database (Ok f) h (was_up f h)) (h.up k)
 
   same_commit : (r : Result Found Error) → HasLooked old mid r IsFound → IsTrue old.is_open → IsTrue mid.is_open → mid.committed ≡ old.committed
-  same_commit r h was up = (h.seen.same k (had_before r h was) up).committed ∙ h.settled was
+  same_commit r h was up = (h.seen.same k (old_database r h was) up).committed ∙ h.settled was
 
   -- it is as sound as it was
   still_sound : (r : Result Found Error) → HasLooked old mid r IsFound → IsSoundState old → IsSoundState mid
@@ -95,9 +95,9 @@ module _ (old mid : State) (settles : Settles old) (k : HasCleanDisk mid) where
     stands = λ up.
         let was = h.seen.was_open k up in
         let held = sound.stands was in
-        let had = h.seen.same k (had_before r h was) up in
+        let database = h.seen.same k (old_database r h was) up in
         let same = same_commit r h was up in
-        (held.0, record { is_open = up; idle = had.now ∙ sym had.committed; schema = ap (λ (d : Database). d.schema) same ∙ held.1.schema; encodes = subst (λ (d : Database). Encodes d.trees held.0) (sym same) held.1.encodes });
+        (held.0, record { is_open = up; idle = database.now ∙ sym database.committed; schema = ap (λ (d : Database). d.schema) same ∙ held.1.schema; encodes = subst (λ (d : Database). Encodes d.trees held.0) (sym same) held.1.encodes });
     left = λ db left. sound.left db (h.stops k db left);
   }
 
@@ -107,7 +107,7 @@ module _ (old mid : State) (settles : Settles old) (k : HasCleanDisk mid) where
       (was, ap (λ (d : Database). content_of d.trees) (same_commit r h was up))
 
   back : (r : Result Found Error) (f : AdoptFault) → HasLooked old mid r IsFound → IsAdoptFaultOf old.now f → IsHandedBack old.now (book_state old 0) (book_state mid 0) f
-  back r f h fault = record { sound = still_sound r h; same = same_content r h; stops = λ filed c stop. (stop.0, h.stops k stop.0 stop.1, stop.2); cause = fault }
+  back r f h fault = record { sound = still_sound r h; same = same_content r h; stops = λ canonical c stop. (stop.0, h.stops k stop.0 stop.1, stop.2); cause = fault }
 
   found_fault : (f : AdoptFault) → IsFoundFaultOf old.now f → IsAdoptFaultOf old.now f
   found_fault (WrongVersion n) h = h
@@ -128,10 +128,10 @@ module _ (old mid : State) (settles : Settles old) (k : HasCleanDisk mid) where
   back_failed e f is h = back (Err e) f h (of_store f is)
 
   -- the rows of a store that isn't broken rise
-  pub files : (v : Version) → HasLooked old mid (Ok (Book v)) IsFound → (w : View) → old.now.trees ≡ w.trees → IsListed (w.trees catalog_tree) w.shape w.reals → IsOrdered w.shape w.trees → HasAllColumns old.now → IsFiled old.now
+  pub files : (v : Version) → HasLooked old mid (Ok (Book v)) IsFound → (w : View) → old.now.trees ≡ w.trees → IsListed (w.trees catalog_tree) w.shape w.reals → IsOrdered w.shape w.trees → HasAllColumns old.now → IsCanonical old.now
   files v h w same listed ordered whole u is =
       let obeys : IsDatabase (record { schema = old.now.schema; trees = w.trees }) = subst (λ t. IsDatabase (record { schema = old.now.schema; trees = t })) same (h.obeys (was_up (Book v) h)) in
-      subst (IsFiledAs u) (sym same) (filed_by_store u w old.now.schema is obeys listed ordered (subst (HaveAllColumns u) same (whole u is)))
+      subst (IsCanonicalAs u) (sym same) (canonical_by_store u w old.now.schema is obeys listed ordered (subst (HaveAllColumns u) same (whole u is)))
 
   pub adopted : Settles mid → Stays mid → HasLooked old mid (Ok (Book version.Second)) IsFound → IsAdopted old.now (book_state old 0) (book_state mid 0)
   adopted settled_after stays h =
@@ -139,29 +139,29 @@ module _ (old mid : State) (settles : Settles old) (k : HasCleanDisk mid) where
       let same = same_content (Ok (Book version.Second)) h up in
       let after = after_look (Book version.Second) h in
       let found = found_in (Book version.Second) h in
-      let made : IsFiled old.now → (c : Content) × Encodes old.now.trees c × IsInRange c = λ filed. let c = content_in version.Second old.now found (h.obeys same.0) (filed version.Second found.schema_is) in (c.0, second_encodes old.now.trees c.0 c.1, c.2) in
+      let made : IsCanonical old.now → (c : Content) × Encodes old.now.trees c × IsInRange c = λ canonical. let c = content_in version.Second old.now found (h.obeys same.0) (canonical version.Second found.schema_is) in (c.0, second_encodes old.now.trees c.0 c.1, c.2) in
       let held : (c : (c : Content) × Encodes old.now.trees c × IsInRange c) → c.0 ≡ content_of mid.committed.trees = λ c. sym (decoded old.now.trees c.0 c.1) ∙ sym (ap (λ (d : Database). content_of d.trees) after.committed) in
       record {
         was_open = same.0;
         live = up;
         of_book = (version.Second, found);
-        content = λ filed. same.1;
-        stops = λ filed c stop. (stop.0, h.stops k stop.0 stop.1, stop.2);
-        keeps = λ filed c stop. (mid.committed.trees, stays up, stop.2 ∙ ap content_of (settles stop.0 same.0 stop.1) ∙ sym same.1);
-        filed = λ sound. let held = sound.stands same.0 in second_filed old.now held.0 (ap (λ (d : Database). d.schema) held.1.idle ∙ held.1.schema) (subst (λ (d : Database). Encodes d.trees held.0) (sym held.1.idle) held.1.encodes);
-        sound = λ filed. let c = made filed in record {
+        content = λ canonical. same.1;
+        stops = λ canonical c stop. (stop.0, h.stops k stop.0 stop.1, stop.2);
+        keeps = λ canonical c stop. (mid.committed.trees, stays up, stop.2 ∙ ap content_of (settles stop.0 same.0 stop.1) ∙ sym same.1);
+        canonical = λ sound. let held = sound.stands same.0 in second_canonical old.now held.0 (ap (λ (d : Database). d.schema) held.1.idle ∙ held.1.schema) (subst (λ (d : Database). Encodes d.trees held.0) (sym held.1.idle) held.1.encodes);
+        sound = λ canonical. let c = made canonical in record {
           stands = λ up. (c.0, record { is_open = up; idle = after.now ∙ sym after.committed; schema = ap (λ (d : Database). d.schema) after.committed ∙ found.schema_is; encodes = subst (λ (d : Database). Encodes d.trees c.0) (sym after.committed) c.1 });
           left = λ db left. (c.0, subst (λ t. Encodes t c.0) (sym (settled_after db up left ∙ ap (λ (d : Database). d.trees) after.committed)) c.1);
         };
-        in_range = λ filed. let c = made filed in subst IsInRange (held c) c.2;
-        ordered = λ filed. let c = made filed in subst IsInOrder (held c) (stored_ordered old.now.trees c.0 c.1 c.2);
+        in_range = λ canonical. let c = made canonical in subst IsInRange (held c) c.2;
+        ordered = λ canonical. let c = made canonical in subst IsInOrder (held c) (stored_ordered old.now.trees c.0 c.1 c.2);
       }
 
   -- it is of no other version
   pub never_first : HasLooked old mid (Ok (Book version.Second)) IsFound → old.now.schema ≡ old_schema → ⊥
   never_first h is = apart_schemas (sym (found_in (Book version.Second) h).schema_is ∙ is)
 
--- ---- and behind the migration
+-- ---- and after the migration
 
 module _ (old mid new : State) (settles : Settles old) (stays : Stays old) (k : HasCleanDisk mid) (h : HasLooked old mid (Ok (Book version.First)) IsFound) where
   first : IsOfBook version.First old.now
@@ -177,8 +177,8 @@ module _ (old mid new : State) (settles : Settles old) (stays : Stays old) (k : 
   schema_there = ap (λ (d : Database). d.schema) after.now ∙ first.schema_is
 
   -- the content that it held
-  made : IsFiled old.now → (c : Content) × EncodesAs version.First old.now.trees c × IsInRange c
-  made filed = content_in version.First old.now first (h.obeys was) (filed version.First first.schema_is)
+  made : IsCanonical old.now → (c : Content) × EncodesAs version.First old.now.trees c × IsInRange c
+  made canonical = content_in version.First old.now first (h.obeys was) (canonical version.First first.schema_is)
 
   held_before : (c : Content) → EncodesAs version.First old.now.trees c → content_of old.committed.trees ≡ c
   held_before c is = ap (λ (d : Database). content_of d.trees) (sym (h.settled was)) ∙ decoded_as version.First old.now.trees c is
@@ -187,11 +187,11 @@ module _ (old mid new : State) (settles : Settles old) (stays : Stays old) (k : 
   migrates db m = subst (λ (d : Database). IsMigration d.trees db) after.now m
 
   -- a migration has it too
-  same_there : (db : Trees) → IsMigration old.now.trees db → IsFiled old.now → content_of db ≡ content_of old.committed.trees
-  same_there db m filed = let c = made filed in decoded db c.0 (migrated_encodes old.now.trees db c.0 c.1 m) ∙ sym (held_before c.0 c.1)
+  same_there : (db : Trees) → IsMigration old.now.trees db → IsCanonical old.now → content_of db ≡ content_of old.committed.trees
+  same_there db m canonical = let c = made canonical in decoded db c.0 (migrated_encodes old.now.trees db c.0 c.1 m) ∙ sym (held_before c.0 c.1)
 
-  second_there : (db : Trees) → IsMigration old.now.trees db → IsFiled old.now → Encodes db (content_of old.committed.trees)
-  second_there db m filed = let c = made filed in subst (Encodes db) (sym (held_before c.0 c.1)) (migrated_encodes old.now.trees db c.0 c.1 m)
+  second_there : (db : Trees) → IsMigration old.now.trees db → IsCanonical old.now → Encodes db (content_of old.committed.trees)
+  second_there db m canonical = let c = made canonical in subst (Encodes db) (sym (held_before c.0 c.1)) (migrated_encodes old.now.trees db c.0 c.1 m)
 
   never_sound : IsSoundState old → ⊥
   never_sound sound = let held = sound.stands was in apart_schemas (sym (ap (λ (d : Database). d.schema) held.1.idle ∙ held.1.schema) ∙ first.schema_is)
@@ -202,13 +202,13 @@ module _ (old mid new : State) (settles : Settles old) (stays : Stays old) (k : 
   pub may_migrate : MayAlter mid new → MayMigrate old new
   may_migrate may db left = elim (may db left) [
     | inl before ↦ inl (h.stops k db before)
-    | inr m ↦ inr (record { version = first.schema_is; tables = migrates db m; content = λ filed. second_there db (migrates db m) filed })
+    | inr m ↦ inr (record { version = first.schema_is; tables = migrates db m; content = λ canonical. second_there db (migrates db m) canonical })
   ]
 
-  within : MayAlter mid new → IsFiled old.now → Within (book_state new 0).stops (book_state old 0).stops
-  within may filed c stop = elim (may stop.0 stop.1) [
+  within : MayAlter mid new → IsCanonical old.now → Within (book_state new 0).stops (book_state old 0).stops
+  within may canonical c stop = elim (may stop.0 stop.1) [
     | inl before ↦ (stop.0, h.stops k stop.0 before, stop.2)
-    | inr m ↦ (old.committed.trees, stays was, stop.2 ∙ same_there stop.0 (migrates stop.0 m) filed)
+    | inr m ↦ (old.committed.trees, stays was, stop.2 ∙ same_there stop.0 (migrates stop.0 m) canonical)
   ]
 
   pub not_whole : old.now.schema ≡ book_schema → ⊥
@@ -223,16 +223,16 @@ module _ (old mid new : State) (settles : Settles old) (stays : Stays old) (k : 
         was_open = was;
         live = m.is_open;
         of_book = (version.First, first);
-        filed = λ sound. absurd (never_sound sound);
-        content = λ filed. same_there new.committed.trees moved filed;
+        canonical = λ sound. absurd (never_sound sound);
+        content = λ canonical. same_there new.committed.trees moved canonical;
         stops = within may;
-        keeps = λ filed c stop. (new.committed.trees, stays_after m.is_open, stop.2 ∙ ap content_of (settles stop.0 was stop.1) ∙ sym (same_there new.committed.trees moved filed));
-        sound = λ filed. let c = made filed in record {
+        keeps = λ canonical c stop. (new.committed.trees, stays_after m.is_open, stop.2 ∙ ap content_of (settles stop.0 was stop.1) ∙ sym (same_there new.committed.trees moved canonical));
+        sound = λ canonical. let c = made canonical in record {
           stands = λ up. (c.0, record { is_open = up; idle = m.idle; schema = m.schema_is; encodes = whole c });
           left = λ db left. (c.0, subst (λ t. Encodes t c.0) (sym (settled_after db m.is_open left)) (whole c));
         };
-        in_range = λ filed. let c = made filed in subst IsInRange (held c) c.2;
-        ordered = λ filed. let c = made filed in subst IsInOrder (held c) (stored_ordered new.committed.trees c.0 (whole c) c.2);
+        in_range = λ canonical. let c = made canonical in subst IsInRange (held c) c.2;
+        ordered = λ canonical. let c = made canonical in subst IsInOrder (held c) (stored_ordered new.committed.trees c.0 (whole c) c.2);
       }
 
   pub back_unmade : (f : AdoptFault) → IsAdoptStoreFault f → MayAlter mid new → (IsTrue new.is_open → IsRestored mid new) → IsHandedBack old.now (book_state old 0) (book_state new 0) f
@@ -254,7 +254,7 @@ no_memory : (e : Error) (f : AdoptFault) → f ≡ adopt_fault_of e → f ≡ St
 no_memory e f is store memory = absurd (let apart = sym store ∙ is ∙ ap adopt_fault_of memory in cc)
 
 module _ (old mid : State) (free : old.step_limit ≡ None) (settles : Settles old) (k : HasCleanDisk mid) where
-  -- a fault that was found, where the store hasn't failed
+  -- a fault that a look found, where the store hasn't failed
   pub found_cause : (f : AdoptFault) → HasLooked old mid (Ok (Fault f)) IsFound → f ≡ Store → AdoptCause old mid
   found_cause f h is = unlike (subst (IsFoundFaultOf old.now) is (found_in old mid settles k (Fault f) h))
 
@@ -264,23 +264,23 @@ module _ (old mid : State) (free : old.step_limit ≡ None) (settles : Settles o
   look_cause e f is store (inr (inr steps)) = absurd (never_limited old.step_limit free steps)
 
   -- the look failed
-  pub fail_cause : (e : Error) (f : AdoptFault) → f ≡ adopt_fault_of e → f ≡ Store → HasLooked old mid (Err e) IsFound → BlamesLook {A = Found} IsFiled old mid (Err e) → IsFiled old.now → AdoptCause old mid
-  fail_cause e f is store h blames filed = elim (cases_Bool old.is_open) [
-    | inl up ↦ look_cause e f is store (blames.cause k old.now (had_before old mid settles k (Err e) h up) filed)
+  pub fail_cause : (e : Error) (f : AdoptFault) → f ≡ adopt_fault_of e → f ≡ Store → HasLooked old mid (Err e) IsFound → HasLookCause {A = Found} IsCanonical old mid (Err e) → IsCanonical old.now → AdoptCause old mid
+  fail_cause e f is store h causes canonical = elim (cases_Bool old.is_open) [
+    | inl up ↦ look_cause e f is store (causes.cause k old.now (old_database old mid settles k (Err e) h up) canonical)
     | inr down ↦ shut down
   ]
 
--- the migration failed behind the look
+-- the migration failed after the look
 pub unmade_cause : (old mid new : State) (free : old.step_limit ≡ None) (settles : Settles old) (k : HasCleanDisk mid) (e : Error) (f : AdoptFault) → f ≡ adopt_fault_of e → f ≡ Store → HasLooked old mid (Ok (Book version.First)) IsFound
-    → BlamesLook {A = Found} IsFiled old mid (Ok (Book version.First)) → mid.faults ≤ new.faults → FailsToMigrate mid new e → AdoptCause old new
-unmade_cause old mid new free settles k e f is store h blames counts (inl memory) = absurd (no_memory e f is store memory)
-unmade_cause old mid new free settles k e f is store h blames counts (inr (inl (inl more))) = failed (let first = blames.spares.counts in omega (arith, more, first))
-unmade_cause old mid new free settles k e f is store h blames counts (inr (inl (inr down))) = absurd (let up = h.up k in let apart = sym up ∙ down in cc)
-unmade_cause old mid new free settles k e f is store h blames counts (inr (inr untold)) =
+    → HasLookCause {A = Found} IsCanonical old mid (Ok (Book version.First)) → mid.faults ≤ new.faults → FailsToMigrate mid new e → AdoptCause old new
+unmade_cause old mid new free settles k e f is store h causes counts (inl memory) = absurd (no_memory e f is store memory)
+unmade_cause old mid new free settles k e f is store h causes counts (inr (inl (inl more))) = failed (let first = causes.spares.counts in omega (arith, more, first))
+unmade_cause old mid new free settles k e f is store h causes counts (inr (inl (inr down))) = absurd (let up = h.up k in let apart = sym up ∙ down in cc)
+unmade_cause old mid new free settles k e f is store h causes counts (inr (inr untold)) =
     let same = (after_look old mid settles k (Book version.First) h).now in
-    refused ((found_in old mid settles k (Book version.First) h).schema_is) (subst (λ (l : Option ℕ). IsUntold l old.now.trees) (blames.spares.limit ∙ free) (subst (λ (d : Database). IsUntold mid.step_limit d.trees) same untold))
+    refused ((found_in old mid settles k (Book version.First) h).schema_is) (subst (λ (l : Option ℕ). IsVersionRefused l old.now.trees) (causes.spares.limit ∙ free) (subst (λ (d : Database). IsVersionRefused mid.step_limit d.trees) same untold))
 
--- ---- a limit of steps that was taken off before makes no difference
+-- ---- a limit of steps that was removed before makes no difference
 
 abbrev without_limit : State → State
 without_limit s = record s { step_limit = None }
@@ -297,7 +297,7 @@ module _ (s : State) where
     was_open = h.was_open;
     live = h.live;
     of_book = h.of_book;
-    filed = λ sound. h.filed (sound_before sound);
+    canonical = λ sound. h.canonical (sound_before sound);
     content = h.content;
     stops = h.stops;
     keeps = h.keeps;

@@ -10,20 +10,20 @@ use Rattle.acd_terms.specs.Lists.{Every, AllAfter}
 use Rattle.acd_terms.specs.declared.event.Event.{Event}
 use Rattle.acd_terms.specs.declared.rows.Rows.{Rows}
 use Rattle.acd_lemmas.proofs.Numbers.{less_is, no_less, below_is, same_number}
-use Rattle.acd_book.specs.Content.{Content, events_behind}
+use Rattle.acd_book.specs.Content.{Content, events_after}
 use Rattle.acd_book.specs.Memory.{number_of}
 use Rattle.acd_book.specs.Order.{Rises}
 use Rattle.acd_book.specs.Watched.{WatchesAfter}
-use Rattle.acd_sql_columns.specs.Draft.{Quiet, NoStop}
+use Rattle.acd_sql_columns.specs.Transactions.{Quiet, NoStop}
 use Rattle.acd_sql_columns.specs.Finding.{Finds}
 use Rattle.acd_sql_columns.proofs.Recorded.{found_none}
-use Rattle.acd_sql_statements.specs.Picking.{Serves}
-use Rattle.acd_sql_statements.proofs.Chained.{quiet_still, behind, chained, broken, finds_on, finds_so}
+use Rattle.acd_sql_statements.specs.Picking.{IsOpenIfClean}
+use Rattle.acd_sql_statements.proofs.Chained.{quiet_still, finds_after, chained, broken, finds_on, finds_so}
 use Rattle.acd_sqlbook.specs.Calls.{HasRead}
-use Rattle.acd_sqlbook.specs.Indexing.{Indexes, IndexIsNoted, IndexGoesOn, BeginsIndex, last_of}
+use Rattle.acd_sqlbook.specs.Indexing.{Indexes, IsIndexOf, IndexGoesOn, BeginsIndex, last_of}
 use Rattle.acd_sqlbook.specs.declared.index.Index.{Index}
 use Rattle.acd_sqlbook.proofs.Indexed.{Ascends, ascending}
-use Rattle.acd_book.proofs.Left.{left_behind}
+use Rattle.acd_book.proofs.Left.{left_after}
 
 -- ---- events up to a number, and those above it
 
@@ -54,15 +54,15 @@ begins_at i events after up =
 
 -- ---- a page of those that are left
 
-page_front : (limit : ℕ) (i : Index) (page events : List Event) (b : BeginsIndex i events) → page ≡ events_behind events i.last limit → page ≡ take limit b.rest
-page_front limit i page events b is = is ∙ ap (λ (l : List Event). events_behind l i.last limit) b.all ∙ left_behind i.last limit b.seen b.rest b.indexes.last b.above
+page_front : (limit : ℕ) (i : Index) (page events : List Event) (b : BeginsIndex i events) → page ≡ events_after events i.last limit → page ≡ take limit b.rest
+page_front limit i page events b is = is ∙ ap (λ (l : List Event). events_after l i.last limit) b.all ∙ left_after i.last limit b.seen b.rest b.indexes.last b.above
 
 rises_left : (n last : ℕ) (events : List Event) → Rises number_of last events → Rises number_of (last_of last (take n events)) (drop n events)
 rises_left zero last events up = up
 rises_left (suc n) last [] up = tt
 rises_left (suc n) last (e ∷ events) up = rises_left n e.number events up.1
 
-goes_on : (limit : ℕ) (i next : Index) (page events : List Event) → BeginsIndex i events → page ≡ events_behind events i.last limit → IndexGoesOn i page next → BeginsIndex next events
+goes_on : (limit : ℕ) (i next : Index) (page events : List Event) → BeginsIndex i events → page ≡ events_after events i.last limit → IndexGoesOn i page next → BeginsIndex next events
 goes_on limit i next page events b is goes =
     let front = page_front limit i page events b is in
     record {
@@ -81,8 +81,8 @@ none_taken zero events some is = absurd (omega (arith, some))
 none_taken (suc n) [] some is = refl
 none_taken (suc n) (e ∷ events) some is = absurd (let apart = is in cc)
 
--- behind an empty page it is of all
-ends : (limit : ℕ) (i : Index) (events : List Event) → 0 < limit → BeginsIndex i events → [] ≡ events_behind events i.last limit → Indexes i events
+-- after an empty page it is of all
+ends : (limit : ℕ) (i : Index) (events : List Event) → 0 < limit → BeginsIndex i events → [] ≡ events_after events i.last limit → Indexes i events
 ends limit i events some b is =
     let none = none_taken limit b.rest some (page_front limit i [] events b is) in
     subst (Indexes i) (sym (b.all ∙ ap (λ (l : List Event). b.seen ++ l) none ∙ append-nil b.seen)) b.indexes
@@ -99,56 +99,56 @@ nothing_in page is = no_event page.items (omega (arith, page.ok.0, same_number p
 abbrev pub HasPassed : Index → Content → Index → Type 0
 HasPassed begun c i = BeginsIndex begun c.events → BeginsIndex i c.events
 
-abbrev HasNoted : Index → Content → Option Index → Type 0
-HasNoted begun c noted = BeginsIndex begun c.events → IndexIsNoted noted c.events
+abbrev HasIndexed : Index → Content → Option Index → Type 0
+HasIndexed begun c recorded = BeginsIndex begun c.events → IsIndexOf recorded c.events
 
 abbrev IsPageBeyond : ℕ → ℕ → Content → Vec Event Global → Type 0
-IsPageBeyond last limit c events = events.items ≡ events_behind c.events last limit
+IsPageBeyond last limit c events = events.items ≡ events_after c.events last limit
 
-pub pass_begins : (s : State) (begun : Index) → Serves s → Finds {E = Error} s s (Ok begun) (HasPassed begun)
-pass_begins s begun serves = record { up = λ k. serves k; quiet = quiet_still s; stops = λ k c held db left. left; answer = λ k c held b. b }
+pub pass_begins : (s : State) (begun : Index) → IsOpenIfClean s → Finds {E = Error} s s (Ok begun) (HasPassed begun)
+pass_begins s begun is_open = record { up = λ k. is_open k; quiet = quiet_still s; stops = λ k c held db left. left; answer = λ k c held b. b }
 
 module _ (old mid new : State) (begun i : Index) (limit : ℕ) (first : Finds {E = Error} old mid (Ok i) (HasPassed begun)) where
   pub pass_more : (page : Vec Event Global) (next : Index) → IndexGoesOn i page.items next → Finds {E = Error} mid new (Ok page) (IsPageBeyond i.last limit) → Finds {E = Error} old new (Ok next) (HasPassed begun)
   pass_more page next goes =
       chained old mid new i (HasPassed begun) (IsPageBeyond i.last limit) first page next (HasPassed begun) (λ c p q b. goes_on limit i next page.items c.events (p b) q goes)
 
-  pub pass_all : (page : Vec Event Global) → page.items ≡ [] → 0 < limit → Finds {E = Error} mid new (Ok page) (IsPageBeyond i.last limit) → Finds {E = Error} old new (Ok (Some i)) (HasNoted begun)
+  pub pass_all : (page : Vec Event Global) → page.items ≡ [] → 0 < limit → Finds {E = Error} mid new (Ok page) (IsPageBeyond i.last limit) → Finds {E = Error} old new (Ok (Some i)) (HasIndexed begun)
   pass_all page none some =
-      chained old mid new i (HasPassed begun) (IsPageBeyond i.last limit) first page (Some i) (HasNoted begun) (λ c p q b. ends limit i c.events some (p b) (sym none ∙ q))
+      chained old mid new i (HasPassed begun) (IsPageBeyond i.last limit) first page (Some i) (HasIndexed begun) (λ c p q b. ends limit i c.events some (p b) (sym none ∙ q))
 
-  pub pass_not : (page : Vec Event Global) → Finds {E = Error} mid new (Ok page) (IsPageBeyond i.last limit) → Finds {E = Error} old new (Ok None) (HasNoted begun)
-  pass_not page = chained old mid new i (HasPassed begun) (IsPageBeyond i.last limit) first page None (HasNoted begun) (λ c p q b. tt)
+  pub pass_not : (page : Vec Event Global) → Finds {E = Error} mid new (Ok page) (IsPageBeyond i.last limit) → Finds {E = Error} old new (Ok None) (HasIndexed begun)
+  pass_not page = chained old mid new i (HasPassed begun) (IsPageBeyond i.last limit) first page None (HasIndexed begun) (λ c p q b. tt)
 
-  pub pass_fails : (e : Error) (r : Result (Option Index) Error) → r ≡ Err e → Finds {A = Vec Event Global} mid new (Err e) (IsPageBeyond i.last limit) → Finds old new r (HasNoted begun)
+  pub pass_fails : (e : Error) (r : Result (Option Index) Error) → r ≡ Err e → Finds {A = Vec Event Global} mid new (Err e) (IsPageBeyond i.last limit) → Finds old new r (HasIndexed begun)
   pass_fails e r is second =
-      subst (λ (r : Result (Option Index) Error). Finds old new r (HasNoted begun)) (sym is)
-      (broken old mid new i (HasPassed begun) (IsPageBeyond i.last limit) first e (HasNoted begun) second)
+      subst (λ (r : Result (Option Index) Error). Finds old new r (HasIndexed begun)) (sym is)
+      (broken old mid new i (HasPassed begun) (IsPageBeyond i.last limit) first e (HasIndexed begun) second)
 
-pub pass_cut : (old new : State) (begun i : Index) → Finds {E = Error} old new (Ok i) (HasPassed begun) → Finds {E = Error} old new (Ok None) (HasNoted begun)
-pass_cut old new begun i first = finds_on old new i (Ok None) (HasPassed begun) (HasNoted begun) first (λ c p b. tt)
+pub pass_cut : (old new : State) (begun i : Index) → Finds {E = Error} old new (Ok i) (HasPassed begun) → Finds {E = Error} old new (Ok None) (HasIndexed begun)
+pass_cut old new begun i first = finds_on old new i (Ok None) (HasPassed begun) (HasIndexed begun) first (λ c p b. tt)
 
--- from the rows that tell where it begins
+-- from the rows that say where it begins
 pub begins : (old mid new : State) (rows : Rows) (begun : Index) (r : Result (Option Index) Error) → WatchesAfter begun.last begun.watched → Finds {E = Error} old mid (Ok rows) (λ c found. found ≡ c.rows)
-    → (Serves mid → Finds mid new r (HasNoted begun)) → Finds old new r (λ c noted. IndexIsNoted noted c.events)
+    → (IsOpenIfClean mid → Finds mid new r (HasIndexed begun)) → Finds old new r (λ c recorded. IsIndexOf recorded c.events)
 begins old mid new rows begun r after first second =
-    behind old mid new rows r (λ (c : Content) (found : Rows). Ascends c.events) (HasNoted begun) (λ (c : Content) (noted : Option Index). IndexIsNoted noted c.events)
+    finds_after old mid new rows r (λ (c : Content) (found : Rows). Ascends c.events) (HasIndexed begun) (λ (c : Content) (recorded : Option Index). IsIndexOf recorded c.events)
     (finds_so old mid (Ok rows) (λ (c : Content) (found : Rows). found ≡ c.rows) (λ (c : Content) (found : Rows). Ascends c.events) (λ c held found is. ascending old c held) first)
-    (λ c noted p q. q (begins_at begun c.events after p)) (second first.up)
+    (λ c recorded p q. q (begins_at begun c.events after p)) (second first.up)
 
-pub begins_never : (old new : State) (e : Error) (r : Result (Option Index) Error) → r ≡ Err e → Finds {A = Rows} old new (Err e) (λ c found. found ≡ c.rows) → Finds old new r (λ c noted. IndexIsNoted noted c.events)
+pub begins_never : (old new : State) (e : Error) (r : Result (Option Index) Error) → r ≡ Err e → Finds {A = Rows} old new (Err e) (λ c found. found ≡ c.rows) → Finds old new r (λ c recorded. IsIndexOf recorded c.events)
 begins_never old new e r is h =
-    subst (λ (r : Result (Option Index) Error). Finds old new r (λ c noted. IndexIsNoted noted c.events)) (sym is)
-    (found_none old new e (λ (c : Content) (found : Rows). found ≡ c.rows) (λ (c : Content) (noted : Option Index). IndexIsNoted noted c.events) h)
+    subst (λ (r : Result (Option Index) Error). Finds old new r (λ c recorded. IsIndexOf recorded c.events)) (sym is)
+    (found_none old new e (λ (c : Content) (found : Rows). found ≡ c.rows) (λ (c : Content) (recorded : Option Index). IsIndexOf recorded c.events) h)
 
-pub stays_noted : (old mid : State) (noted : Option Index) (index : Index) → noted ≡ Some index → Quiet old mid → (HasCleanDisk mid → IsTrue mid.is_open) → (HasCleanDisk mid → NoStop old mid)
-    → HasRead {A = Option Index} old mid (Ok (Some index)) (λ c next. IndexIsNoted noted c.events → IndexIsNoted next c.events)
-stays_noted old mid noted index is quiet live still = record {
+pub stays_recorded : (old mid : State) (recorded : Option Index) (index : Index) → recorded ≡ Some index → Quiet old mid → (HasCleanDisk mid → IsTrue mid.is_open) → (HasCleanDisk mid → NoStop old mid)
+    → HasRead {A = Option Index} old mid (Ok (Some index)) (λ c next. IsIndexOf recorded c.events → IsIndexOf next c.events)
+stays_recorded old mid recorded index is quiet live still = record {
   quiet = quiet;
   up = live;
   stops = λ k stands. still k;
-  value = λ k c held n. subst (λ (o : Option Index). IndexIsNoted o c.events) is n;
+  value = λ k c held n. subst (λ (o : Option Index). IsIndexOf o c.events) is n;
 }
 
-pub begins_anew : (old new : State) (noted : Option Index) (r : Result (Option Index) Error) → Finds old new r (λ c next. IndexIsNoted next c.events) → Finds old new r (λ c next. IndexIsNoted noted c.events → IndexIsNoted next c.events)
-begins_anew old new noted r = finds_so old new r (λ (c : Content) (next : Option Index). IndexIsNoted next c.events) (λ (c : Content) (next : Option Index). IndexIsNoted noted c.events → IndexIsNoted next c.events) (λ c held next is n. is)
+pub begins_anew : (old new : State) (recorded : Option Index) (r : Result (Option Index) Error) → Finds old new r (λ c next. IsIndexOf next c.events) → Finds old new r (λ c next. IsIndexOf recorded c.events → IsIndexOf next c.events)
+begins_anew old new recorded r = finds_so old new r (λ (c : Content) (next : Option Index). IsIndexOf next c.events) (λ (c : Content) (next : Option Index). IsIndexOf recorded c.events → IsIndexOf next c.events) (λ c held next is n. is)

@@ -1,4 +1,4 @@
--- What a call over a connection leaves of the book.
+-- A call over a connection: what it leaves of the book.
 use Rattle.std.proofs.Common.{◌≡◌, ◌⊎◌, inl, inr, ℕ, ◌+◌, ◌-◌, ◌^◌, ◌≤◌, min, nat_lt, List, Option, Result, Ok, Err, IsTrue, IfOk, OnOk, OnErr, IsErrOf, refl, sym, ap, subst, subst₂, ◌∙◌, arith}
 use Rattle.std.proofs.lemmas.Bool.{cases_Bool}
 use Rattle.std.proofs.lemmas.Bool.Decides.{nat_tests}
@@ -21,7 +21,7 @@ use Rattle.acd_sql_columns.specs.InTables.{content_of}
 use Rattle.acd_sqlbook.specs.Calls.{HasRead, HasCommitted, HasReplaced}
 use Rattle.acd_sqlbook.specs.Counters.{AreCounters}
 use Rattle.acd_sql_columns.specs.declared.meta.Meta.{Meta}
-use Rattle.acd_sql_columns.specs.Draft.{HoldsContent}
+use Rattle.acd_sql_columns.specs.Transactions.{HoldsContent}
 use Rattle.acd_sqlbook.specs.State.{IsSoundState, IsNewBook, book_state, answered, failures_after}
 use Rattle.acd_sqlbook.proofs.Committing.{commit_is}
 use Rattle.acd_sql_columns.proofs.Decoded.{decoded}
@@ -151,35 +151,35 @@ module _ (old new : State) (failures : ℕ) (r : Result (Unit {0}) Error) (writt
     cause = risen (answered r) failures;
   }
 
--- ---- with the answer and the count as they are noted
+-- ---- with the answer and the count as they are recorded
 
-pub reads_noted : {A : Type 0} (old new : State) (failures next : ℕ) (r : Result A Error) (answer : Result A BookFault) (IsAnswer : Content → A → Type 0) → Settles old → Stays new
+pub reads_recorded : {A : Type 0} (old new : State) (failures next : ℕ) (r : Result A Error) (answer : Result A BookFault) (IsAnswer : Content → A → Type 0) → Settles old → Stays new
     → answer ≡ answered r → next ≡ failures_after answer failures → failures ≤ next → HasRead old new r IsAnswer → Reads (book_state old failures) (book_state new next) answer IsAnswer
-reads_noted old new failures next r answer IsAnswer settles stays is count low h =
+reads_recorded old new failures next r answer IsAnswer settles stays is count low h =
     let counted = count ∙ ap (λ a. failures_after a failures) is in
     subst₂ (λ n a. Reads (book_state old failures) (book_state new n) a IsAnswer) (sym counted) (sym is)
     (reads old new failures r IsAnswer (subst (λ n. failures ≤ n) counted low) settles stays h)
 
-pub commits_noted : (old new : State) (failures next : ℕ) (r : Result (Unit {0}) Error) (answer : Result (Unit {0}) BookFault) (written after : Content → Content) (Follows : Content → Type 0)
+pub commits_recorded : (old new : State) (failures next : ℕ) (r : Result (Unit {0}) Error) (answer : Result (Unit {0}) BookFault) (written after : Content → Content) (Follows : Content → Type 0)
     → (HasCleanDisk new → (c : Content) → HoldsContent old c → Follows c → written c ≡ after c) → answer ≡ answered r → next ≡ failures_after answer failures → failures ≤ next → HasCommitted old new r written
     → Commits (book_state old failures) (book_state new next) answer Follows after
-commits_noted old new failures next r answer written after Follows makes is count low h =
+commits_recorded old new failures next r answer written after Follows makes is count low h =
     let counted = count ∙ ap (λ a. failures_after a failures) is in
     subst₂ (λ n a. Commits (book_state old failures) (book_state new n) a Follows after) (sym counted) (sym is)
     (commits old new failures r written after Follows makes (subst (λ n. failures ≤ n) counted low) h)
 
-pub changes_noted : (old new : State) (failures next : ℕ) (r : Result (Unit {0}) Error) (answer : Result (Unit {0}) BookFault) (held : Option Meta) (changes : List Change) (events : List Event) (kept : Kept)
+pub changes_recorded : (old new : State) (failures next : ℕ) (r : Result (Unit {0}) Error) (answer : Result (Unit {0}) BookFault) (held : Option Meta) (changes : List Change) (events : List Event) (kept : Kept)
     → answer ≡ answered r → next ≡ failures_after answer failures → failures ≤ next → HasReplaced old new r (AreCounters held) (written_by changes events kept)
     → Commits (book_state old failures) (book_state new next) answer (λ c. AreCounters held c × FollowsBy changes events kept c) (committed_by changes events kept)
-changes_noted old new failures next r answer held changes events kept is count low h =
-    commits_noted old new failures next r answer h.written (committed_by changes events kept) (λ c. AreCounters held c × FollowsBy changes events kept c)
+changes_recorded old new failures next r answer held changes events kept is count low h =
+    commits_recorded old new failures next r answer h.written (committed_by changes events kept) (λ c. AreCounters held c × FollowsBy changes events kept c)
     (λ k c holds follows. h.same k c holds follows.0 ∙ commit_is changes events kept (meta_of c.rows) c refl follows.1) is count low h.commits
 
-pub rows_noted : (old new : State) (failures next : ℕ) (r : Result (Unit {0}) Error) (answer : Result (Unit {0}) BookFault) (rows : Rows) (events : List Event) (kept : Kept)
+pub rows_recorded : (old new : State) (failures next : ℕ) (r : Result (Unit {0}) Error) (answer : Result (Unit {0}) BookFault) (rows : Rows) (events : List Event) (kept : Kept)
     → answer ≡ answered r → next ≡ failures_after answer failures → failures ≤ next → HasReplaced old new r (Follows rows events kept) (committed rows events kept)
     → Commits (book_state old failures) (book_state new next) answer (Follows rows events kept) (committed rows events kept)
-rows_noted old new failures next r answer rows events kept is count low h =
-    commits_noted old new failures next r answer h.written (committed rows events kept) (Follows rows events kept) h.same is count low h.commits
+rows_recorded old new failures next r answer rows events kept is count low h =
+    commits_recorded old new failures next r answer h.written (committed rows events kept) (Follows rows events kept) h.same is count low h.commits
 
 -- ---- a new book
 

@@ -17,12 +17,12 @@ use Rattle.acd_sql_columns.specs.InTables.{content_of}
 use Rattle.acd_sql_differences.specs.Leading.{rows_differences}
 use Rattle.acd_sql_statements.specs.Failing.{IsMemory, StoreHasFailed}
 use Rattle.acd_sql_statements.specs.InRange.{IsInRange}
-use Rattle.acd_sql_statements.specs.Reading.{FailsToRead, Blames}
+use Rattle.acd_sql_statements.specs.Reading.{FailsToRead, HasReadCause}
 use Rattle.acd_sql_schema.specs.SettingUp.{FailsToSetUp, IsUnstarted}
 use Rattle.acd_sqlbook.specs.Commit.{counted}
 use Rattle.acd_sqlbook.specs.Counters.{AreCounters, StopsWith}
 use Rattle.acd_sql_columns.specs.declared.meta.Meta.{Meta}
-use Rattle.acd_sqlbook.specs.Stopping.{AllNumbersFit, Drops, HasAbove, IsBlamedOr, IsUncounted, RefusesInAll, StopsCommit, StopsReplace}
+use Rattle.acd_sqlbook.specs.Stopping.{AllNumbersFit, Drops, HasAbove, IsCausedByReadOr, IsUncounted, RefusesInAll, StopsCommit, StopsReplace}
 use Rattle.acd_sqlbook.specs.State.{IsSoundState, fault_of, answered, failures_after}
 use Rattle.acd_sqlbook.specs.Causes.{BookCall, StoreCause, HasCause, IsUnreadable, RefusesToCommit, create, read, failed, change, replace, shut, unfit, unreadable, occupied, drops, refused}
 use Rattle.acd_sqlbook.proofs.BookStates.{held_is}
@@ -42,7 +42,7 @@ create_cause limits old new e f free is store (inl memory) = absurd (not_memory 
 create_cause limits old new e f free is store (inr (inl fails)) = store_cause (create limits) old new fails
 create_cause limits old new e f free is store (inr (inr refusal)) = refused (subst (λ l. IsUnstarted l limits) free refusal)
 
--- as it was with a limit that was taken off
+-- as it was with a limit that was removed
 pub create_unlimited : (limits : Limits) (old new : State) → StoreCause (create limits) (record old { step_limit = None }) new → StoreCause (create limits) old new
 create_unlimited limits old new (failed more) = failed more
 create_unlimited limits old new (shut down) = shut down
@@ -65,7 +65,7 @@ read_cause old new c free is e store (inr (inl more)) = failed more
 read_cause old new c free is e store (inr (inr (inl steps))) = absurd (never_limited old.step_limit free steps)
 read_cause old new c free is e store (inr (inr (inr bad))) = unreadable (λ range. bad (subst IsInRange is range))
 
-pub reads_caused : {A : Type 0} (old new : State) (r : Result A Error) (answer : Result A BookFault) → old.step_limit ≡ None → answer ≡ answered r → Blames old new r → HasCleanDisk new → IsSoundState old → answer ≡ Err Store → StoreCause read old new
+pub reads_caused : {A : Type 0} (old new : State) (r : Result A Error) (answer : Result A BookFault) → old.step_limit ≡ None → answer ≡ answered r → HasReadCause old new r → HasCleanDisk new → IsSoundState old → answer ≡ Err Store → StoreCause read old new
 reads_caused old new (Ok a) answer free is h clean sound store = absurd (let apart = sym store ∙ is in cc)
 reads_caused old new (Err e) answer free is h clean sound store =
     let fault : fault_of e ≡ Store = cc in
@@ -86,7 +86,7 @@ module _ (asked : BookCall) (old new : State) (Stops : Content → Type 0) (free
   each_cause c is e store (inl (inr (inr (inr out)))) = unreadable (bad (λ range. out (subst IsInRange is range)))
   each_cause c is e store (inr stops) = stopped c is stops
 
-  commit_caused : (r : Result (Unit {0}) Error) (answer : Result (Unit {0}) BookFault) → answer ≡ answered r → IsBlamedOr Stops old new r → HasCleanDisk new → IsSoundState old → answer ≡ Err Store → StoreCause asked old new
+  commit_caused : (r : Result (Unit {0}) Error) (answer : Result (Unit {0}) BookFault) → answer ≡ answered r → IsCausedByReadOr Stops old new r → HasCleanDisk new → IsSoundState old → answer ≡ Err Store → StoreCause asked old new
   commit_caused (Ok a) answer is h clean sound store = absurd (let apart = sym store ∙ is in cc)
   commit_caused (Err e) answer is h clean sound store =
       let fault : fault_of e ≡ Store = cc in
@@ -109,7 +109,7 @@ module _ (changes : List Change) (events : List Event) (kept : Kept) (old new : 
   held_stops held of c is stops =
       elim (cases_Bool old.is_open) [ inl up ↦ change_stops c is (stops (subst (AreCounters held) is (of up))) | inr down ↦ shut down ]
 
-  pub changes_caused : (held : Option Meta) → (IsTrue old.is_open → AreCounters held (content_of old.committed.trees)) → (r : Result (Unit {0}) Error) (answer : Result (Unit {0}) BookFault) → answer ≡ answered r → IsBlamedOr (StopsWith held (StopsCommit changes events kept)) old new r
+  pub changes_caused : (held : Option Meta) → (IsTrue old.is_open → AreCounters held (content_of old.committed.trees)) → (r : Result (Unit {0}) Error) (answer : Result (Unit {0}) BookFault) → answer ≡ answered r → IsCausedByReadOr (StopsWith held (StopsCommit changes events kept)) old new r
       → HasCleanDisk new → IsSoundState old → answer ≡ Err Store → StoreCause (change changes events kept) old new
   changes_caused held of = commit_caused (change changes events kept) old new (StopsWith held (StopsCommit changes events kept)) free (λ out. out) (held_stops held of)
 
@@ -123,17 +123,17 @@ module _ (rows : Rows) (events : List Event) (kept : Kept) (old new : State) (fr
         | inr refuses ↦ refused (subst (λ (x : Content). RefusesInAll ⊥ (rows_differences x.rows rows) events kept (meta_of rows) x) (sym is) refuses)
       ]
 
-  pub replace_caused : (r : Result (Unit {0}) Error) (answer : Result (Unit {0}) BookFault) → answer ≡ answered r → IsBlamedOr (StopsReplace rows events kept) old new r → HasCleanDisk new → IsSoundState old → answer ≡ Err Store
+  pub replace_caused : (r : Result (Unit {0}) Error) (answer : Result (Unit {0}) BookFault) → answer ≡ answered r → IsCausedByReadOr (StopsReplace rows events kept) old new r → HasCleanDisk new → IsSoundState old → answer ≡ Err Store
       → StoreCause (replace rows events kept) old new
   replace_caused = commit_caused (replace rows events kept) old new (StopsReplace rows events kept) free (λ out. out) replace_stops
 
--- ---- with the count as it is noted
+-- ---- with the count as it is recorded
 
 only_store : {A : Type 0} (answer : Result A BookFault) (failures next : ℕ) → next ≡ failures_after answer failures → failures < next → answer ≡ Err Store
 only_store (Ok a) failures next is more = absurd (let same : next ≡ failures = is in omega (arith, same, more))
 only_store (Err NoMemory) failures next is more = absurd (let same : next ≡ failures = is in omega (arith, same, more))
 only_store (Err Store) failures next is more = refl
 
-pub noted_cause : {A : Type 0} (asked : BookCall) (old new : State) (failures next : ℕ) (answer : Result A BookFault) → next ≡ failures_after answer failures
+pub recorded_cause : {A : Type 0} (asked : BookCall) (old new : State) (failures next : ℕ) (answer : Result A BookFault) → next ≡ failures_after answer failures
     → (HasCleanDisk new → IsSoundState old → answer ≡ Err Store → StoreCause asked old new) → HasCause asked old new failures next answer
-noted_cause asked old new failures next answer is cause = record { answer = cause; count = λ clean sound more. cause clean sound (only_store answer failures next is more) }
+recorded_cause asked old new failures next answer is cause = record { answer = cause; count = λ clean sound more. cause clean sound (only_store answer failures next is more) }

@@ -1,4 +1,4 @@
--- What a commit writes is what it is to make.
+-- The writes of a commit are the content that it is to make.
 use Rattle.std.proofs.Common.{◌≡◌, ℕ, ◌+◌, ◌<◌, ◌≤◌, List, [], ◌∷◌, ◌++◌, length, take, get_or, refl, sym, ap, subst, ◌∙◌, arith, append_assoc, append-nil}
 use Rattle.std.proofs.lemmas.Bool.Decides.{nat_tests}
 use Rattle.std.specs.Ordering.{nat_cmp}
@@ -18,11 +18,11 @@ use Rattle.acd_book.specs.Content.{Content, GoOn, Follows, committed, FollowsBy,
 use Rattle.acd_book.specs.declared.kept.Kept.{Kept}
 use Rattle.acd_sql_columns.specs.declared.meta.Meta.{Meta}
 use Rattle.acd_sql_columns.specs.Relations.{meta_of}
-use Rattle.acd_sqlbook.specs.Commit.{with_meta, filed, all_filed, with_event, with_events, with_kept, made_by, written_by, top_call, top_monitor, last_call, last_monitor, counted}
-use Rattle.acd_sqlbook.proofs.Filing.{next}
+use Rattle.acd_sqlbook.specs.Commit.{with_meta, applied, all_applied, with_event, with_events, with_kept, made_by, written_by, top_call, top_monitor, last_call, last_monitor, counted}
+use Rattle.acd_sqlbook.proofs.Applying.{next}
 use Rattle.acd_lemmas.proofs.Changes.{limits-changed_by}
 
--- ---- the counters stand apart
+-- ---- the counters are apart
 
 abbrev at : Rows → ℕ → ℕ → Rows
 at s a b = record s { last_call = a; last_monitor = b }
@@ -46,14 +46,14 @@ same_tables s t a b (change ∷ changes) e =
     same_tables (changed s change) (changed t change) a b changes
     (sym (change_apart s a b change) ∙ ap (λ r. at (changed r change) a b) e ∙ change_apart t a b change)
 
-filed_is : (c : Content) (changes : List Change) → all_filed c changes ≡ record c { rows = at (changed_by c.rows changes) c.rows.last_call c.rows.last_monitor }
-filed_is c [] = refl
-filed_is c (change ∷ changes) =
-    filed_is (filed c change) changes
+applied_is : (c : Content) (changes : List Change) → all_applied c changes ≡ record c { rows = at (changed_by c.rows changes) c.rows.last_call c.rows.last_monitor }
+applied_is c [] = refl
+applied_is c (change ∷ changes) =
+    applied_is (applied c change) changes
     ∙ ap (λ r. record c { rows = r })
     (same_tables (at (changed c.rows change) c.rows.last_call c.rows.last_monitor) (changed c.rows change) c.rows.last_call c.rows.last_monitor changes refl)
 
--- ---- what is above all others stands last
+-- ---- a record above all others is last
 
 module _ {R : Type 0} (key : R → ℕ) where
   above : (m n : ℕ) → m < n → nat_cmp n m ≡ Greater
@@ -97,15 +97,15 @@ rises_are last c (e ∷ es) up low =
     rises_are e.number (with_event c e) es up.1 next
     ∙ ap (λ l. record c { events = l }) (ap (λ l. l ++ es) put ∙ append_assoc c.events (e ∷ []) es)
 
--- a commit of such events puts them behind the others
+-- a commit of such events puts them after the others
 pub written_events : (changes : List Change) (events : List Event) (kept : Kept) (c : Content) (last : ℕ) → Rises number_of last events → Every (λ (x : Event). x.number ≤ last) c.events
     → (written_by changes events kept c).events ≡ c.events ++ events
 written_events changes events kept c last up low =
     let tables = at (changed_by c.rows changes) c.rows.last_call c.rows.last_monitor in
     let d : Content = record c { rows = tables } in
-    ap (λ (x : Content). (with_events x events).events) (filed_is c changes) ∙ ap (λ (x : Content). x.events) (rises_are last d events up low)
+    ap (λ (x : Content). (with_events x events).events) (applied_is c changes) ∙ ap (λ (x : Content). x.events) (rises_are last d events up low)
 
--- the writes add the events and the kept record behind the others, and make the changes
+-- the writes add the events and the kept record after the others, and make the changes
 written_are : (changes : List Change) (events : List Event) (kept : Kept) (m : Meta) (rows : Rows) (c : Content) → Follows rows events kept c
     → made_by changes events kept m c
     ≡ with_meta m (record { rows = at (changed_by c.rows changes) c.rows.last_call c.rows.last_monitor; events = c.events ++ events; kept = c.kept ++ kept ∷ [] })
@@ -114,7 +114,7 @@ written_are changes events kept m rows c follows =
     let d : Content = record c { rows = tables } in
     let e : Content = record d { events = c.events ++ events } in
     let stamp = follows.next in
-    ap (λ (x : Content). with_meta m (with_kept (with_events x events) kept)) (filed_is c changes)
+    ap (λ (x : Content). with_meta m (with_kept (with_events x events) kept)) (applied_is c changes)
     ∙ ap (λ (x : Content). with_meta m (with_kept x kept)) (events_are c.rows.last_event d events follows.numbers follows.counted.events)
     ∙ ap (λ (x : Content). with_meta m x) (kept_is e kept c.rows.last_stamp (omega arith) follows.counted.kept)
 

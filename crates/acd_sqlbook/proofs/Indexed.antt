@@ -7,10 +7,10 @@ use Rattle.std.proofs.lemmas.List.{take_more}
 use Rattle.sqlite.specs.State.{State}
 use Rattle.acd_terms.specs.Lists.{Among, Every, AllAfter, IsAscending}
 use Rattle.acd_terms.specs.declared.event.Event.{Event}
-use Rattle.acd_book.specs.Content.{Content, is_at, is_told, events_behind}
+use Rattle.acd_book.specs.Content.{Content, is_at, is_at_after, events_after}
 use Rattle.acd_book.specs.Memory.{number_of}
 use Rattle.acd_book.specs.Order.{Rises}
-use Rattle.acd_sql_columns.specs.Draft.{HoldsContent}
+use Rattle.acd_sql_columns.specs.Transactions.{HoldsContent}
 use Rattle.acd_sql_columns.specs.declared.tables.Table.TheVariants as table
 use Rattle.acd_sql_statements.specs.Picking.{picked}
 use Rattle.acd_lemmas.proofs.Numbers.{less_is}
@@ -40,7 +40,7 @@ among_after x e (y ∷ events) after (inl is) = less_is x.number e.number (ap (�
 among_after x e (y ∷ events) after (inr a) = among_after x e events after.1 a
 
 -- the first that isn't below the number of an event is the event
-pub one_there : (events : List Event) (e : Event) → Ascends events → Among e events → 0 < e.number → events_behind events (e.number - 1) 1 ≡ e ∷ []
+pub one_there : (events : List Event) (e : Event) → Ascends events → Among e events → 0 < e.number → events_after events (e.number - 1) 1 ≡ e ∷ []
 one_there [] e up a low = absurd a
 one_there (x ∷ events) e up (inl is) low =
     ap (λ (b : Bool). take 1 (cond b (x ∷ filter (λ (y : Event). nat_lt (e.number - 1) y.number) events) (filter (λ (y : Event). nat_lt (e.number - 1) y.number) events)))
@@ -65,22 +65,22 @@ more_there : (x : Event) (events some : List Event) → Every (IsThere events) s
 more_there x events [] all = tt
 more_there x events (y ∷ some) all = ((inr all.0.0, all.0.1), more_there x events some all.1)
 
-told_next : (device n : ℕ) (x : Event) (events : List Event) (b : Bool) → is_told (Some device) n x ≡ b → Every (IsThere events) (filter (is_told (Some device) n) events)
-    → Every (IsThere (x ∷ events)) (cond b (x ∷ filter (is_told (Some device) n) events) (filter (is_told (Some device) n) events))
-told_next device n x events true told rest =
-    ((inl refl, over_zero n x.number (and_parts (is_at (Some device) x) (nat_lt n x.number) told).1), more_there x events (filter (is_told (Some device) n) events) rest)
-told_next device n x events false told rest = more_there x events (filter (is_told (Some device) n) events) rest
+next_there : (device n : ℕ) (x : Event) (events : List Event) (b : Bool) → is_at_after (Some device) n x ≡ b → Every (IsThere events) (filter (is_at_after (Some device) n) events)
+    → Every (IsThere (x ∷ events)) (cond b (x ∷ filter (is_at_after (Some device) n) events) (filter (is_at_after (Some device) n) events))
+next_there device n x events true passes rest =
+    ((inl refl, over_zero n x.number (and_parts (is_at (Some device) x) (nat_lt n x.number) passes).1), more_there x events (filter (is_at_after (Some device) n) events) rest)
+next_there device n x events false passes rest = more_there x events (filter (is_at_after (Some device) n) events) rest
 
-told_there : (device n : ℕ) (events : List Event) → Every (IsThere events) (filter (is_told (Some device) n) events)
-told_there device n [] = tt
-told_there device n (x ∷ events) = told_next device n x events (is_told (Some device) n x) refl (told_there device n events)
+passing_there : (device n : ℕ) (events : List Event) → Every (IsThere events) (filter (is_at_after (Some device) n) events)
+passing_there device n [] = tt
+passing_there device n (x ∷ events) = next_there device n x events (is_at_after (Some device) n x) refl (passing_there device n events)
 
 -- the events of a page of numbers are the page
-pub page_picked : (device n limit : ℕ) (events : List Event) (numbers : List ℕ) → Ascends events → numbers ≡ map number_of (take limit (filter (is_told (Some device) n) events))
-    → picked events numbers ≡ take limit (filter (is_told (Some device) n) events)
+pub page_picked : (device n limit : ℕ) (events : List Event) (numbers : List ℕ) → Ascends events → numbers ≡ map number_of (take limit (filter (is_at_after (Some device) n) events))
+    → picked events numbers ≡ take limit (filter (is_at_after (Some device) n) events)
 page_picked device n limit events numbers up is =
-    let page = take limit (filter (is_told (Some device) n) events) in
-    ap (picked events) is ∙ all_there events page up (every-take (IsThere events) limit (filter (is_told (Some device) n) events) (told_there device n events))
+    let page = take limit (filter (is_at_after (Some device) n) events) in
+    ap (picked events) is ∙ all_there events page up (every-take (IsThere events) limit (filter (is_at_after (Some device) n) events) (passing_there device n events))
 
 -- ---- events that go on
 
@@ -93,7 +93,7 @@ none_left i xs h = grind (arith, common_steps)
 pub all_taken : (i : ℕ) (xs : List Event) → length xs ≤ i → take i xs ≡ xs
 all_taken i xs h = grind (arith, common_steps)
 
--- an event more, which goes on
+-- one more event, which continues
 pub rises_on : (top i : ℕ) (events : List Event) (e : Event) → i < length events → e ≡ get_or events i e → top < e.number → Rises number_of e.number (drop (i + 1) events) → Rises number_of top (drop i events)
 rises_on top i events e low is up rest = subst (Rises number_of top) (sym (drop_next i events e low ∙ ap (λ (x : Event). x ∷ drop (i + 1) events) (sym is))) (up, rest)
 

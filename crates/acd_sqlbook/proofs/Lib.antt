@@ -1,4 +1,4 @@
-mod Filing
+mod Applying
 mod Skipping
 mod Committing
 mod Standing

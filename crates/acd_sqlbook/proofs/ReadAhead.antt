@@ -10,10 +10,10 @@ use Rattle.acd_terms.specs.Lists.{Every, AllAfter}
 use Rattle.acd_terms.proofs.Numbers.{less_is, no_less}
 use Rattle.acd_lemmas.proofs.Lists.{head_is, tail_is}
 use Rattle.acd_lemmas.proofs.Numbers.{below_is}
-use Rattle.acd_book.specs.Content.{Content, IsKeptAfter, kept_behind}
+use Rattle.acd_book.specs.Content.{Content, IsKeptAfter, records_after}
 use Rattle.acd_book.specs.declared.kept.Kept.{Kept}
 use Rattle.acd_book.proofs.Numbered.{kept_after_more}
-use Rattle.acd_sql_columns.specs.Draft.{HoldsContent}
+use Rattle.acd_sql_columns.specs.Transactions.{HoldsContent}
 use Rattle.acd_sql_columns.specs.declared.tables.Table.TheVariants as table
 use Rattle.acd_sqlbook.specs.Ahead.{Ascend, IsAhead}
 use Rattle.acd_sqlbook.specs.Calls.{HasRead}
@@ -24,7 +24,7 @@ pub ascending : (s : State) (c : Content) → HoldsContent s c → Ascend c.kept
 ascending s c held = (held.encodes table.Kept).0.ascending
 
 pub none_ahead : (a : Ahead) (kept : List Kept) → a.records.items ≡ [] → IsAhead a kept
-none_ahead a kept none = ap reverse none ∙ sym (ap (λ (l : List Kept). kept_behind kept a.above (length l)) none)
+none_ahead a kept none = ap reverse none ∙ sym (ap (λ (l : List Kept). records_after kept a.above (length l)) none)
 
 -- ---- those above a stamp, in ascending order
 
@@ -63,10 +63,10 @@ all_pass n k (x ∷ kept) low h =
     let passes : nat_lt n x.stamp ≡ true = grind (arith, nat_tests) in
     rw passes (ap (λ l. x ∷ l) (all_pass n k kept low h.1))
 
--- behind the first of those above a stamp come the others
-behind_first : (n : ℕ) (kept : List Kept) (x : Kept) (rest : List Kept) → Ascend kept → above n kept ≡ x ∷ rest → (n < x.stamp) × (above x.stamp kept ≡ rest)
-behind_first n [] x rest h e = absurd (cc e)
-behind_first n (k ∷ kept) x rest h e =
+-- after the first of those above a stamp come the others
+after_first : (n : ℕ) (kept : List Kept) (x : Kept) (rest : List Kept) → Ascend kept → above n kept ≡ x ∷ rest → (n < x.stamp) × (above x.stamp kept ≡ rest)
+after_first n [] x rest h e = absurd (cc e)
+after_first n (k ∷ kept) x rest h e =
     (elim (nat_lt n k.stamp) as (λ t. nat_lt n k.stamp ≡ t → cond t (k ∷ above n kept) (above n kept) ≡ x ∷ rest → (n < x.stamp) × (above x.stamp (k ∷ kept) ≡ rest)) [
       | true ↦ λ p e.
           let low : n < k.stamp = below_is n k.stamp p in
@@ -74,7 +74,7 @@ behind_first n (k ∷ kept) x rest h e =
           let all : above k.stamp (k ∷ kept) ≡ rest = rw itself (all_pass k.stamp k kept (no_greater k.stamp) h.0 ∙ sym (all_pass n k kept (omega (arith, low)) h.0) ∙ tail_is k x (above n kept) rest e) in
           subst (λ (y : Kept). (n < y.stamp) × (above y.stamp (k ∷ kept) ≡ rest)) (head_is k x (above n kept) rest e) (low, all)
       | false ↦ λ p e.
-          let more = behind_first n kept x rest h.1 e in
+          let more = after_first n kept x rest h.1 e in
           let under : k.stamp ≤ n = no_less n k.stamp p in
           let low : n < x.stamp = more.0 in
           let over : nat_lt x.stamp k.stamp ≡ false = grind (arith, nat_tests) in
@@ -90,7 +90,7 @@ module _ (stamp : ℕ) (kept : List Kept) (h : Ascend kept) where
       let same : y ≡ x = sym (head_is x y more (take n all) e) in
       let here = subst (λ (z : Kept). above stamp kept ≡ z ∷ all) same is in (
         subst (IsKeptAfter kept stamp) (found_head (λ (k : Kept). nat_lt stamp k.stamp) kept x all here) (after_found stamp kept h),
-        tail_is x y more (take n all) e ∙ sym (ap (take n) (behind_first stamp kept x all h here).1),
+        tail_is x y more (take n all) e ∙ sym (ap (take n) (after_first stamp kept x all h here).1),
       )
 
   pub no_more : (n : ℕ) → take (suc n) (above stamp kept) ≡ [] → IsKeptAfter kept stamp None
@@ -100,7 +100,7 @@ module _ (stamp : ℕ) (kept : List Kept) (h : Ascend kept) where
       none [] is e = subst (IsKeptAfter kept stamp) (found_nothing (λ (k : Kept). nat_lt stamp k.stamp) kept is) (after_found stamp kept h)
       none (x ∷ all) is e = absurd (cc e)
 
--- it is taken out of what was read ahead
+-- it is removed from the records read ahead
 pub took : (kept : List Kept) (a b : Ahead) (x : Kept) → Ascend kept → IsAhead a kept → a.records.items ≡ b.records.items ++ x ∷ [] → b.above ≡ x.stamp → IsKeptAfter kept a.above (Some x) × IsAhead b kept
 took kept a b x h is parts next =
     let rest = b.records.items in
@@ -116,14 +116,14 @@ take_again zero xs = refl
 take_again (suc n) [] = refl
 take_again (suc n) (x ∷ xs) = ap (λ l. x ∷ l) (take_again n xs)
 
-pub page_ahead : (kept page : List Kept) (stamp limit : ℕ) (a : Ahead) → page ≡ kept_behind kept stamp limit → a.above ≡ stamp → a.records.items ≡ reverse page → IsAhead a kept
+pub page_ahead : (kept page : List Kept) (stamp limit : ℕ) (a : Ahead) → page ≡ records_after kept stamp limit → a.above ≡ stamp → a.records.items ≡ reverse page → IsAhead a kept
 page_ahead kept page stamp limit a is at turned =
     let back : reverse a.records.items ≡ page = ap reverse turned ∙ reverse-reverse page in
     let size : length a.records.items ≡ length (take limit (above stamp kept)) = ap length turned ∙ length-reverse page ∙ ap length is in
     back ∙ is ∙ sym (take_again limit (above stamp kept)) ∙ ap₂ (λ n m. take n (above m kept)) (sym size) (sym at)
 
 -- the first of it, or none where there is none
-pub first_of_page : (kept page : List Kept) (stamp n : ℕ) (r : Option Kept) → Ascend kept → page ≡ kept_behind kept stamp (suc n) → IfSome r (λ k. IsKeptAfter kept stamp (Some k)) → (r ≡ None → reverse page ≡ []) → IsKeptAfter kept stamp r
+pub first_of_page : (kept page : List Kept) (stamp n : ℕ) (r : Option Kept) → Ascend kept → page ≡ records_after kept stamp (suc n) → IfSome r (λ k. IsKeptAfter kept stamp (Some k)) → (r ≡ None → reverse page ≡ []) → IsKeptAfter kept stamp r
 first_of_page kept page stamp n (Some k) h is some none = some
 first_of_page kept page stamp n None h is some none =
     no_more stamp kept h n (sym is ∙ sym (reverse-reverse page) ∙ ap reverse (none refl))
@@ -137,7 +137,7 @@ ahead_read s k a stamp live next = record { quiet = quiet_still s; up = live; st
 
 -- a page is read, and its first record handed out
 module _ (old new : State) (page : Vec Kept Global) (stamp : ℕ) (b : Ahead) (at : b.above ≡ stamp) (turned : b.records.items ≡ reverse page.items)
-    (read : HasRead old new (Ok page) (λ c found. found.items ≡ kept_behind c.kept stamp 100)) where
+    (read : HasRead old new (Ok page) (λ c found. found.items ≡ records_after c.kept stamp 100)) where
   pub page_is : HasCleanDisk new → (c : Content) → HoldsContent old c → IsAhead b c.kept
   page_is clean c held = page_ahead c.kept page.items stamp 100 b (read.value clean c held) at turned
 

@@ -17,15 +17,15 @@ use Rattle.acd_sql_columns.specs.declared.tables.Table.TheVariants as table
 use Rattle.acd_sqlbook.specs.Calls.{HasRead, HasReplaced, LeadsTo}
 use Rattle.acd_sqlbook.specs.Commit.{made_by}
 use Rattle.acd_sql_columns.specs.Relations.{meta_of}
-use Rattle.acd_sql_columns.specs.Draft.{HoldsContent, AddsStop}
+use Rattle.acd_sql_columns.specs.Transactions.{HoldsContent, AddsStop}
 use Rattle.acd_sql_columns.proofs.Decoded.{groups_rise, agents_rise}
 use Rattle.acd_sql_differences.specs.Leading.{rows_differences}
 use Rattle.acd_sql_differences.specs.Transition.{HasTables}
 use Rattle.acd_sqlbook.proofs.Committing.{rows_made}
-use Rattle.acd_sqlbook.proofs.Standing.{reads_not, reads_on, commits_not, commits_behind}
+use Rattle.acd_sqlbook.proofs.Standing.{reads_not, reads_on, commits_not, commits_after}
 use Rattle.acd_sql_statements.proofs.Chained.{quiet_still}
 
--- what is held is in order
+-- the held content is in order
 held_in_order : (s : State) (c : Content) → HoldsContent s c → Orders c.rows
 held_in_order s c held = record {
   groups = groups_rise c.rows.groups (held.encodes table.Groups).ascending;
@@ -42,7 +42,7 @@ Leading rows c changes = LeadsTo rows c changes.items
 reads_ordered : (old new : State) (held : Rows) → HasRead old new (Ok held) (λ c (found : Rows). found ≡ c.rows) → HasRead old new (Ok held) (λ c (found : Rows). (found ≡ c.rows) × Orders c.rows)
 reads_ordered old new held h = record { quiet = h.quiet; up = h.up; stops = h.stops; value = λ k c holds. (h.value k c holds, held_in_order old c holds) }
 
--- what leads on from the tables that were read leads on from those that are held
+-- changes that lead on from the tables that were read lead on from those that are held
 pub reads_leading : (old new : State) (held rows : Rows) (r : Result (Vec Change Global) Error) → HasRead old new (Ok held) (λ c (found : Rows). found ≡ c.rows)
     → IfOk r (λ changes. changes.items ≡ rows_differences held rows) → IfOk r (λ changes. Orders held → Orders rows → HasTables (changed_by held changes.items) rows) → HasRead old new r (Leading rows)
 reads_leading old new held rows r read is leads =
@@ -81,7 +81,7 @@ replaces old mid new r changes all meta rows events kept same counters read clea
     let written : Content → Content = made_by all events kept meta in
     record {
       written = written;
-      commits = commits_behind old mid new r written written changes (Leading rows) read (λ c leads. refl) clean up was done undone stops;
+      commits = commits_after old mid new r written written changes (Leading rows) read (λ c leads. refl) clean up was done undone stops;
       same = λ k c held follows.
           let t = (read.value (clean k) c held).leads ((orders_decided rows).0 follows.ordered) in
           ap₂ (λ l m. made_by l events kept m c) same counters

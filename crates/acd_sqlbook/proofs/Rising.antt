@@ -1,4 +1,4 @@
--- What tables hold stands in ascending number, from 1 on where each value is in its range.
+-- The content of tables is in ascending number, from 1 on where each value is in its range.
 use Rattle.std.proofs.Common.{◌≡◌, ◌==◌, ℕ, ◌<◌, nat_le, length, List, [], ◌∷◌, map, true, Some, refl, sym, subst, ◌∙◌, arith}
 use Rattle.std.proofs.lemmas.Bool.Decides.{nat_tests}
 use Rattle.std.specs.List.{AllByRecursion}
@@ -57,13 +57,13 @@ event_above e good =
 -- ---- ascending
 
 module _ {T : Type 0} (number : T → ℕ) where
-  rises_behind : (x : T) (xs : List T) → AllAfter (by_key number) x xs → IsAscending (by_key number) xs → Rises number (number x) xs
-  rises_behind x [] after up = tt
-  rises_behind x (y ∷ ys) after up = (less_is (number x) (number y) after.0, rises_behind y ys up.0 up.1)
+  rises_after : (x : T) (xs : List T) → AllAfter (by_key number) x xs → IsAscending (by_key number) xs → Rises number (number x) xs
+  rises_after x [] after up = tt
+  rises_after x (y ∷ ys) after up = (less_is (number x) (number y) after.0, rises_after y ys up.0 up.1)
 
   rises : (xs : List T) → AllByRecursion (λ x. 0 < number x) xs → IsAscending (by_key number) xs → Rises number 0 xs
   rises [] above up = tt
-  rises (x ∷ xs) above up = (above.0, rises_behind x xs up.0 up.1)
+  rises (x ∷ xs) above up = (above.0, rises_after x xs up.0 up.1)
 
 pub stored_ordered : (db : Trees) (c : Content) → Encodes db c → IsInRange c → IsOrdered c
 unfolding is_good_table

@@ -12,7 +12,7 @@ use Rattle.acd_sql_columns.specs.Relations.{meta_of}
 use Rattle.acd_sql_columns.specs.Content.{Encodes}
 use Rattle.acd_sqlbook.specs.Calls.{HasRead, HasCommitted, HasReplaced}
 use Rattle.acd_sqlbook.specs.Counters.{AreCounters}
-use Rattle.acd_sql_columns.specs.Draft.{HoldsContent, Quiet, NoStop, AddsStop}
+use Rattle.acd_sql_columns.specs.Transactions.{HoldsContent, Quiet, NoStop, AddsStop}
 use Rattle.acd_sql_columns.specs.Finding.{Finds}
 use Rattle.acd_sql_statements.proofs.Chained.{quiet_on, quiet_still}
 
@@ -21,9 +21,9 @@ ok_map P Q (Ok a) f h = f a h
 ok_map P Q (Err e) f h = tt
 
 module _ {A : Type 0} (old mid new : State) (r : Result A Error) (IsAnswer : Content → A → Type 0) where
-  -- a read behind a call that left the connection open
-  pub reads_behind : Quiet old mid → (HasCleanDisk mid → IsTrue mid.is_open) → (HasCleanDisk mid → NoStop old mid) → Finds mid new r IsAnswer → HasRead old new r IsAnswer
-  reads_behind quiet live still found = record {
+  -- a read after a call that left the connection open
+  pub reads_after : Quiet old mid → (HasCleanDisk mid → IsTrue mid.is_open) → (HasCleanDisk mid → NoStop old mid) → Finds mid new r IsAnswer → HasRead old new r IsAnswer
+  reads_after quiet live still found = record {
     quiet = quiet_on old mid new quiet found.quiet;
     up = found.up;
     stops = λ k stands db left.
@@ -35,11 +35,11 @@ module _ {A : Type 0} (old mid new : State) (r : Result A Error) (IsAnswer : Con
         ok_map (λ a. (c : Content) → HoldsContent mid c → IsAnswer c a) (λ a. (c : Content) → HoldsContent old c → IsAnswer c a) r (λ a h c held. h c (quiet.same m c held (live m))) (found.answer k);
   }
 
--- no read, where the connection doesn't serve
+-- no read, where the connection doesn't work
 pub reads_not : {A : Type 0} (old new : State) (e : Error) (IsAnswer : Content → A → Type 0) → Quiet old new → (HasCleanDisk new → NoStop old new) → HasRead old new (Err e) IsAnswer
 reads_not old new e IsAnswer quiet still = record { quiet = quiet; up = λ k. tt; stops = λ k stands. still k; value = λ k. tt }
 
--- what was read goes on to what is made of it
+-- the answer of a read is used for the next result
 pub reads_on : {A B : Type 0} (old new : State) (a : A) (r : Result B Error) (P : Content → A → Type 0) (Q : Content → B → Type 0) → HasRead old new (Ok a) P
     → IfOk r (λ (b : B). (c : Content) → P c a → Q c b) → HasRead old new r Q
 reads_on old new a (Ok b) P Q h on = record { quiet = h.quiet; up = h.up; stops = h.stops; value = λ k c held. on c (h.value k c held) }
@@ -48,7 +48,7 @@ reads_on old new a (Err e) P Q h on = record { quiet = h.quiet; up = λ k. tt; s
 pub reads_fail : {A B : Type 0} (old new : State) (e : Error) (P : Content → A → Type 0) (Q : Content → B → Type 0) → HasRead old new (Err e) P → HasRead old new (Err e) Q
 reads_fail old new e P Q h = record { quiet = h.quiet; up = λ k. tt; stops = h.stops; value = λ k. tt }
 
--- what it finds says the more
+-- its finding says the more
 pub reads_as : {A : Type 0} (old new : State) (r : Result A Error) (P Q : Content → A → Type 0) → ((c : Content) (a : A) → P c a → Q c a) → HasRead old new r P → HasRead old new r Q
 reads_as old new r P Q so h = record {
   quiet = h.quiet;
@@ -57,12 +57,12 @@ reads_as old new r P Q so h = record {
   value = λ k. ok_map (λ a. (c : Content) → HoldsContent old c → P c a) (λ a. (c : Content) → HoldsContent old c → Q c a) r (λ a p c held. so c a (p c held)) (h.value k);
 }
 
--- the counters that are held are taken for those of the database
+-- the counters that are held count as those of the database
 pub reads_held : (old new : State) (meta : Meta) → Quiet old new → (HasCleanDisk new → IsTrue new.is_open) → (HasCleanDisk new → NoStop old new)
     → HasRead old new (Ok meta) (λ c found. AreCounters (Some meta) c → found ≡ meta_of c.rows)
 reads_held old new meta quiet live still = record { quiet = quiet; up = live; stops = λ k stands. still k; value = λ k c held of. of }
 
--- what a commit of changes counts from the counters that are held, or that are read
+-- a commit of changes counts from the counters that are held, or that are read
 abbrev pub Counts : Option Meta → List Change → ℕ → Kept → Content → (ℕ × Meta) → Type 0
 Counts held changes events kept c found = AreCounters held c → found ≡ counters_of changes events kept c
 
@@ -110,13 +110,13 @@ module _ (old mid new : State) (r : Result (Unit {0}) Error) (made after : Conte
       go (Ok x) h = (was, h.1)
       go (Err e) h = tt
 
-  -- a commit behind a read that succeeded
-  pub commits_behind : {A : Type 0} (a : A) (P : Content → A → Type 0) → HasRead old mid (Ok a) P → ((c : Content) → P c a → made c ≡ after c)
+  -- a commit after a read that succeeded
+  pub commits_after : {A : Type 0} (a : A) (P : Content → A → Type 0) → HasRead old mid (Ok a) P → ((c : Content) → P c a → made c ≡ after c)
       → (HasCleanDisk new → HasCleanDisk mid) → (HasCleanDisk new → OnOk r (IsTrue mid.is_open × IsTrue new.is_open)) → (HasCleanDisk new → IsTrue new.is_open → IsTrue mid.is_open)
       → (HasCleanDisk new → OnOk r ((c : Content) → HoldsContent mid c → HoldsContent new (made c)))
       → (HasCleanDisk new → OnErr r ((c : Content) → HoldsContent mid c → IsTrue new.is_open → HoldsContent new c))
       → (HasCleanDisk new → AddsStop mid new made) → HasCommitted old new r after
-  commits_behind a P read same clean up was done undone stops = record {
+  commits_after a P read same clean up was done undone stops = record {
     clean = λ k. read.quiet.clean (clean k);
     up = λ k. both_open (read.quiet.was_open (clean k) (read.up (clean k))) (up k);
     was_open = λ k live. read.quiet.was_open (clean k) (was k live);
@@ -151,17 +151,17 @@ commits_counted old mid new r held last next changes events kept read clean up w
     let written : Content → Content = made_by changes events kept next in
     record {
       written = written;
-      commits = commits_behind old mid new r written written (last, next) (Counts held changes (length events) kept) read (λ c counts. refl) clean up was done undone stops;
+      commits = commits_after old mid new r written written (last, next) (Counts held changes (length events) kept) read (λ c counts. refl) clean up was done undone stops;
       same = λ k c holds of. ap (λ (p : ℕ × Meta). made_by changes events kept p.1 c) (read.value (clean k) c holds of);
     }
 
--- what it wrote is held behind it
+-- what it wrote is held after it
 pub holds_counted : (r : Result (Unit {0}) Error) (held now : Option Meta) (next : Meta) (changes : List Change) (events : List Event) (kept : Kept) (c : Content) → OnOk r (now ≡ Some next)
     → next ≡ counted (meta_of c.rows) changes (length events) kept → OnOk r (AreCounters now (written_by changes events kept c))
 holds_counted (Ok x) held now next changes events kept c is counts = subst (λ (o : Option Meta). AreCounters o (written_by changes events kept c)) (sym is) counts
 holds_counted (Err e) held now next changes events kept c is counts = tt
 
--- two reads, one behind the other, where the first one's answer is of use to what the second asks
+-- two reads, one after the other, where the first one's answer is of use to what the second asks
 pub reads_two : {A B : Type 0} (old mid new : State) (a : A) (r : Result B Error) (P : Content → A → Type 0) (Q W : Content → B → Type 0) → HasRead old mid (Ok a) P
     → ((c : Content) (b : B) → P c a → Q c b → W c b) → HasRead mid new r Q → HasRead old new r W
 reads_two old mid new a r P Q W first both second = record {

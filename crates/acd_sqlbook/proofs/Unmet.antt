@@ -1,4 +1,4 @@
--- What is new has no row when it is inserted.
+-- A new record has no row when it is inserted.
 use Rattle.std.proofs.Common.{◌≡◌, ◌⊎◌, inl, inr, ℕ, suc, ◌<◌, ◌≤◌, ◌==◌, ◌&&◌, List, [], ◌∷◌, ◌++◌, length, filter, Bool, true, false, cond, Option, None, Some, IsTrue, refl, sym, ap, subst, ◌∙◌, eq-eqb, arith}
 use Rattle.std.specs.Prelude.{⊤, if◌then◌else◌, nat_lt}
 use Rattle.std.specs.Ordering.{match_ordering, is_eq}
@@ -19,7 +19,7 @@ use Rattle.acd_sql_columns.specs.Relations.{relations_of}
 use Rattle.acd_sql_columns.specs.Tables.{calls}
 use Rattle.acd_sql_statements.specs.Refusing.{HasNone, HasNoConnection}
 use Rattle.acd_sqlbook.specs.Choosing.{IsWrittenNext, puts_the_same, is_put_once, is_above, is_new}
-use Rattle.acd_sqlbook.specs.Commit.{filed}
+use Rattle.acd_sqlbook.specs.Commit.{applied}
 use Rattle.acd_sqlbook.specs.Stopping.{AreUpTo, HasAbove, RefusesChange, StopsAtChange}
 
 -- ---- lists
@@ -78,88 +78,89 @@ both_turned m n p q out =
 
 -- ---- a change that puts something else
 
--- what is inserted without a look has no row
+-- a record that is inserted without a look has no row
 abbrev pub HasNoRow : Change → Content → Type 0
 HasNoRow (PutCall k) c = HasNone calls k (relations_of c)
 HasNoRow (PutConnection x) c = HasNoConnection x (relations_of c)
 HasNoRow _ c = ⊤
 
-call_unmet : (k : CallRecord) (u : Change) (x : Content) → puts_the_same (PutCall k) u ≡ false → HasNoRow (PutCall k) x → HasNoRow (PutCall k) (filed x u)
+call_unmet : (k : CallRecord) (u : Change) (x : Content) → puts_the_same (PutCall k) u ≡ false → HasNoRow (PutCall k) x → HasNoRow (PutCall k) (applied x u)
 unfolding with_group with_station with_agent with_call with_connection with_monitor without_call without_connection without_monitor
-call_unmet k (PutCall l) x out had = none_put (λ (y : CallRecord). y.call == k.call) (at_call l.call) x.rows.calls l had (turned k.call l.call out)
-call_unmet k (RemoveCall call) x out had = none_removed (λ (y : CallRecord). y.call == k.call) (at_call call) x.rows.calls had
-call_unmet k Nothing x out had = had
-call_unmet k (PutGroup g) x out had = had
-call_unmet k (PutStation s) x out had = had
-call_unmet k (PutAgent a) x out had = had
-call_unmet k (PutConnection y) x out had = had
-call_unmet k (PutMonitor w) x out had = had
-call_unmet k (RemoveConnection call device) x out had = had
-call_unmet k (RemoveMonitor monitor) x out had = had
+call_unmet k (PutCall l) x out no_row = none_put (λ (y : CallRecord). y.call == k.call) (at_call l.call) x.rows.calls l no_row (turned k.call l.call out)
+call_unmet k (RemoveCall call) x out no_row = none_removed (λ (y : CallRecord). y.call == k.call) (at_call call) x.rows.calls no_row
+call_unmet k Nothing x out no_row = no_row
+call_unmet k (PutGroup g) x out no_row = no_row
+call_unmet k (PutStation s) x out no_row = no_row
+call_unmet k (PutAgent a) x out no_row = no_row
+call_unmet k (PutConnection y) x out no_row = no_row
+call_unmet k (PutMonitor w) x out no_row = no_row
+call_unmet k (RemoveConnection call device) x out no_row = no_row
+call_unmet k (RemoveMonitor monitor) x out no_row = no_row
 
-connection_unmet : (z : ConnectionRecord) (u : Change) (x : Content) → puts_the_same (PutConnection z) u ≡ false → HasNoRow (PutConnection z) x → HasNoRow (PutConnection z) (filed x u)
+connection_unmet : (z : ConnectionRecord) (u : Change) (x : Content) → puts_the_same (PutConnection z) u ≡ false → HasNoRow (PutConnection z) x → HasNoRow (PutConnection z) (applied x u)
 unfolding with_group with_station with_agent with_call with_connection with_monitor without_call without_connection without_monitor
-connection_unmet z (PutConnection y) x out had =
-    none_put (λ (o : ConnectionRecord). (o.call == z.call) && (o.device == z.device)) (at_connection y.call y.device) x.rows.connections y had (both_turned z.call z.device y.call y.device out)
-connection_unmet z (RemoveConnection call device) x out had = none_removed (λ (o : ConnectionRecord). (o.call == z.call) && (o.device == z.device)) (at_connection call device) x.rows.connections had
-connection_unmet z Nothing x out had = had
-connection_unmet z (PutGroup g) x out had = had
-connection_unmet z (PutStation s) x out had = had
-connection_unmet z (PutAgent a) x out had = had
-connection_unmet z (PutCall k) x out had = had
-connection_unmet z (PutMonitor w) x out had = had
-connection_unmet z (RemoveCall call) x out had = had
-connection_unmet z (RemoveMonitor monitor) x out had = had
+connection_unmet z (PutConnection y) x out no_row =
+    none_put (λ (o : ConnectionRecord). (o.call == z.call) && (o.device == z.device)) (at_connection y.call y.device) x.rows.connections y no_row (both_turned z.call z.device y.call y.device out)
+connection_unmet z (RemoveConnection call device) x out no_row = none_removed (λ (o : ConnectionRecord). (o.call == z.call) && (o.device == z.device)) (at_connection call device) x.rows.connections no_row
+connection_unmet z Nothing x out no_row = no_row
+connection_unmet z (PutGroup g) x out no_row = no_row
+connection_unmet z (PutStation s) x out no_row = no_row
+connection_unmet z (PutAgent a) x out no_row = no_row
+connection_unmet z (PutCall k) x out no_row = no_row
+connection_unmet z (PutMonitor w) x out no_row = no_row
+connection_unmet z (RemoveCall call) x out no_row = no_row
+connection_unmet z (RemoveMonitor monitor) x out no_row = no_row
 
-still_none : (v u : Change) (x : Content) → puts_the_same v u ≡ false → HasNoRow v x → HasNoRow v (filed x u)
-still_none (PutCall k) u x out had = call_unmet k u x out had
-still_none (PutConnection z) u x out had = connection_unmet z u x out had
-still_none Nothing u x out had = tt
-still_none (PutGroup g) u x out had = tt
-still_none (PutStation s) u x out had = tt
-still_none (PutAgent a) u x out had = tt
-still_none (PutMonitor w) u x out had = tt
-still_none (RemoveCall call) u x out had = tt
-still_none (RemoveConnection call device) u x out had = tt
-still_none (RemoveMonitor monitor) u x out had = tt
+still_none : (v u : Change) (x : Content) → puts_the_same v u ≡ false → HasNoRow v x → HasNoRow v (applied x u)
+still_none (PutCall k) u x out no_row = call_unmet k u x out no_row
+still_none (PutConnection z) u x out no_row = connection_unmet z u x out no_row
+still_none Nothing u x out no_row = tt
+still_none (PutGroup g) u x out no_row = tt
+still_none (PutStation s) u x out no_row = tt
+still_none (PutAgent a) u x out no_row = tt
+still_none (PutMonitor w) u x out no_row = tt
+still_none (RemoveCall call) u x out no_row = tt
+still_none (RemoveConnection call device) u x out no_row = tt
+still_none (RemoveMonitor monitor) u x out no_row = tt
 
--- ---- one change behind the other
+-- ---- one change after the other
 
 -- how many of them put what this one puts
 abbrev puts : Change → List Change → ℕ
 puts v changes = length (filter (puts_the_same v) changes)
 
--- what these, the rest of all changes, put as often as all do, has no row now where it had none before the first change
+-- where these, the rest of all changes, put a row as often as all do, it doesn't exist now if it didn't before the
+-- first change
 pub record Unmet (rest changes : List Change) (c x : Content) : Type 0 where
   pub fewer : (v : Change) → puts v rest ≤ puts v changes
   pub free : (v : Change) → puts v rest ≡ puts v changes → HasNoRow v c → HasNoRow v x
 
 pub unmet_first : (changes : List Change) (c : Content) → Unmet changes changes c c
-unmet_first changes c = record { fewer = λ v. omega arith; free = λ v same had. had }
+unmet_first changes c = record { fewer = λ v. omega arith; free = λ v same no_row. no_row }
 
-module _ (rest behind changes : List Change) (change : Change) (c x : Content) (w : IsWrittenNext rest change behind) (h : Unmet rest changes c x) where
-  left : (v : Change) → puts v (change ∷ behind) ≤ puts v rest
-  left v = subst (λ (l : List Change). puts v (change ∷ behind) ≤ puts v l) (sym w.all) (ends (puts_the_same v) w.skipped (change ∷ behind))
+module _ (rest remaining changes : List Change) (change : Change) (c x : Content) (w : IsWrittenNext rest change remaining) (h : Unmet rest changes c x) where
+  left : (v : Change) → puts v (change ∷ remaining) ≤ puts v rest
+  left v = subst (λ (l : List Change). puts v (change ∷ remaining) ≤ puts v l) (sym w.all) (ends (puts_the_same v) w.skipped (change ∷ remaining))
 
-  pub unmet_next : Unmet behind changes c (filed x change)
+  pub unmet_next : Unmet remaining changes c (applied x change)
   unmet_next = record {
-    fewer = λ v. let all = h.fewer v in let some = left v in let one = more (puts_the_same v) change behind in omega (arith, all, some, one);
-    free = λ v same had.
+    fewer = λ v. let all = h.fewer v in let some = left v in let one = more (puts_the_same v) change remaining in omega (arith, all, some, one);
+    free = λ v same no_row.
         let all = h.fewer v in
         let some = left v in
-        let one = more (puts_the_same v) change behind in
+        let one = more (puts_the_same v) change remaining in
         let rests : puts v rest ≡ puts v changes = omega (arith, all, some, one, same) in
-        let none : puts v behind ≡ puts v (change ∷ behind) = omega (arith, all, some, one, same) in
-        still_none v change x (uncounted (puts_the_same v) change behind none) (h.free v rests had);
+        let none : puts v remaining ≡ puts v (change ∷ remaining) = omega (arith, all, some, one, same) in
+        still_none v change x (uncounted (puts_the_same v) change remaining none) (h.free v rests no_row);
   }
 
   -- it is put by none before
   once : puts_the_same change change ≡ true → is_put_once changes change ≡ true → puts change rest ≡ puts change changes
-  once own is =
+  once itself is =
       let all = h.fewer change in
       let some = left change in
       let one : puts change changes ≡ 1 = eqb-true (puts change changes) 1 is in
-      let counted = counts (puts_the_same change) change behind own in
+      let counted = counts (puts_the_same change) change remaining itself in
       omega (arith, all, some, one, counted)
 
 lower : (m n : ℕ) → nat_lt m n ≡ true → m < n
@@ -181,8 +182,8 @@ connection_above (Some last) z y c is among met = λ (all : AreUpTo last c).
     let high = lower last z.call is in
     omega (arith, low, same, high)
 
-own_number : (n : ℕ) → (n == n) ≡ true
-own_number n = eq-eqb n n refl
+equals_itself : (n : ℕ) → (n == n) ≡ true
+equals_itself n = eq-eqb n n refl
 
 calls_unseen : (last : Option ℕ) (k : CallRecord) (c : Content) (Free : Type 0) (found : List CallRecord) → is_above last k.call ≡ true → filter (λ (y : CallRecord). y.call == k.call) c.rows.calls ≡ found
     → (HasNoRow (PutCall k) c → Free) → HasAbove last c ⊎ Free
@@ -198,23 +199,23 @@ connections_unseen last z c Free (y ∷ found) high is free =
     let met = filter_among (λ (o : ConnectionRecord). (o.call == z.call) && (o.device == z.device)) c.rows.connections y (subst (Among y) (sym is) (inl refl)) in
     inl (connection_above last z y c high met.0 met.1)
 
--- what is new has no row, or some call was above the last one
-unseen : (last : Option ℕ) (rest behind changes : List Change) (change : Change) (c x : Content) → IsWrittenNext rest change behind → Unmet rest changes c x → is_new last changes change ≡ true → HasAbove last c ⊎ HasNoRow change x
-unseen last rest behind changes (PutCall k) c x w h new =
+-- a new record has no row, or some call was above the last one
+unseen : (last : Option ℕ) (rest remaining changes : List Change) (change : Change) (c x : Content) → IsWrittenNext rest change remaining → Unmet rest changes c x → is_new last changes change ≡ true → HasAbove last c ⊎ HasNoRow change x
+unseen last rest remaining changes (PutCall k) c x w h new =
     let parts = and_parts (is_above last k.call) (is_put_once changes (PutCall k)) new in
-    calls_unseen last k c (HasNoRow (PutCall k) x) _ parts.0 refl (h.free (PutCall k) (once rest behind changes (PutCall k) c x w h (own_number k.call) parts.1))
-unseen last rest behind changes (PutConnection z) c x w h new =
+    calls_unseen last k c (HasNoRow (PutCall k) x) _ parts.0 refl (h.free (PutCall k) (once rest remaining changes (PutCall k) c x w h (equals_itself k.call) parts.1))
+unseen last rest remaining changes (PutConnection z) c x w h new =
     let parts = and_parts (is_above last z.call) (is_put_once changes (PutConnection z)) new in
     connections_unseen last z c (HasNoRow (PutConnection z) x) _ parts.0 refl
-    (h.free (PutConnection z) (once rest behind changes (PutConnection z) c x w h (and_from (z.call == z.call) (z.device == z.device) (own_number z.call) (own_number z.device)) parts.1))
-unseen last rest behind changes Nothing c x w h new = inr tt
-unseen last rest behind changes (PutGroup g) c x w h new = inr tt
-unseen last rest behind changes (PutStation s) c x w h new = inr tt
-unseen last rest behind changes (PutAgent a) c x w h new = inr tt
-unseen last rest behind changes (PutMonitor m) c x w h new = inr tt
-unseen last rest behind changes (RemoveCall call) c x w h new = inr tt
-unseen last rest behind changes (RemoveConnection call device) c x w h new = inr tt
-unseen last rest behind changes (RemoveMonitor monitor) c x w h new = inr tt
+    (h.free (PutConnection z) (once rest remaining changes (PutConnection z) c x w h (and_from (z.call == z.call) (z.device == z.device) (equals_itself z.call) (equals_itself z.device)) parts.1))
+unseen last rest remaining changes Nothing c x w h new = inr tt
+unseen last rest remaining changes (PutGroup g) c x w h new = inr tt
+unseen last rest remaining changes (PutStation s) c x w h new = inr tt
+unseen last rest remaining changes (PutAgent a) c x w h new = inr tt
+unseen last rest remaining changes (PutMonitor m) c x w h new = inr tt
+unseen last rest remaining changes (RemoveCall call) c x w h new = inr tt
+unseen last rest remaining changes (RemoveConnection call device) c x w h new = inr tt
+unseen last rest remaining changes (RemoveMonitor monitor) c x w h new = inr tt
 
 -- ---- what is refused
 
@@ -232,7 +233,7 @@ refuses_so New Meets (RemoveCall call) x so h = h
 refuses_so New Meets (RemoveConnection call device) x so h = h
 refuses_so New Meets (RemoveMonitor monitor) x so h = h
 
-pub stops_unseen : (last : Option ℕ) (rest behind changes : List Change) (change : Change) (c x : Content) (new : Bool) → new ≡ is_new last changes change → IsWrittenNext rest change behind → Unmet rest changes c x
+pub stops_unseen : (last : Option ℕ) (rest remaining changes : List Change) (change : Change) (c x : Content) (new : Bool) → new ≡ is_new last changes change → IsWrittenNext rest change remaining → Unmet rest changes c x
     → StopsAtChange (IsTrue new) change x → StopsAtChange (HasAbove last c) change x
-stops_unseen last rest behind changes change c x new is w h (inl large) = inl large
-stops_unseen last rest behind changes change c x new is w h (inr refused) = inr (refuses_so (IsTrue new) (HasAbove last c) change x (λ so. unseen last rest behind changes change c x w h (sym is ∙ so)) refused)
+stops_unseen last rest remaining changes change c x new is w h (inl large) = inl large
+stops_unseen last rest remaining changes change c x new is w h (inr refused) = inr (refuses_so (IsTrue new) (HasAbove last c) change x (λ so. unseen last rest remaining changes change c x w h (sym is ∙ so)) refused)

@@ -1,4 +1,4 @@
--- What a call over a connection between transactions leaves, where the connection may have failed before.
+-- A call over a connection between transactions, where the connection may have failed before: what it leaves.
 use Rattle.std.specs.Prelude.{◌≡◌, List, Result, IsTrue, IfOk, OnOk, OnErr}
 use Rattle.sqlite_trees.specs.declared.store.Store.{Ghosts}
 use Rattle.sqlite.specs.Held.{Held, state}
@@ -9,11 +9,11 @@ use Rattle.acd_model.specs.Changes.{changed_by}
 use Rattle.acd_model.specs.declared.moves.Change.{Change}
 use Rattle.acd_lemmas.specs.Orders.{Orders}
 use Rattle.acd_book.specs.Content.{Content}
-use Rattle.acd_sql_columns.specs.Draft.{HoldsContent, Quiet, NoStop, MayAdd}
+use Rattle.acd_sql_columns.specs.Transactions.{HoldsContent, Quiet, NoStop, MayAdd}
 use Rattle.acd_sql_differences.specs.Leading.{rows_differences}
 use Rattle.acd_sql_differences.specs.Transition.{HasTables}
 
--- a disk that is clean behind a call was so before it
+-- a disk that is clean after a call was so before it
 abbrev pub WasClean : {S : Type 0} → Ghosts S → Held S → Held S → Type 0
 WasClean g old new = HasCleanDisk (state g new) → HasCleanDisk (state g old)
 
@@ -39,7 +39,7 @@ pub record HasCommitted (old new : State) (result : Result (Unit {0}) Error) (af
 
 -- a commit, all or none, where `after c` is what it makes of a content that it follows
 pub record HasReplaced (old new : State) (result : Result (Unit {0}) Error) (Follows : Content → Type 0) (after : Content → Content) : Type 0 where
-  -- what it makes of any
+  -- the result for any content
   pub written : Content → Content
   pub commits : HasCommitted old new result written
   pub same : HasCleanDisk new → (c : Content) → HoldsContent old c → Follows c → written c ≡ after c

@@ -13,7 +13,7 @@ use Rattle.acd_book.specs.declared.kept.Kept.{Kept}
 use Rattle.acd_sql_columns.specs.Relations.{meta_of}
 use Rattle.acd_book.specs.declared.fault.BookFault.{BookFault}
 use Rattle.acd_book.specs.declared.fault.BookFault.TheVariants.{Store}
-use Rattle.acd_sql_columns.specs.Draft.{LimitsFit}
+use Rattle.acd_sql_columns.specs.Transactions.{LimitsFit}
 use Rattle.acd_sql_columns.specs.InTables.{content_of}
 use Rattle.acd_sql_columns.specs.Schema.{no_schema}
 use Rattle.acd_sql_differences.specs.Leading.{rows_differences}
@@ -24,14 +24,14 @@ use Rattle.acd_sqlbook.specs.View.{BookView}
 use Rattle.acd_sqlbook.specs.Commit.{counted}
 use Rattle.acd_sqlbook.specs.Stopping.{AllNumbersFit, AreCounted, Drops, HasAbove, IsUncounted, RefusesInAll}
 
--- what a book is asked
+-- the calls of a book
 pub data BookCall : Type 0 where
   create : Limits → BookCall
   read : BookCall
   change : List Change → List Event → Kept → BookCall
   replace : Rows → List Event → Kept → BookCall
 
--- a number of it, of a change that it makes, or of the counters behind it, doesn't fit its column
+-- a number of it, of a change that it makes, or of the counters after it, doesn't fit its column
 abbrev pub IsUnfit : BookCall → State → Type 0
 IsUnfit (create limits) s = ¬ (LimitsFit limits)
 IsUnfit read s = ⊥
@@ -75,7 +75,7 @@ IsRefusedByStore (replace rows events kept) s = RefusesInAll ⊥ (rows_differenc
 
 -- between these two states of its connection
 pub data StoreCause (asked : BookCall) (old new : State) : Type 0 where
-  -- the store's own count of faults rose
+  -- the store's count of faults rose
   failed : MoreFaults old.faults new.faults → StoreCause asked old new
   -- the connection was shut before
   shut : old.is_open ≡ false → StoreCause asked old new

@@ -6,37 +6,37 @@ use Rattle.acd_model.specs.Rules.Plan.{connection_order}
 use Rattle.acd_model.specs.declared.moves.Change.{Change}
 use Rattle.acd_model.specs.declared.moves.Change.TheVariants.{PutCall, PutConnection, RemoveConnection}
 use Rattle.acd_book.specs.Content.{Content}
-use Rattle.acd_sqlbook.specs.Commit.{filed, all_filed}
+use Rattle.acd_sqlbook.specs.Commit.{applied, all_applied}
 
 -- ---- what is written
 
--- the second takes away the connection that the first one puts
+-- the second removes the connection that the first one puts
 abbrev pub is_taken_away : Change → Change → Bool
 is_taken_away (PutConnection x) (RemoveConnection call device) = (x.call == call) && (x.device == device)
 is_taken_away _ _ = false
 
--- those that are written: all but a connection that the very next change takes away
+-- those that are written: all but a connection that the very next change removes
 abbrev pub written : List Change → List Change
 written [] = []
 written (change ∷ []) = change ∷ []
 written (change ∷ next ∷ changes) = cond (is_taken_away change next) (written (next ∷ changes)) (change ∷ written (next ∷ changes))
 
--- this one is written next, and those are behind it
-pub record IsWrittenNext (changes : List Change) (change : Change) (behind : List Change) : Type 0 where
+-- this one is written next, and those are the rest
+pub record IsWrittenNext (changes : List Change) (change : Change) (rest : List Change) : Type 0 where
   pub skipped : List Change
-  pub all : changes ≡ skipped ++ change ∷ behind
-  pub first : written changes ≡ change ∷ written behind
-  -- what is skipped makes no difference
-  pub filing : (c : Content) → IsAscending connection_order c.rows.connections → all_filed c changes ≡ all_filed (filed c change) behind
+  pub all : changes ≡ skipped ++ change ∷ rest
+  pub first : written changes ≡ change ∷ written rest
+  -- skipping a change makes no difference
+  pub applying : (c : Content) → IsAscending connection_order c.rows.connections → all_applied c changes ≡ all_applied (applied c change) rest
 
 -- ---- events
 
--- the events of the next statement, and those behind them
-pub record IsNextPart (es some behind : List Event) : Type 0 where
-  pub all : es ≡ some ++ behind
+-- the events of the next statement, and the rest
+pub record IsNextPart (es some rest : List Event) : Type 0 where
+  pub all : es ≡ some ++ rest
   pub any : some ≢ []
   pub few : length some ≤ 4
-  pub full : 0 < length behind → length some ≡ 4
+  pub full : 0 < length rest → length some ≡ 4
 
 -- ---- what is new
 
@@ -46,7 +46,7 @@ puts_the_same (PutCall k) (PutCall l) = k.call == l.call
 puts_the_same (PutConnection x) (PutConnection y) = (x.call == y.call) && (x.device == y.device)
 puts_the_same _ _ = false
 
--- what a change of these puts, no other of them puts
+-- no other change puts what one of these puts
 abbrev pub is_put_once : List Change → Change → Bool
 is_put_once changes change = length (filter (puts_the_same change) changes) == 1
 

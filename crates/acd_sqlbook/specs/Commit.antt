@@ -1,4 +1,4 @@
--- What a commit makes of a content, write by write.
+-- The result of a commit of a content, write by write.
 use Rattle.std.specs.Prelude.{ℕ, ◌+◌, List, [], ◌∷◌, ⊤, IfSome, OnOk, Result, length, max}
 use Rattle.std.specs.Borrow.{MutBor}
 use Rattle.std.specs.Ordering.{nat_cmp}
@@ -16,7 +16,7 @@ use Rattle.acd_book.specs.Content.{Content}
 use Rattle.acd_book.specs.declared.kept.Kept.{Kept}
 use Rattle.acd_sql_columns.specs.declared.meta.Meta.{Meta}
 use Rattle.acd_sql_columns.specs.Relations.{meta_of, relations_of}
-use Rattle.acd_sql_columns.specs.Draft.{Drafts, Fits, FiguresFitColumns}
+use Rattle.acd_sql_columns.specs.Transactions.{HoldsUncommitted, Fits, FiguresFitColumns}
 
 -- its numbers fit
 abbrev pub ChangeFits : Change → Type 0
@@ -35,12 +35,12 @@ abbrev pub EventFits : Event → Type 0
 EventFits e = Fits e.number × IfSome (columns_of e.report).call Fits
 
 -- a change made in its table, with the counters as they were
-abbrev pub filed : Content → Change → Content
-filed c change = record c { rows = record (changed c.rows change) { last_call = c.rows.last_call; last_monitor = c.rows.last_monitor } }
+abbrev pub applied : Content → Change → Content
+applied c change = record c { rows = record (changed c.rows change) { last_call = c.rows.last_call; last_monitor = c.rows.last_monitor } }
 
-abbrev pub all_filed : Content → List Change → Content
-all_filed c [] = c
-all_filed c (change ∷ changes) = all_filed (filed c change) changes
+abbrev pub all_applied : Content → List Change → Content
+all_applied c [] = c
+all_applied c (change ∷ changes) = all_applied (applied c change) changes
 
 abbrev pub with_event : Content → Event → Content
 with_event c e = record c { events = put_by (λ (x : Event). nat_cmp e.number x.number) c.events e }
@@ -66,12 +66,12 @@ with_meta m c = record c {
 
 -- the changes, the events, the kept record, and last the counters
 abbrev pub made_by : List Change → List Event → Kept → Meta → Content → Content
-made_by changes events kept meta c = with_meta meta (with_kept (with_events (all_filed c changes) events) kept)
+made_by changes events kept meta c = with_meta meta (with_kept (with_events (all_applied c changes) events) kept)
 
 -- a content that the transaction saw is now what `change` makes of it
 abbrev pub LeavesContent : {S : Type 0} → Ghosts S → MutBor (Held S) → MutBor (Held S) → Result (Unit {0}) Error → (Content → Content) → Type 0
 LeavesContent g old new result change =
-    HasCleanDisk (state g new.now) → OnOk result ((c : Content) → Drafts (state g old.now) (relations_of c) → Drafts (state g new.now) (relations_of (change c)))
+    HasCleanDisk (state g new.now) → OnOk result ((c : Content) → HoldsUncommitted (state g old.now) (relations_of c) → HoldsUncommitted (state g new.now) (relations_of (change c)))
 
 -- ---- the counters of a commit
 
@@ -106,6 +106,6 @@ counted m changes events k = record {
 abbrev pub counters_of : List Change → ℕ → Kept → Content → ℕ × Meta
 counters_of changes events kept c = (c.rows.last_call, counted (meta_of c.rows) changes events kept)
 
--- what a commit writes, with the counters that go on from the content's
+-- the writes of a commit, with the counters that continue the content's
 abbrev pub written_by : List Change → List Event → Kept → Content → Content
 written_by changes events kept c = made_by changes events kept (counted (meta_of c.rows) changes (length events) kept) c

@@ -1,4 +1,4 @@
--- A book that has noted which events are at the devices that are watched.
+-- A book that has indexed the events at the devices that are watched.
 use Rattle.std.specs.Prelude.{◌≡◌, ℕ, ◌≤◌, List, [], ◌∷◌, ◌++◌, Option, None, Some, Result, is_ok, true, ⊤}
 use Rattle.sqlite.specs.declared.error.Error.{Error}
 use Rattle.acd_terms.specs.Lists.{Every}
@@ -8,15 +8,15 @@ use Rattle.acd_book.specs.Order.{Rises}
 use Rattle.acd_book.specs.Watched.{ListsEvents}
 use Rattle.acd_sqlbook.specs.declared.index.Index.{Index}
 
--- each list is of these events, and none of them has a greater number than the last one that was noted
+-- each list is of these events, and none of them has a greater number than the last one that was indexed
 pub record Indexes (i : Index) (events : List Event) : Type 0 where
   pub lists : ListsEvents events i.watched
   pub last : Every (λ (e : Event). e.number ≤ i.last) events
 
--- the same, where anything was noted
-abbrev pub IndexIsNoted : Option Index → List Event → Type 0
-IndexIsNoted None events = ⊤
-IndexIsNoted (Some i) events = Indexes i events
+-- the same, where anything was indexed
+abbrev pub IsIndexOf : Option Index → List Event → Type 0
+IsIndexOf None events = ⊤
+IsIndexOf (Some i) events = Indexes i events
 
 -- the number of the last of these events or, where there is none, the one before them
 abbrev pub last_of : ℕ → List Event → ℕ
@@ -37,7 +37,7 @@ pub record BeginsIndex (i : Index) (events : List Event) : Type 0 where
   pub indexes : Indexes i seen
   pub above : Rises number_of i.last rest
 
--- what is noted behind a commit: nothing or, where it succeeded, an index that goes on
-abbrev pub IsNotedBehind : Option Index → Result (Unit {0}) Error → List Event → Option Index → Type 0
-IsNotedBehind before done more None = ⊤
-IsNotedBehind before done more (Some next) = (is_ok done ≡ true) × ((old : Index) × (before ≡ Some old) × IndexGoesOn old more next)
+-- what is indexed after a commit: nothing or, where it succeeded, an index that goes on
+abbrev pub IsIndexAfter : Option Index → Result (Unit {0}) Error → List Event → Option Index → Type 0
+IsIndexAfter before done more None = ⊤
+IsIndexAfter before done more (Some next) = (is_ok done ≡ true) × ((old : Index) × (before ≡ Some old) × IndexGoesOn old more next)

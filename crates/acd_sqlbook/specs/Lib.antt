@@ -10,4 +10,4 @@ pub mod Causes
 pub mod Indexing
 pub mod Ahead
 pub mod Counters
-pub mod Noting
+pub mod Caching

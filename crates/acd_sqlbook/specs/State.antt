@@ -1,4 +1,4 @@
--- A book over a connection, as it stands.
+-- A book over a connection, at a moment.
 use Rattle.std.specs.Prelude.{◌≡◌, ℕ, ◌+◌, ◌-◌, ◌^◌, min, Result, Ok, Err, IsTrue}
 use Rattle.sqlite_trees.specs.Tree.{Trees}
 use Rattle.sqlite.specs.declared.error.Error.{Error}
@@ -48,7 +48,7 @@ abbrev pub answered : {A : Type 0} → Result A Error → Result A BookFault
 answered (Ok found) = Ok found
 answered (Err error) = Err (fault_of error)
 
--- the count of failures behind an answer; it stays at its greatest value
+-- the count of failures after an answer; it stays at its greatest value
 abbrev pub failures_after : {A : Type 0} → Result A BookFault → ℕ → ℕ
 failures_after (Err Store) failures = min (failures + 1) (2 ^ 64 - 1)
 failures_after _ failures = failures

@@ -14,7 +14,7 @@ use Rattle.acd_model.specs.declared.moves.Change.{Change}
 use Rattle.acd_model.specs.declared.moves.Change.TheVariants.{Nothing, PutGroup, PutStation, PutAgent, PutCall, PutConnection, PutMonitor, RemoveCall, RemoveConnection, RemoveMonitor}
 use Rattle.acd_book.specs.Content.{Content}
 use Rattle.acd_book.specs.declared.kept.Kept.{Kept}
-use Rattle.acd_sql_columns.specs.Draft.{Drafts, Fits, HoldsContent, MetaFits}
+use Rattle.acd_sql_columns.specs.Transactions.{HoldsUncommitted, Fits, HoldsContent, MetaFits}
 use Rattle.acd_sql_columns.specs.Relations.{Relations, meta_of, relations_of}
 use Rattle.acd_sql_columns.specs.Rows.{connection_values, kept_values, meta_shown}
 use Rattle.acd_sql_columns.specs.Tables.{stations, calls, monitors}
@@ -28,14 +28,14 @@ use Rattle.acd_sql_statements.specs.Reading.{FailsToRead}
 use Rattle.acd_sql_statements.specs.Refusing.{RefusesOn, RefusesPut, RefusesPutConnection, RefusesGroup, RefusesAgent}
 use Rattle.acd_sql_statements.specs.Several.{RefusesEvents}
 use Rattle.acd_sqlbook.specs.Choosing.{written}
-use Rattle.acd_sqlbook.specs.Commit.{ChangeFits, EventFits, counted, filed, all_filed, with_events, with_kept}
+use Rattle.acd_sqlbook.specs.Commit.{ChangeFits, EventFits, counted, applied, all_applied, with_events, with_kept}
 
 -- no call that it has, and no call of its connections, is above this one
 pub record AreUpTo (last : ℕ) (c : Content) : Type 0 where
   pub calls : Every (λ (k : CallRecord). k.call ≤ last) c.rows.calls
   pub connections : Every (λ (x : ConnectionRecord). x.call ≤ last) c.rows.connections
 
--- it has one above the last call's number, where that is known; above its own last one no sound content has any
+-- it has one above the last call's number, where that is known; above its last one no sound content has any
 abbrev pub HasAbove : Option ℕ → Content → Type 0
 HasAbove None c = ⊥
 HasAbove (Some last) c = ¬ (AreUpTo last c)
@@ -57,12 +57,12 @@ RefusesChange Meets (RemoveMonitor monitor) r = RefusesOn DELETE_MONITOR.now (id
 abbrev pub StopsAtChange : Type 0 → Change → Content → Type 0
 StopsAtChange Meets change c = (¬ (ChangeFits change)) ⊎ RefusesChange Meets change (relations_of c)
 
--- one of them, behind those before it
+-- one of them, after those before it
 abbrev pub StopsInChanges : Type 0 → List Change → Content → Type 0
 StopsInChanges Meets [] c = ⊥
-StopsInChanges Meets (change ∷ changes) c = StopsAtChange Meets change c ⊎ StopsInChanges Meets changes (filed c change)
+StopsInChanges Meets (change ∷ changes) c = StopsAtChange Meets change c ⊎ StopsInChanges Meets changes (applied c change)
 
--- at the events of one statement, four at most, behind those before them
+-- at the events of one statement, four at most, after those before them
 abbrev pub InEvents : (List Event → Content → Type 0) → List Event → Content → Type 0
 InEvents At [] c = ⊥
 InEvents At (e ∷ []) c = At (e ∷ []) c
@@ -77,16 +77,16 @@ StopsAtEvents es c = (¬ (Every EventFits es)) ⊎ RefusesEvents es None (relati
 abbrev pub StopsInEvents : List Event → Content → Type 0
 StopsInEvents = InEvents StopsAtEvents
 
--- the kept record, or behind it the counters
+-- the kept record, or after it the counters
 abbrev pub StopsAtLast : Kept → Meta → Content → Type 0
 StopsAtLast kept meta c =
     RefusesOn INSERT_KEPT.now (kept_values kept) None (relations_of c) ⊎ RefusesOn UPDATE_META.now (meta_shown meta) None (relations_of (with_kept c kept))
 
--- the changes that are written, the events behind them, or what is last
+-- the changes that are written, the events after them, or what is last
 abbrev pub StopsInAll : Type 0 → List Change → List Event → Kept → Meta → Content → Type 0
 StopsInAll Meets changes events kept meta c =
     StopsInChanges Meets (written changes) c
-    ⊎ (StopsInEvents events (all_filed c changes) ⊎ StopsAtLast kept meta (with_events (all_filed c changes) events))
+    ⊎ (StopsInEvents events (all_applied c changes) ⊎ StopsAtLast kept meta (with_events (all_applied c changes) events))
 
 -- ---- what of it doesn't fit, and what the store refuses
 
@@ -94,29 +94,29 @@ StopsInAll Meets changes events kept meta c =
 abbrev pub AllNumbersFit : List Change → List Event → Type 0
 AllNumbersFit changes events = Every ChangeFits (written changes) × Every EventFits events
 
--- the store refuses one of them, behind those before it
+-- the store refuses one of them, after those before it
 abbrev pub RefusesInChanges : Type 0 → List Change → Content → Type 0
 RefusesInChanges Meets [] c = ⊥
-RefusesInChanges Meets (change ∷ changes) c = RefusesChange Meets change (relations_of c) ⊎ RefusesInChanges Meets changes (filed c change)
+RefusesInChanges Meets (change ∷ changes) c = RefusesChange Meets change (relations_of c) ⊎ RefusesInChanges Meets changes (applied c change)
 
 abbrev pub RefusesInEvents : List Event → Content → Type 0
 RefusesInEvents = InEvents (λ es c. RefusesEvents es None (relations_of c))
 
--- a statement of a change that is written, of an event behind them, or of what is last
+-- a statement of a change that is written, of an event after them, or of what is last
 abbrev pub RefusesInAll : Type 0 → List Change → List Event → Kept → Meta → Content → Type 0
 RefusesInAll Meets changes events kept meta c =
     RefusesInChanges Meets (written changes) c
-    ⊎ (RefusesInEvents events (all_filed c changes) ⊎ StopsAtLast kept meta (with_events (all_filed c changes) events))
+    ⊎ (RefusesInEvents events (all_applied c changes) ⊎ StopsAtLast kept meta (with_events (all_applied c changes) events))
 
 -- ---- failures
 
 -- why it fails, where `Stops c` says at what it stops
-abbrev pub FailsToFile : (Content → Type 0) → Content → State → State → Error → Type 0
-FailsToFile Stops c old new e = IsMemory e ⊎ (StoreHasFailed old new ⊎ Stops c)
+abbrev pub FailsToApply : (Content → Type 0) → Content → State → State → Error → Type 0
+FailsToApply Stops c old new e = IsMemory e ⊎ (StoreHasFailed old new ⊎ Stops c)
 
 -- it fails by this alone
 abbrev pub IsStopped : {A : Type 0} → (Content → Type 0) → State → State → Result A Error → Type 0
-IsStopped Stops old new result = HasCleanDisk new → (c : Content) → Drafts old (relations_of c) → IfErr result (FailsToFile Stops c old new)
+IsStopped Stops old new result = HasCleanDisk new → (c : Content) → HoldsUncommitted old (relations_of c) → IfErr result (FailsToApply Stops c old new)
 
 -- so it is with the connection of a transaction
 abbrev pub FailsAt : {S A : Type 0} → Ghosts S → MutBor (Held S) → MutBor (Held S) → Result A Error → (Content → Type 0) → Type 0
@@ -124,11 +124,11 @@ FailsAt g old new result Stops = IsStopped Stops (state g old.now) (state g new.
 
 -- of a whole commit, on a connection that holds a content
 abbrev pub IsUndone : {A : Type 0} → (Content → Type 0) → State → State → Result A Error → Type 0
-IsUndone Stops old new result = HasCleanDisk new → (c : Content) → HoldsContent old c → IfErr result (FailsToFile Stops c old new)
+IsUndone Stops old new result = HasCleanDisk new → (c : Content) → HoldsContent old c → IfErr result (FailsToApply Stops c old new)
 
 -- ---- a commit of changes
 
--- the counters behind so many events don't fit their columns
+-- the counters after so many events don't fit their columns
 abbrev pub IsUncounted : List Change → ℕ → Kept → Content → Type 0
 IsUncounted changes events kept c = ¬ (MetaFits (counted (meta_of c.rows) changes events kept))
 
@@ -156,11 +156,11 @@ StopsReplace rows events kept c =
 -- ---- either
 
 -- why a call that reads first fails: as a read does, or at this
-abbrev pub IsBlamedOr : {A : Type 0} → (Content → Type 0) → State → State → Result A Error → Type 0
-IsBlamedOr Stops old new result = HasCleanDisk new → (c : Content) → HoldsContent old c → IfErr result (λ e. FailsToRead c old new e ⊎ Stops c)
+abbrev pub IsCausedByReadOr : {A : Type 0} → (Content → Type 0) → State → State → Result A Error → Type 0
+IsCausedByReadOr Stops old new result = HasCleanDisk new → (c : Content) → HoldsContent old c → IfErr result (λ e. FailsToRead c old new e ⊎ Stops c)
 
 -- that, and what it leaves of the store's count and of the limit of steps
-pub record BlamesOr {A : Type 0} (Stops : Content → Type 0) (old new : State) (result : Result A Error) : Type 0 where
-  pub cause : IsBlamedOr Stops old new result
+pub record HasReadCauseOr {A : Type 0} (Stops : Content → Type 0) (old new : State) (result : Result A Error) : Type 0 where
+  pub cause : IsCausedByReadOr Stops old new result
   pub counts : OnOk result (old.faults ≤ new.faults)
   pub limit : OnOk result (new.step_limit ≡ old.step_limit)

@@ -1,4 +1,4 @@
--- What is known of the store of a book, and of what it holds.
+-- The store of a book, and its content: what is known.
 use Rattle.std.specs.Prelude.{ℕ}
 use Rattle.sqlite_trees.specs.Tree.{Trees}
 use Rattle.sqlite_trees.specs.declared.memory.MemStore.{MemStore}
@@ -14,6 +14,6 @@ use Rattle.acd_sqlbook.specs.State.{book_state}
 abbrev pub MemoryIsClean : Type 0
 MemoryIsClean = (h : Held MemStore) (failures : ℕ) → (book_state (state over_memory h) failures).is_clean
 
--- what tables hold stands in order, where each value is in its range
+-- the content of tables is in order, where each value is in its range
 abbrev pub StoredIsOrdered : Type 0
 StoredIsOrdered = (db : Trees) (c : Content) → Encodes db c → IsInRange c → IsOrdered c

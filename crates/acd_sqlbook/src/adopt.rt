@@ -3,18 +3,18 @@
 ghost use Rattle.std.specs.Prelude.{◌≡◌, ◌≢◌, ◌⊎◌, false, None, IfOk, IfErr};
 ghost use Rattle.sqlite.specs.State.{HasCleanDisk};
 ghost use Rattle.sqlite.specs.Held.{state};
-ghost use Rattle.acd_sql_columns.specs.AnyRows.{IsFiled};
+ghost use Rattle.acd_sql_columns.specs.AnyRows.{IsCanonical};
 ghost use Rattle.acd_sql_columns.specs.Schema.{old_schema, book_schema};
 ghost use Rattle.acd_sql_schema.specs.Inspecting.{IsAdoptStoreFault};
 ghost use Rattle.acd_sql_schema.specs.Migrating.{IsMade};
 ghost use Rattle.acd_sqlbook.specs.Adopting.{AdoptCause, HasAllColumns, IsAdopted, IsHandedBack, IsUntouched, MayMigrate};
 ghost use Rattle.acd_sql_schema.specs.SettingUp.{IfClean};
 ghost use Rattle.acd_sqlbook.specs.Calls.{WasClean};
-ghost use Rattle.acd_sqlbook.specs.Noting.{IsBlank};
+ghost use Rattle.acd_sqlbook.specs.Caching.{IsBlank};
 ghost use Rattle.acd_sqlbook.specs.State.{book_state};
 
 use crate::book::SqlBook;
-use crate::notes::Notes;
+use crate::cache::Cache;
 use crate::ready::Ready;
 use acd_sql_columns::Version;
 use acd_sql_schema::{AdoptFault, Found, fault_of, look_over, migrate};
@@ -24,9 +24,9 @@ use std::alloc::Global;
 impl<S: Alter> SqlBook<S> {
     /// Takes a connection over a book, whose values it looks at, all of them before anything is written.
     ///
-    /// Tables of version 1 become those of version 2, in one transaction; of those of version 2 nothing is changed. The
-    /// connection is handed back beside a fault, without a limit of steps: one that was set is taken off first, and a
-    /// connection doesn't tell which it was. What it is over is as it was after [`AdoptFault::WrongVersion`] and
+    /// Tables of version 1 become those of version 2, in one transaction; of those of version 2 nothing is changed.
+    /// With a fault the connection is handed back without a limit of steps: one that was set is removed first, and a
+    /// connection doesn't say which it was. What it is over is as it was after [`AdoptFault::WrongVersion`] and
     /// [`AdoptFault::BadRow`].
     pub fn adopt(
         alloc: Global,
@@ -41,11 +41,11 @@ impl<S: Alter> SqlBook<S> {
         ensures migrated { IfOk result (λ b. IfClean S.Store conn b.conn
             (λ old new. old.now.schema ≡ old_schema → IsMade old new)) }
         ensures leaves { IfOk result (λ b. IfClean S.Store conn b.conn MayMigrate) }
-        ensures filed { IfOk result (λ b. HasCleanDisk (state S.Store b.conn)
+        ensures canonical { IfOk result (λ b. HasCleanDisk (state S.Store b.conn)
             → (S.Store.view conn.store).is_broken ≡ false
-            → HasAllColumns (state S.Store conn).now → IsFiled (state S.Store conn).now) }
+            → HasAllColumns (state S.Store conn).now → IsCanonical (state S.Store conn).now) }
         ensures counted { IfOk result (λ b. b.failures ≡ 0) }
-        ensures unnoted { IfOk result (λ b. IsBlank b.noted) }
+        ensures blank { IfOk result (λ b. IsBlank b.cache) }
         ensures unlimited { IfOk result (λ b. b.conn.step_limit ≡ None) }
         ensures clean { IfOk result (λ b. WasClean S.Store conn b.conn) }
         ensures idle { IfErr result (λ e. e.1.in_transaction ≡ false) }
@@ -59,22 +59,28 @@ impl<S: Alter> SqlBook<S> {
             → IsUntouched old new)) }
         ensures leaves_refused { IfErr result (λ e. IfClean S.Store conn e.1 MayMigrate) }
         ensures caused { IfErr result (λ e. IfClean S.Store conn e.1
-            (λ old new. IsFiled old.now → e.0 ≡ AdoptFault.Store → AdoptCause old new)) }
+            (λ old new. IsCanonical old.now → e.0 ≡ AdoptFault.Store → AdoptCause old new)) }
     {
         conn.set_step_limit(None);
         match look_over(alloc, &mut conn) {
             Ok(Found::Book(Version::Second)) => Ok(SqlBook {
                 alloc,
-                ready: Ready { conn, fresh: true },
+                ready: Ready {
+                    conn,
+                    known_open: true,
+                },
                 failures: 0,
-                notes: Notes::blank(alloc),
+                cache: Cache::blank(alloc),
             }),
             Ok(Found::Book(Version::First)) => match migrate(&mut conn) {
                 Ok(()) => Ok(SqlBook {
                     alloc,
-                    ready: Ready { conn, fresh: true },
+                    ready: Ready {
+                        conn,
+                        known_open: true,
+                    },
                     failures: 0,
-                    notes: Notes::blank(alloc),
+                    cache: Cache::blank(alloc),
                 }),
                 Err(error) => Err((fault_of(error), conn)),
             },

@@ -2,15 +2,15 @@
 
 ghost use Rattle.sqlite.specs.Held.{state};
 ghost use Rattle.acd_sql_columns.specs.Finding.{Finds};
-ghost use Rattle.acd_sql_statements.specs.Picking.{Serves};
-ghost use Rattle.acd_sql_statements.specs.Reading.{Blames};
+ghost use Rattle.acd_sql_statements.specs.Picking.{IsOpenIfClean};
+ghost use Rattle.acd_sql_statements.specs.Reading.{HasReadCause};
 ghost use Rattle.acd_sqlbook.specs.Calls.{HasRead};
-ghost use Rattle.acd_sqlbook.specs.Indexing.{BeginsIndex, IndexIsNoted};
+ghost use Rattle.acd_sqlbook.specs.Indexing.{BeginsIndex, IsIndexOf};
 
-use crate::index::{Index, noted_on};
+use crate::index::{Index, index_extended};
 use crate::ready::Ready;
 use acd_book::Watched;
-use acd_sql_statements::{events_behind, rows};
+use acd_sql_statements::{events_after, rows};
 use acd_terms::MonitorRecord;
 use sqlite::{Alter, Connection, Error};
 use std::alloc::Global;
@@ -18,8 +18,8 @@ use std::alloc::Global;
 // So many events are read at once.
 const PAGE: usize = 1000;
 
-// No monitor tells an event up to this number, so that a pass may begin there; any other number would do. Where there is
-// none it is the last event's.
+// No monitor reports an event up to this number, so that a pass may begin there; any other number would do. Where there
+// is none it is the last event's.
 fn earliest(monitors: &[MonitorRecord], last: u64) -> u64 {
     let mut least = last;
     for monitor in monitors {
@@ -28,25 +28,25 @@ fn earliest(monitors: &[MonitorRecord], last: u64) -> u64 {
     least
 }
 
-// The index that goes on from one that has begun, through all events that are left, page by page.
-fn noted_to_the_end<S: Alter>(
+// The index that continues one that has begun, through all events that are left, page by page.
+fn index_to_the_end<S: Alter>(
     alloc: Global,
     conn: &mut Connection<S>,
     begun: Index,
 ) -> Result<Option<Index>, Error>
-    ensures found { Serves (state S.Store conn.old)
+    ensures found { IsOpenIfClean (state S.Store conn.old)
         → Finds (state S.Store conn.old) (state S.Store conn.new) result
-        (λ c noted. BeginsIndex begun c.events → IndexIsNoted noted c.events) }
-    ensures blamed { Serves (state S.Store conn.old)
-        → Blames (state S.Store conn.old) (state S.Store conn.new) result }
+        (λ c recorded. BeginsIndex begun c.events → IsIndexOf recorded c.events) }
+    ensures cause { IsOpenIfClean (state S.Store conn.old)
+        → HasReadCause (state S.Store conn.old) (state S.Store conn.new) result }
 {
     let mut index = begun;
     for _ in 0..u64::MAX {
-        let page = events_behind(alloc, conn, index.last, PAGE)?;
+        let page = events_after(alloc, conn, index.last, PAGE)?;
         if page.is_empty() {
             return Ok(Some(index));
         }
-        match noted_on(index, &[], &page) {
+        match index_extended(index, &[], &page) {
             Some(next) => index = next,
             None => return Ok(None),
         }
@@ -57,28 +57,29 @@ fn noted_to_the_end<S: Alter>(
 // The index of all events that are held.
 fn begun<S: Alter>(alloc: Global, conn: &mut Connection<S>) -> Result<Option<Index>, Error>
     ensures found { Finds (state S.Store conn.old) (state S.Store conn.new) result
-        (λ c noted. IndexIsNoted noted c.events) }
-    ensures blamed { Blames (state S.Store conn.old) (state S.Store conn.new) result }
+        (λ c recorded. IsIndexOf recorded c.events) }
+    ensures cause { HasReadCause (state S.Store conn.old) (state S.Store conn.new) result }
 {
     let rows = rows(alloc, conn)?;
     let monitors = rows.monitors.as_slice();
     let last = earliest(monitors, rows.last_event);
     let watched = Watched::of_monitors(alloc, monitors, last);
-    noted_to_the_end(alloc, conn, Index { watched, last })
+    index_to_the_end(alloc, conn, Index { watched, last })
 }
 
-/// What is noted of a book, which begins here where nothing is noted yet.
-pub(crate) fn noted_first<S: Alter>(
+/// What is indexed of a book, which begins here where nothing is indexed yet.
+pub(crate) fn index_or_begun<S: Alter>(
     alloc: Global,
     ready: &mut Ready<S>,
-    noted: Option<Index>,
+    recorded: Option<Index>,
 ) -> Result<Option<Index>, Error>
     ensures read { HasRead (state S.Store ready.old.conn) (state S.Store ready.new.conn) result
-        (λ c next. IndexIsNoted noted c.events → IndexIsNoted next c.events) }
-    ensures blamed { Blames (state S.Store ready.old.conn) (state S.Store ready.new.conn) result }
+        (λ c next. IsIndexOf recorded c.events → IsIndexOf next c.events) }
+    ensures cause { HasReadCause (state S.Store ready.old.conn)
+        (state S.Store ready.new.conn) result }
 {
-    ready.serve()?;
-    match noted {
+    ready.refresh()?;
+    match recorded {
         Some(index) => Ok(Some(index)),
         None => begun(alloc, &mut ready.conn),
     }

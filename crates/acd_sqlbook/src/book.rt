@@ -4,19 +4,19 @@ ghost use Rattle.std.specs.Prelude.{◌≡◌, ◌≢◌, ◌≤◌, false, None
 ghost use Rattle.sqlite.specs.State.{HasCleanDisk};
 ghost use Rattle.sqlite.specs.Held.{state};
 ghost use Rattle.acd_sql_columns.specs.Schema.{no_schema};
-ghost use Rattle.acd_sql_columns.specs.Draft.{LimitsFit};
+ghost use Rattle.acd_sql_columns.specs.Transactions.{LimitsFit};
 ghost use Rattle.acd_sqlbook.specs.Calls.{WasClean};
 ghost use Rattle.acd_sqlbook.specs.State.{book_state, IsNewBook, fault_of, answered, failures_after};
-ghost use Rattle.acd_sqlbook.specs.Noting.{IsBlank};
+ghost use Rattle.acd_sqlbook.specs.Caching.{IsBlank};
 ghost use Rattle.acd_sqlbook.specs.View.{book_of};
 ghost use Rattle.acd_sql_schema.specs.SettingUp.{IfClean, MayMake};
 ghost use Rattle.acd_sqlbook.specs.Causes.{StoreCause, IsCaused, create as creating, read as reading, change as changing, replace as replacing};
-ghost use Rattle.acd_book.specs.Content.{IsKeptAfter, events_behind, kept_behind, events_of_monitor, kept_of, Follows, committed, FollowsBy, committed_by};
+ghost use Rattle.acd_book.specs.Content.{IsKeptAfter, events_after, records_after, events_of_monitor, kept_of, Follows, committed, FollowsBy, committed_by};
 ghost use Rattle.acd_book.specs.State.{Reads, Commits};
 
+use crate::cache::Cache;
 use crate::following::kept_followed;
-use crate::index::noted_behind;
-use crate::notes::Notes;
+use crate::index::index_after;
 use crate::page::page_followed;
 use crate::ready::{Ready, limits_fit};
 use crate::transition::commit_rows;
@@ -35,7 +35,7 @@ pub struct SqlBook<S: Alter> {
     pub(crate) alloc: Global,
     pub(crate) ready: Ready<S>,
     pub(crate) failures: u64,
-    pub(crate) notes: Notes,
+    pub(crate) cache: Cache,
 }
 
 impl<S: Alter> Model for SqlBook<S> {
@@ -48,7 +48,7 @@ impl<S: Alter> Model for SqlBook<S> {
     ghost view = { λ b. record {
       conn = b.ready.conn;
       failures = b.failures;
-      noted = b.notes;
+      cache = b.cache;
     } };
 }
 
@@ -62,20 +62,24 @@ fn fault_of(error: Error) -> BookFault
     }
 }
 
-// The answer of a call, whose failure is counted, and whether the store still serves.
-fn noted<T>(found: Result<T, Error>, fresh: &mut bool, failures: &mut u64) -> Result<T, BookFault>
+// The answer of a call, whose failure is counted, and whether the store still works.
+fn recorded<T>(
+    found: Result<T, Error>,
+    known_open: &mut bool,
+    failures: &mut u64,
+) -> Result<T, BookFault>
     ensures answer { result ≡ answered found }
-    ensures fresh { fresh.new ≡ is_ok found }
+    ensures known_open { known_open.new ≡ is_ok found }
     ensures failures { failures.new ≡ failures_after result failures.old }
     ensures counts { failures.old ≤ failures.new }
 {
     match found {
         Ok(found) => {
-            *fresh = true;
+            *known_open = true;
             Ok(found)
         }
         Err(error) => {
-            *fresh = false;
+            *known_open = false;
             let fault = fault_of(error);
             if fault == BookFault::Store {
                 *failures = failures.saturating_add(1);
@@ -89,8 +93,8 @@ impl<S: Alter> SqlBook<S> {
     /// Makes the tables of a new book, in one transaction.
     ///
     /// Limits that no INTEGER column can hold, and a database that has any table, index or view, are
-    /// [`BookFault::Store`]: the connection is handed back as it was. Beside any other fault it is handed back without a
-    /// limit of steps: one that was set is taken off before anything is made, and a connection doesn't tell which it was.
+    /// [`BookFault::Store`]: the connection is handed back as it was. With any other fault it is handed back without a
+    /// limit of steps: one that was set is removed before anything is made, and a connection doesn't say which it was.
     pub fn create(
         alloc: Global,
         mut conn: Connection<S>,
@@ -100,7 +104,7 @@ impl<S: Alter> SqlBook<S> {
         ensures made { IfOk result (λ b. HasCleanDisk (state S.Store b.conn)
             → IsNewBook (book_state (state S.Store b.conn) b.failures) limits) }
         ensures counted { IfOk result (λ b. b.failures ≡ 0) }
-        ensures unnoted { IfOk result (λ b. IsBlank b.noted) }
+        ensures blank { IfOk result (λ b. IsBlank b.cache) }
         ensures unlimited { IfOk result (λ b. b.conn.step_limit ≡ None) }
         ensures clean { IfOk result (λ b. WasClean S.Store conn b.conn) }
         ensures refused { ¬ (LimitsFit limits) → result ≡ Err (BookFault.Store, conn) }
@@ -125,9 +129,12 @@ impl<S: Alter> SqlBook<S> {
         match set_up(&mut conn, limits) {
             Ok(()) => Ok(SqlBook {
                 alloc,
-                ready: Ready { conn, fresh: true },
+                ready: Ready {
+                    conn,
+                    known_open: true,
+                },
                 failures: 0,
-                notes: Notes::blank(alloc),
+                cache: Cache::blank(alloc),
             }),
             Err(error) => Err((fault_of(error), conn)),
         }
@@ -143,9 +150,12 @@ impl<S: Alter> SqlBook<S> {
             alloc: _,
             ready,
             failures: _,
-            notes: _,
+            cache: _,
         } = self;
-        let Ready { conn, fresh: _ } = ready;
+        let Ready {
+            conn,
+            known_open: _,
+        } = ready;
         conn
     }
 }
@@ -180,7 +190,7 @@ impl<S: Alter> Book for SqlBook<S> {
         ensures caused { IsCaused reading S.Store self.old self.new result }
     {
         let found = self.ready.limits();
-        noted(found, &mut self.ready.fresh, &mut self.failures)
+        recorded(found, &mut self.ready.known_open, &mut self.failures)
     }
 
     fn rows(&mut self) -> Result<Rows, BookFault>
@@ -189,7 +199,7 @@ impl<S: Alter> Book for SqlBook<S> {
         ensures caused { IsCaused reading S.Store self.old self.new result }
     {
         let found = self.ready.rows(self.alloc);
-        noted(found, &mut self.ready.fresh, &mut self.failures)
+        recorded(found, &mut self.ready.known_open, &mut self.failures)
     }
 
     fn kept(&mut self, requester: &Requester, invoke: Invoke) -> Result<Option<Kept>, BookFault>
@@ -198,7 +208,7 @@ impl<S: Alter> Book for SqlBook<S> {
         ensures caused { IsCaused reading S.Store self.old self.new result }
     {
         let found = self.ready.kept(self.alloc, requester, invoke);
-        noted(found, &mut self.ready.fresh, &mut self.failures)
+        recorded(found, &mut self.ready.known_open, &mut self.failures)
     }
 
     fn kept_after(&mut self, stamp: u64) -> Result<Option<Kept>, BookFault>
@@ -206,26 +216,26 @@ impl<S: Alter> Book for SqlBook<S> {
             (λ c found. IsKeptAfter c.kept stamp found) }
         ensures caused { IsCaused reading S.Store self.old self.new result }
     {
-        let found = kept_followed(self.alloc, &mut self.ready, &mut self.notes.ahead, stamp);
-        noted(found, &mut self.ready.fresh, &mut self.failures)
+        let found = kept_followed(self.alloc, &mut self.ready, &mut self.cache.ahead, stamp);
+        recorded(found, &mut self.ready.known_open, &mut self.failures)
     }
 
     fn requests_after(&mut self, stamp: u64, limit: usize) -> Result<Vec<Kept>, BookFault>
         ensures reads { Reads (book_of S.Store self.old) (book_of S.Store self.new) result
-            (λ c found. found.items ≡ kept_behind c.kept stamp limit) }
+            (λ c found. found.items ≡ records_after c.kept stamp limit) }
         ensures caused { IsCaused reading S.Store self.old self.new result }
     {
-        let found = self.ready.kept_behind(self.alloc, stamp, limit);
-        noted(found, &mut self.ready.fresh, &mut self.failures)
+        let found = self.ready.records_after(self.alloc, stamp, limit);
+        recorded(found, &mut self.ready.known_open, &mut self.failures)
     }
 
     fn events_after(&mut self, number: u64, limit: usize) -> Result<Vec<Event>, BookFault>
         ensures reads { Reads (book_of S.Store self.old) (book_of S.Store self.new) result
-            (λ c found. found.items ≡ events_behind c.events number limit) }
+            (λ c found. found.items ≡ events_after c.events number limit) }
         ensures caused { IsCaused reading S.Store self.old self.new result }
     {
         let found = self.ready.events_after(self.alloc, number, limit);
-        noted(found, &mut self.ready.fresh, &mut self.failures)
+        recorded(found, &mut self.ready.known_open, &mut self.failures)
     }
 
     fn events_of_monitor(
@@ -241,12 +251,12 @@ impl<S: Alter> Book for SqlBook<S> {
         let found = page_followed(
             self.alloc,
             &mut self.ready,
-            &mut self.notes.index,
+            &mut self.cache.index,
             monitor,
             number,
             limit,
         );
-        noted(found, &mut self.ready.fresh, &mut self.failures)
+        recorded(found, &mut self.ready.known_open, &mut self.failures)
     }
 
     fn commit(&mut self, rows: &Rows, events: &[Event], kept: &Kept) -> Result<(), BookFault>
@@ -256,9 +266,9 @@ impl<S: Alter> Book for SqlBook<S> {
         ensures caused { IsCaused (replacing rows.now events.now kept.now)
             S.Store self.old self.new result }
     {
-        self.notes.forget();
+        self.cache.forget();
         let done = commit_rows(self.alloc, &mut self.ready, rows, events, kept);
-        noted(done, &mut self.ready.fresh, &mut self.failures)
+        recorded(done, &mut self.ready.known_open, &mut self.failures)
     }
 
     fn commit_changes(
@@ -270,18 +280,18 @@ impl<S: Alter> Book for SqlBook<S> {
         ensures commits { Commits (book_of S.Store self.old) (book_of S.Store self.new) result
             (FollowsBy changes.now events.now kept.now)
             (committed_by changes.now events.now kept.now) }
-        // It counts from what is noted: so the book is sound with its notes, as `commits` asks too. A new or an adopted
-        // one is, and each call leaves it so.
+        // It counts from what is remembered: so the book is sound with what it remembers, as `commits` asks too. A new
+        // or an adopted one is, and each call leaves it so.
         ensures caused { (book_of S.Store self.old).is_sound
             → IsCaused (changing changes.now events.now kept.now) S.Store self.old self.new result }
     {
-        let counters = &mut self.notes.counters;
+        let counters = &mut self.cache.counters;
         let done = self
             .ready
             .commit_changes(self.alloc, counters, changes, events, kept);
-        let before = mem::take(&mut self.notes.index);
-        self.notes.index = noted_behind(before, &done, changes, events);
-        self.notes.ahead.forget();
-        noted(done, &mut self.ready.fresh, &mut self.failures)
+        let before = mem::take(&mut self.cache.index);
+        self.cache.index = index_after(before, &done, changes, events);
+        self.cache.ahead.forget();
+        recorded(done, &mut self.ready.known_open, &mut self.failures)
     }
 }

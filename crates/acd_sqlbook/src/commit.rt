@@ -10,11 +10,11 @@ ghost use Rattle.acd_book.specs.Content.{Content};
 ghost use Rattle.acd_sql_schema.specs.SettingUp.{IfClean};
 ghost use Rattle.acd_sqlbook.specs.Calls.{WasClean};
 ghost use Rattle.acd_sqlbook.specs.Choosing.{written, is_taken_away, IsWrittenNext, IsNextPart, puts_the_same, is_put_once, is_above, is_new};
-ghost use Rattle.acd_sqlbook.specs.Commit.{LeavesContent, ChangeFits, EventFits, filed, all_filed, with_events, made_by, top_call, top_monitor, last_call, last_monitor, counted};
+ghost use Rattle.acd_sqlbook.specs.Commit.{LeavesContent, ChangeFits, EventFits, applied, all_applied, with_events, made_by, top_call, top_monitor, last_call, last_monitor, counted};
 ghost use Rattle.acd_sqlbook.specs.Stopping.{HasAbove, RefusesChange, StopsAtChange, StopsInChanges, StopsAtEvents, StopsInEvents, StopsInAll, FailsAt, IsUndone};
-ghost use Rattle.acd_sql_statements.specs.Refusing.{RefusesAgent, IsBlamed};
+ghost use Rattle.acd_sql_statements.specs.Refusing.{RefusesAgent, HasWriteCause};
 ghost use Rattle.acd_sql_columns.specs.Relations.{relations_of};
-ghost use Rattle.acd_sql_columns.specs.Draft.{Works, HoldsContent, AddsStop, Fits, FiguresFitColumns, MetaFits};
+ghost use Rattle.acd_sql_columns.specs.Transactions.{Works, HoldsContent, AddsStop, Fits, FiguresFitColumns, MetaFits};
 
 use acd_book::Kept;
 use acd_model::Change;
@@ -71,21 +71,21 @@ fn event_fits(event: &Event) -> bool
     fits(event.number) && place_fits(event.report.columns().call)
 }
 
-// Puts an agent. Reading its groups tells that they ascend.
-fn file_agent<S: Alter>(tx: &mut Transaction<'_, S>, agent: &AgentRecord) -> Result<(), Error>
+// Puts an agent. Reading its groups shows that they ascend.
+fn write_agent<S: Alter>(tx: &mut Transaction<'_, S>, agent: &AgentRecord) -> Result<(), Error>
     requires { Fits agent.now.stamp }
     ensures same { tx.new.conn.ghost_name ≡ tx.old.conn.ghost_name }
     ensures works { Works (state S.Store tx.old.conn.now) (state S.Store tx.new.conn.now) }
     ensures put { LeavesContent S.Store tx.old.conn tx.new.conn result
-        (λ c. filed c (Change.PutAgent agent.now)) }
-    ensures failed { IsBlamed (RefusesAgent agent.now)
+        (λ c. applied c (Change.PutAgent agent.now)) }
+    ensures failed { HasWriteCause (RefusesAgent agent.now)
         (state S.Store tx.old.conn.now) (state S.Store tx.new.conn.now) result }
 {
     let _ascending = agent.groups.as_slice();
     put_agent(tx, agent)
 }
 
-// Makes a change in its table. What is new has no row there yet, and is inserted.
+// Makes a change in its table. A new record has no row there yet, and is inserted.
 fn make_change<S: Alter>(
     tx: &mut Transaction<'_, S>,
     change: &Change,
@@ -96,7 +96,7 @@ fn make_change<S: Alter>(
     ensures same { tx.new.conn.ghost_name ≡ tx.old.conn.ghost_name }
     ensures works { Works (state S.Store tx.old.conn.now) (state S.Store tx.new.conn.now) }
     ensures put { LeavesContent S.Store tx.old.conn tx.new.conn result
-        (λ c. filed c change.now) }
+        (λ c. applied c change.now) }
     ensures failed { FailsAt S.Store tx.old.conn tx.new.conn result
         (λ c. RefusesChange (IsTrue is_new) change.now (relations_of c)) }
 {
@@ -104,7 +104,7 @@ fn make_change<S: Alter>(
         Change::Nothing => Ok(()),
         Change::PutGroup(group) => put_group(tx, group),
         Change::PutStation(station) => insert(tx, station),
-        Change::PutAgent(agent) => file_agent(tx, agent),
+        Change::PutAgent(agent) => write_agent(tx, agent),
         Change::PutCall(call) if is_new => insert(tx, call),
         Change::PutCall(call) => put(tx, call),
         Change::PutConnection(connection) if is_new => insert_connection(tx, connection),
@@ -125,7 +125,7 @@ fn write_change<S: Alter>(
     ensures same { tx.new.conn.ghost_name ≡ tx.old.conn.ghost_name }
     ensures works { Works (state S.Store tx.old.conn.now) (state S.Store tx.new.conn.now) }
     ensures put { LeavesContent S.Store tx.old.conn tx.new.conn result
-        (λ c. filed c change.now) }
+        (λ c. applied c change.now) }
     ensures failed { FailsAt S.Store tx.old.conn tx.new.conn result
         (StopsAtChange (IsTrue is_new) change.now) }
 {
@@ -196,11 +196,11 @@ fn is_new(last: Option<u64>, changes: &[Change], change: &Change) -> bool
     }
 }
 
-// Whether the second change takes away the connection that the first one puts.
+// Whether the second change removes the connection that the first one puts.
 fn is_taken_away(first: &Change, second: &Change) -> bool
     ensures is { result ≡ is_taken_away first.now second.now }
     ensures vain { IsTrue result → (c : Content) → IsAscending connection_order c.rows.connections
-        → filed (filed c first.now) second.now ≡ filed c second.now }
+        → applied (applied c first.now) second.now ≡ applied c second.now }
 {
     match (first, second) {
         (Change::PutConnection(connection), Change::RemoveConnection(call, device)) => {
@@ -210,25 +210,25 @@ fn is_taken_away(first: &Change, second: &Change) -> bool
     }
 }
 
-// The change that is written next, and those behind it: a connection that the very next change takes away isn't put.
+// The change that is written next, and the rest: a connection that the very next change removes isn't put.
 fn next_written(changes: &[Change]) -> Option<(&Change, &[Change])>
     ensures some { IfSome result (λ p. IsWrittenNext changes.now p.0.now p.1.now) }
     ensures shorter { IfSome result (λ p. length p.1.now < length changes.now) }
     ensures none { result ≡ None → changes.now ≡ [] }
 {
-    let (first, behind) = changes.split_first()?;
-    match behind.split_first() {
+    let (first, remaining) = changes.split_first()?;
+    match remaining.split_first() {
         Some((second, rest)) => {
             if is_taken_away(first, second) {
                 return Some((second, rest));
             }
-            Some((first, behind))
+            Some((first, remaining))
         }
-        None => Some((first, behind)),
+        None => Some((first, remaining)),
     }
 }
 
-// Where the last call is known, none above it has a row when the first change is written, and what is new is inserted.
+// Where the last call is known, none above it has a row when the first change is written, and a new one is inserted.
 fn write_changes<S: Alter>(
     tx: &mut Transaction<'_, S>,
     last: Option<u64>,
@@ -238,14 +238,14 @@ fn write_changes<S: Alter>(
     ensures same { tx.new.conn.ghost_name ≡ tx.old.conn.ghost_name }
     ensures works { Works (state S.Store tx.old.conn.now) (state S.Store tx.new.conn.now) }
     ensures put { LeavesContent S.Store tx.old.conn tx.new.conn result
-        (λ c. all_filed c changes.now) }
+        (λ c. all_applied c changes.now) }
     ensures failed { FailsAt S.Store tx.old.conn tx.new.conn result
         (λ c. StopsInChanges (HasAbove last c) (written changes.now) c) }
 {
     let mut rest = changes;
-    while let Some((change, behind)) = next_written(rest) {
+    while let Some((change, remaining)) = next_written(rest) {
         write_change(tx, change, is_new(last, changes, change))?;
-        rest = behind;
+        rest = remaining;
     }
     Ok(())
 }
@@ -261,7 +261,7 @@ fn events_fit(events: &[Event]) -> bool
     true
 }
 
-// The events of the next statement, and those behind them.
+// The events of the next statement, and the rest.
 fn next_events(events: &[Event]) -> Option<(&[Event], &[Event])>
     ensures some { IfSome result (λ p. IsNextPart events.now p.0.now p.1.now) }
     ensures shorter { IfSome result (λ p. length p.1.now < length events.now) }
@@ -301,9 +301,9 @@ fn write_events<S: Alter>(tx: &mut Transaction<'_, S>, events: &[Event]) -> Resu
         (StopsInEvents events.now) }
 {
     let mut rest = events;
-    while let Some((some, behind)) = next_events(rest) {
+    while let Some((some, remaining)) = next_events(rest) {
         write_some(tx, some)?;
-        rest = behind;
+        rest = remaining;
     }
     Ok(())
 }
@@ -393,7 +393,7 @@ fn write_all<S: Alter>(
 }
 
 /// Writes all of it in one transaction, whose end alone adds to the stops. Where the last call is known, none above it
-/// has a row yet: one that has is refused by the store.
+/// has a row yet: the store refuses one that has.
 pub(crate) fn commit_all<S: Alter>(
     conn: &mut Connection<S>,
     last: Option<u64>,

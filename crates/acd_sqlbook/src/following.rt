@@ -4,8 +4,8 @@ ghost use Rattle.std.specs.Prelude.{◌≡◌};
 ghost use Rattle.sqlite.specs.State.{HasCleanDisk};
 ghost use Rattle.sqlite.specs.Held.{state};
 ghost use Rattle.acd_book.specs.Content.{Content, IsKeptAfter};
-ghost use Rattle.acd_sql_columns.specs.Draft.{HoldsContent};
-ghost use Rattle.acd_sql_statements.specs.Reading.{Blames};
+ghost use Rattle.acd_sql_columns.specs.Transactions.{HoldsContent};
+ghost use Rattle.acd_sql_statements.specs.Reading.{HasReadCause};
 ghost use Rattle.acd_sqlbook.specs.Ahead.{IsAhead};
 ghost use Rattle.acd_sqlbook.specs.Calls.{HasRead};
 
@@ -25,19 +25,20 @@ pub(crate) fn kept_followed<S: Alter>(
     ahead: &mut Ahead,
     stamp: u64,
 ) -> Result<Option<Kept>, Error>
-    ensures noted { HasCleanDisk (state S.Store ready.new.conn) → (c : Content)
+    ensures recorded { HasCleanDisk (state S.Store ready.new.conn) → (c : Content)
         → HoldsContent (state S.Store ready.old.conn) c
         → IsAhead ahead.old c.kept → IsAhead ahead.new c.kept }
     ensures read { HasRead (state S.Store ready.old.conn) (state S.Store ready.new.conn) result
         (λ c found. IsAhead ahead.old c.kept → IsKeptAfter c.kept stamp found) }
-    ensures blamed { Blames (state S.Store ready.old.conn) (state S.Store ready.new.conn) result }
+    ensures cause { HasReadCause (state S.Store ready.old.conn)
+        (state S.Store ready.new.conn) result }
 {
-    if ready.fresh {
+    if ready.known_open {
         if let Some(kept) = ahead.next(stamp) {
             return Ok(Some(kept));
         }
     }
-    let page = ready.kept_behind(alloc, stamp, PAGE)?;
+    let page = ready.records_after(alloc, stamp, PAGE)?;
     *ahead = Ahead::of_page(stamp, page);
     Ok(ahead.next(stamp))
 }

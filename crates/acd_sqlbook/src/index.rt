@@ -1,4 +1,4 @@
-//! Which events are at the devices of the running monitors, as far as that is noted.
+//! The events at the devices of the running monitors, as far as they are indexed.
 
 ghost use Rattle.std.specs.Prelude.{◌≡◌, ◌≤◌, IfSome};
 ghost use Rattle.acd_terms.specs.Lists.{Every};
@@ -6,7 +6,7 @@ ghost use Rattle.acd_terms.specs.declared.event.Event.{Event};
 ghost use Rattle.acd_book.specs.Memory.{number_of};
 ghost use Rattle.acd_book.specs.Order.{Rises};
 ghost use Rattle.acd_book.specs.Watched.{IsPage};
-ghost use Rattle.acd_sqlbook.specs.Indexing.{IndexGoesOn, IsNotedBehind, last_of};
+ghost use Rattle.acd_sqlbook.specs.Indexing.{IndexGoesOn, IsIndexAfter, last_of};
 
 use acd_book::Watched;
 use acd_model::Change;
@@ -33,7 +33,7 @@ impl Index {
         end.saturating_sub(number) / EVENTS_A_LOOK < numbers.len() as u64
     }
 
-    /// The numbers of the first events at a device above a number, where that is known and they lie far apart.
+    /// The numbers of the first events at a device above a number, where that is known and they are far apart.
     pub(crate) fn numbers(&self, device: DeviceId, number: u64, limit: usize) -> Option<&[u64]>
         ensures { IfSome result (λ found.
             IsPage self.now.watched device number limit found.now) }
@@ -61,29 +61,29 @@ fn rises(last: u64, events: &[Event]) -> Option<u64>
     Some(top)
 }
 
-/// What a commit leaves of it: nothing, where an event doesn't go on above all before.
-pub(crate) fn noted_on(index: Index, changes: &[Change], events: &[Event]) -> Option<Index>
+/// What a commit leaves of it: nothing, where an event isn't above all before.
+pub(crate) fn index_extended(index: Index, changes: &[Change], events: &[Event]) -> Option<Index>
     ensures { IfSome result (λ next. IndexGoesOn index events.now next) }
 {
     let top = rises(index.last, events)?;
     let Index { mut watched, last } = index;
     watched.change(changes, last);
-    watched.note_all(events);
+    watched.add_all(events);
     Some(Index { watched, last: top })
 }
 
-/// What is noted behind a commit. A failure takes it away, and it begins anew at the next page.
-pub(crate) fn noted_behind(
+/// What is indexed after a commit. A failure removes the index, and it begins anew at the next page.
+pub(crate) fn index_after(
     before: Option<Index>,
     done: &Result<(), Error>,
     changes: &[Change],
     events: &[Event],
 ) -> Option<Index>
-    ensures { IsNotedBehind before done.now events.now result }
+    ensures { IsIndexAfter before done.now events.now result }
 {
     let index = before?;
     if done.is_err() {
         return None;
     }
-    noted_on(index, changes, events)
+    index_extended(index, changes, events)
 }

@@ -1,5 +1,4 @@
-//! What holds of a book by its store. Each law is the contract of a function with an empty body, and is stated in
-//! `specs/`.
+//! Laws of a book by its store. Each law is the contract of a function with an empty body, and is stated in `specs/`.
 //!
 //! A book is clean where its store is: where the disk has so far returned what was written to it, and nobody else has
 //! written there.
@@ -11,7 +10,7 @@ pub fn memory_is_clean()
     ensures { MemoryIsClean }
 {}
 
-/// What the tables of a book hold stands in order: kept records by stamp and events by number, from 1 on.
+/// The content of a book's tables is in order: kept records by stamp and events by number, from 1 on.
 pub fn stored_is_ordered()
     ensures { StoredIsOrdered }
 {}

@@ -3,15 +3,15 @@
 ghost use Rattle.std.specs.Prelude.{◌≡◌, Some, false, filter, take};
 ghost use Rattle.sqlite.specs.State.{HasCleanDisk};
 ghost use Rattle.sqlite.specs.Held.{state};
-ghost use Rattle.acd_book.specs.Content.{Content, events_of_monitor, is_told};
-ghost use Rattle.acd_sql_columns.specs.Draft.{HoldsContent};
+ghost use Rattle.acd_book.specs.Content.{Content, events_of_monitor, is_at_after};
+ghost use Rattle.acd_sql_columns.specs.Transactions.{HoldsContent};
 ghost use Rattle.acd_sql_columns.specs.Finding.{Finds};
-ghost use Rattle.acd_sql_statements.specs.Picking.{Serves};
-ghost use Rattle.acd_sql_statements.specs.Reading.{Blames};
+ghost use Rattle.acd_sql_statements.specs.Picking.{IsOpenIfClean};
+ghost use Rattle.acd_sql_statements.specs.Reading.{HasReadCause};
 ghost use Rattle.acd_sqlbook.specs.Calls.{HasRead};
-ghost use Rattle.acd_sqlbook.specs.Indexing.{Indexes, IndexIsNoted};
+ghost use Rattle.acd_sqlbook.specs.Indexing.{Indexes, IsIndexOf};
 
-use crate::begun::noted_first;
+use crate::begun::index_or_begun;
 use crate::index::Index;
 use crate::ready::Ready;
 use acd_sql_statements::{events_at, events_numbered, events_watched, monitor_at};
@@ -29,12 +29,12 @@ fn page_at<S: Alter>(
     number: u64,
     limit: usize,
 ) -> Result<Vec<Event>, Error>
-    ensures found { Serves (state S.Store conn.old)
+    ensures found { IsOpenIfClean (state S.Store conn.old)
         → Finds (state S.Store conn.old) (state S.Store conn.new) result
         (λ c events. Indexes index.now c.events
-        → events.items ≡ take limit (filter (is_told (Some device) number) c.events)) }
-    ensures blamed { Serves (state S.Store conn.old)
-        → Blames (state S.Store conn.old) (state S.Store conn.new) result }
+        → events.items ≡ take limit (filter (is_at_after (Some device) number) c.events)) }
+    ensures cause { IsOpenIfClean (state S.Store conn.old)
+        → HasReadCause (state S.Store conn.old) (state S.Store conn.new) result }
 {
     match index.numbers(device, number, limit) {
         Some(numbers) => events_numbered(alloc, conn, numbers),
@@ -54,7 +54,7 @@ fn page<S: Alter>(
     ensures found { Finds (state S.Store conn.old) (state S.Store conn.new) result
         (λ c events. Indexes index.now c.events
         → events.items ≡ events_of_monitor c monitor number limit) }
-    ensures blamed { Blames (state S.Store conn.old) (state S.Store conn.new) result }
+    ensures cause { HasReadCause (state S.Store conn.old) (state S.Store conn.new) result }
 {
     match monitor_at(alloc, conn, monitor)? {
         Some(watch) => {
@@ -65,46 +65,47 @@ fn page<S: Alter>(
     }
 }
 
-// The same by what is noted or, where nothing is, by a look at all.
-fn noted_page<S: Alter>(
+// The same by what is indexed or, where nothing is, by a look at all.
+fn recorded_page<S: Alter>(
     alloc: Global,
     conn: &mut Connection<S>,
-    noted: &Option<Index>,
+    recorded: &Option<Index>,
     monitor: u64,
     number: u64,
     limit: usize,
 ) -> Result<Vec<Event>, Error>
     ensures found { Finds (state S.Store conn.old) (state S.Store conn.new) result
-        (λ c events. IndexIsNoted noted.now c.events
+        (λ c events. IsIndexOf recorded.now c.events
         → events.items ≡ events_of_monitor c monitor number limit) }
-    ensures blamed { Blames (state S.Store conn.old) (state S.Store conn.new) result }
+    ensures cause { HasReadCause (state S.Store conn.old) (state S.Store conn.new) result }
 {
-    match noted {
+    match recorded {
         Some(index) => page(alloc, conn, index, monitor, number, limit),
         None => events_watched(alloc, conn, monitor, number, limit),
     }
 }
 
-/// The first events of a running monitor above a number, by what is noted, which begins here where nothing is.
+/// The first events of a running monitor above a number, by the index, which begins here where there is none.
 pub(crate) fn page_followed<S: Alter>(
     alloc: Global,
     ready: &mut Ready<S>,
-    noted: &mut Option<Index>,
+    recorded: &mut Option<Index>,
     monitor: u64,
     number: u64,
     limit: usize,
 ) -> Result<Vec<Event>, Error>
-    ensures noted { HasCleanDisk (state S.Store ready.new.conn) → (c : Content)
+    ensures recorded { HasCleanDisk (state S.Store ready.new.conn) → (c : Content)
         → HoldsContent (state S.Store ready.old.conn) c
-        → IndexIsNoted noted.old c.events → IndexIsNoted noted.new c.events }
+        → IsIndexOf recorded.old c.events → IsIndexOf recorded.new c.events }
     ensures read { HasRead (state S.Store ready.old.conn) (state S.Store ready.new.conn) result
-        (λ c events. IndexIsNoted noted.old c.events
+        (λ c events. IsIndexOf recorded.old c.events
         → events.items ≡ events_of_monitor c monitor number limit) }
-    ensures blamed { Blames (state S.Store ready.old.conn) (state S.Store ready.new.conn) result }
+    ensures cause { HasReadCause (state S.Store ready.old.conn)
+        (state S.Store ready.new.conn) result }
 {
-    let next = noted_first(alloc, ready, noted.take())?;
-    ready.fresh = false;
-    let found = noted_page(alloc, &mut ready.conn, &next, monitor, number, limit);
-    *noted = next;
+    let next = index_or_begun(alloc, ready, recorded.take())?;
+    ready.known_open = false;
+    let found = recorded_page(alloc, &mut ready.conn, &next, monitor, number, limit);
+    *recorded = next;
     found
 }

@@ -1,19 +1,19 @@
-//! A connection that may have failed before. Its store is tried first where it isn't known to serve, since a failure
-//! may have shut it.
+//! A connection that may have failed before. Its store is tried first where it isn't known to work, since a failure may
+//! have shut it.
 
 ghost use Rattle.std.specs.Prelude.{◌≡◌, ◌↔◌, false, None, Some, IsTrue, IfOk, IfErr, OnOk, OnErr};
 ghost use Rattle.sqlite.specs.State.{HasCleanDisk};
 ghost use Rattle.sqlite.specs.Held.{state};
-ghost use Rattle.acd_book.specs.Content.{Content, events_behind, kept_of, kept_behind};
+ghost use Rattle.acd_book.specs.Content.{Content, events_after, kept_of, records_after};
 ghost use Rattle.acd_sqlbook.specs.Calls.{HasRead, HasReplaced};
 ghost use Rattle.acd_sqlbook.specs.Commit.{counted, counters_of, written_by};
 ghost use Rattle.acd_sqlbook.specs.Counters.{AreCounters, StopsWith};
 ghost use Rattle.acd_sql_columns.specs.Relations.{meta_of};
-ghost use Rattle.acd_sql_columns.specs.Draft.{HoldsContent, Quiet, NoStop, Fits, LimitsFit, MetaFits};
+ghost use Rattle.acd_sql_columns.specs.Transactions.{HoldsContent, Quiet, NoStop, Fits, LimitsFit, MetaFits};
 ghost use Rattle.acd_sql_schema.specs.SettingUp.{IfClean};
 ghost use Rattle.acd_sql_statements.specs.Between.{IsUp};
-ghost use Rattle.acd_sql_statements.specs.Reading.{Blames};
-ghost use Rattle.acd_sqlbook.specs.Stopping.{BlamesOr, IsBlamedOr, IsUncounted, StopsCommit};
+ghost use Rattle.acd_sql_statements.specs.Reading.{HasReadCause};
+ghost use Rattle.acd_sqlbook.specs.Stopping.{HasReadCauseOr, IsCausedByReadOr, IsUncounted, StopsCommit};
 
 use crate::commit::{commit_all, counted};
 use acd_book::Kept;
@@ -22,7 +22,7 @@ use acd_model::Change;
 use acd_sql_columns::Meta;
 use acd_sql_statements::fitting::{fits, too_large};
 use acd_sql_statements::read::probe;
-use acd_sql_statements::{events_behind, kept_behind, kept_under, read_meta, rows};
+use acd_sql_statements::{events_after, kept_under, read_meta, records_after, rows};
 use acd_terms::{Event, Invoke, Limits, Requester, Rows};
 use sqlite::{Alter, Connection, Error};
 use std::alloc::Global;
@@ -31,11 +31,11 @@ use std::alloc::Global;
 #[derive(Drop)]
 pub(crate) struct Ready<S: Alter> {
     pub(crate) conn: Connection<S>,
-    // Whether the last call succeeded, so that the store still serves. While a call runs it isn't known.
-    pub(crate) fresh: bool,
+    // Whether the last call succeeded, so that the store still works. While a call runs it isn't known.
+    pub(crate) known_open: bool,
     ghost idle: { conn.in_transaction ≡ false },
     ghost unlimited: { conn.step_limit ≡ None },
-    ghost serves: { IsTrue fresh → HasCleanDisk (state S.Store conn)
+    ghost open_if_clean: { IsTrue known_open → HasCleanDisk (state S.Store conn)
         → IsTrue (state S.Store conn).is_open },
 }
 
@@ -74,8 +74,8 @@ fn next_meta(meta: &Meta, changes: &[Change], events: u64, kept: &Kept) -> Resul
     }
 }
 
-// What is held behind a commit that wrote these counters.
-fn held_behind(done: &Result<(), Error>, meta: Meta) -> Option<Meta>
+// What is held after a commit that wrote these counters.
+fn held_after(done: &Result<(), Error>, meta: Meta) -> Option<Meta>
     ensures ok { OnOk done.now (result ≡ Some meta) }
     ensures err { OnErr done.now (result ≡ None) }
 {
@@ -86,16 +86,17 @@ fn held_behind(done: &Result<(), Error>, meta: Meta) -> Option<Meta>
 }
 
 impl<S: Alter> Ready<S> {
-    /// Tries the store where it isn't known to serve, as it isn't from here on until a call has succeeded.
-    pub(crate) fn serve(&mut self) -> Result<(), Error>
-        ensures doubted { self.new.fresh ≡ false }
+    /// Tries the store where it isn't known to work, as it isn't from here on until a call has succeeded.
+    pub(crate) fn refresh(&mut self) -> Result<(), Error>
+        ensures doubted { self.new.known_open ≡ false }
         ensures up { IsUp (state S.Store self.new.conn) result }
         ensures quiet { Quiet (state S.Store self.old.conn) (state S.Store self.new.conn) }
         ensures stops { IfClean S.Store self.old.conn self.new.conn NoStop }
-        ensures blamed { Blames (state S.Store self.old.conn) (state S.Store self.new.conn) result }
+        ensures cause { HasReadCause (state S.Store self.old.conn)
+            (state S.Store self.new.conn) result }
     {
-        if self.fresh {
-            self.fresh = false;
+        if self.known_open {
+            self.known_open = false;
             return Ok(());
         }
         probe(&mut self.conn)
@@ -105,9 +106,10 @@ impl<S: Alter> Ready<S> {
     fn meta(&mut self, held: Option<Meta>) -> Result<Meta, Error>
         ensures read { HasRead (state S.Store self.old.conn) (state S.Store self.new.conn) result
             (λ c meta. AreCounters held c → meta ≡ meta_of c.rows) }
-        ensures blamed { Blames (state S.Store self.old.conn) (state S.Store self.new.conn) result }
+        ensures cause { HasReadCause (state S.Store self.old.conn)
+            (state S.Store self.new.conn) result }
     {
-        self.serve()?;
+        self.refresh()?;
         match held {
             Some(meta) => Ok(meta),
             None => read_meta(&mut self.conn),
@@ -118,7 +120,8 @@ impl<S: Alter> Ready<S> {
     pub(crate) fn limits(&mut self) -> Result<Limits, Error>
         ensures read { HasRead (state S.Store self.old.conn) (state S.Store self.new.conn) result
             (λ c limits. limits ≡ c.rows.limits) }
-        ensures blamed { Blames (state S.Store self.old.conn) (state S.Store self.new.conn) result }
+        ensures cause { HasReadCause (state S.Store self.old.conn)
+            (state S.Store self.new.conn) result }
     {
         let meta = self.meta(None)?;
         Ok(meta.limits)
@@ -128,13 +131,14 @@ impl<S: Alter> Ready<S> {
     pub(crate) fn rows(&mut self, alloc: Global) -> Result<Rows, Error>
         ensures read { HasRead (state S.Store self.old.conn) (state S.Store self.new.conn) result
             (λ c found. found ≡ c.rows) }
-        ensures blamed { Blames (state S.Store self.old.conn) (state S.Store self.new.conn) result }
+        ensures cause { HasReadCause (state S.Store self.old.conn)
+            (state S.Store self.new.conn) result }
     {
-        self.serve()?;
+        self.refresh()?;
         rows(alloc, &mut self.conn)
     }
 
-    /// What is kept under a key.
+    /// The record kept under a key.
     pub(crate) fn kept(
         &mut self,
         alloc: Global,
@@ -143,25 +147,27 @@ impl<S: Alter> Ready<S> {
     ) -> Result<Option<Kept>, Error>
         ensures read { HasRead (state S.Store self.old.conn) (state S.Store self.new.conn) result
             (λ c found. found ≡ kept_of c.kept requester.now invoke) }
-        ensures blamed { Blames (state S.Store self.old.conn) (state S.Store self.new.conn) result }
+        ensures cause { HasReadCause (state S.Store self.old.conn)
+            (state S.Store self.new.conn) result }
     {
-        self.serve()?;
+        self.refresh()?;
         kept_under(alloc, &mut self.conn, requester, invoke)
     }
 
     /// The first kept records above a stamp.
-    pub(crate) fn kept_behind(
+    pub(crate) fn records_after(
         &mut self,
         alloc: Global,
         stamp: u64,
         limit: usize,
     ) -> Result<Vec<Kept>, Error>
         ensures read { HasRead (state S.Store self.old.conn) (state S.Store self.new.conn) result
-            (λ c found. found.items ≡ kept_behind c.kept stamp limit) }
-        ensures blamed { Blames (state S.Store self.old.conn) (state S.Store self.new.conn) result }
+            (λ c found. found.items ≡ records_after c.kept stamp limit) }
+        ensures cause { HasReadCause (state S.Store self.old.conn)
+            (state S.Store self.new.conn) result }
     {
-        self.serve()?;
-        kept_behind(alloc, &mut self.conn, stamp, limit)
+        self.refresh()?;
+        records_after(alloc, &mut self.conn, stamp, limit)
     }
 
     /// The first events above a number.
@@ -172,11 +178,12 @@ impl<S: Alter> Ready<S> {
         limit: usize,
     ) -> Result<Vec<Event>, Error>
         ensures read { HasRead (state S.Store self.old.conn) (state S.Store self.new.conn) result
-            (λ c found. found.items ≡ events_behind c.events number limit) }
-        ensures blamed { Blames (state S.Store self.old.conn) (state S.Store self.new.conn) result }
+            (λ c found. found.items ≡ events_after c.events number limit) }
+        ensures cause { HasReadCause (state S.Store self.old.conn)
+            (state S.Store self.new.conn) result }
     {
-        self.serve()?;
-        events_behind(alloc, &mut self.conn, number, limit)
+        self.refresh()?;
+        events_after(alloc, &mut self.conn, number, limit)
     }
 
     // The last call's number, and the counters that a commit writes.
@@ -192,7 +199,7 @@ impl<S: Alter> Ready<S> {
             → found ≡ counters_of changes.now events kept.now c) }
         ensures fits { IfOk result (λ found. MetaFits found.1) }
         ensures stamp { OnOk result (Fits kept.now.stamp) }
-        ensures blamed { BlamesOr (StopsWith held (IsUncounted changes.now events kept.now))
+        ensures cause { HasReadCauseOr (StopsWith held (IsUncounted changes.now events kept.now))
             (state S.Store self.old.conn) (state S.Store self.new.conn) result }
     {
         let meta = self.meta(held)?;
@@ -200,8 +207,8 @@ impl<S: Alter> Ready<S> {
         Ok((meta.last_call, next))
     }
 
-    /// Commits the changes, the events and the kept record, all or none. What it counts from is held, or is read where
-    /// nothing is; behind it what it has counted is held or, where it failed, nothing.
+    /// Commits the changes, the events and the kept record, all or none. It counts from what is held, or reads that
+    /// where nothing is held; after it the new counters are held or, where it failed, nothing.
     pub(crate) fn commit_changes(
         &mut self,
         alloc: Global,
@@ -217,7 +224,7 @@ impl<S: Alter> Ready<S> {
             → OnOk result
             (AreCounters counters.new (written_by changes.now events.now kept.now c)) }
         ensures forgotten { OnErr result (counters.new ≡ None) }
-        ensures blamed { IsBlamedOr
+        ensures cause { IsCausedByReadOr
             (StopsWith counters.old (StopsCommit changes.now events.now kept.now))
             (state S.Store self.old.conn) (state S.Store self.new.conn) result }
     {
@@ -225,11 +232,11 @@ impl<S: Alter> Ready<S> {
         let request = request_text(alloc, &kept.request)?;
         match self.counters(held, changes, events.len() as u64, kept) {
             Ok((last, meta)) => {
-                self.fresh = false;
+                self.known_open = false;
                 let conn = &mut self.conn;
                 let last = Some(last);
                 let done = commit_all(conn, last, changes, events, kept, request.as_str(), &meta);
-                *counters = held_behind(&done, meta);
+                *counters = held_after(&done, meta);
                 done
             }
             Err(error) => Err(error),

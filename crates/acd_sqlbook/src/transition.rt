@@ -6,9 +6,9 @@ ghost use Rattle.acd_model.specs.Changes.{changed_by};
 ghost use Rattle.acd_book.specs.Content.{Follows, committed};
 ghost use Rattle.acd_lemmas.specs.Orders.{Orders};
 ghost use Rattle.acd_sqlbook.specs.Calls.{HasRead, HasReplaced, LeadsTo};
-ghost use Rattle.acd_sqlbook.specs.Stopping.{AreCounted, BlamesOr, Drops, IsBlamedOr, StopsReplace};
+ghost use Rattle.acd_sqlbook.specs.Stopping.{AreCounted, HasReadCauseOr, Drops, IsCausedByReadOr, StopsReplace};
 ghost use Rattle.acd_sql_columns.specs.Relations.{meta_of};
-ghost use Rattle.acd_sql_columns.specs.Draft.{Fits, MetaFits};
+ghost use Rattle.acd_sql_columns.specs.Transactions.{Fits, MetaFits};
 ghost use Rattle.acd_sql_differences.specs.Leading.{rows_differences};
 ghost use Rattle.acd_sql_differences.specs.Transition.{AreWhole, HasTables};
 ghost use Rattle.acd_sql_statements.specs.Failing.{IsMemory};
@@ -25,7 +25,7 @@ use acd_terms::{Event, Rows};
 use sqlite::{Alter, Constraint, Error, ErrorCode};
 use std::alloc::Global;
 
-// A record that is never taken out is gone.
+// A record that is never removed is missing.
 fn missing() -> Error {
     Error::SqliteFailure(ErrorCode::ConstraintViolation(Constraint::ForeignKey))
 }
@@ -53,7 +53,7 @@ fn changes_to<S: Alter>(
 ) -> Result<Vec<Change>, Error>
     ensures read { HasRead (state S.Store ready.old.conn) (state S.Store ready.new.conn) result
         (λ c changes. LeadsTo rows.now c changes.items) }
-    ensures blamed { BlamesOr (Drops rows.now)
+    ensures cause { HasReadCauseOr (Drops rows.now)
         (state S.Store ready.old.conn) (state S.Store ready.new.conn) result }
 {
     let held = ready.rows(alloc)?;
@@ -96,14 +96,14 @@ pub(crate) fn commit_rows<S: Alter>(
     ensures commits { HasReplaced (state S.Store ready.old.conn) (state S.Store ready.new.conn)
         result (Follows rows.now events.now kept.now)
         (committed rows.now events.now kept.now) }
-    ensures blamed { IsBlamedOr (StopsReplace rows.now events.now kept.now)
+    ensures cause { IsCausedByReadOr (StopsReplace rows.now events.now kept.now)
         (state S.Store ready.old.conn) (state S.Store ready.new.conn) result }
 {
     let request = request_text(alloc, &kept.request)?;
     let meta = meta_of(rows, kept)?;
     match changes_to(alloc, ready, rows) {
         Ok(changes) => {
-            ready.fresh = false;
+            ready.known_open = false;
             let conn = &mut ready.conn;
             // Calls of any number may have rows.
             let last = None;

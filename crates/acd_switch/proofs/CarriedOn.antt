@@ -19,7 +19,7 @@ use Rattle.acd_laws.proofs.Offers.OfferFound.{no_offers}
 use Rattle.acd_switch.specs.declared.journal.Journal.{Journal}
 use Rattle.acd_switch.specs.CarryingOut.{CarriesOut}
 
--- what is left, carried out from here, comes to the same as all of it from the start
+-- the rest, carried out from here, comes to the same as all of it from the start
 pub record IsLeft (m : ℕ) (left : List Move) (s : Rows) (j : Journal) (all : List Move) (start : Rows) (before : Journal) : Type 0 where
   pub rows : moved s left ≡ moved start all
   pub events : j.events.items ++ events_of m left ≡ before.events.items ++ events_of m all
@@ -59,7 +59,7 @@ module _ {m : ℕ} {s : Rows} {j : Journal} {all : List Move} {start : Rows} {be
   pub move_carried : {t : Rows} {k : Journal} (x : Move) (xs ys : List Move) → xs ≡ x ∷ ys → IsLeft m xs s j all start before → CarriesOut m (x ∷ []) s j t k → IsLeft m ys t k all start before
   move_carried x xs ys e h c = part_carried (x ∷ []) ys (subst (λ ms. IsLeft m ms s j all start before) e h) c
 
-  -- all moves are gone through
+  -- all moves are carried out
   pub moves_carried : (xs : List Move) (i : ℕ) → length xs ≤ i → IsLeft m (drop i xs) s j all start before → CarriesOut m all start before s j
   moves_carried xs i past h = none_left (subst (λ ms. IsLeft m ms s j all start before) (drop_all i xs past) h)
 
@@ -79,7 +79,7 @@ module _ {m : ℕ} {s : Rows} {j : Journal} {all : List Move} {start : Rows} {be
       (part_carried (offer_moves s m o) (offers more (moved s (offer_moves s m o)) m) (subst (λ ms. IsLeft m ms s j all start before) goes h) c)
 
 module _ {m : ℕ} {s : Rows} {j : Journal} {start : Rows} {before : Journal} where
-  -- a list is gone through
+  -- a list is processed
   list_carried : {T : Type 0} (f : Rows → T → List Move) (xs items : List T) (i : ℕ) → length items ≤ i → items ≡ xs
       → IsLeft m (each f s (drop i items)) s j (each f start items) start before → CarriesOut m (each f start xs) start before s j
   list_carried f xs items i past same h =
@@ -105,7 +105,7 @@ module _ {m : ℕ} {s : Rows} {j : Journal} {start : Rows} {before : Journal} wh
   after_most n most none is h = offers_carried n most (rw none refl) is h
 
 module _ (turn : Turn) {s : Rows} {j : Journal} {start : Rows} {before : Journal} where
-  -- each offer that rang too long goes back
+  -- each offer that rang too long returns
   pub returns_carried : (items : List ConnectionRecord) (i : ℕ) → length items ≤ i → items ≡ overdue_in start turn.moment
       → IsLeft turn.moment (each (λ t x. return_moves t turn x) s (drop i items)) s j (each (λ t x. return_moves t turn x) start items) start before
       → CarriesOut turn.moment (returns start turn) start before s j
@@ -119,7 +119,7 @@ module _ (turn : Turn) {s : Rows} {j : Journal} {start : Rows} {before : Journal
   unfolding rests
   rests_carried items i past same h = list_carried (λ (t : Rows) (a : AgentRecord). rest_moves turn a) (rested_in start turn.moment) items i past same h
 
--- a tick: what goes back, then what ends
+-- a tick: the offers that return, then what ends
 pub tick_carried : (turn : Turn) {s t u : Rows} {i j l : Journal} → CarriesOut turn.moment (returns s turn) s i t j → CarriesOut turn.moment (rests t turn) t j u l
     → CarriesOut turn.moment (tick s turn) s i u l
 unfolding tick

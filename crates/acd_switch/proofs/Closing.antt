@@ -25,12 +25,12 @@ pub rows_after : (s t u : Rows) (m : ℕ) (v : Served) → t ≡ moved s (moves_
 rows_after s t u m v e f =
     f ∙ ap (λ (x : Rows). moved x (distribution x m)) e ∙ sym (moved_append s (moves_of v) (distribution (moved s (moves_of v)) m))
 
--- what is told of them, as their events or their changes
-pub told_after : {Y : Type 0} (told : List Move → List Y) (joined : (ms ns : List Move) → told (ms ++ ns) ≡ told ms ++ told ns) (s t : Rows) (m : ℕ) (v : Served) (none es fs : List Y)
-    → none ≡ [] → t ≡ moved s (moves_of v) → es ≡ none ++ told (moves_of v) → fs ≡ es ++ told (distribution t m) → fs ≡ told (step_moves s m v)
-told_after told joined s t m v none es fs n e f g =
-    g ∙ ap (λ l. l ++ told (distribution t m)) (f ∙ ap (λ l. l ++ told (moves_of v)) n)
-    ∙ ap (λ (x : Rows). told (moves_of v) ++ told (distribution x m)) e
+-- what is reported of them, as their events or their changes
+pub listed_after : {Y : Type 0} (list : List Move → List Y) (joined : (ms ns : List Move) → list (ms ++ ns) ≡ list ms ++ list ns) (s t : Rows) (m : ℕ) (v : Served) (none es fs : List Y)
+    → none ≡ [] → t ≡ moved s (moves_of v) → es ≡ none ++ list (moves_of v) → fs ≡ es ++ list (distribution t m) → fs ≡ list (step_moves s m v)
+listed_after list joined s t m v none es fs n e f g =
+    g ∙ ap (λ l. l ++ list (distribution t m)) (f ∙ ap (λ l. l ++ list (moves_of v)) n)
+    ∙ ap (λ (x : Rows). list (moves_of v) ++ list (distribution x m)) e
     ∙ sym (joined (moves_of v) (distribution (moved s (moves_of v)) m))
 
 -- the step, from the moment and stamp that the code computes
@@ -40,35 +40,35 @@ step_is s moment m k command e f = rw (e, f) refl
 
 module _ (s t u : Rows) (moment m k last : ℕ) (command : Command) (none es fs : List Event)
     (executed : m ≡ executed_moment s moment) (stamp : k ≡ next_stamp s) (known : last ≡ s.last_event) (start : none ≡ [])
-    (served : t ≡ moved s (moves_of (serve s (turn_at m k) command))) (told : es ≡ none ++ events_of m (moves_of (serve s (turn_at m k) command)))
+    (served : t ≡ moved s (moves_of (serve s (turn_at m k) command))) (reported : es ≡ none ++ events_of m (moves_of (serve s (turn_at m k) command)))
     (offered : u ≡ moved t (distribution t m)) (more : fs ≡ es ++ events_of m (distribution t m)) where
   pub rows_is : closed u (turn_at m k) last fs ≡ (step s moment command).rows
   rows_is =
       ap (λ (x : Rows). closed x (turn_at m k) last fs) (rows_after s t u m (serve s (turn_at m k) command) served offered)
-      ∙ ap (λ (l : List Event). closed (moved s (step_moves s m (serve s (turn_at m k) command))) (turn_at m k) last l) (told_after (events_of m) (events_of_append m) s t m (serve s (turn_at m k) command) none es fs start served told more)
+      ∙ ap (λ (l : List Event). closed (moved s (step_moves s m (serve s (turn_at m k) command))) (turn_at m k) last l) (listed_after (events_of m) (events_of_append m) s t m (serve s (turn_at m k) command) none es fs start served reported more)
       ∙ ap (λ (n : ℕ). closed (moved s (step_moves s m (serve s (turn_at m k) command))) (turn_at m k) n (events_of m (step_moves s m (serve s (turn_at m k) command)))) known
       ∙ ap (λ (x : Stepped). x.rows) (sym (step_is s moment m k command executed stamp))
 
   pub events_is : numbered last fs ≡ (step s moment command).events
   events_is =
-      ap (λ (l : List Event). numbered last l) (told_after (events_of m) (events_of_append m) s t m (serve s (turn_at m k) command) none es fs start served told more)
+      ap (λ (l : List Event). numbered last l) (listed_after (events_of m) (events_of_append m) s t m (serve s (turn_at m k) command) none es fs start served reported more)
       ∙ ap (λ (n : ℕ). numbered n (events_of m (step_moves s m (serve s (turn_at m k) command)))) known
       ∙ ap (λ (x : Stepped). x.events) (sym (step_is s moment m k command executed stamp))
 
 pub outcome_is : (s : Rows) (moment m k : ℕ) (command : Command) → m ≡ executed_moment s moment → k ≡ next_stamp s → outcome_of (serve s (turn_at m k) command) ≡ (step s moment command).outcome
 outcome_is s moment m k command e f = ap (λ (x : Stepped). x.outcome) (sym (step_is s moment m k command e f))
 
--- the changes, with those of the figures behind those of the moves
+-- the changes, with those of the figures after those of the moves
 pub changes_are : (s t u : Rows) (moment m k : ℕ) (command : Command) (none es fs : List Event) (blank cs ds rs : List Change) → m ≡ executed_moment s moment → k ≡ next_stamp s → none ≡ [] → blank ≡ []
     → t ≡ moved s (moves_of (serve s (turn_at m k) command)) → u ≡ moved t (distribution t m)
     → es ≡ none ++ events_of m (moves_of (serve s (turn_at m k) command)) → fs ≡ es ++ events_of m (distribution t m)
     → cs ≡ blank ++ changes_of (moves_of (serve s (turn_at m k) command)) → ds ≡ cs ++ changes_of (distribution t m) → rs ≡ ds ++ growth u fs → rs ≡ step_changes s moment command
 unfolding step_changes
-changes_are s t u moment m k command none es fs blank cs ds rs executed stamp n b served offered told more noted yet grown =
+changes_are s t u moment m k command none es fs blank cs ds rs executed stamp n b served offered reported more recorded yet grown =
     let v : Served = serve s (turn_at m k) command in
-    grown ∙ ap (λ l. l ++ growth u fs) (told_after changes_of changes_of_append s t m v blank cs ds b served noted yet)
+    grown ∙ ap (λ l. l ++ growth u fs) (listed_after changes_of changes_of_append s t m v blank cs ds b served recorded yet)
     ∙ ap (λ (x : Rows). changes_of (step_moves s m v) ++ growth x fs) (rows_after s t u m v served offered)
-    ∙ ap (λ (l : List Event). changes_of (step_moves s m v) ++ growth (moved s (step_moves s m v)) l) (told_after (events_of m) (events_of_append m) s t m v none es fs n served told more)
+    ∙ ap (λ (l : List Event). changes_of (step_moves s m v) ++ growth (moved s (step_moves s m v)) l) (listed_after (events_of m) (events_of_append m) s t m v none es fs n served reported more)
     ∙ by_numbers s moment m k command executed stamp
   where
     by_numbers : (s : Rows) (moment m k : ℕ) (command : Command) → m ≡ executed_moment s moment → k ≡ next_stamp s

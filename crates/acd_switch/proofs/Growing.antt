@@ -14,7 +14,7 @@ use Rattle.acd_laws.proofs.Made.ChangesMade.{one_grown, counting_more, counting_
 use Rattle.acd_laws.proofs.Figures.CountedEvents.{no_events, sum_nothing}
 use Rattle.acd_switch.specs.Counting.{figures_by, AreFitting, AllFit, CountingFits}
 
--- what one event counts
+-- the counts of one event
 pub figures_of_one : (g : ℕ) (e : Event) → figures_of g (e ∷ []) ≡ figures_by g e.report
 unfolding figures_of figures_by
 figures_of_one g e = sum_nothing (figures_by g e.report) (figures_of g []) (no_events g)

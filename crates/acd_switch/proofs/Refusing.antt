@@ -1,4 +1,4 @@
--- What a refused outcome says of a step.
+-- A refused outcome of a step: what it says.
 use Rattle.std.proofs.Common.{◌≡◌, ℕ, sym}
 use Rattle.acd_terms.specs.declared.rows.Rows.{Rows}
 use Rattle.acd_terms.specs.declared.command.Command.{Command}

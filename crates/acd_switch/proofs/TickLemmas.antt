@@ -1,4 +1,4 @@
--- What tick ends is among the offers that ring and the agents in after-call work.
+-- A tick ends only offers that ring and the work of agents in after-call work.
 use Rattle.std.proofs.Common.{◌≡◌, ℕ, ◌≤◌, Bool, true, ◌&&◌, List, [], ◌∷◌, ◌++◌, drop, length, Option, Some, None, is_some, refl, ap, sym, ◌∙◌}
 use Rattle.std.proofs.lemmas.List.{drop_all, append-nil}
 use Rattle.std.specs.Prelude.{filter}
@@ -36,6 +36,6 @@ pub nobody_rested : (s : Rows) (m : ℕ) (working : List AgentRecord) → length
 nobody_rested s m [] _ e = ap (filter (is_rested s m)) e ∙ rested-working s m
 nobody_rested s m (_ ∷ _) z e = absurd (cc (z))
 
--- a filter that has gone through all
+-- a filter that has tested all
 pub gone_through : {X : Type 0} (p : X → Bool) (done items : List X) (i : ℕ) → length items ≤ i → done ++ filter p (drop i items) ≡ filter p items → done ≡ filter p items
 gone_through p done items i h e = sym (append-nil done) ∙ ap (λ l. done ++ filter p l) (sym (drop_all i items h)) ∙ e

@@ -6,7 +6,7 @@ use Rattle.acd_model.specs.Moves.{moved, events_of}
 use Rattle.acd_model.specs.Changes.{changes_of}
 use Rattle.acd_switch.specs.declared.journal.Journal.{Journal}
 
--- the moves are made at the moment: they change the rows, and the journal goes on with their events and their changes
+-- the moves are made at the moment: they change the rows, and the journal continues with their events and their changes
 pub record CarriesOut (m : ℕ) (moves : List Move) (old : Rows) (before : Journal) (new : Rows) (after : Journal) : Type 0 where
   pub rows : new ≡ moved old moves
   pub events : after.events.items ≡ before.events.items ++ events_of m moves

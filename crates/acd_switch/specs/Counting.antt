@@ -9,7 +9,7 @@ use Rattle.acd_terms.specs.declared.event.Event.{Event}
 use Rattle.acd_terms.specs.declared.event.Report.{Report}
 use Rattle.acd_model.specs.Figures.{is_entry, is_answer, is_abandonment, is_moving_away, waited_there, counting}
 
--- what one report counts for a group
+-- the counts of one report for a group
 unfoldable pub figures_by : Device → Report → Figures
 figures_by g r = record {
   entered = if is_entry g r then 1 else 0;

@@ -1,4 +1,4 @@
--- What an executed request makes of the rows.
+-- The rows after an executed request.
 use Rattle.std.specs.Prelude.{◌≡◌, ℕ, length}
 use Rattle.acd_terms.specs.declared.rows.Rows.{Rows}
 use Rattle.acd_model.specs.Step.{executed_moment, next_stamp}

@@ -1,4 +1,4 @@
--- What the switch tells of a group and of an outcome.
+-- A group and an outcome, as the switch answers them.
 use Rattle.std.specs.Prelude.{Option, option_map}
 use Rattle.acd_terms.specs.Numbers.{Device}
 use Rattle.acd_terms.specs.declared.rows.Rows.{Rows}

@@ -1,4 +1,4 @@
--- Where the counters of a state have room in their types.
+-- The counters of a state have room in their types.
 use Rattle.std.specs.Prelude.{◌<◌, ◌-◌, ◌+◌, ◌^◌, List, length}
 use Rattle.acd_terms.specs.declared.command.Turn.{Turn}
 use Rattle.acd_terms.specs.Numbers.{EventNumber}

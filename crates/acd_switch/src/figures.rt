@@ -1,4 +1,4 @@
-//! What an event counts for a group.
+//! The counts of an event for a group.
 
 ghost use Rattle.std.specs.Prelude.{◌≡◌, ◌∷◌, []};
 ghost use Rattle.acd_model.specs.Figures.{sum_of_figures, counting};
@@ -35,7 +35,7 @@ pub fn counted_group(report: &Report) -> Option<DeviceId>
     }
 }
 
-// What one report counts for the group.
+// The counts of one report for the group.
 #[tactic(auto, unfolding(crate::specs::Counting::figures_by))]
 fn figures_by(group: DeviceId, report: &Report) -> Figures
     ensures { result ≡ figures_by group report.now }

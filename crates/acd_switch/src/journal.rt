@@ -1,4 +1,4 @@
-//! The journal of a step: what it does to the tables, with the events and the changes noted.
+//! The journal of a step: what it does to the tables, with the events and the changes recorded.
 
 ghost use Rattle.std.specs.Prelude.{◌≡◌, ◌++◌, ◌∷◌, [], IfOk, OnOk};
 ghost use Rattle.acd_terms.specs.Lists.{IsAscending};
@@ -84,7 +84,7 @@ impl Journal {
     }
 }
 
-// Makes a change, and notes it. Nothing else notes changes.
+// Makes a change, and records it. Nothing else records changes.
 fn make_change(
     tables: &mut Tables,
     one: &Change,
@@ -98,15 +98,14 @@ fn make_change(
         return Ok(());
     }
     change(tables, one)?;
-    note(slice::from_ref(one), changes)
+    append(slice::from_ref(one), changes)
 }
 
-// An addition of its own, for any type. As a list, a change is copied into its place at once, and not by
-// way of the stack.
-fn note<T: Copy + Drop>(more: &[T], noted: &mut Vec<T>) -> Result<(), AllocError>
-    ensures { OnOk result (noted.new.items ≡ noted.old.items ++ more.now) }
+// A separate addition, for any type. As a list, a change is copied into its place at once, and not by way of the stack.
+fn append<T: Copy + Drop>(more: &[T], list: &mut Vec<T>) -> Result<(), AllocError>
+    ensures { OnOk result (list.new.items ≡ list.old.items ++ more.now) }
 {
-    noted.extend_from_slice(more)
+    list.extend_from_slice(more)
 }
 
 // The group that the event counts for grows, where there is one.

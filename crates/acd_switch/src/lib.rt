@@ -1,9 +1,8 @@
 //! One executed request on the switch: the service or tick, then distribution.
 //!
-//! [`Switch`] holds the state; [`Switch::step`] executes a request and answers its
-//! outcome and its events, and [`Switch::step_with_changes`] tells the changes of records too
-//! ([`Executed`]). [`Switch::from_rows`] makes a switch of rows of any origin, and refuses those that
-//! break a rule ([`RowFault`]).
+//! [`Switch`] holds the state; [`Switch::step`] executes a request and answers its outcome and its events, and
+//! [`Switch::step_with_changes`] answers the changes of records too ([`Executed`]). [`Switch::from_rows`] makes a
+//! switch of rows of any origin, and refuses those that break a rule ([`RowFault`]).
 //!
 //! ```ignore
 //! let mut switch = Switch::new(alloc, Limits::GREATEST);

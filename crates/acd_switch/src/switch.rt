@@ -41,10 +41,9 @@ pub struct Switch {
 #[derive(Debug, Drop)]
 pub struct Executed {
     pub outcome: Outcome,
-    /// What it reports, numbered on from the last event.
+    /// Its reports, numbered on from the last event.
     pub events: Vec<Event>,
-    /// What it changes, in order. The groups whose figures grow come last, one put for each event that
-    /// counts.
+    /// Its changes, in order. The groups whose figures grow come last, one put for each event that counts.
     pub changes: Vec<Change>,
 }
 
@@ -82,9 +81,9 @@ impl Switch {
         Ok(Switch { alloc, tables })
     }
 
-    /// Executes one request at a moment (in seconds): its outcome and its events. A moment before the
-    /// last one is taken as the last one. A refused request takes a stamp and a moment, and changes
-    /// nothing else. After an error of memory the switch is only to be dropped.
+    /// Executes one request at a moment (in seconds): its outcome and its events. A moment before the last one counts
+    /// as the last one. A refused request takes a stamp and a moment, and changes nothing else. After an error of
+    /// memory the switch is only to be dropped.
     pub fn step(
         &mut self,
         moment: u32,
@@ -103,7 +102,7 @@ impl Switch {
         Ok((executed.outcome, executed.events))
     }
 
-    /// Executes one request as [`Switch::step`] does, and tells its changes too.
+    /// Executes one request as [`Switch::step`] does, and answers its changes too.
     pub fn step_with_changes(
         &mut self,
         moment: u32,
@@ -147,7 +146,7 @@ impl Switch {
         self.tables.limits().requests <= self.tables.last_stamp()
     }
 
-    /// What the group has counted, where it is planned.
+    /// The counts of the group, where it is planned.
     pub fn figures(&self, group: DeviceId) -> Option<Figures>
         ensures { result ≡ figures_at self.now group }
     {

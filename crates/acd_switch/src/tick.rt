@@ -131,7 +131,7 @@ fn rested_in(alloc: Global, tables: &Tables, moment: u32) -> Result<Vec<AgentRec
     rested_among(alloc, tables, moment, working.as_slice())
 }
 
-// The call goes back to the group that offered it, and the agent is released.
+// The call returns to the group that offered it, and the agent is released.
 fn take_back(
     tables: &mut Tables,
     at: Turn,

@@ -17,7 +17,7 @@ use Rattle.acd_tables.specs.Uses.{first_line, past_lines}
 use Rattle.acd_tables.proofs.NearLemmas.{less, greater}
 use Rattle.acd_tables.proofs.SwapLemmas.{pair_key}
 
--- the bounds of a device stand in their order
+-- the bounds of a device are in their order
 pub lines-forward : (d : ℕ) (lo hi : Bound (ℕ × ℕ)) → lo ≡ first_line d → hi ≡ past_lines d → IsForward (IsLeBy pair_cmp) (IsLtBy pair_cmp) lo hi
 unfolding first_line past_lines
 lines-forward d lo hi l h = rw (l, h) (by (d == 2 ^ 64 - 1))
@@ -33,7 +33,7 @@ least_zero c = by (c == 0) refl
     by true h = rw (cmp_self 0 c (sym (eqb-true c 0 h))) refl
     by false h = rw (less 0 c (grind (arith, h))) refl
 
--- its calls stand between them
+-- its calls are between them
 lines-between : (d c : ℕ) → range_contains pair_cmp (first_line d) (past_lines d) (d, c) ≡ true
 unfolding first_line past_lines
 lines-between d c = by (d == 2 ^ 64 - 1)

@@ -78,12 +78,12 @@ module _ {E : Type 0} (cmp : E → E → Ordering) where
   pub enters_one : (old new : BTreeMap ℕ (BTreeSet E)) (x : ℕ) (k : E) → Sets nat_cmp cmp old new x k true → Enters cmp old new (Some (x ∷ [], k))
   enters_one old new x k s = enters_more old old new [] x k (record { sets = λ g. refl; members = λ g e. refl }) s
 
-  -- where it was new, it is to be taken out there too
-  pub undoes_more : (old mid new : BTreeMap ℕ (BTreeSet E)) (done : List ℕ) (x : ℕ) (k : E) (fresh : Bool) → IsTotalOrder cmp
-      → Undoes cmp old mid (Some (done, k)) → fresh ≡ not (holds nat_cmp cmp mid x k) → Sets nat_cmp cmp mid new x k true
-      → Undoes cmp old new (Some (cond fresh (done ++ x ∷ []) done, k))
-  undoes_more old mid new done x k fresh total u f s g e =
-      u g e ∙ by fresh f (x == g) refl (is_eq (cmp k e)) refl ∙ ap (λ h. not (is_entry cmp (Some (cond fresh (done ++ x ∷ []) done, k)) g e) && h) (sym now)
+  -- where it was new, it is to be removed there too
+  pub undoes_more : (old mid new : BTreeMap ℕ (BTreeSet E)) (done : List ℕ) (x : ℕ) (k : E) (is_new : Bool) → IsTotalOrder cmp
+      → Undoes cmp old mid (Some (done, k)) → is_new ≡ not (holds nat_cmp cmp mid x k) → Sets nat_cmp cmp mid new x k true
+      → Undoes cmp old new (Some (cond is_new (done ++ x ∷ []) done, k))
+  undoes_more old mid new done x k is_new total u f s g e =
+      u g e ∙ by is_new f (x == g) refl (is_eq (cmp k e)) refl ∙ ap (λ h. not (is_entry cmp (Some (cond is_new (done ++ x ∷ []) done, k)) g e) && h) (sym now)
     where
       a : Bool
       a = list_any (λ h. h == g) done
@@ -122,15 +122,15 @@ module _ {E : Type 0} (cmp : E → E → Ordering) where
           flipped true n = refl
           flipped false n = absurd (cc (n))
 
-  pub undoes_one : (old new : BTreeMap ℕ (BTreeSet E)) (x : ℕ) (k : E) (fresh : Bool) → IsTotalOrder cmp → fresh ≡ not (holds nat_cmp cmp old x k) → Sets nat_cmp cmp old new x k true
-      → Undoes cmp old new (cond fresh (Some (x ∷ [], k)) None)
-  undoes_one old new x k fresh total f s = by fresh (undoes_more old old new [] x k fresh total (λ g e. refl) f s)
+  pub undoes_one : (old new : BTreeMap ℕ (BTreeSet E)) (x : ℕ) (k : E) (is_new : Bool) → IsTotalOrder cmp → is_new ≡ not (holds nat_cmp cmp old x k) → Sets nat_cmp cmp old new x k true
+      → Undoes cmp old new (cond is_new (Some (x ∷ [], k)) None)
+  undoes_one old new x k is_new total f s = by is_new (undoes_more old old new [] x k is_new total (λ g e. refl) f s)
     where
       by : (w : Bool) → Undoes cmp old new (Some (cond w (x ∷ []) [], k)) → Undoes cmp old new (cond w (Some (x ∷ [], k)) None)
       by true u = u
       by false u = u
 
-  -- a failure that changed nothing, and what had entered taken out again
+  -- a failure that changed nothing, and what had entered removed again
   pub all_undone : (old mid new back : BTreeMap ℕ (BTreeSet E)) (gs done : List ℕ) (k : E) → Enters cmp old mid (Some (gs, k)) → Undoes cmp old mid (Some (done, k)) → Stays nat_cmp cmp mid new → Leaves cmp new back (Some (done, k))
       → Stays nat_cmp cmp old back
   all_undone old mid new back gs done k n u s l = record {
@@ -161,7 +161,7 @@ waits_more queues before w new x flag h none e g p m l =
     by false f true k = h g p k l
     by false f false k = absurd (let no = none f p in let yes = ap (λ v. lists queues v p) (eqb-true x g (at k)) ∙ l in cc (no, yes))
 
--- what is left of the groups up to one of them
+-- the rest of the groups up to one of them
 pub left_more : (gs others left new : List ℕ) (i g : ℕ) (among : Bool) → among ≡ is_one_of others g → drop i gs ≡ g ∷ drop (suc i) gs → new ≡ cond (not among) (left ++ g ∷ []) left
     → left ++ filter (λ (x : ℕ). not (is_one_of others x)) (drop i gs) ≡ filter (λ (x : ℕ). not (is_one_of others x)) gs
     → new ++ filter (λ (x : ℕ). not (is_one_of others x)) (drop (i + 1) gs) ≡ filter (λ (x : ℕ). not (is_one_of others x)) gs

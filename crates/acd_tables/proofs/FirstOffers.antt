@@ -1,4 +1,4 @@
--- What is found among the groups that are noted is the offer that is to be made.
+-- The groups that are indexed give the offer that is to be made.
 use Rattle.std.proofs.Common.{◌≡◌, ℕ, Bool, true, false, cond, ◌&&◌, Option, Some, None, refl, ap, ap₂, sym, ◌∙◌, subst, arith}
 use Rattle.std.specs.Prelude.{◌==◌, is_some, option_and_then, filter}
 use Rattle.std.specs.List.Sorted.{IsStrictlySortedBy}
@@ -16,9 +16,9 @@ use Rattle.acd_terms.specs.declared.rows.Rows.{Rows}
 use Rattle.acd_terms.specs.declared.record.GroupRecord.{GroupRecord}
 use Rattle.acd_model.specs.Rules.Plan.{group_order}
 use Rattle.acd_model.specs.Scans.{group_of}
-use Rattle.acd_model.specs.Choice.{first_waiting, first_eligible, is_served_before, first_served, has_both, offer_by, offer_in, offer_of}
+use Rattle.acd_model.specs.Choice.{first_waiting, first_eligible, precedes, foremost, has_both, offer_by, offer_in, offer_of}
 use Rattle.acd_model.specs.declared.moves.Offer.{Offer}
-use Rattle.acd_lemmas.proofs.Least.{least_is, none_served, served_is}
+use Rattle.acd_lemmas.proofs.Least.{least_is, none_foremost, foremost_is}
 use Rattle.acd_lemmas.proofs.Lists.{none_from, filter_among, among-filter, eq_is}
 use Rattle.acd_lemmas.proofs.State.{group_among, group_key, group_found}
 use Rattle.acd_tables.specs.Indexed.{IsIndexed, OfferKey, offer_cmp, offer_key}
@@ -43,11 +43,11 @@ key_exact x y e =
     let b = then_equal (nat_cmp y.0.0 x.0.0) (nat_cmp x.1 y.1) e in
     the_key y x.0.0 x.1 (sym (exact_unsigned y.0.0 x.0.0 b.0)) (exact_unsigned x.1 y.1 b.1)
 
--- a group is served before another where its key is less
-before_is : (g h : GroupRecord) → is_served_before g h ≡ false → offer_cmp (offer_key g) (offer_key h) ≡ Less → ⊥
+-- a group precedes another where its key is less
+before_is : (g h : GroupRecord) → precedes g h ≡ false → offer_cmp (offer_key g) (offer_key h) ≡ Less → ⊥
 before_is g h e f = absurd (cc (e, by (nat_cmp h.priority g.priority) refl f))
   where
-    by : (o : Ordering) → nat_cmp h.priority g.priority ≡ o → ordering_then o (nat_cmp g.device h.device) ≡ Less → is_served_before g h ≡ true
+    by : (o : Ordering) → nat_cmp h.priority g.priority ≡ o → ordering_then o (nat_cmp g.device h.device) ≡ Less → precedes g h ≡ true
     by Less q l = grind (arith, nat_tests)
     by Equal q l = grind (arith, nat_tests)
     by Greater q l = absurd (cc (l))
@@ -63,7 +63,7 @@ parts d (Some v) None e = absurd (cc (e))
 parts d (Some v) (Some u) e = (v, (u, (refl, refl)))
 
 module _ (s : Rows) (ascending : IsAscending group_order s.groups) where
-  -- what is given at a key: the offer of a planned group there that has both
+  -- the value at a key: the offer of a planned group there that has both
   at_key : (j : OfferKey) (o : Offer) → offer_by_key s j ≡ Some o → (g : GroupRecord) × (Among g s.groups × ((has_both s g ≡ true) × ◌≡◌ {A = OfferKey} (offer_key g) j))
   at_key j o e = by (group_of s j.1) refl e
     where
@@ -78,9 +78,9 @@ module _ (s : Rows) (ascending : IsAscending group_order s.groups) where
       by None q e = absurd (cc (e))
       by (Some g) q e = ranked g q (g.priority == j.0.0) refl e
 
-  -- and at the key of a group its own offer
-  own_offer : (g : GroupRecord) → Among g s.groups → offer_by_key s (offer_key g) ≡ offer_in s g
-  own_offer g a = ap (option_and_then (if_ranked s g.priority)) (group_found s ascending g a) ∙ rw (eq-eqb g.priority g.priority refl) refl
+  -- and at the key of a group the offer of that group
+  offer_at_key : (g : GroupRecord) → Among g s.groups → offer_by_key s (offer_key g) ≡ offer_in s g
+  offer_at_key g a = ap (option_and_then (if_ranked s g.priority)) (group_found s ascending g a) ∙ rw (eq-eqb g.priority g.priority refl) refl
 
   has_offer : (g : GroupRecord) → has_both s g ≡ true → (o : Offer) × (offer_in s g ≡ Some o)
   has_offer g e =
@@ -89,29 +89,29 @@ module _ (s : Rows) (ascending : IsAscending group_order s.groups) where
 
   first_of : IsFirst offer_cmp key_total key_exact (offer_by_key s) (offer_of s)
   unfolding offer_of
-  first_of = by (first_served None (filter (has_both s) s.groups)) refl
+  first_of = by (foremost None (filter (has_both s) s.groups)) refl
     where
-      by : (f : Option GroupRecord) → first_served None (filter (has_both s) s.groups) ≡ f → IsFirst offer_cmp key_total key_exact (offer_by_key s) (option_and_then (offer_in s) f)
+      by : (f : Option GroupRecord) → foremost None (filter (has_both s) s.groups) ≡ f → IsFirst offer_cmp key_total key_exact (offer_by_key s) (option_and_then (offer_in s) f)
       by None e = λ j. none_from (offer_by_key s j) (λ o k.
           let q = at_key j o k in
-          subst (λ l. Among q.0 l) (none_served (filter (has_both s) s.groups) e) (among-filter (has_both s) s.groups q.0 q.1.0 q.1.1.0))
+          subst (λ l. Among q.0 l) (none_foremost (filter (has_both s) s.groups) e) (among-filter (has_both s) s.groups q.0 q.1.0 q.1.1.0))
       by (Some g) e =
-          let f = served_is (filter (has_both s) s.groups) g e in
+          let f = foremost_is (filter (has_both s) s.groups) g e in
           let there = filter_among (has_both s) s.groups g f.there in
           let o = has_offer g there.1 in
           subst (IsFirst offer_cmp key_total key_exact (offer_by_key s)) (sym o.1) (
             offer_key g,
-            own_offer g there.0 ∙ o.1,
+            offer_at_key g there.0 ∙ o.1,
             λ j l. none_from (offer_by_key s j) (λ x k.
                 let q = at_key j x k in
                 before_is q.0 g (f.first q.0 (among-filter (has_both s) s.groups q.0 q.1.0 q.1.1.0)) (ap (λ z. offer_cmp z (offer_key g)) q.1.1.1 ∙ l)),
           )
 
 module _ (s : Rows) (x : Indexes) (h : IsIndexed s x) where
-  -- a group that has both is noted
-  noted : (g : GroupRecord) → Among g s.groups → has_both s g ≡ true → contains offer_cmp x.offering (offer_key g) ≡ true
+  -- a group that has both is indexed
+  listed : (g : GroupRecord) → Among g s.groups → has_both s g ≡ true → contains offer_cmp x.offering (offer_key g) ≡ true
   unfolding first_waiting first_eligible
-  noted g a e =
+  listed g a e =
       let p = parts g.device (first_waiting s g.device) (first_eligible s g.device) e in
       h.offers g.device g p.0 p.1.0 (group_found s h.groups g a)
       (h.waiting g.device p.0 ∙ (waiting-among s g.device p.0 h.connections).1 (least_is _ p.0 p.1.1.0).there)
@@ -121,5 +121,5 @@ module _ (s : Rows) (x : Indexes) (h : IsIndexed s x) where
   first-offer sorted = one_first offer_cmp key_total key_exact (offer_by_key s) _ _
       (first_sorted offer_cmp key_total key_exact (offer_by_key s) x.offering.keys sorted (λ j o e.
       let q = at_key s h.groups j o e in
-      subst (λ z. Among z x.offering.keys) q.1.1.1 (contained offer_cmp (λ j k e. key_exact j k (eq_is (offer_cmp j k) e)) x.offering (offer_key q.0) (noted q.0 q.1.0 q.1.1.0))))
+      subst (λ z. Among z x.offering.keys) q.1.1.1 (contained offer_cmp (λ j k e. key_exact j k (eq_is (offer_cmp j k) e)) x.offering (offer_key q.0) (listed q.0 q.1.0 q.1.1.0))))
       (first_of s h.groups)

@@ -31,19 +31,19 @@ pair_is a b p e f = λ i. (e i, f i)
 -- who waits in the group
 pub waiting-among : (s : Rows) (g : ℕ) (p : ℕ × ℕ) → IsAscending connection_order s.connections → (waits_at p.0 (connection_of s p.1 g) ≡ true) ↔ Among p (map waiting_pair (waiting_in s g))
 unfolding waiting_in
-waiting-among s g p ascending = (to (connection_of s p.1 g) refl, from)
+waiting-among s g p ascending = (forth (connection_of s p.1 g) refl, back)
   where
-    to : (o : Option ConnectionRecord) → connection_of s p.1 g ≡ o → waits_at p.0 o ≡ true → Among p (map waiting_pair (filter (λ (c : ConnectionRecord). c.device == g && is_queued c.state) s.connections))
-    to None e h = absurd cc
-    to (Some c) e h =
+    forth : (o : Option ConnectionRecord) → connection_of s p.1 g ≡ o → waits_at p.0 o ≡ true → Among p (map waiting_pair (filter (λ (c : ConnectionRecord). c.device == g && is_queued c.state) s.connections))
+    forth None e h = absurd cc
+    forth (Some c) e h =
         let parts = and_parts (is_queued c.state) (unwrap_or c.place 0 == p.0) h in
         let key = found_key s p.1 g c e in
         let there = among-filter (λ (c : ConnectionRecord). c.device == g && is_queued c.state) s.connections c (connection_among s p.1 g c e) (and_from (c.device == g) (is_queued c.state) (eq-eqb c.device g key.1) parts.0) in
         subst (λ z. Among z (map waiting_pair (filter (λ (c : ConnectionRecord). c.device == g && is_queued c.state) s.connections))) (pair_is (unwrap_or c.place 0) c.call p (eqb-true (unwrap_or c.place 0) p.0 parts.1) key.0)
         (among-map waiting_pair c (filter (λ (c : ConnectionRecord). c.device == g && is_queued c.state) s.connections) there)
 
-    from : Among p (map waiting_pair (filter (λ (c : ConnectionRecord). c.device == g && is_queued c.state) s.connections)) → waits_at p.0 (connection_of s p.1 g) ≡ true
-    from a =
+    back : Among p (map waiting_pair (filter (λ (c : ConnectionRecord). c.device == g && is_queued c.state) s.connections)) → waits_at p.0 (connection_of s p.1 g) ≡ true
+    back a =
         let m = mapped_among waiting_pair (filter (λ (c : ConnectionRecord). c.device == g && is_queued c.state) s.connections) p a in
         let c = m.0 in
         let there = filter_among (λ (c : ConnectionRecord). c.device == g && is_queued c.state) s.connections c m.1.0 in
@@ -51,7 +51,7 @@ waiting-among s g p ascending = (to (connection_of s p.1 g) refl, from)
         let found : connection_of s p.1 g ≡ Some c = ap (λ k. connection_of s k g) (sym (ap (λ (z : ℕ × ℕ). z.1) (sym m.1.1))) ∙ ap (connection_of s c.call) (sym (eqb-true c.device g parts.0)) ∙ connection_found s ascending c there.0 in
         ap (waits_at p.0) found ∙ and_from (is_queued c.state) (unwrap_or c.place 0 == p.0) parts.1 (eq-eqb (unwrap_or c.place 0) p.0 (ap (λ (z : ℕ × ℕ). z.0) (sym m.1.1)))
 
--- a station is busy where it is taken or has a distributed connection
+-- a station is busy where it is in use or has a distributed connection
 module _ (s : Rows) (d : ℕ) where
   eqb-swap : (m n : ℕ) → (m == n) ≡ (n == m)
   eqb-swap m n = both_ways (m == n) (n == m) (λ e. eq-eqb n m (sym (eqb-true m n e))) (λ e. eq-eqb m n (sym (eqb-true n m e)))
@@ -105,18 +105,18 @@ able-eligible s g a = by a.station refl
 -- who is eligible in the group
 pub eligible-among : (s : Rows) (g : ℕ) (p : ℕ × ℕ) → IsAscending agent_order s.agents → (is_able_since s g p.0 (agent_of s p.1) ≡ true) ↔ Among p (map ready_pair (eligible_in s g))
 unfolding eligible_in
-eligible-among s g p ascending = (to (agent_of s p.1) refl, from)
+eligible-among s g p ascending = (forth (agent_of s p.1) refl, back)
   where
-    to : (o : Option AgentRecord) → agent_of s p.1 ≡ o → is_able_since s g p.0 o ≡ true → Among p (map ready_pair (filter (is_eligible s g) s.agents))
-    to None e h = absurd cc
-    to (Some a) e h =
+    forth : (o : Option AgentRecord) → agent_of s p.1 ≡ o → is_able_since s g p.0 o ≡ true → Among p (map ready_pair (filter (is_eligible s g) s.agents))
+    forth None e h = absurd cc
+    forth (Some a) e h =
         let parts = and_parts (a.stamp == p.0) (is_able s g a) h in
         let there = among-filter (is_eligible s g) s.agents a (agent_among s p.1 a e) (sym (able-eligible s g a) ∙ parts.1) in
         subst (λ z. Among z (map ready_pair (filter (is_eligible s g) s.agents))) (pair_is a.stamp a.agent p (eqb-true a.stamp p.0 parts.0) (agent_key s p.1 a e))
         (among-map ready_pair a (filter (is_eligible s g) s.agents) there)
 
-    from : Among p (map ready_pair (filter (is_eligible s g) s.agents)) → is_able_since s g p.0 (agent_of s p.1) ≡ true
-    from x =
+    back : Among p (map ready_pair (filter (is_eligible s g) s.agents)) → is_able_since s g p.0 (agent_of s p.1) ≡ true
+    back x =
         let m = mapped_among ready_pair (filter (is_eligible s g) s.agents) p x in
         let a = m.0 in
         let there = filter_among (is_eligible s g) s.agents a m.1.0 in

@@ -23,17 +23,17 @@ use Rattle.acd_terms.specs.declared.record.ConnectionRecord.{ConnectionRecord}
 use Rattle.acd_model.specs.Rules.Plan.{group_order, agent_order, connection_order}
 use Rattle.acd_model.specs.Scans.{is_group, group_of, agent_of, connection_of, at_group, at_agent, at_connection, queued_in_all, has}
 use Rattle.acd_model.specs.Writes.{with_group, with_station, with_agent, with_call, with_connection, with_monitor, without_call, without_connection, without_monitor, with_last, with_last_ids}
-use Rattle.acd_tables.specs.Sets.{holds, holds_in, has_set, Stays, SameMembers, HasSet, Noted, Forgotten}
-use Rattle.acd_tables.specs.Indexed.{PairSets, pair_cmp, lists, waits_at, is_busying, is_busy_at, is_free, is_able_since, rings, works, own_station, Seats, Lines, Ringing, Working, IsIndexed, SeatMap, OfferKey, offer_cmp, offer_key, ListsOffers}
+use Rattle.acd_tables.specs.Sets.{holds, holds_in, has_set, Stays, SameMembers, HasSet, Inserted, Removed}
+use Rattle.acd_tables.specs.Indexed.{PairSets, pair_cmp, lists, waits_at, is_busying, is_busy_at, is_free, is_able_since, rings, works, agent_station, Seats, Lines, Ringing, Working, IsIndexed, SeatMap, OfferKey, offer_cmp, offer_key, ListsOffers}
 use Rattle.acd_tables.specs.Swaps.{is_entry, Entered, Undone, Untouched, TakenOut, SwapsTo, IsAt, with_or_without, one_queued, IsBlank, has_rank, loses_rank}
 use Rattle.acd_tables.specs.declared.indexes.Indexes.{Indexes}
 use Rattle.acd_tables.specs.declared.indexes.Entries.{Entries}
 use Rattle.acd_tables.specs.declared.indexes.Swap.{Swap}
 use Rattle.acd_lemmas.proofs.Lists.{some_is, count_length, ascending-put, filter_length}
 use Rattle.acd_lemmas.proofs.State.{agents_total, groups_total, group_put, group_put_found, group_key, count_new, count_old, count_less}
-use Rattle.acd_tables.proofs.OfferLemmas.{undone, offers-same, offers-of, offers-more, own_key, key_number, key_priority}
+use Rattle.acd_tables.proofs.OfferLemmas.{undone, offers-same, offers-of, offers-more, key_itself, key_number, key_priority}
 use Rattle.acd_tables.proofs.SwapLemmas.{Replaces-put, Replaces-removed}
-use Rattle.acd_tables.proofs.NoteLemmas.{Ringing-put, Lines-removed, Working-kept, Seats-kept}
+use Rattle.acd_tables.proofs.IndexingLemmas.{Ringing-put, Lines-removed, Working-kept, Seats-kept}
 use Rattle.acd_lemmas.proofs.Keyed.{eq_key}
 
 -- where only the offers may have changed
@@ -54,7 +54,7 @@ IsIndexed-untouched s x y h u = record {
   queued = u.rest.queued ∙ h.queued;
 }
 
--- what entered was taken out again
+-- the entry was removed again
 pub IsIndexed-undone : (s : Rows) (x y z : Indexes) (seats : SeatMap) (lines : BTreeSet (ℕ × ℕ)) (ringing : BTreeSet (ℕ × ℕ)) (working : BTreeSet ℕ) (entries undo : Entries) → IsIndexed s x → Entered s x y entries → Undone x y undo
     → TakenOut s (record y { seats = seats; lines = lines; ringing = ringing; working = working }) z undo → Seats s seats → Lines s lines → Ringing s ringing → Working s working → IsIndexed s z
 IsIndexed-undone s x y z at_seats listed rung worked entries undo h e u o seats lines ringing working = record {
@@ -81,7 +81,7 @@ groups_same : (s t : Rows) → t.groups ≡ s.groups → (g : ℕ) → is_group 
 unfolding group_of
 groups_same s t groups g = ap (λ (l : List GroupRecord). is_some (find_by (at_group g) l)) groups
 
--- what enters and leaves makes the sets of the new rows
+-- the entries added and removed make the sets of the new rows
 pub IsIndexed-swapped : (s t : Rows) (x y z : Indexes) (seats : SeatMap) (lines : BTreeSet (ℕ × ℕ)) (ringing : BTreeSet (ℕ × ℕ)) (working : BTreeSet ℕ) (swap : Swap) (n : ℕ) → IsIndexed s x → Entered s x y swap.entering
     → TakenOut t (record y { seats = seats; lines = lines; ringing = ringing; working = working }) z swap.leaving → SwapsTo s t swap
     → t.groups ≡ s.groups → IsAscending agent_order t.agents → IsAscending connection_order t.connections → Seats t seats → Lines t lines → Ringing t ringing → Working t working → n ≡ length (queued_in_all t)
@@ -226,17 +226,18 @@ pub kept-last_ids : (s : Rows) (c m : ℕ) (x : Indexes) → IsIndexed s x → I
 unfolding with_last_ids
 kept-last_ids s c m x h = IsIndexed-kept s (with_last_ids s c m) refl refl x refl h
 
--- a group's record is put: its key is noted before where it may have an offer, and the one of its old priority goes behind
-ranked-offers : (s : Rows) (item : GroupRecord) (old : Option GroupRecord) (queues ready : PairSets) (offering noted ranked : BTreeSet OfferKey) (belongs : Bool) → old ≡ group_of s item.device
+-- a group's record is put: its key is indexed before where it may have an offer, and the one of its old priority is
+-- removed after
+ranked-offers : (s : Rows) (item : GroupRecord) (old : Option GroupRecord) (queues ready : PairSets) (offering inserted ranked : BTreeSet OfferKey) (belongs : Bool) → old ≡ group_of s item.device
     → ListsOffers s queues ready offering → (belongs ≡ false → (p q : ℕ × ℕ) → lists queues item.device p ≡ true → lists ready item.device q ≡ false)
-    → Noted offer_cmp offering noted (offer_key item) belongs → ((k : OfferKey) → loses_rank old item.priority k ≡ false → contains offer_cmp ranked k ≡ contains offer_cmp noted k)
+    → Inserted offer_cmp offering inserted (offer_key item) belongs → ((k : OfferKey) → loses_rank old item.priority k ≡ false → contains offer_cmp ranked k ≡ contains offer_cmp inserted k)
     → ListsOffers (with_group s item) queues ready ranked
-ranked-offers s item old queues ready offering noted ranked belongs found offers none note forgot g r p q there h l = by (item.device == g) refl
+ranked-offers s item old queues ready offering inserted ranked belongs found offers none insertion removal g r p q there h l = by (item.device == g) refl
   where
     at : (b : Bool) → (item.device == g) ≡ b → cond b (Some item) (group_of s g) ≡ Some r
     at b e = ap (λ v. cond v (Some item) (group_of s g)) (sym e) ∙ sym (group_put_found s item g) ∙ there
 
-    -- its own key isn't the one that goes
+    -- the key of the group isn't the one that is removed
     keeps : (o : Option GroupRecord) → loses_rank o item.priority (offer_key item) ≡ false
     keeps None = refl
     keeps (Some z) = false_from_ne_true _ (λ e.
@@ -252,9 +253,9 @@ ranked-offers s item old queues ready offering noted ranked belongs found offers
         let same : item.device ≡ g = sym (group_key s item.device z (sym w)) ∙ key_number (offer_key z) (offer_key r) parts.1 ∙ group_key s g r f in
         let yes = eq-eqb item.device g same in cc (e, yes))
 
-    belonging : (b : Bool) → belongs ≡ b → (item.device == g) ≡ true → contains offer_cmp noted (offer_key item) ≡ true
-    belonging true e f = note (offer_key item) ∙ ap (λ v. (v && is_eq (offer_cmp (offer_key item) (offer_key item))) || contains offer_cmp offering (offer_key item)) e
-        ∙ ap (λ v. v || contains offer_cmp offering (offer_key item)) (own_key (offer_key item))
+    belonging : (b : Bool) → belongs ≡ b → (item.device == g) ≡ true → contains offer_cmp inserted (offer_key item) ≡ true
+    belonging true e f = insertion (offer_key item) ∙ ap (λ v. (v && is_eq (offer_cmp (offer_key item) (offer_key item))) || contains offer_cmp offering (offer_key item)) e
+        ∙ ap (λ v. v || contains offer_cmp offering (offer_key item)) (key_itself (offer_key item))
     belonging false e f =
         let same : item.device ≡ g = eqb-true item.device g f in
         let no = none e p q (ap (λ v. lists queues v p) same ∙ h) in
@@ -263,23 +264,23 @@ ranked-offers s item old queues ready offering noted ranked belongs found offers
     by : (b : Bool) → (item.device == g) ≡ b → contains offer_cmp ranked (offer_key r) ≡ true
     by true e =
         let same : item ≡ r = some_is item r (at true e) in
-        ap (λ (z : GroupRecord). contains offer_cmp ranked (offer_key z)) (sym same) ∙ forgot (offer_key item) (keeps old) ∙ belonging belongs refl e
+        ap (λ (z : GroupRecord). contains offer_cmp ranked (offer_key z)) (sym same) ∙ removal (offer_key item) (keeps old) ∙ belonging belongs refl e
     by false e =
         let f : group_of s g ≡ Some r = at false e in
-        forgot (offer_key r) (others old found e f) ∙ note (offer_key r) ∙ or_right (belongs && is_eq (offer_cmp (offer_key item) (offer_key r))) (contains offer_cmp offering (offer_key r)) (offers g r p q f h l)
+        removal (offer_key r) (others old found e f) ∙ insertion (offer_key r) ∙ or_right (belongs && is_eq (offer_cmp (offer_key item) (offer_key r))) (contains offer_cmp offering (offer_key r)) (offers g r p q f h l)
 
 -- a group with its two sets
-pub IsIndexed-group : (s : Rows) (item : GroupRecord) (old : Option GroupRecord) (x : Indexes) (queues ready : PairSets) (noted ranked : BTreeSet OfferKey) (belongs : Bool) → old ≡ group_of s item.device → IsIndexed s x
+pub IsIndexed-group : (s : Rows) (item : GroupRecord) (old : Option GroupRecord) (x : Indexes) (queues ready : PairSets) (inserted ranked : BTreeSet OfferKey) (belongs : Bool) → old ≡ group_of s item.device → IsIndexed s x
     → HasSet nat_cmp pair_cmp x.queues queues item.device → HasSet nat_cmp pair_cmp x.ready ready item.device
     → (belongs ≡ false → (p q : ℕ × ℕ) → lists queues item.device p ≡ true → lists ready item.device q ≡ false)
-    → Noted offer_cmp x.offering noted (offer_key item) belongs → ((k : OfferKey) → loses_rank old item.priority k ≡ false → contains offer_cmp ranked k ≡ contains offer_cmp noted k)
+    → Inserted offer_cmp x.offering inserted (offer_key item) belongs → ((k : OfferKey) → loses_rank old item.priority k ≡ false → contains offer_cmp ranked k ≡ contains offer_cmp inserted k)
     → IsIndexed (with_group s item) (record x { queues = queues; ready = ready; offering = ranked })
 unfolding with_group
-IsIndexed-group s item old x queues ready noted ranked belongs found h hq hr none note forgot =
+IsIndexed-group s item old x queues ready inserted ranked belongs found h hq hr none insertion removal =
     IsIndexed-lists s (with_group s item) refl refl x queues ready h (ascending-put group_order groups_total item s.groups h.groups) hq.members hr.members
     (λ g e. hq.sets g ∙ there g (is_eq (nat_cmp item.device g)) (has_set nat_cmp pair_cmp x.queues g) (eq_key item.device g) (h.queues g) e)
     (λ g e. hr.sets g ∙ there g (is_eq (nat_cmp item.device g)) (has_set nat_cmp pair_cmp x.ready g) (eq_key item.device g) (h.readies g) e)
-    ranked (ranked-offers s item old queues ready x.offering noted ranked belongs found (offers-same s x.queues queues x.ready ready x.offering hq.members hr.members h.offers) none note forgot)
+    ranked (ranked-offers s item old queues ready x.offering inserted ranked belongs found (offers-same s x.queues queues x.ready ready x.offering hq.members hr.members h.offers) none insertion removal)
   where
     there : (g : ℕ) (a b : Bool) → a ≡ (item.device == g) → (is_group s g ≡ true → b ≡ true) → is_group (with_group s item) g ≡ true → (a || b) ≡ true
     there g true b k f e = refl
@@ -342,12 +343,12 @@ pub IsIndexed-stays : (s : Rows) (x : Indexes) (queues : PairSets) → IsIndexed
 IsIndexed-stays s x queues h hq = IsIndexed-lists s s refl refl x queues x.ready h h.groups hq.members (λ g p. refl) (λ g e. hq.sets g ∙ h.queues g e) h.readies
     x.offering (offers-same s x.queues queues x.ready x.ready x.offering hq.members (λ g p. refl) h.offers)
 
--- other groups are noted
+-- other groups are indexed
 pub IsIndexed-offering : (s : Rows) (x : Indexes) (offering : BTreeSet OfferKey) → IsIndexed s x → ListsOffers s x.queues x.ready offering → IsIndexed s (record x { offering = offering })
 IsIndexed-offering s x offering h offers = IsIndexed-lists s s refl refl x x.queues x.ready h h.groups (λ g p. refl) (λ g p. refl) h.queues h.readies offering offers
 
-pub IsIndexed-noted_more : (s : Rows) (x : Indexes) (offering : BTreeSet OfferKey) → IsIndexed s x → ((k : OfferKey) → contains offer_cmp x.offering k ≡ true → contains offer_cmp offering k ≡ true) → IsIndexed s (record x { offering = offering })
-IsIndexed-noted_more s x offering h more = IsIndexed-offering s x offering h (offers-more s x.queues x.ready offering x.offering h.offers more)
+pub IsIndexed-offering_more : (s : Rows) (x : Indexes) (offering : BTreeSet OfferKey) → IsIndexed s x → ((k : OfferKey) → contains offer_cmp x.offering k ≡ true → contains offer_cmp offering k ≡ true) → IsIndexed s (record x { offering = offering })
+IsIndexed-offering_more s x offering h more = IsIndexed-offering s x offering h (offers-more s x.queues x.ready offering x.offering h.offers more)
 
 -- an agent's record is put
 pub IsIndexed-agent : (s : Rows) (item : AgentRecord) (x y z : Indexes) (seats : SeatMap) (working : BTreeSet ℕ) (swap : Swap) → IsIndexed s x → Entered s x y swap.entering
@@ -402,7 +403,7 @@ IsIndexed-no_put s x y z listed rung entries undo h e u o lines ringing =
 -- a connection is removed
 pub IsIndexed-removed : (s : Rows) (call device : ℕ) (x y z : Indexes) (lines : BTreeSet (ℕ × ℕ)) (ringing : BTreeSet (ℕ × ℕ)) (swap : Swap) (n : ℕ) (gone : Bool) → IsIndexed s x → Entered s x y swap.entering
     → TakenOut (without_connection s call device) (record y { lines = lines; ringing = ringing }) z swap.leaving → SwapsTo s (without_connection s call device) swap
-    → gone ≡ rings (connection_of s call device) → Forgotten pair_cmp y.ringing ringing (call, device) gone → Forgotten pair_cmp y.lines lines (device, call) true → n ≡ length (queued_in_all (without_connection s call device))
+    → gone ≡ rings (connection_of s call device) → Removed pair_cmp y.ringing ringing (call, device) gone → Removed pair_cmp y.lines lines (device, call) true → n ≡ length (queued_in_all (without_connection s call device))
     → IsIndexed (without_connection s call device) (record z { queued = n })
 IsIndexed-removed s call device x y z listed rung swap n gone h e o w g forgotten unlisted queued =
     let t : Rows = without_connection s call device in
@@ -451,7 +452,7 @@ module _ (s : Rows) (x : Indexes) (no_groups : s.groups ≡ []) (no_agents : s.a
     waiting = λ g p. no_member x.queues blank.queues g p ∙ sym (ap (waits_at p.0) (no_connection p.1 g));
     able = λ g p. no_member x.ready blank.ready g p ∙ sym (ap (is_able_since s g p.0) (no_agent p.1));
     offers = λ g r p q there h k. absurd (cc (h, no_member x.queues blank.queues g p));
-    seats = λ n d. ap (λ es. has (lookup (λ e. d == e) es) n) blank.seats ∙ sym (ap (λ o. has (own_station o) d) (no_agent n));
+    seats = λ n d. ap (λ es. has (lookup (λ e. d == e) es) n) blank.seats ∙ sym (ap (λ o. has (agent_station o) d) (no_agent n));
     lines = λ p. no_key pair_cmp x.lines blank.lines p ∙ sym (ap is_some (no_connection p.1 p.0));
     ringing = λ p. no_key pair_cmp x.ringing blank.ringing p ∙ sym (ap rings (no_connection p.0 p.1));
     working = λ n. no_key nat_cmp x.working blank.working n ∙ sym (ap works (no_agent n));

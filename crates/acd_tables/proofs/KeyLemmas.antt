@@ -13,12 +13,12 @@ use Rattle.acd_terms.specs.declared.record.ConnectionRecord.{ConnectionRecord}
 use Rattle.acd_model.specs.Rules.Plan.{connection_order}
 use Rattle.acd_model.specs.Scans.{at_connection}
 use Rattle.acd_lemmas.proofs.Lists.{any_found, any_some, find_passes, find_among, some_from, filter_among, among-filter, ascending-filter, ascending-put, ascending-remove}
-use Rattle.acd_lemmas.proofs.Keyed.{found_among, found_has, found_own, some_put}
+use Rattle.acd_lemmas.proofs.Keyed.{found_among, found_has, found_itself, some_put}
 use Rattle.acd_lemmas.proofs.State.{by_connection, connections_total, is_of, is_of_true, left_at}
 use Rattle.acd_tables.specs.Indexed.{pair_cmp}
-use Rattle.acd_tables.specs.Sets.{Noted, Forgotten}
+use Rattle.acd_tables.specs.Sets.{Inserted, Removed}
 use Rattle.acd_tables.specs.Near.{of_key, HasKeys}
-use Rattle.acd_tables.proofs.NoteLemmas.{notes-come, notes-gone, notes-left}
+use Rattle.acd_tables.proofs.IndexingLemmas.{HasExactly-come, HasExactly-gone, HasExactly-left}
 use Rattle.acd_tables.proofs.Picked.{picked, contained, exact_pair}
 use Rattle.acd_tables.proofs.SwapLemmas.{pair_key}
 
@@ -29,7 +29,7 @@ flipped false true e = refl
 flipped false false e = absurd (cc (e))
 
 module _ (cs : List ConnectionRecord) (call device : ℕ) where
-  -- what is found at a key is found at an equal one
+  -- a look-up finds at a key what it finds at an equal one
   key-at : (p : ℕ × ℕ) → is_eq (pair_cmp (call, device) p) ≡ true → is_some (find_by (at_connection p.0 p.1) cs) ≡ is_some (find_by (at_connection call device) cs)
   key-at p e =
       let parts = and_parts (call == p.0) (device == p.1) (sym (pair_key call device p) ∙ e) in
@@ -37,11 +37,11 @@ module _ (cs : List ConnectionRecord) (call device : ℕ) where
 
 module _ (cs : List ConnectionRecord) (old new : BTreeSet (ℕ × ℕ)) (h : HasKeys cs old) where
   -- a connection that is put, whose key came if it is new
-  pub keys-put : (x : ConnectionRecord) (b : Bool) → is_some (find_by (at_connection x.call x.device) cs) ≡ not b → Noted pair_cmp old new (x.call, x.device) b → HasKeys (put_by (connection_order x) cs x) new
+  pub keys-put : (x : ConnectionRecord) (b : Bool) → is_some (find_by (at_connection x.call x.device) cs) ≡ not b → Inserted pair_cmp old new (x.call, x.device) b → HasKeys (put_by (connection_order x) cs x) new
   keys-put x b is w = record {
     ascending = ascending-put connection_order connections_total x cs h.ascending;
-    noted = notes-come pair_cmp (λ p. is_some (find_by (at_connection p.0 p.1) cs)) old new (x.call, x.device) (λ p. is_some (find_by (at_connection p.0 p.1) (put_by (connection_order x) cs x)))
-        (is_some (find_by (at_connection x.call x.device) cs)) b (flipped (is_some (find_by (at_connection x.call x.device) cs)) b is) (key-at cs x.call x.device) changed h.noted w;
+    index = HasExactly-come pair_cmp (λ p. is_some (find_by (at_connection p.0 p.1) cs)) old new (x.call, x.device) (λ p. is_some (find_by (at_connection p.0 p.1) (put_by (connection_order x) cs x)))
+        (is_some (find_by (at_connection x.call x.device) cs)) b (flipped (is_some (find_by (at_connection x.call x.device) cs)) b is) (key-at cs x.call x.device) changed h.index w;
   }
     where
       or_cond : (b v : Bool) → (b || v) ≡ cond b true v
@@ -53,24 +53,24 @@ module _ (cs : List ConnectionRecord) (old new : BTreeSet (ℕ × ℕ)) (h : Has
           some_put by_connection cs x p ∙ or_cond (is_of p.0 p.1 x) (is_some (find_by (at_connection p.0 p.1) cs))
           ∙ ap (λ v. cond v true (is_some (find_by (at_connection p.0 p.1) cs))) (sym (pair_key x.call x.device p))
 
-  -- a connection that isn't put, whose key came and went
-  pub keys-back : (mid : BTreeSet (ℕ × ℕ)) (call device : ℕ) (b : Bool) → is_some (find_by (at_connection call device) cs) ≡ not b → Noted pair_cmp old mid (call, device) b → Forgotten pair_cmp mid new (call, device) b → HasKeys cs new
+  -- a connection that isn't put, whose key was added and removed
+  pub keys-back : (mid : BTreeSet (ℕ × ℕ)) (call device : ℕ) (b : Bool) → is_some (find_by (at_connection call device) cs) ≡ not b → Inserted pair_cmp old mid (call, device) b → Removed pair_cmp mid new (call, device) b → HasKeys cs new
   keys-back mid call device b is w f = record {
     ascending = h.ascending;
-    noted = notes-gone pair_cmp (λ p. is_some (find_by (at_connection p.0 p.1) cs)) old new (call, device) mid
-        (is_some (find_by (at_connection call device) cs)) b (flipped (is_some (find_by (at_connection call device) cs)) b is) (key-at cs call device) h.noted w f;
+    index = HasExactly-gone pair_cmp (λ p. is_some (find_by (at_connection p.0 p.1) cs)) old new (call, device) mid
+        (is_some (find_by (at_connection call device) cs)) b (flipped (is_some (find_by (at_connection call device) cs)) b is) (key-at cs call device) h.index w f;
   }
 
   pub keys-same : ((k : ℕ × ℕ) → contains pair_cmp new k ≡ contains pair_cmp old k) → HasKeys cs new
-  keys-same w = record { ascending = h.ascending; noted = λ p. w p ∙ h.noted p }
+  keys-same w = record { ascending = h.ascending; index = λ p. w p ∙ h.index p }
 
-  -- a connection that is removed, whose key went
-  pub keys-remove : (call device : ℕ) → Forgotten pair_cmp old new (call, device) true → HasKeys (remove_by (at_connection call device) cs) new
+  -- a connection that is removed, whose key was removed
+  pub keys-remove : (call device : ℕ) → Removed pair_cmp old new (call, device) true → HasKeys (remove_by (at_connection call device) cs) new
   keys-remove call device w = record {
     ascending = ascending-remove connection_order (at_connection call device) cs h.ascending;
-    noted = notes-left pair_cmp (λ p. is_some (find_by (at_connection p.0 p.1) cs)) old new (call, device) (λ p. is_some (find_by (at_connection p.0 p.1) (remove_by (at_connection call device) cs)))
+    index = HasExactly-left pair_cmp (λ p. is_some (find_by (at_connection p.0 p.1) cs)) old new (call, device) (λ p. is_some (find_by (at_connection p.0 p.1) (remove_by (at_connection call device) cs)))
         (λ p. ap is_some (left_at cs h.ascending call device p.0 p.1) ∙ gone (call == p.0 && device == p.1) (find_by (at_connection p.0 p.1) cs) ∙ ap (λ b. cond b false (is_some (find_by (at_connection p.0 p.1) cs))) (sym (pair_key call device p)))
-        h.noted w;
+        h.index w;
   }
     where
       gone : (b : Bool) (o : Option ConnectionRecord) → is_some (cond b None o) ≡ cond b false (is_some o)
@@ -78,8 +78,8 @@ module _ (cs : List ConnectionRecord) (old new : BTreeSet (ℕ × ℕ)) (h : Has
       gone false o = refl
 
 module _ (cs : List ConnectionRecord) (call : ℕ) where
-  key-own : (p : ℕ × ℕ) (r : ConnectionRecord) → of_key cs call p ≡ Some r → (p.0 ≡ call) × (find_by (at_connection call p.1) cs ≡ Some r)
-  key-own p r e = by (p.0 == call) refl e
+  key-found : (p : ℕ × ℕ) (r : ConnectionRecord) → of_key cs call p ≡ Some r → (p.0 ≡ call) × (find_by (at_connection call p.1) cs ≡ Some r)
+  key-found p r e = by (p.0 == call) refl e
     where
       by : (b : Bool) → (p.0 == call) ≡ b → cond b (find_by (at_connection call p.1) cs) None ≡ Some r → (p.0 ≡ call) × (find_by (at_connection call p.1) cs ≡ Some r)
       by true at f = (eqb-true p.0 call at, f)
@@ -88,18 +88,18 @@ module _ (cs : List ConnectionRecord) (call : ℕ) where
   -- among the keys are those of all connections of the call
   pub picks-of : IsAscending connection_order cs → (keys : List (ℕ × ℕ)) → ((d : ℕ) → is_some (find_by (at_connection call d) cs) ≡ true → Among (call, d) keys) → IsStrictlySortedBy pair_cmp keys
       → filter_map (of_key cs call) keys ≡ filter (λ c. c.call == call) cs
-  picks-of ascending keys listed sorted = picked pair_cmp connection_order (λ c. (c.call, c.device)) (λ x y. refl) (of_key cs call) own connections_total keys (filter (λ c. c.call == call) cs) sorted
-      (ascending-filter connection_order (λ c. c.call == call) cs ascending) to back
+  picks-of ascending keys listed sorted = picked pair_cmp connection_order (λ c. (c.call, c.device)) (λ x y. refl) (of_key cs call) has_key connections_total keys (filter (λ c. c.call == call) cs) sorted
+      (ascending-filter connection_order (λ c. c.call == call) cs ascending) forth back
     where
-      own : (p : ℕ × ℕ) (r : ConnectionRecord) → of_key cs call p ≡ Some r → (r.call, r.device) ≡ p
-      own p r e =
-          let there = key-own p r e in
+      has_key : (p : ℕ × ℕ) (r : ConnectionRecord) → of_key cs call p ≡ Some r → (r.call, r.device) ≡ p
+      has_key p r e =
+          let there = key-found p r e in
           let k = is_of_true call p.1 r (found_has by_connection cs (call, p.1) r there.1) in
           ap (λ a. (a, r.device)) (k.0 ∙ sym there.0) ∙ ap (λ b. (p.0, b)) k.1
 
-      to : (p : ℕ × ℕ) (r : ConnectionRecord) → of_key cs call p ≡ Some r → Among r (filter (λ c. c.call == call) cs)
-      to p r e =
-          let there = key-own p r e in
+      forth : (p : ℕ × ℕ) (r : ConnectionRecord) → of_key cs call p ≡ Some r → Among r (filter (λ c. c.call == call) cs)
+      forth p r e =
+          let there = key-found p r e in
           let k = is_of_true call p.1 r (found_has by_connection cs (call, p.1) r there.1) in
           among-filter (λ c. c.call == call) cs r (found_among by_connection cs (call, p.1) r there.1) (eq-eqb r.call call k.0)
 
@@ -107,7 +107,7 @@ module _ (cs : List ConnectionRecord) (call : ℕ) where
       back r a =
           let there = filter_among (λ c. c.call == call) cs r a in
           let same = eqb-true r.call call there.1 in
-          let found = found_own by_connection cs ascending r there.0 in
+          let found = found_itself by_connection cs ascending r there.0 in
           let at = subst (λ n. find_by (at_connection n r.device) cs ≡ Some r) same found in (
             subst (λ n. Among (n, r.device) keys) (sym same) (listed r.device (ap is_some at)),
             ap (λ b. cond b (find_by (at_connection call r.device) cs) None) there.1 ∙ at,
@@ -121,8 +121,8 @@ no_keys (k ∷ ks) h = absurd (let some = h (omega arith) in cc (some))
 pub none-there : (cs : List ConnectionRecord) (keys : BTreeSet (ℕ × ℕ)) → HasKeys cs keys → keys.keys ≡ [] → cs ≡ []
 none-there [] keys h e = refl
 none-there (x ∷ xs) keys h e =
-    let found = ap is_some (found_own by_connection (x ∷ xs) h.ascending x (inl refl)) in
-    absurd (subst (Among (x.call, x.device)) e (contained pair_cmp exact_pair keys (x.call, x.device) (h.noted (x.call, x.device) ∙ found)))
+    let found = ap is_some (found_itself by_connection (x ∷ xs) h.ascending x (inl refl)) in
+    absurd (subst (Among (x.call, x.device)) e (contained pair_cmp exact_pair keys (x.call, x.device) (h.index (x.call, x.device) ∙ found)))
 
 -- the first of those that pass one test that passes another
 pub find-both : {X : Type 0} (q p : X → Bool) (xs : List X) → find p (filter q xs) ≡ find (λ y. q y && p y) xs
@@ -135,7 +135,7 @@ find-both q p (x ∷ xs) =
 
 -- lists with the same members
 pub any-members : {X : Type 0} (p : X → Bool) (xs ys : List X) → ((x : X) → Among x xs → Among x ys) → ((x : X) → Among x ys → Among x xs) → list_any p xs ≡ list_any p ys
-any-members {X = X} p xs ys to back = both_ways (list_any p xs) (list_any p ys) (moved xs ys to) (moved ys xs back)
+any-members {X = X} p xs ys forth back = both_ways (list_any p xs) (list_any p ys) (moved xs ys forth) (moved ys xs back)
   where
     moved : (l m : List X) → ((x : X) → Among x l → Among x m) → list_any p l ≡ true → list_any p m ≡ true
     moved l m into e =

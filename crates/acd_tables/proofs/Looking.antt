@@ -1,4 +1,4 @@
--- What a scan of the connections or agents sees, by look-ups.
+-- The view of a scan of the connections or agents, by look-ups.
 use Rattle.std.proofs.Common.{◌≡◌, ℕ, Bool, true, ◌&&◌, not, List, Option, Some, None, is_some, refl, ap, sym, ◌∙◌, subst}
 use Rattle.std.specs.Prelude.{◌==◌, find}
 use Rattle.std.specs.List.{list_any}
@@ -12,7 +12,7 @@ use Rattle.acd_model.specs.Rules.Plan.{agent_order, connection_order}
 use Rattle.acd_model.specs.Scans.{agent_of, agent_at, connection_of, has}
 use Rattle.acd_lemmas.proofs.Lists.{any_found, any_some, find_passes, find_among, some_from, some_found, none_from, some_is}
 use Rattle.acd_lemmas.proofs.State.{connection_among, connection_found, found_key, agent_among, agent_at_find, agent_seat, agent_there, has_is}
-use Rattle.acd_tables.specs.Indexed.{Seats, SeatMap, agent_seated, own_station}
+use Rattle.acd_tables.specs.Indexed.{Seats, SeatMap, agent_seated, agent_station}
 use Rattle.acd_tables.specs.Uses.{is_there_and}
 
 -- a connection at the device that passes
@@ -27,8 +27,8 @@ any-there s u d ascending e =
     let p : ConnectionRecord → Bool = λ z. z.device == d && u z in
     let f = some_from (find p s.connections) (any_found p s.connections e) in
     let passes = and_parts (f.0.device == d) (u f.0) (find_passes p s.connections f.0 f.1) in
-    let own = connection_found s ascending f.0 (find_among p s.connections f.0 f.1) in
-    (f.0, subst (λ z. connection_of s f.0.call z ≡ Some f.0) (eqb-true f.0.device d passes.0) own, passes.1)
+    let found = connection_found s ascending f.0 (find_among p s.connections f.0 f.1) in
+    (f.0, subst (λ z. connection_of s f.0.call z ≡ Some f.0) (eqb-true f.0.device d passes.0) found, passes.1)
 
 pub used_some : (u : ConnectionRecord → Bool) (o : Option ConnectionRecord) → is_there_and u o ≡ true → (c : ConnectionRecord) × (o ≡ Some c) × (u c ≡ true)
 used_some u None e = absurd cc
@@ -38,10 +38,10 @@ used_some u (Some c) e = (c, refl, e)
 pub any-listed : (s : Rows) (u : ConnectionRecord → Bool) (d : ℕ) (but : Option ℕ) (ks : List (ℕ × ℕ)) → IsAscending connection_order s.connections
     → ((c : ℕ) → is_some (connection_of s c d) ≡ true → Among (d, c) ks)
     → list_any (λ k. not (has but k.1) && is_there_and u (connection_of s k.1 d)) ks ≡ list_any (λ (z : ConnectionRecord). z.device == d && (not (has but z.call) && u z)) s.connections
-any-listed s u d but ks ascending listed = both_ways _ _ to from
+any-listed s u d but ks ascending listed = both_ways _ _ forth back
   where
-    to : list_any (λ k. not (has but k.1) && is_there_and u (connection_of s k.1 d)) ks ≡ true → list_any (λ (z : ConnectionRecord). z.device == d && (not (has but z.call) && u z)) s.connections ≡ true
-    to e =
+    forth : list_any (λ k. not (has but k.1) && is_there_and u (connection_of s k.1 d)) ks ≡ true → list_any (λ (z : ConnectionRecord). z.device == d && (not (has but z.call) && u z)) s.connections ≡ true
+    forth e =
         let p : ℕ × ℕ → Bool = λ k. not (has but k.1) && is_there_and u (connection_of s k.1 d) in
         let w : ConnectionRecord → Bool = λ z. not (has but z.call) && u z in
         let k = some_from (find p ks) (any_found p ks e) in
@@ -50,8 +50,8 @@ any-listed s u d but ks ascending listed = both_ways _ _ to from
         let call : c.0.call ≡ k.0.1 = (found_key s k.0.1 d c.0 c.1).0 in
         there-any s w k.0.1 d c.0 c.1 (and_from (not (has but c.0.call)) (u c.0) (ap (λ n. not (has but n)) call ∙ parts.0) c.2)
 
-    from : list_any (λ (z : ConnectionRecord). z.device == d && (not (has but z.call) && u z)) s.connections ≡ true → list_any (λ k. not (has but k.1) && is_there_and u (connection_of s k.1 d)) ks ≡ true
-    from e =
+    back : list_any (λ (z : ConnectionRecord). z.device == d && (not (has but z.call) && u z)) s.connections ≡ true → list_any (λ k. not (has but k.1) && is_there_and u (connection_of s k.1 d)) ks ≡ true
+    back e =
         let p : ℕ × ℕ → Bool = λ k. not (has but k.1) && is_there_and u (connection_of s k.1 d) in
         let w : ConnectionRecord → Bool = λ z. not (has but z.call) && u z in
         let c = any-there s w d ascending e in
@@ -59,9 +59,9 @@ any-listed s u d but ks ascending listed = both_ways _ _ to from
         any_some p ks (d, c.0.call) (listed c.0.call (ap is_some c.1)) (and_from (not (has but c.0.call)) (is_there_and u (connection_of s c.0.call d)) parts.0 (ap (is_there_and u) c.1 ∙ parts.1))
 
 module _ (s : Rows) (seats : SeatMap) (ascending : IsAscending agent_order s.agents) (listed : Seats s seats) where
-  -- the agent that stands at the station
+  -- the agent that is at the station
   seat : (n d : ℕ) (a : AgentRecord) → agent_of s n ≡ Some a → a.station ≡ Some d → agent_seated seats d ≡ Some n
-  seat n d a e f = has_is (agent_seated seats d) n (listed n d ∙ ap (λ o. has (own_station o) d) e ∙ ap (λ o. has o d) f ∙ eq-eqb d d refl)
+  seat n d a e f = has_is (agent_seated seats d) n (listed n d ∙ ap (λ o. has (agent_station o) d) e ∙ ap (λ o. has o d) f ∙ eq-eqb d d refl)
 
   -- an agent with the station is the one that a scan finds
   pub seated : (n d : ℕ) (a : AgentRecord) → agent_of s n ≡ Some a → a.station ≡ Some d → agent_at s d ≡ Some a
@@ -75,15 +75,15 @@ module _ (s : Rows) (seats : SeatMap) (ascending : IsAscending agent_order s.age
       let same : b.0 ≡ a = some_is _ _ (sym (agent_there s ascending d b.0 found) ∙ ap (agent_of s) number ∙ e) in
       found ∙ ap Some same
 
-  -- nobody has a station at which nobody stands
+  -- nobody has a station at which nobody is
   pub seat-none : (d : ℕ) → agent_seated seats d ≡ None → agent_at s d ≡ None
   seat-none d none = none_from (agent_at s d) (λ b e. let there = seat b.agent d b (agent_there s ascending d b e) (agent_seat s d b e).1 in cc (there, none))
 
   pub seat-some : (d n : ℕ) → agent_seated seats d ≡ Some n → agent_at s d ≡ agent_of s n
   seat-some d n there = by (agent_of s n) refl
     where
-      stands : (o : Option AgentRecord) → agent_of s n ≡ o → has (own_station o) d ≡ true
-      stands o e = sym (listed n d ∙ ap (λ v. has (own_station v) d) e) ∙ ap (λ v. has v n) there ∙ eq-eqb n n refl
+      stands : (o : Option AgentRecord) → agent_of s n ≡ o → has (agent_station o) d ≡ true
+      stands o e = sym (listed n d ∙ ap (λ v. has (agent_station v) d) e) ∙ ap (λ v. has v n) there ∙ eq-eqb n n refl
 
       by : (o : Option AgentRecord) → agent_of s n ≡ o → agent_at s d ≡ o
       by None e = absurd (let no = stands None e in cc (no))

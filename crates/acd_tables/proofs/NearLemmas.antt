@@ -15,7 +15,7 @@ less a b lt = grind (arith, lt)
 pub greater : (a b : ℕ) → b < a → nat_cmp a b ≡ Greater
 greater a b lt = grind (arith, lt)
 
--- the bounds stand in their order
+-- the bounds are in their order
 pub near-forward : (call device : ℕ) → IsForward (IsLeBy pair_cmp) (IsLtBy pair_cmp) (start call device) (end call device)
 unfolding start end
 near-forward call device = by (call == 0) (call == 2 ^ 64 - 1)
@@ -25,10 +25,10 @@ near-forward call device = by (call == 0) (call == 2 ^ 64 - 1)
     by false true = tt
     by false false = ap (λ o. ordering_then o (nat_cmp device device)) (less (call - 1) (call + 1) (omega arith))
 
--- the connections of the call stand between the bounds
-pub near-own : (call device d : ℕ) → range_contains pair_cmp (start call device) (end call device) (call, d) ≡ true
+-- the connections of the call are between the bounds
+pub near-itself : (call device d : ℕ) → range_contains pair_cmp (start call device) (end call device) (call, d) ≡ true
 unfolding start end
-near-own call device d = by (call == 0) refl (call == 2 ^ 64 - 1)
+near-itself call device d = by (call == 0) refl (call == 2 ^ 64 - 1)
   where
     by : (a : Bool) → (call == 0) ≡ a → (b : Bool) → range_contains pair_cmp (cond a Unbounded (Excluded (call - 1, device))) (cond b Unbounded (Excluded (call + 1, device))) (call, d) ≡ true
     by true h true = refl

@@ -1,4 +1,4 @@
--- The records at keys that are noted are those that a scan picks.
+-- The records at keys that are indexed are those that a scan picks.
 use Rattle.std.proofs.Common.{◌≡◌, ℕ, inl, inr, Bool, true, false, cond, List, [], ◌∷◌, ◌++◌, Option, Some, None, refl, ap, sym, ◌∙◌, subst}
 use Rattle.std.specs.Prelude.{◌==◌, filter, find, is_some}
 use Rattle.std.specs.List.{AllByRecursion, filter_map, cons_option}
@@ -31,19 +31,19 @@ module _ {X : Type 0} (cmp : X → X → Ordering) (o : IsTotalOrder cmp) where
 
   -- ascending lists of the same members are equal
   pub ascending-same : (xs ys : List X) → IsAscending cmp xs → IsAscending cmp ys → ((z : X) → Among z xs → Among z ys) → ((z : X) → Among z ys → Among z xs) → xs ≡ ys
-  ascending-same [] [] h k to back = refl
-  ascending-same [] (y ∷ ys) h k to back = absurd (back y (inl refl))
-  ascending-same (x ∷ xs) [] h k to back = absurd (to x (inl refl))
-  ascending-same (x ∷ xs) (y ∷ ys) h k to back = ap (λ l. x ∷ l) (ascending-same xs ys h.1 k.1 to_rest back_rest) ∙ ap (λ z. z ∷ ys) same
+  ascending-same [] [] h k forth back = refl
+  ascending-same [] (y ∷ ys) h k forth back = absurd (back y (inl refl))
+  ascending-same (x ∷ xs) [] h k forth back = absurd (forth x (inl refl))
+  ascending-same (x ∷ xs) (y ∷ ys) h k forth back = ap (λ l. x ∷ l) (ascending-same xs ys h.1 k.1 forth_rest back_rest) ∙ ap (λ z. z ∷ ys) same
     where
       same : x ≡ y
-      same = elim (to x (inl refl)) [
+      same = elim (forth x (inl refl)) [
         | inl e ↦ e
         | inr a ↦ elim (back y (inl refl)) [ inl e ↦ sym e | inr b ↦ absurd (not_both x y (after_among cmp x xs y h.0 b) (after_among cmp y ys x k.0 a)) ]
       ]
 
-      to_rest : (z : X) → Among z xs → Among z ys
-      to_rest z a = elim (to z (inr a)) [
+      forth_rest : (z : X) → Among z xs → Among z ys
+      forth_rest z a = elim (forth z (inr a)) [
         | inl e ↦ (let self = sym (ap (cmp x) (e ∙ sym same)) ∙ after_among cmp x xs z h.0 a in absurd (not_both x x self self))
         | inr b ↦ b
       ]
@@ -54,15 +54,15 @@ module _ {X : Type 0} (cmp : X → X → Ordering) (o : IsTotalOrder cmp) where
         | inr b ↦ b
       ]
 
--- what f gives at ascending keys, each under its own
-module _ {K R : Type 0} (cmp : K → K → Ordering) (order : R → R → Ordering) (key : R → K) (keyed : (x y : R) → order x y ≡ cmp (key x) (key y)) (f : K → Option R) (own : (k : K) (r : R) → f k ≡ Some r → key r ≡ k) where
+-- what f gives at ascending keys, each under its key
+module _ {K R : Type 0} (cmp : K → K → Ordering) (order : R → R → Ordering) (key : R → K) (keyed : (x y : R) → order x y ≡ cmp (key x) (key y)) (f : K → Option R) (has_key : (k : K) (r : R) → f k ≡ Some r → key r ≡ k) where
   after-picked : (k : K) (r : R) → key r ≡ k → (ks : List K) → AllByRecursion (λ y. cmp k y ≡ Less) ks → AllAfter order r (filter_map f ks)
   after-picked k r e [] h = tt
   after-picked k r e (y ∷ ks) h = by (f y) refl (after-picked k r e ks h.1)
     where
       by : (o : Option R) → f y ≡ o → AllAfter order r (filter_map f ks) → AllAfter order r (cons_option o (filter_map f ks))
       by None g more = more
-      by (Some z) g more = (keyed r z ∙ ap (λ a. cmp a (key z)) e ∙ ap (cmp k) (own y z g) ∙ h.0, more)
+      by (Some z) g more = (keyed r z ∙ ap (λ a. cmp a (key z)) e ∙ ap (cmp k) (has_key y z g) ∙ h.0, more)
 
   pub ascending-picked : (ks : List K) → IsStrictlySortedBy cmp ks → IsAscending order (filter_map f ks)
   unfolding IsStrictlySortedBy
@@ -71,7 +71,7 @@ module _ {K R : Type 0} (cmp : K → K → Ordering) (order : R → R → Orderi
     where
       by : (o : Option R) → f y ≡ o → IsAscending order (filter_map f ks) → IsAscending order (cons_option o (filter_map f ks))
       by None g more = more
-      by (Some z) g more = (after-picked y z (own y z g) ks h.0, more)
+      by (Some z) g more = (after-picked y z (has_key y z g) ks h.0, more)
 
   pub picked-among : (ks : List K) (r : R) → Among r (filter_map f ks) → (k : K) × (f k ≡ Some r)
   picked-among [] r a = absurd a
@@ -93,13 +93,13 @@ module _ {K R : Type 0} (cmp : K → K → Ordering) (order : R → R → Orderi
 
   pub picked : IsTotalOrder order → (ks : List K) (rs : List R) → IsStrictlySortedBy cmp ks → IsAscending order rs → ((k : K) (r : R) → f k ≡ Some r → Among r rs)
       → ((r : R) → Among r rs → Among (key r) ks × (f (key r) ≡ Some r)) → filter_map f ks ≡ rs
-  picked total ks rs sorted ascending to back = ascending-same order total (filter_map f ks) rs (ascending-picked ks sorted) ascending
-      (λ r a. let k = picked-among ks r a in to k.0 r k.1)
+  picked total ks rs sorted ascending forth back = ascending-same order total (filter_map f ks) rs (ascending-picked ks sorted) ascending
+      (λ r a. let k = picked-among ks r a in forth k.0 r k.1)
       (λ r a. let there = back r a in among-picked ks (key r) r there.0 there.1)
 
--- behind nothing
-pub behind_none : {X : Type 0} (start xs ys : List X) → start ≡ [] → xs ≡ ys → start ++ xs ≡ ys
-behind_none start xs ys e f = ap (λ l. l ++ xs) e ∙ f
+-- after nothing
+pub after_none : {X : Type 0} (start xs ys : List X) → start ≡ [] → xs ≡ ys → start ++ xs ≡ ys
+after_none start xs ys e f = ap (λ l. l ++ xs) e ∙ f
 
 kept-some : {T : Type 0} (p : T → Bool) (o : Option T) (r : T) → kept p o ≡ Some r → (o ≡ Some r) × (p r ≡ true)
 kept-some p None r e = absurd (cc (e))
@@ -128,39 +128,39 @@ exact_pair p q e =
     ap (λ a. (a, p.1)) (eqb-true p.0 q.0 parts.0) ∙ ap (λ b. (q.0, b)) (eqb-true p.1 q.1 parts.1)
 
 module _ (s : Rows) where
-  pub picks-ringing : (noted : BTreeSet (ℕ × ℕ)) → IsAscending connection_order s.connections → Ringing s noted → IsStrictlySortedBy pair_cmp noted.keys
-      → filter_map (λ p. kept is_ringing (connection_of s p.0 p.1)) noted.keys ≡ filter is_ringing s.connections
-  picks-ringing noted ascending h sorted = picked pair_cmp connection_order (λ c. (c.call, c.device)) (λ x y. refl) (λ p. kept is_ringing (connection_of s p.0 p.1)) own connections_total noted.keys (filter is_ringing s.connections) sorted
-      (ascending-filter connection_order is_ringing s.connections ascending) to back
+  pub picks-ringing : (index : BTreeSet (ℕ × ℕ)) → IsAscending connection_order s.connections → Ringing s index → IsStrictlySortedBy pair_cmp index.keys
+      → filter_map (λ p. kept is_ringing (connection_of s p.0 p.1)) index.keys ≡ filter is_ringing s.connections
+  picks-ringing index ascending h sorted = picked pair_cmp connection_order (λ c. (c.call, c.device)) (λ x y. refl) (λ p. kept is_ringing (connection_of s p.0 p.1)) has_key connections_total index.keys (filter is_ringing s.connections) sorted
+      (ascending-filter connection_order is_ringing s.connections ascending) forth back
     where
-      own : (p : ℕ × ℕ) (r : ConnectionRecord) → kept is_ringing (connection_of s p.0 p.1) ≡ Some r → (r.call, r.device) ≡ p
-      own p r e = let k = found_key s p.0 p.1 r (kept-some is_ringing (connection_of s p.0 p.1) r e).0 in ap (λ a. (a, r.device)) k.0 ∙ ap (λ b. (p.0, b)) k.1
+      has_key : (p : ℕ × ℕ) (r : ConnectionRecord) → kept is_ringing (connection_of s p.0 p.1) ≡ Some r → (r.call, r.device) ≡ p
+      has_key p r e = let k = found_key s p.0 p.1 r (kept-some is_ringing (connection_of s p.0 p.1) r e).0 in ap (λ a. (a, r.device)) k.0 ∙ ap (λ b. (p.0, b)) k.1
 
-      to : (p : ℕ × ℕ) (r : ConnectionRecord) → kept is_ringing (connection_of s p.0 p.1) ≡ Some r → Among r (filter is_ringing s.connections)
-      to p r e = let there = kept-some is_ringing (connection_of s p.0 p.1) r e in among-filter is_ringing s.connections r (connection_among s p.0 p.1 r there.0) there.1
+      forth : (p : ℕ × ℕ) (r : ConnectionRecord) → kept is_ringing (connection_of s p.0 p.1) ≡ Some r → Among r (filter is_ringing s.connections)
+      forth p r e = let there = kept-some is_ringing (connection_of s p.0 p.1) r e in among-filter is_ringing s.connections r (connection_among s p.0 p.1 r there.0) there.1
 
-      back : (r : ConnectionRecord) → Among r (filter is_ringing s.connections) → Among (r.call, r.device) noted.keys × (kept is_ringing (connection_of s r.call r.device) ≡ Some r)
+      back : (r : ConnectionRecord) → Among r (filter is_ringing s.connections) → Among (r.call, r.device) index.keys × (kept is_ringing (connection_of s r.call r.device) ≡ Some r)
       back r a =
           let there = filter_among is_ringing s.connections r a in
           let found = connection_found s ascending r there.0 in
-          (contained pair_cmp exact_pair noted (r.call, r.device) (h (r.call, r.device) ∙ ap rings found ∙ there.1), ap (kept is_ringing) found ∙ kept-passes is_ringing r there.1)
+          (contained pair_cmp exact_pair index (r.call, r.device) (h (r.call, r.device) ∙ ap rings found ∙ there.1), ap (kept is_ringing) found ∙ kept-passes is_ringing r there.1)
 
-  pub picks-working : (noted : BTreeSet ℕ) → IsAscending agent_order s.agents → Working s noted → IsStrictlySortedBy nat_cmp noted.keys
-      → filter_map (λ n. kept is_working (agent_of s n)) noted.keys ≡ filter is_working s.agents
-  picks-working noted ascending h sorted = picked nat_cmp agent_order (λ a. a.agent) (λ x y. refl) (λ n. kept is_working (agent_of s n)) own agents_total noted.keys (filter is_working s.agents) sorted
-      (ascending-filter agent_order is_working s.agents ascending) to back
+  pub picks-working : (index : BTreeSet ℕ) → IsAscending agent_order s.agents → Working s index → IsStrictlySortedBy nat_cmp index.keys
+      → filter_map (λ n. kept is_working (agent_of s n)) index.keys ≡ filter is_working s.agents
+  picks-working index ascending h sorted = picked nat_cmp agent_order (λ a. a.agent) (λ x y. refl) (λ n. kept is_working (agent_of s n)) has_key agents_total index.keys (filter is_working s.agents) sorted
+      (ascending-filter agent_order is_working s.agents ascending) forth back
     where
-      own : (n : ℕ) (r : AgentRecord) → kept is_working (agent_of s n) ≡ Some r → r.agent ≡ n
-      own n r e = agent_key s n r (kept-some is_working (agent_of s n) r e).0
+      has_key : (n : ℕ) (r : AgentRecord) → kept is_working (agent_of s n) ≡ Some r → r.agent ≡ n
+      has_key n r e = agent_key s n r (kept-some is_working (agent_of s n) r e).0
 
-      to : (n : ℕ) (r : AgentRecord) → kept is_working (agent_of s n) ≡ Some r → Among r (filter is_working s.agents)
-      to n r e = let there = kept-some is_working (agent_of s n) r e in among-filter is_working s.agents r (agent_among s n r there.0) there.1
+      forth : (n : ℕ) (r : AgentRecord) → kept is_working (agent_of s n) ≡ Some r → Among r (filter is_working s.agents)
+      forth n r e = let there = kept-some is_working (agent_of s n) r e in among-filter is_working s.agents r (agent_among s n r there.0) there.1
 
-      back : (r : AgentRecord) → Among r (filter is_working s.agents) → Among r.agent noted.keys × (kept is_working (agent_of s r.agent) ≡ Some r)
+      back : (r : AgentRecord) → Among r (filter is_working s.agents) → Among r.agent index.keys × (kept is_working (agent_of s r.agent) ≡ Some r)
       back r a =
           let there = filter_among is_working s.agents r a in
           let found = agent_found s ascending r there.0 in
-          (contained nat_cmp exact_number noted r.agent (h r.agent ∙ ap works found ∙ there.1), ap (kept is_working) found ∙ kept-passes is_working r there.1)
+          (contained nat_cmp exact_number index r.agent (h r.agent ∙ ap works found ∙ there.1), ap (kept is_working) found ∙ kept-passes is_working r there.1)
 
 -- connections by their devices and calls
 abbrev by_line : ConnectionRecord → ConnectionRecord → Ordering
@@ -186,8 +186,8 @@ ascending_lines d [] h there = tt
 ascending_lines d (x ∷ xs) h there = (after_line d x (there x (inl refl)) xs h.0 (λ z a. there z (inr a)), ascending_lines d xs h.1 (λ z a. there z (inr a)))
 
 module _ (s : Rows) (d : ℕ) (ascending : IsAscending connection_order s.connections) where
-  at-own : (p : ℕ × ℕ) (r : ConnectionRecord) → line_at s d p ≡ Some r → (p.0 ≡ d) × (connection_of s p.1 d ≡ Some r)
-  at-own p r e = by (p.0 == d) refl e
+  line-found : (p : ℕ × ℕ) (r : ConnectionRecord) → line_at s d p ≡ Some r → (p.0 ≡ d) × (connection_of s p.1 d ≡ Some r)
+  line-found p r e = by (p.0 == d) refl e
     where
       by : (b : Bool) → (p.0 == d) ≡ b → cond b (connection_of s p.1 d) None ≡ Some r → (p.0 ≡ d) × (connection_of s p.1 d ≡ Some r)
       by true at h = (eqb-true p.0 d at, h)
@@ -197,18 +197,18 @@ module _ (s : Rows) (d : ℕ) (ascending : IsAscending connection_order s.connec
   pub picks-at : (keys : List (ℕ × ℕ)) → ((c : ℕ) → is_some (connection_of s c d) ≡ true → Among (d, c) keys) → IsStrictlySortedBy pair_cmp keys
       → filter_map (line_at s d) keys ≡ connections_at s d
   unfolding connections_at
-  picks-at keys listed sorted = picked pair_cmp by_line (λ c. (c.device, c.call)) (λ x y. refl) (line_at s d) own by_line_total keys (filter (is_at_device d) s.connections) sorted
+  picks-at keys listed sorted = picked pair_cmp by_line (λ c. (c.device, c.call)) (λ x y. refl) (line_at s d) has_key by_line_total keys (filter (is_at_device d) s.connections) sorted
       (ascending_lines d (filter (is_at_device d) s.connections) (ascending-filter connection_order (is_at_device d) s.connections ascending)
-      (λ z a. eqb-true z.device d (filter_among (is_at_device d) s.connections z a).1)) to back
+      (λ z a. eqb-true z.device d (filter_among (is_at_device d) s.connections z a).1)) forth back
     where
-      own : (p : ℕ × ℕ) (r : ConnectionRecord) → line_at s d p ≡ Some r → (r.device, r.call) ≡ p
-      own p r e =
-          let there = at-own p r e in
+      has_key : (p : ℕ × ℕ) (r : ConnectionRecord) → line_at s d p ≡ Some r → (r.device, r.call) ≡ p
+      has_key p r e =
+          let there = line-found p r e in
           let k = found_key s p.1 d r there.1 in ap (λ a. (a, r.call)) (k.1 ∙ sym there.0) ∙ ap (λ b. (p.0, b)) k.0
 
-      to : (p : ℕ × ℕ) (r : ConnectionRecord) → line_at s d p ≡ Some r → Among r (filter (is_at_device d) s.connections)
-      to p r e =
-          let there = at-own p r e in
+      forth : (p : ℕ × ℕ) (r : ConnectionRecord) → line_at s d p ≡ Some r → Among r (filter (is_at_device d) s.connections)
+      forth p r e =
+          let there = line-found p r e in
           among-filter (is_at_device d) s.connections r (connection_among s p.1 d r there.1) (eq-eqb r.device d (found_key s p.1 d r there.1).1)
 
       back : (r : ConnectionRecord) → Among r (filter (is_at_device d) s.connections) → Among (r.device, r.call) keys × (line_at s d (r.device, r.call) ≡ Some r)

@@ -1,4 +1,4 @@
--- What holds at both ends of a call.
+-- Properties at both ends of a call.
 use Rattle.std.specs.Prelude.{OnOk, OnErr}
 use Rattle.std.specs.declared.result.Result.{Result}
 use Rattle.std.specs.declared.result.Result.TheVariants.{Ok, Err}

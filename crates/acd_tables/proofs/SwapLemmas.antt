@@ -1,4 +1,4 @@
--- What a change takes into the exact sets, and out of them.
+-- A change of the exact sets: what it adds, and what it removes.
 use Rattle.std.proofs.Common.{◌≡◌, ℕ, inl, inr, Bool, true, false, cond, ◌&&◌, ◌||◌, not, List, [], ◌∷◌, Option, Some, None, is_some, refl, ap, sym, ◌∙◌, subst}
 use Rattle.std.specs.Prelude.{◌==◌, unwrap_or, filter}
 use Rattle.std.specs.List.{list_any}
@@ -43,11 +43,11 @@ turned false true true = refl
 turned false true false = refl
 turned false false c = refl
 
-pub at_own_key : (s : Rows) (call device : ℕ) (o : Option ConnectionRecord) → connection_of s call device ≡ o → IsAt call device o
-at_own_key s call device None e = tt
-at_own_key s call device (Some c) e = found_key s call device c e
+pub found_at_key : (s : Rows) (call device : ℕ) (o : Option ConnectionRecord) → connection_of s call device ≡ o → IsAt call device o
+found_at_key s call device None e = tt
+found_at_key s call device (Some c) e = found_key s call device c e
 
--- one connection is replaced, or comes, or goes
+-- one connection is replaced, or added, or removed
 pub record Replaces (s t : Rows) (call device : ℕ) (new : Option ConnectionRecord) : Type 0 where
   pub found : (k d : ℕ) → connection_of t k d ≡ cond (call == k && device == d) new (connection_of s k d)
   pub agents : (n : ℕ) → agent_of t n ≡ agent_of s n
@@ -78,18 +78,18 @@ module _ (s t : Rows) (call device : ℕ) (new : Option ConnectionRecord) (ascen
   -- the station is busy by the new connection or by another one
   pub busy-here : (is_there_and is_busying new || is_in_use s device (Some call) Busying) ≡ is_busy_at t device
   unfolding is_busy_at
-  busy-here = both_ways _ _ to from
+  busy-here = both_ways _ _ forth back
     where
-      to : (is_there_and is_busying new || is_in_use s device (Some call) Busying) ≡ true → list_any (λ (c : ConnectionRecord). c.device == device && is_busying c) t.connections ≡ true
-      to e = elim (or_cases (is_there_and is_busying new) (is_in_use s device (Some call) Busying) e) [
+      forth : (is_there_and is_busying new || is_in_use s device (Some call) Busying) ≡ true → list_any (λ (c : ConnectionRecord). c.device == device && is_busying c) t.connections ≡ true
+      forth e = elim (or_cases (is_there_and is_busying new) (is_in_use s device (Some call) Busying) e) [
         | inl h ↦ (let c = used_some is_busying new h in there-any t is_busying call device c.0 (found_here ∙ c.1) c.2)
         | inr h ↦ (let c = any-there s (λ z. not (call == z.call) && is_busying z) device ascending h in
             let parts = and_parts (not (call == c.0.call)) (is_busying c.0) c.2 in
             there-any t is_busying c.0.call device c.0 (found_besides c.0.call device (not-true (call == c.0.call) parts.0) ∙ c.1) parts.1)
       ]
 
-      from : list_any (λ (c : ConnectionRecord). c.device == device && is_busying c) t.connections ≡ true → (is_there_and is_busying new || is_in_use s device (Some call) Busying) ≡ true
-      from e = let c = any-there t is_busying device r.ascending e in by c.0 c.1 c.2 (call == c.0.call) refl
+      back : list_any (λ (c : ConnectionRecord). c.device == device && is_busying c) t.connections ≡ true → (is_there_and is_busying new || is_in_use s device (Some call) Busying) ≡ true
+      back e = let c = any-there t is_busying device r.ascending e in by c.0 c.1 c.2 (call == c.0.call) refl
         where
           by : (c : ConnectionRecord) → connection_of t c.call device ≡ Some c → is_busying c ≡ true → (b : Bool) → (call == c.call) ≡ b → (is_there_and is_busying new || is_in_use s device (Some call) Busying) ≡ true
           by c e u true h =
@@ -128,7 +128,7 @@ module _ (s t : Rows) (call device : ℕ) (new : Option ConnectionRecord) (ascen
   busy-still =
       sym (busy-here s t call device new ascending at r)
       ∙ ap (λ b. b || is_in_use s device (Some call) Busying) (sym (alike (is_there_and is_busying (connection_of s call device)) (is_there_and is_busying new) same))
-      ∙ busy-here s s call device (connection_of s call device) ascending (at_own_key s call device (connection_of s call device) refl) (Replaces-self s call device ascending)
+      ∙ busy-here s s call device (connection_of s call device) ascending (found_at_key s call device (connection_of s call device) refl) (Replaces-self s call device ascending)
 
   free-still : (o : Option ℕ) → is_free t o ≡ is_free s o
   free-still None = refl
@@ -180,7 +180,7 @@ waiting-swapped s t call device new at r leaving out g p =
     ∙ ap (λ b. not b && (is_entry pair_cmp (queue_entry new) g p || waits_at p.0 (connection_of s p.1 g))) (sym (out g p))
   where
     old : is_entry pair_cmp (queue_entry (connection_of s call device)) g p ≡ (waits_at p.0 (connection_of s call device) && (call == p.1 && device == g))
-    old = entry_waits call device (connection_of s call device) (at_own_key s call device (connection_of s call device) refl) g p
+    old = entry_waits call device (connection_of s call device) (found_at_key s call device (connection_of s call device) refl) g p
 
     table : (k : Bool) → (call == p.1 && device == g) ≡ k → (v : Bool) → waits_at p.0 (connection_of s call device) ≡ v → (w : Bool) → waits_at p.0 new ≡ w → (x y : Bool) → x ≡ (not ((v && k) && not (w && k)) && ((w && k) || y))
         → x ≡ (not (is_entry pair_cmp (queue_entry (connection_of s call device)) g p && not (is_entry pair_cmp (queue_entry new) g p)) && (is_entry pair_cmp (queue_entry new) g p || y))
@@ -332,10 +332,10 @@ module _ (s : Rows) (item : AgentRecord) (after leaving : Option (List ℕ × (�
       by true = entry_able item g p ∙ all (item.agent == p.1) (item.stamp == p.0) (is_one_of item.groups g) (is_ready item.state)
       by false = none (item.agent == p.1) (item.stamp == p.0) (is_one_of item.groups g) (is_ready item.state)
 
-  -- who was able had an entry
-  had : (g : ℕ) (p : ℕ × ℕ) → (o : Option AgentRecord) → agent_of s p.1 ≡ o → is_able_since s g p.0 o ≡ true → is_entry pair_cmp (ready_entry o) g p ≡ true
-  had g p None e h = h
-  had g p (Some a) e h =
+  -- who was able had an entry before
+  entry_of_able : (g : ℕ) (p : ℕ × ℕ) → (o : Option AgentRecord) → agent_of s p.1 ≡ o → is_able_since s g p.0 o ≡ true → is_entry pair_cmp (ready_entry o) g p ≡ true
+  entry_of_able g p None e h = h
+  entry_of_able g p (Some a) e h =
       let one = and_parts (a.stamp == p.0) (is_one_of a.groups g && (is_ready a.state && is_free s a.station)) h in
       let two = and_parts (is_one_of a.groups g) (is_ready a.state && is_free s a.station) one.1 in
       let three = and_parts (is_ready a.state) (is_free s a.station) two.1 in
@@ -370,7 +370,7 @@ module _ (s : Rows) (item : AgentRecord) (after leaving : Option (List ℕ × (�
           let same : agent_of s item.agent ≡ agent_of s p.1 = ap (agent_of s) (eqb-true item.agent p.1 h) in
           let enter : is_entry pair_cmp after g p ≡ is_able_since s g p.0 (Some item) = enters g p ∙ ap (λ b. b && is_able_since s g p.0 (Some item)) h in
           sym enter ∙ put_here (is_entry pair_cmp after g p) (is_able_since s g p.0 (agent_of s p.1)) (is_entry pair_cmp (ready_entry (agent_of s item.agent)) g p)
-          (λ v. ap (λ o. is_entry pair_cmp (ready_entry o) g p) same ∙ had g p (agent_of s p.1) refl v)
+          (λ v. ap (λ o. is_entry pair_cmp (ready_entry o) g p) same ∙ entry_of_able g p (agent_of s p.1) refl v)
       by false h =
           put_there (is_able_since s g p.0 (agent_of s p.1)) (is_entry pair_cmp after g p) (is_entry pair_cmp (ready_entry (agent_of s item.agent)) g p)
           (enters g p ∙ ap (λ b. b && is_able_since s g p.0 (Some item)) h) (other_entry g p h (agent_of s item.agent) refl)
@@ -445,7 +445,7 @@ agent-swap s item swap before entry free a b o e f h out = record {
       (λ g p. out g p ∙ ap (λ u. is_entry pair_cmp u g p && not (is_entry pair_cmp swap.entering.ready g p)) o);
 }
 
--- what is left of the groups of an entry
+-- the rest of the groups of an entry
 any_filtered : (p : ℕ → Bool) (gs : List ℕ) (g : ℕ) → is_one_of (filter p gs) g ≡ (is_one_of gs g && p g)
 any_filtered p [] g = refl
 any_filtered p (x ∷ gs) g = by (p x) refl (x == g) refl (any_filtered p gs g)

@@ -11,7 +11,7 @@ use Rattle.std.proofs.lemmas.Cmp.{on_total}
 use Rattle.std.proofs.lemmas.Map.Lookups.{CmpEqualImpliesEq}
 use Rattle.acd_terms.specs.Lists.{find_by, put_by, remove_by, Among, IsAscending}
 use Rattle.acd_lemmas.proofs.Lists.{eq_is, is_eq_of, ascending-put, ascending-remove, count_all}
-use Rattle.acd_lemmas.proofs.Keyed.{Keyed, found_among, found_own, found_put, found_left, counted_new}
+use Rattle.acd_lemmas.proofs.Keyed.{Keyed, found_among, found_itself, found_put, found_left, counted_new}
 use Rattle.acd_tables.specs.KeyedMaps.{placed, IsKeyed}
 use Rattle.acd_tables.proofs.Picked.{ascending-same}
 
@@ -53,7 +53,7 @@ module _ {K R : Type 0} (cmp : K → K → Ordering) (eq : K → K → Bool) (ke
     key = key;
     total = on_total key total;
     test = λ k x. sym (same k (key x));
-    own = λ x. self (key x);
+    itself = λ x. self (key x);
     equal = λ k x y p q. subst (λ i. cmp i (key y) ≡ Equal) (is_key k (key x) p) (subst (λ i. cmp k i ≡ Equal) (is_key k (key y) q) (self_equal k));
     same = λ k x y e. ap (eq k) (sym (exact (key x) (key y) e));
   }
@@ -67,9 +67,9 @@ module _ {K R : Type 0} (cmp : K → K → Ordering) (eq : K → K → Bool) (ke
   not_twice : (k : K) (e : K × R) (es : List (K × R)) → AllByRecursion (λ y. eq e.0 y ≡ false) (keys_of es) → eq k e.0 ≡ true → lookup (eq k) es ≡ None
   not_twice k e es h p = subst (λ i. lookup (eq i) es ≡ None) (sym (is_key k e.0 p)) (not_later e.0 es h)
 
-  behind : (e : K × R) (es : List (K × R)) → IsKeyed eq key (e ∷ es) → IsKeyed eq key es
+  rest : (e : K × R) (es : List (K × R)) → IsKeyed eq key (e ∷ es) → IsKeyed eq key es
   unfolding IsDistinct
-  behind e es h = (λ k r f. by k r f (eq k e.0) refl, h.1.1)
+  rest e es h = (λ k r f. by k r f (eq k e.0) refl, h.1.1)
     where
       by : (k : K) (r : R) → lookup (eq k) es ≡ Some r → (b : Bool) → eq k e.0 ≡ b → key r ≡ k
       by k r f true p = let none = not_twice k e es h.1.0 p in absurd (cc (none, f))
@@ -77,7 +77,7 @@ module _ {K R : Type 0} (cmp : K → K → Ordering) (eq : K → K → Bool) (ke
 
   owned : (es : List (K × R)) → IsKeyed eq key es → AllByRecursion (λ e. key e.1 ≡ e.0) es
   owned [] h = tt
-  owned (e ∷ es) h = (h.0 e.0 e.1 (ap (λ b. cond b (Some e.1) (lookup (eq e.0) es)) (self e.0)), owned es (behind e es h))
+  owned (e ∷ es) h = (h.0 e.0 e.1 (ap (λ b. cond b (Some e.1) (lookup (eq e.0) es)) (self e.0)), owned es (rest e es h))
 
   -- ---- the records put at their keys
 
@@ -94,7 +94,7 @@ module _ {K R : Type 0} (cmp : K → K → Ordering) (eq : K → K → Bool) (ke
       by true p = ap (λ o. either o (Some e.1)) (not_twice k e es d.0 p)
       by false p = refl
 
-  -- what is found at a key is what the map has there
+  -- a look-up finds at a key what the map has there
   pub found-entry : (k : K) (es : List (K × R)) → IsKeyed eq key es → find_by (λ x. cmp k (key x)) (placed cmp key [] (values_of es)) ≡ lookup (eq k) es
   found-entry k es h = found k es [] (owned es h) h.1 ∙ either_none (lookup (eq k) es)
 
@@ -105,8 +105,8 @@ module _ {K R : Type 0} (cmp : K → K → Ordering) (eq : K → K → Bool) (ke
   -- ascending lists in which the same is found at each key are equal
   same_list : (xs ys : List R) → IsAscending order xs → IsAscending order ys → ((k : K) → find_by (λ x. cmp k (key x)) xs ≡ find_by (λ x. cmp k (key x)) ys) → xs ≡ ys
   same_list xs ys h i f = ascending-same (λ x y. cmp (key x) (key y)) (on_total key total) xs ys h i
-      (λ z a. found_among by_key ys (key z) z (sym (f (key z)) ∙ found_own by_key xs h z a))
-      (λ z a. found_among by_key xs (key z) z (f (key z) ∙ found_own by_key ys i z a))
+      (λ z a. found_among by_key ys (key z) z (sym (f (key z)) ∙ found_itself by_key xs h z a))
+      (λ z a. found_among by_key xs (key z) z (f (key z) ∙ found_itself by_key ys i z a))
 
   module _ (es new : List (K × R)) (h : IsKeyed eq key es) (d : IsDistinct eq (keys_of new)) where
     -- a record that is put
@@ -183,14 +183,14 @@ module _ {K R : Type 0} (cmp : K → K → Ordering) (eq : K → K → Bool) (ke
   value-found r (e ∷ es) h (inl is) =
       let at : key r ≡ e.0 = ap key is ∙ (owned (e ∷ es) h).0 in
       ap (λ b. cond b (Some e.1) (lookup (eq (key r)) es)) (subst (λ k. eq (key r) k ≡ true) at (self (key r))) ∙ ap Some (sym is)
-  value-found r (e ∷ es) h (inr a) = by (eq (key r) e.0) refl (value-found r es (behind e es h) a)
+  value-found r (e ∷ es) h (inr a) = by (eq (key r) e.0) refl (value-found r es (rest e es h) a)
     where
       by : (b : Bool) → eq (key r) e.0 ≡ b → lookup (eq (key r)) es ≡ Some r → lookup (eq (key r)) (e ∷ es) ≡ Some r
       by true p f = let none = not_twice (key r) e es h.1.0 p in absurd (cc (none, f))
       by false p f = ap (λ b. cond b (Some e.1) (lookup (eq (key r)) es)) p ∙ f
 
-  pub among-to : (r : R) (es : List (K × R)) → IsKeyed eq key es → Among r (placed cmp key [] (values_of es)) → Among r (values_of es)
-  among-to r es h a = found-value (key r) r es (sym (found-entry (key r) es h) ∙ found_own by_key (placed cmp key [] (values_of es)) (ascending-placed (values_of es) [] tt) r a)
+  pub among-forth : (r : R) (es : List (K × R)) → IsKeyed eq key es → Among r (placed cmp key [] (values_of es)) → Among r (values_of es)
+  among-forth r es h a = found-value (key r) r es (sym (found-entry (key r) es h) ∙ found_itself by_key (placed cmp key [] (values_of es)) (ascending-placed (values_of es) [] tt) r a)
 
   pub among-back : (r : R) (es : List (K × R)) → IsKeyed eq key es → Among r (values_of es) → Among r (placed cmp key [] (values_of es))
   among-back r es h a = found_among by_key (placed cmp key [] (values_of es)) (key r) r (found-entry (key r) es h ∙ value-found r es h a)

@@ -1,4 +1,4 @@
--- What the indexes say of the rows.
+-- The indexes of the rows.
 use Rattle.std.specs.Prelude.{◌≡◌, ℕ, Bool, true, false, not, ◌&&◌, ◌||◌, ◌==◌, Option, Some, None, is_some, length, unwrap_or}
 use Rattle.std.specs.List.{list_any}
 use Rattle.std.specs.declared.cmp.Ordering.{Ordering}
@@ -19,7 +19,7 @@ use Rattle.acd_terms.specs.declared.record.AgentRecord.{AgentRecord}
 use Rattle.acd_terms.specs.declared.record.ConnectionRecord.{ConnectionRecord}
 use Rattle.acd_model.specs.Rules.Plan.{group_order, agent_order, connection_order}
 use Rattle.acd_model.specs.Scans.{is_group, group_of, agent_of, connection_of, queued_in_all, has}
-use Rattle.acd_tables.specs.Sets.{holds, has_set, Notes}
+use Rattle.acd_tables.specs.Sets.{holds, has_set, HasExactly}
 use Rattle.acd_tables.specs.declared.indexes.Indexes.{Indexes}
 
 abbrev pub PairSets : Type 0
@@ -77,7 +77,7 @@ offer_cmp x y = ordering_then (nat_cmp y.0.0 x.0.0) (nat_cmp x.1 y.1)
 abbrev pub offer_key : GroupRecord → OfferKey
 offer_key g = (record { 0 = g.priority }, g.device)
 
--- a planned group with members in both is noted at its priority
+-- a planned group with members in both is indexed at its priority
 abbrev pub ListsOffers : Rows → PairSets → PairSets → BTreeSet OfferKey → Type 0
 ListsOffers s queues ready offering = (g : Device) (r : GroupRecord) (p q : ℕ × ℕ) → group_of s g ≡ Some r → lists queues g p ≡ true → lists ready g q ≡ true
     → contains offer_cmp offering (offer_key r) ≡ true
@@ -95,17 +95,17 @@ abbrev pub agent_seated : SeatMap → Device → Option Agent
 agent_seated seats d = get_by (λ e. d == e) seats
 
 -- the station of the agent that may be there
-abbrev pub own_station : Option AgentRecord → Option Device
-own_station None = None
-own_station (Some a) = a.station
+abbrev pub agent_station : Option AgentRecord → Option Device
+agent_station None = None
+agent_station (Some a) = a.station
 
--- an agent stands at a station exactly where it is its own
+-- an agent is at a station exactly where that is the agent's station
 abbrev pub Seats : Rows → SeatMap → Type 0
-Seats s seats = (n : Agent) (d : Device) → has (agent_seated seats d) n ≡ has (own_station (agent_of s n)) d
+Seats s seats = (n : Agent) (d : Device) → has (agent_seated seats d) n ≡ has (agent_station (agent_of s n)) d
 
 -- the calls at a device are exactly those of its connections
 abbrev pub Lines : Rows → BTreeSet (Device × CallId) → Type 0
-Lines s = Notes pair_cmp (λ p. is_some (connection_of s p.1 p.0))
+Lines s = HasExactly pair_cmp (λ p. is_some (connection_of s p.1 p.0))
 
 -- offered by distribution, and not answered
 abbrev pub is_ringing : ConnectionRecord → Bool
@@ -124,13 +124,13 @@ abbrev pub works : Option AgentRecord → Bool
 works None = false
 works (Some a) = is_working a
 
--- exactly the offers that ring are noted
+-- exactly the offers that ring are indexed
 abbrev pub Ringing : Rows → BTreeSet (CallId × Device) → Type 0
-Ringing s = Notes pair_cmp (λ p. rings (connection_of s p.0 p.1))
+Ringing s = HasExactly pair_cmp (λ p. rings (connection_of s p.0 p.1))
 
--- exactly the agents in after-call work are noted
+-- exactly the agents in after-call work are indexed
 abbrev pub Working : Rows → BTreeSet Agent → Type 0
-Working s = Notes nat_cmp (λ n. works (agent_of s n))
+Working s = HasExactly nat_cmp (λ n. works (agent_of s n))
 
 -- the indexes are those of the rows
 pub record IsIndexed (s : Rows) (x : Indexes) : Type 0 where
@@ -147,7 +147,7 @@ pub record IsIndexed (s : Rows) (x : Indexes) : Type 0 where
   -- who is at a station, and the calls at a device
   pub seats : Seats s x.seats
   pub lines : Lines s x.lines
-  -- what tick may end
+  -- the records that tick may end
   pub ringing : Ringing s x.ringing
   pub working : Working s x.working
   pub queued : x.queued ≡ length (queued_in_all s)

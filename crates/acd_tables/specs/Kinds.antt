@@ -1,4 +1,4 @@
--- What is planned at a device.
+-- The kind of a planned device.
 use Rattle.std.specs.Prelude.{Option, Some, None, if◌then◌else◌}
 use Rattle.acd_terms.specs.Numbers.{Device}
 use Rattle.acd_terms.specs.declared.rows.Rows.{Rows}

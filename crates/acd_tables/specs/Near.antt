@@ -9,9 +9,9 @@ use Rattle.acd_terms.specs.declared.record.ConnectionRecord.{ConnectionRecord}
 use Rattle.acd_model.specs.Rules.Plan.{connection_order}
 use Rattle.acd_model.specs.Scans.{at_connection}
 use Rattle.acd_tables.specs.Indexed.{pair_cmp}
-use Rattle.acd_tables.specs.Sets.{Notes}
+use Rattle.acd_tables.specs.Sets.{HasExactly}
 
--- behind the device at the call before, if there is one
+-- after the device at the call before, if there is one
 unfoldable pub start : CallId → Device → Bound (CallId × Device)
 start call device = if call == 0 then Unbounded else Excluded (call - 1, device)
 
@@ -26,4 +26,4 @@ of_key cs call p = if p.0 == call then find_by (at_connection call p.1) cs else 
 -- the keys are exactly those of the connections
 pub record HasKeys (cs : List ConnectionRecord) (keys : BTreeSet (CallId × Device)) : Type 0 where
   pub ascending : IsAscending connection_order cs
-  pub noted : Notes pair_cmp (λ p. is_some (find_by (at_connection p.0 p.1) cs)) keys
+  pub index : HasExactly pair_cmp (λ p. is_some (find_by (at_connection p.0 p.1) cs)) keys

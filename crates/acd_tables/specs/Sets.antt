@@ -27,7 +27,7 @@ module _ {K E : Type 0} (by : K → K → Ordering) (cmp : E → E → Ordering)
     pub sets : (q : K) → has_set new q ≡ has_set old q
     pub members : (q : K) (x : E) → holds new q x ≡ (if is_at_key k e q x then there else holds old q x)
 
-  -- the same members; sets that are empty may have gone or come
+  -- the same members; sets that are empty may have been removed or added
   abbrev pub SameMembers : BTreeMap K (BTreeSet E) → BTreeMap K (BTreeSet E) → Type 0
   SameMembers old new = (q : K) (x : E) → holds new q x ≡ holds old q x
 
@@ -46,13 +46,13 @@ IsSetOf {E} cmp members set = (e : E) → (contains cmp set e ≡ true) ↔ Amon
 
 module _ {K : Type 0} (cmp : K → K → Ordering) where
   -- the set has exactly the keys that pass
-  abbrev pub Notes : (K → Bool) → BTreeSet K → Type 0
-  Notes p noted = (k : K) → contains cmp noted k ≡ p k
+  abbrev pub HasExactly : (K → Bool) → BTreeSet K → Type 0
+  HasExactly p index = (k : K) → contains cmp index k ≡ p k
 
   -- the key came, if it belongs there
-  abbrev pub Noted : BTreeSet K → BTreeSet K → K → Bool → Type 0
-  Noted old new key belongs = (k : K) → contains cmp new k ≡ ((belongs && is_eq (cmp key k)) || contains cmp old k)
+  abbrev pub Inserted : BTreeSet K → BTreeSet K → K → Bool → Type 0
+  Inserted old new key belongs = (k : K) → contains cmp new k ≡ ((belongs && is_eq (cmp key k)) || contains cmp old k)
 
-  -- the key went, if it is gone
-  abbrev pub Forgotten : BTreeSet K → BTreeSet K → K → Bool → Type 0
-  Forgotten old new key gone = (k : K) → contains cmp new k ≡ (not (gone && is_eq (cmp key k)) && contains cmp old k)
+  -- the key was removed, if it is no longer needed
+  abbrev pub Removed : BTreeSet K → BTreeSet K → K → Bool → Type 0
+  Removed old new key gone = (k : K) → contains cmp new k ≡ (not (gone && is_eq (cmp key k)) && contains cmp old k)

@@ -1,4 +1,4 @@
--- What a change takes into the exact sets, and out of them.
+-- A change of the exact sets: what it adds, and what it removes.
 use Rattle.std.specs.Prelude.{◌≡◌, ⊤, ℕ, Bool, false, not, ◌&&◌, ◌||◌, ◌==◌, true, List, [], ◌∷◌, filter, Option, Some, None, if◌then◌else◌}
 use Rattle.std.specs.declared.cmp.Ordering.{Ordering}
 use Rattle.std.specs.Ordering.{nat_cmp, is_eq}
@@ -41,7 +41,7 @@ module _ {E : Type 0} (cmp : E → E → Ordering) where
     pub sets : (g : Device) → has_set nat_cmp cmp new g ≡ has_set nat_cmp cmp old g
     pub members : (g : Device) (e : E) → holds nat_cmp cmp new g e ≡ (not (is_entry entry g e) && holds nat_cmp cmp old g e)
 
-  -- the entry taken out gives the sets of before
+  -- removing the entry gives the sets of before
   abbrev pub Undoes : BTreeMap Device (BTreeSet E) → BTreeMap Device (BTreeSet E) → Option (List Device × E) → Type 0
   Undoes old new entry = (g : Device) (e : E) → holds nat_cmp cmp old g e ≡ (not (is_entry entry g e) && holds nat_cmp cmp new g e)
 
@@ -75,27 +75,27 @@ pub record KeepsRest (old new : Indexes) : Type 0 where
 abbrev pub Offers : Rows → Indexes → Type 0
 Offers s x = ListsOffers s x.queues x.ready x.offering
 
--- the groups are noted, each at its priority
-abbrev pub NotesGroups : Rows → BTreeSet OfferKey → List Device → Type 0
-NotesGroups s offering gs = (g : Device) (r : GroupRecord) → is_one_of gs g ≡ true → group_of s g ≡ Some r → contains offer_cmp offering (offer_key r) ≡ true
+-- the groups are indexed, each at its priority
+abbrev pub ListsGroups : Rows → BTreeSet OfferKey → List Device → Type 0
+ListsGroups s offering gs = (g : Device) (r : GroupRecord) → is_one_of gs g ≡ true → group_of s g ≡ Some r → contains offer_cmp offering (offer_key r) ≡ true
 
--- no group came to those that are noted
-abbrev pub NotesNoMore : BTreeSet OfferKey → BTreeSet OfferKey → Type 0
-NotesNoMore old new = (k : OfferKey) → contains offer_cmp new k ≡ true → contains offer_cmp old k ≡ true
+-- no group was added to those that are indexed
+abbrev pub ListsNoMore : BTreeSet OfferKey → BTreeSet OfferKey → Type 0
+ListsNoMore old new = (k : OfferKey) → contains offer_cmp new k ≡ true → contains offer_cmp old k ≡ true
 
--- each of these groups that is noted has an offer
+-- each of these groups that is indexed has an offer
 abbrev pub GroupsJust : Rows → PairSets → PairSets → BTreeSet OfferKey → List Device → Type 0
 GroupsJust s queues ready offering gs = (g : Device) (r : GroupRecord) → is_one_of gs g ≡ true → group_of s g ≡ Some r → contains offer_cmp offering (offer_key r) ≡ true → HasOffer queues ready g
 
 -- the same of the groups of an entry
-abbrev pub NotesJust : {E : Type 0} → Rows → PairSets → PairSets → BTreeSet OfferKey → Option (List Device × E) → Type 0
-NotesJust s queues ready offering None = ⊤
-NotesJust s queues ready offering (Some k) = GroupsJust s queues ready offering k.0
+abbrev pub EntryJust : {E : Type 0} → Rows → PairSets → PairSets → BTreeSet OfferKey → Option (List Device × E) → Type 0
+EntryJust s queues ready offering None = ⊤
+EntryJust s queues ready offering (Some k) = GroupsJust s queues ready offering k.0
 
 -- and of both entries
 pub record IsPruned (s : Rows) (queues ready : PairSets) (offering : BTreeSet OfferKey) (entries : Entries) : Type 0 where
-  pub of_queue : NotesJust s queues ready offering entries.queue
-  pub of_ready : NotesJust s queues ready offering entries.ready
+  pub of_queue : EntryJust s queues ready offering entries.queue
+  pub of_ready : EntryJust s queues ready offering entries.ready
 
 -- the indexes with the entries
 pub record Entered (s : Rows) (old new : Indexes) (entries : Entries) : Type 0 where
@@ -104,7 +104,7 @@ pub record Entered (s : Rows) (old new : Indexes) (entries : Entries) : Type 0 w
   pub offers : Offers s new
   pub rest : KeepsRest old new
 
--- what is to be taken out gives the indexes of before
+-- removing the entries gives the indexes of before
 pub record Undone (old new : Indexes) (entries : Entries) : Type 0 where
   pub queues : Undoes pair_cmp old.queues new.queues entries.queue
   pub ready : Undoes pair_cmp old.ready new.ready entries.ready
@@ -128,7 +128,7 @@ pub record TakenOut (s : Rows) (old new : Indexes) (entries : Entries) : Type 0 
 abbrev pub differ : Bool → Bool → Bool
 differ a b = if a then not b else b
 
--- what may stand at a key
+-- the connection that may be at a key
 abbrev pub IsAt : CallId → Device → Option ConnectionRecord → Type 0
 IsAt call device None = Unit {0}
 IsAt call device (Some c) = (c.call ≡ call) × (c.device ≡ device)
@@ -138,7 +138,7 @@ abbrev pub with_or_without : Rows → CallId → Device → Option ConnectionRec
 with_or_without s call device None = without_connection s call device
 with_or_without s call device (Some c) = with_connection s c
 
--- what enters and what leaves makes the sets of t from those of s
+-- the entries added and removed make the sets of t from those of s
 pub record SwapsTo (s t : Rows) (swap : Swap) : Type 0 where
   pub waiting : (g : Device) (p : ℕ × ℕ) → waits_at p.0 (connection_of t p.1 g) ≡ (not (is_entry pair_cmp swap.leaving.queue g p) && (is_entry pair_cmp swap.entering.queue g p || waits_at p.0 (connection_of s p.1 g)))
   pub able : (g : Device) (p : ℕ × ℕ) → is_able_since t g p.0 (agent_of t p.1) ≡ (not (is_entry pair_cmp swap.leaving.ready g p) && (is_entry pair_cmp swap.entering.ready g p || is_able_since s g p.0 (agent_of s p.1)))
@@ -148,11 +148,11 @@ abbrev pub one_queued : Option ConnectionRecord → ℕ
 one_queued None = 0
 one_queued (Some c) = if is_queued c.state then 1 else 0
 
--- whoever stands at the agent's station is that agent
+-- whoever is at the agent's station is that agent
 abbrev pub IsFreeFor : SeatMap → AgentRecord → Type 0
 IsFreeFor seats item = (d : Device) (n : Agent) → has item.station d ≡ true → has (agent_seated seats d) n ≡ true → item.agent ≡ n
 
--- the agent stands at the station, if it is at one
+-- the agent is at the station, if it has one
 abbrev pub Sits : SeatMap → SeatMap → Option Device → Agent → Type 0
 Sits old new station agent = (d : Device) → agent_seated new d ≡ (if has station d then Some agent else agent_seated old d)
 
@@ -160,7 +160,7 @@ Sits old new station agent = (d : Device) → agent_seated new d ≡ (if has sta
 abbrev pub quits : Option Device → Option Device → Device → Bool
 quits one other d = has one d && not (has other d)
 
--- nobody stands at the first station, but where it is the second
+-- nobody is at the first station, but where it is the second
 abbrev pub GetsUp : SeatMap → SeatMap → Option Device → Option Device → Type 0
 GetsUp old new one other = (d : Device) → agent_seated new d ≡ (if quits one other d then None else agent_seated old d)
 

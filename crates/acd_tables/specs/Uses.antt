@@ -31,11 +31,11 @@ is_in_use s device but kind = list_any (λ c. c.device == device && (not (has bu
 unfoldable pub first_line : Device → Bound (Device × CallId)
 first_line device = Included (device, 0)
 
--- behind the calls of the device, where a number follows
+-- after the calls of the device, where a number follows
 unfoldable pub past_lines : Device → Bound (Device × CallId)
 past_lines device = if device == 2 ^ 64 - 1 then Unbounded else Excluded (device + 1, 0)
 
--- what may be there, if it passes
+-- an optional value, if it passes
 abbrev pub kept : {T : Type 0} → (T → Bool) → Option T → Option T
 kept p None = None
 kept p (Some x) = if p x then Some x else None

@@ -9,10 +9,10 @@ ghost use Rattle.acd_tables.specs.Swaps.{IsAt, with_or_without, one_queued, has_
 
 use crate::alone::Alone;
 use crate::indexes::{Indexes, OfferKey, may_offer, offer_key};
+use crate::indexing::{put_listed, put_seated, rings};
 use crate::lines::unlist;
-use crate::noting::{put_listed, put_seated, rings};
 use crate::records::Records;
-use crate::sets::{add_set, forget, note};
+use crate::sets::{add_set, insert_if, remove_if};
 use crate::swaps::{agent_swap, connection_swap};
 use acd_terms::{AgentRecord, ConnectionRecord, DeviceId, Few, GroupRecord, Priority};
 use std::alloc::{AllocError, Global};
@@ -38,7 +38,7 @@ pub(crate) fn put_group(
     add_set(alloc, &mut indexes.queues, item.device)?;
     add_set(alloc, &mut indexes.ready, item.device)?;
     let offers = may_offer(&indexes.queues, &indexes.ready, item.device);
-    note(&mut indexes.offering, offer_key(&item), offers)?;
+    insert_if(&mut indexes.offering, offer_key(&item), offers)?;
     records.put_group(item)?;
     forget_rank(&mut indexes.offering, &old, item.priority);
     Ok(())
@@ -60,7 +60,7 @@ fn forget_rank(offering: &mut BTreeSet<OfferKey>, old: &Option<GroupRecord>, pri
         → contains offer_cmp offering.new k ≡ contains offer_cmp offering.old k }
 {
     if let Some(old) = old {
-        forget(offering, offer_key(old), old.priority != priority);
+        remove_if(offering, offer_key(old), old.priority != priority);
     }
 }
 
@@ -181,7 +181,7 @@ pub(crate) fn remove_connection(
     let queued = queued_after(records, indexes, call, device, &old, &None);
     indexes.enter(records, &swap.entering)?;
     records.remove_connection(call, device);
-    forget(&mut indexes.ringing, (call, device), rings(&old));
+    remove_if(&mut indexes.ringing, (call, device), rings(&old));
     unlist(&mut indexes.lines, device, call, true);
     indexes.settle(records, &swap);
     indexes.queued = queued;

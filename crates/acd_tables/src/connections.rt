@@ -7,7 +7,7 @@ ghost use Rattle.acd_model.specs.Rules.Plan.{connection_order};
 ghost use Rattle.acd_model.specs.Scans.{at_connection};
 ghost use Rattle.acd_tables.specs.Near.{start, end, of_key};
 
-use crate::sets::{forget, note};
+use crate::sets::{insert_if, remove_if};
 use crate::table::Table;
 use acd_terms::{ConnectionRecord, DeviceId, Listed, ascends};
 use std::alloc::{AllocError, Global};
@@ -36,7 +36,7 @@ impl Model for Connections {
     ghost invariant = { λ t. HasKeys t.records t.keys };
 }
 
-// Behind the device at the call before.
+// After the device at the call before.
 #[tactic(auto, unfolding(crate::specs::Near::start))]
 fn start(call: u64, device: DeviceId) -> Bound<(u64, DeviceId)>
     ensures { result ≡ start call device }
@@ -70,7 +70,7 @@ impl Connections {
         }
     }
 
-    /// These connections. Such as don't stand in ascending call and device are refused as if there were no memory.
+    /// These connections. Such as aren't in ascending call and device are refused as if there were no memory.
     pub fn from_slice(alloc: Global, connections: &[ConnectionRecord]) -> Result<Self, AllocError>
         ensures { IfOk result (λ t. t ≡ connections.now) }
     {
@@ -106,11 +106,11 @@ impl Connections {
         let (call, device) = (item.call, item.device);
         let old = self.find(call, device);
         let new = old.is_none();
-        note(&mut self.keys, (call, device), new)?;
+        insert_if(&mut self.keys, (call, device), new)?;
         match self.records.put(item) {
             Ok(()) => Ok(()),
             Err(error) => {
-                forget(&mut self.keys, (call, device), new);
+                remove_if(&mut self.keys, (call, device), new);
                 Err(error)
             }
         }
@@ -121,7 +121,7 @@ impl Connections {
         ensures { self.new ≡ remove_by (at_connection call device) self.old }
     {
         self.records.remove((call, device));
-        forget(&mut self.keys, (call, device), true);
+        remove_if(&mut self.keys, (call, device), true);
     }
 
     /// The connections in ascending call and device, copied.
@@ -149,7 +149,7 @@ impl Connections {
         self.keys.range((start(call, device), end(call, device)))
     }
 
-    // The first two connections of the call that stand at the keys.
+    // The first two connections of the call at the keys.
     fn first_two(
         &self,
         keys: Range<'_, (u64, DeviceId)>,

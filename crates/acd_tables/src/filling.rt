@@ -9,8 +9,8 @@ use acd_terms::{AgentRecord, ConnectionRecord, GroupRecord, Rows, ascends};
 use std::alloc::AllocError;
 
 impl Tables {
-    /// Puts the records of these rows that have indexes into tables that have none. Lists that don't stand
-    /// in strictly ascending key are refused as if there were no memory.
+    /// Puts the records of these rows that have indexes into tables that have none. Lists that aren't in strictly
+    /// ascending key are refused as if there were no memory.
     pub(crate) fn put_indexed(&mut self, rows: &Rows) -> Result<(), AllocError>
         requires groups { self.old.groups ≡ [] }
         requires agents { self.old.agents ≡ [] }

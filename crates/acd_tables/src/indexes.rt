@@ -9,11 +9,11 @@ ghost use Rattle.acd_model.specs.Scans.{group_of};
 ghost use Rattle.std.specs.BTreeSet.{contains};
 ghost use Rattle.acd_tables.specs.Sets.{holds, Stays};
 ghost use Rattle.acd_tables.specs.Indexed.{lists, OfferKey, offer_cmp, offer_key, HasOffer, ListsOffers};
-ghost use Rattle.acd_tables.specs.Swaps.{is_entry, Enters, Leaves, Undoes, LeavesBut, NotesGroups, NotesJust, NotesNoMore, IsPruned, left_of, is_of_group, Offers, Entered, Undone, Untouched, TakenOut, IsBlank};
+ghost use Rattle.acd_tables.specs.Swaps.{is_entry, Enters, Leaves, Undoes, LeavesBut, ListsGroups, EntryJust, ListsNoMore, IsPruned, left_of, is_of_group, Offers, Entered, Undone, Untouched, TakenOut, IsBlank};
 
 use crate::alone::Alone;
 use crate::records::Records;
-use crate::sets::{enter, enter_all, forget, leave, leave_all, note, push_if};
+use crate::sets::{enter, enter_all, insert_if, leave, leave_all, push_if, remove_if};
 use acd_terms::{AgentId, DeviceId, Few, GroupRecord, Priority};
 use std::alloc::{AllocError, Global};
 use std::cmp::Reverse;
@@ -22,7 +22,7 @@ use std::collections::{BTreeMap, BTreeSet, HashMap};
 /// A group's place among those that may have an offer: by descending priority, and then by ascending number.
 pub type OfferKey = (Reverse<Priority>, DeviceId);
 
-/// What is kept beside the records, so that look-ups needn't go through them.
+/// The sets kept beside the records, so that look-ups needn't scan them.
 #[derive(Drop)]
 pub struct Indexes {
     /// For each group place and call of who waits there.
@@ -50,7 +50,7 @@ pub struct Entries {
     pub(crate) ready: Option<(Few, (u64, AgentId))>,
 }
 
-/// What a change takes in and then takes out.
+/// The entries that a change adds and then removes.
 #[derive(Clone, Copy)]
 pub struct Swap {
     pub(crate) entering: Entries,
@@ -73,8 +73,8 @@ impl Indexes {
         }
     }
 
-    /// Takes in what enters, and gives what is to be taken out to undo it. Where it finds no memory or no
-    /// set, nothing is taken in.
+    /// Adds the entries, and gives those that are to be removed to undo it. Where it finds no memory or no set, nothing
+    /// is added.
     pub(crate) fn enter(
         &mut self,
         records: &Records,
@@ -85,9 +85,9 @@ impl Indexes {
         ensures undo { IfOk result (Undone self.old self.new) }
         ensures err { OnErr result (Untouched records.now self.old self.new) }
     {
-        note_alone(records, &mut self.offering, &entries.queue)?;
+        insert_alone(records, &mut self.offering, &entries.queue)?;
         let waiting = with_waiting(&self.queues, &entries.ready);
-        note_groups(records, &mut self.offering, &waiting)?;
+        insert_groups(records, &mut self.offering, &waiting)?;
         let queue = enter_alone(&mut self.queues, &entries.queue)?;
         match enter_entry(&mut self.ready, &entries.ready) {
             Ok(ready) => Ok(Entries { queue, ready }),
@@ -125,7 +125,7 @@ impl Indexes {
         ensures offers { ListsOffers records.now self.old.queues self.old.ready self.new.offering }
         ensures pruned { IsPruned records.now self.old.queues self.old.ready self.new.offering
             entries.now }
-        ensures fewer { NotesNoMore self.old.offering self.new.offering }
+        ensures fewer { ListsNoMore self.old.offering self.new.offering }
         ensures rest { self.new ≡ record self.old { offering = self.new.offering } }
     {
         prune_alone(
@@ -153,7 +153,7 @@ pub(crate) fn offer_key(group: &GroupRecord) -> OfferKey
 }
 
 // Puts the group among those that may have an offer.
-fn note_group(
+fn insert_group(
     records: &Records,
     offering: &mut BTreeSet<OfferKey>,
     group: DeviceId,
@@ -167,29 +167,29 @@ fn note_group(
     match records.group(group) {
         None => Ok(()),
         Some(record) => {
-            note(offering, offer_key(&record), true)?;
+            insert_if(offering, offer_key(&record), true)?;
             Ok(())
         }
     }
 }
 
-fn note_each(
+fn insert_each(
     records: &Records,
     offering: &mut BTreeSet<OfferKey>,
     groups: &[DeviceId],
 ) -> Result<(), AllocError>
     ensures kept { (k : OfferKey) → contains offer_cmp offering.old k ≡ true
         → contains offer_cmp offering.new k ≡ true }
-    ensures ok { OnOk result (NotesGroups records.now offering.new groups.now) }
+    ensures ok { OnOk result (ListsGroups records.now offering.new groups.now) }
 {
     for group in groups {
-        note_group(records, offering, *group)?;
+        insert_group(records, offering, *group)?;
     }
     Ok(())
 }
 
 // Puts the group of the entry among those that may have an offer.
-fn note_alone<E: Copy>(
+fn insert_alone<E: Copy>(
     records: &Records,
     offering: &mut BTreeSet<OfferKey>,
     entry: &Option<(Alone, E)>,
@@ -202,12 +202,12 @@ fn note_alone<E: Copy>(
 {
     match entry {
         None => Ok(()),
-        Some((alone, _)) => note_group(records, offering, alone.group()),
+        Some((alone, _)) => insert_group(records, offering, alone.group()),
     }
 }
 
 // Puts the groups of the entry among those that may have an offer.
-fn note_groups<E: Copy>(
+fn insert_groups<E: Copy>(
     records: &Records,
     offering: &mut BTreeSet<OfferKey>,
     entry: &Option<(Few, E)>,
@@ -220,7 +220,7 @@ fn note_groups<E: Copy>(
 {
     match entry {
         None => Ok(()),
-        Some((groups, _)) => note_each(records, offering, groups.as_slice()),
+        Some((groups, _)) => insert_each(records, offering, groups.as_slice()),
     }
 }
 
@@ -265,11 +265,11 @@ fn prune_group(
     ensures pruned { (r : GroupRecord) → group_of records.now group ≡ Some r
         → contains offer_cmp offering.new (offer_key r) ≡ true
         → HasOffer queues.now ready.now group }
-    ensures fewer { NotesNoMore offering.old offering.new }
+    ensures fewer { ListsNoMore offering.old offering.new }
 {
     if let Some(record) = records.group(group) {
         let gone = !may_offer(queues, ready, group);
-        forget(offering, offer_key(&record), gone);
+        remove_if(offering, offer_key(&record), gone);
     }
 }
 
@@ -283,8 +283,8 @@ fn prune_alone<E: Copy>(
 )
     requires { ListsOffers records.now queues.now ready.now offering.old }
     ensures offers { ListsOffers records.now queues.now ready.now offering.new }
-    ensures pruned { NotesJust records.now queues.now ready.now offering.new entry.now }
-    ensures fewer { NotesNoMore offering.old offering.new }
+    ensures pruned { EntryJust records.now queues.now ready.now offering.new entry.now }
+    ensures fewer { ListsNoMore offering.old offering.new }
 {
     if let Some((alone, _)) = entry {
         prune_group(records, queues, ready, offering, alone.group());
@@ -301,8 +301,8 @@ fn prune_entry<E: Copy>(
 )
     requires { ListsOffers records.now queues.now ready.now offering.old }
     ensures offers { ListsOffers records.now queues.now ready.now offering.new }
-    ensures pruned { NotesJust records.now queues.now ready.now offering.new entry.now }
-    ensures fewer { NotesNoMore offering.old offering.new }
+    ensures pruned { EntryJust records.now queues.now ready.now offering.new entry.now }
+    ensures fewer { ListsNoMore offering.old offering.new }
 {
     if let Some((groups, _)) = entry {
         for group in groups.as_slice() {
@@ -389,7 +389,7 @@ fn is_entry<E: Ord + Copy>(entry: &Option<(Alone, E)>, group: DeviceId, member: 
 {
     match entry {
         None => false,
-        Some((alone, own)) => alone.group() == group && own.cmp(&member).is_eq(),
+        Some((alone, same)) => alone.group() == group && same.cmp(&member).is_eq(),
     }
 }
 
@@ -412,14 +412,14 @@ pub(crate) fn leaving_alone<E: Ord + Copy>(
     }
 }
 
-/// The entry, if it is taken.
+/// The entry, if it is added.
 pub(crate) fn only<E: Copy>(entry: &Option<E>, taken: bool) -> Option<E>
     ensures { result ≡ (if taken then entry.now else None) }
 {
     if taken { *entry } else { None }
 }
 
-// Puts the entry into its set, and gives what is to be taken out to undo it.
+// Puts the entry into its set, and gives what is to be removed to undo it.
 fn enter_alone<E: Ord + Copy>(
     sets: &mut BTreeMap<DeviceId, BTreeSet<E>>,
     entry: &Option<(Alone, E)>,
@@ -449,7 +449,7 @@ fn leave_alone<E: Ord + Copy>(
     }
 }
 
-// Puts the entry into its sets, and gives what is to be taken out to undo it.
+// Puts the entry into its sets, and gives what is to be removed to undo it.
 fn enter_entry<E: Ord + Copy>(
     sets: &mut BTreeMap<DeviceId, BTreeSet<E>>,
     entry: &Option<(Few, E)>,

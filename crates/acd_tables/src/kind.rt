@@ -1,6 +1,6 @@
-//! What a device is.
+//! The kind of a device.
 
-/// What is planned at a device.
+/// The kind of a planned device.
 #[derive(Clone, Copy, Debug, PartialEq, Eq)]
 pub enum DeviceKind {
     Group,

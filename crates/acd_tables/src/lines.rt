@@ -4,11 +4,11 @@ ghost use Rattle.std.specs.Prelude.{◌≡◌, ℕ, true, OnOk, OnErr};
 ghost use Rattle.std.specs.BTreeSet.{contains};
 ghost use Rattle.std.specs.List.Sorted.{IsStrictlySortedBy};
 ghost use Rattle.acd_terms.specs.Lists.{Among};
-ghost use Rattle.acd_tables.specs.Sets.{Noted, Forgotten};
+ghost use Rattle.acd_tables.specs.Sets.{Inserted, Removed};
 ghost use Rattle.acd_tables.specs.Indexed.{pair_cmp, joins};
 ghost use Rattle.acd_tables.specs.Uses.{first_line, past_lines};
 
-use crate::sets::{forget, note};
+use crate::sets::{insert_if, remove_if};
 use acd_terms::DeviceId;
 use std::alloc::AllocError;
 use std::collections::BTreeSet;
@@ -23,7 +23,7 @@ fn first_line(device: DeviceId) -> Bound<(u64, u64)>
     Bound::Included((device.number(), 0))
 }
 
-// Behind the calls of the device.
+// After the calls of the device.
 #[tactic(auto, unfolding(crate::specs::Uses::past_lines))]
 fn past_lines(device: DeviceId) -> Bound<(u64, u64)>
     ensures { result ≡ past_lines device }
@@ -51,16 +51,16 @@ pub(crate) fn list(
     call: u64,
     new: bool,
 ) -> Result<(), AllocError>
-    ensures ok { OnOk result (Noted pair_cmp lines.old lines.new (device, call) new) }
+    ensures ok { OnOk result (Inserted pair_cmp lines.old lines.new (device, call) new) }
     ensures err { OnErr result
         ((k : ℕ × ℕ) → contains pair_cmp lines.new k ≡ contains pair_cmp lines.old k) }
 {
-    note(lines, (device.number(), call), new)
+    insert_if(lines, (device.number(), call), new)
 }
 
-/// Lists the call at the device no more, if it is gone.
+/// Lists the call at the device no more, if it isn't there any more.
 pub(crate) fn unlist(lines: &mut BTreeSet<(u64, u64)>, device: DeviceId, call: u64, gone: bool)
-    ensures { Forgotten pair_cmp lines.old lines.new (device, call) gone }
+    ensures { Removed pair_cmp lines.old lines.new (device, call) gone }
 {
-    forget(lines, (device.number(), call), gone);
+    remove_if(lines, (device.number(), call), gone);
 }

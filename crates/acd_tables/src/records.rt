@@ -77,8 +77,7 @@ impl Records {
         }
     }
 
-    /// The records of these rows. Lists that don't stand in strictly ascending key are refused as if
-    /// there were no memory.
+    /// The records of these rows. Lists that aren't in strictly ascending key are refused as if there were no memory.
     pub fn from_rows(alloc: Global, rows: &Rows) -> Result<Self, AllocError>
         ensures { IfOk result (λ t. t ≡ rows.now) }
     {

@@ -44,8 +44,7 @@ impl Tables {
         self.records.other_of(connection)
     }
 
-    // The connection at the device of a call that is listed there. A range that has no end goes on to
-    // other devices.
+    // The connection at the device of a call that is listed there. A range that has no end continues to other devices.
     fn line_at(&self, key: &(u64, u64), device: DeviceId) -> Option<ConnectionRecord>
         ensures { result ≡ line_at self.now device key.now }
     {
@@ -114,7 +113,7 @@ impl Tables {
         }
     }
 
-    /// The caller of a live call has the number. It goes through the live calls.
+    /// The caller of a live call has the number. It looks at the live calls.
     #[tactic(auto, unfolding(acd_model::specs::Scans::is_calling))]
     pub fn is_calling(&self, device: DeviceId) -> bool
         ensures { result ≡ is_calling self.now device }
@@ -208,7 +207,7 @@ impl Tables {
 
     /// The offer that is to be made next: of the groups that have a waiting call and an eligible agent, in the one of
     /// highest priority, and of equal priority of least number; the call of least place and the agent of least stamp.
-    /// It goes through the groups that may have an offer, as they are served.
+    /// It looks at the groups that may have an offer, in their order.
     pub fn first_offer(&self) -> Option<Offer>
         ensures { result ≡ offer_of self.now }
     {

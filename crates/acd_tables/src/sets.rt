@@ -3,7 +3,7 @@
 ghost use Rattle.std.specs.Prelude.{◌≡◌, ◌≤◌, ◌<◌, ◌++◌, [], ◌∷◌, length, true, false, not, Some, OnOk, OnErr, IfOk, if◌then◌else◌};
 ghost use Rattle.std.specs.Ordering.{nat_cmp};
 ghost use Rattle.acd_tables.specs.Indexed.{IsFirstIn};
-ghost use Rattle.acd_tables.specs.Sets.{holds, Sets, Stays, HasSet, Noted, Forgotten};
+ghost use Rattle.acd_tables.specs.Sets.{holds, Sets, Stays, HasSet, Inserted, Removed};
 ghost use Rattle.acd_tables.specs.Swaps.{Enters, Leaves, Undoes};
 ghost use Rattle.std.specs.BTreeSet.{contains};
 
@@ -56,7 +56,7 @@ pub(crate) fn leave_all<E: Ord + Copy>(
     }
 }
 
-/// Puts the group behind the others, if it is new.
+/// Puts the group after the others, if it is new.
 pub(crate) fn push_if(entered: &mut Few, group: DeviceId, new: bool)
     requires { length entered.old < 8 }
     ensures { entered.new ≡ (if new then entered.old ++ group ∷ [] else entered.old) }
@@ -66,8 +66,8 @@ pub(crate) fn push_if(entered: &mut Few, group: DeviceId, new: bool)
     }
 }
 
-/// Puts the member into the set of each of the groups, and tells those where it is new. Where one finds no memory
-/// or no set, it is put into none.
+/// Puts the member into the set of each of the groups, and answers those where it is new. Where one finds no memory or
+/// no set, it is put into none.
 pub(crate) fn enter_all<E: Ord + Copy>(
     sets: &mut BTreeMap<DeviceId, BTreeSet<E>>,
     groups: &[DeviceId],
@@ -125,25 +125,25 @@ pub(crate) fn first_in<E: Ord + Copy>(
 }
 
 /// Puts the key into the set, if it belongs there.
-pub(crate) fn note<K: Ord + Copy>(
-    noted: &mut BTreeSet<K>,
+pub(crate) fn insert_if<K: Ord + Copy>(
+    index: &mut BTreeSet<K>,
     key: K,
     belongs: bool,
 ) -> Result<(), AllocError>
-    ensures ok { OnOk result (Noted K.cmp noted.old noted.new key belongs) }
-    ensures err { OnErr result ((k : K) → contains K.cmp noted.new k ≡ contains K.cmp noted.old k) }
+    ensures ok { OnOk result (Inserted K.cmp index.old index.new key belongs) }
+    ensures err { OnErr result ((k : K) → contains K.cmp index.new k ≡ contains K.cmp index.old k) }
 {
     if belongs {
-        noted.insert(key)?;
+        index.insert(key)?;
     }
     Ok(())
 }
 
-/// Takes the key out of the set, if it is gone.
-pub(crate) fn forget<K: Ord + Copy>(noted: &mut BTreeSet<K>, key: K, gone: bool)
-    ensures { Forgotten K.cmp noted.old noted.new key gone }
+/// Removes the key from the set, if it is no longer needed.
+pub(crate) fn remove_if<K: Ord + Copy>(index: &mut BTreeSet<K>, key: K, gone: bool)
+    ensures { Removed K.cmp index.old index.new key gone }
 {
     if gone {
-        noted.remove(&key);
+        index.remove(&key);
     }
 }

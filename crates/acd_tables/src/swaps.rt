@@ -1,4 +1,4 @@
-//! What a change of one record takes into the exact sets, and out of them.
+//! The entries that a change of one record adds to the exact sets, and those that it removes.
 
 ghost use Rattle.std.specs.Prelude.{◌≡◌, ◌&&◌, ◌||◌, Some, None, is_some, if◌then◌else◌};
 ghost use Rattle.acd_model.specs.Scans.{agent_of, agent_at, connection_of};
@@ -80,8 +80,8 @@ fn is_busy_with(
     is_busying(new) || is_in_use(records, &indexes.lines, device, Some(call), Use::Busying)
 }
 
-// There is a ready agent at the device, whom the new connection of the call or another one keeps from
-// an offer. A group has no agent, so nobody goes through its calls.
+// There is a ready agent at the device, whom the new connection of the call or another one keeps from an offer. A group
+// has no agent, so nobody looks at its calls.
 fn is_kept(
     records: &Records,
     indexes: &Indexes,
@@ -124,7 +124,7 @@ fn swapped_seat(
     }
 }
 
-/// What changes where the connection of the call at the device is put, or removed.
+/// The change of the sets where the connection of the call at the device is put, or removed.
 pub(crate) fn connection_swap(
     records: &Records,
     indexes: &Indexes,
@@ -180,7 +180,7 @@ fn may_be_offered(
     entry.is_some() && is_free(records, indexes, station)
 }
 
-/// What changes where the agent is put.
+/// The change of the sets where the agent is put.
 pub(crate) fn agent_swap(
     records: &Records,
     indexes: &Indexes,

@@ -36,7 +36,7 @@ impl<R: Keyed> Table<R> {
         }
     }
 
-    /// These records. Records that don't stand in ascending key are refused as if there were no memory.
+    /// These records. Records that aren't in ascending key are refused as if there were no memory.
     pub fn from_slice(alloc: Global, records: &[R]) -> Result<Self, AllocError>
         ensures { IfOk result (λ t. t ≡ records.now) }
     {

@@ -62,8 +62,7 @@ impl Tables {
         }
     }
 
-    /// Tables of these rows. Lists that don't stand in strictly ascending key are refused as if there
-    /// were no memory.
+    /// Tables of these rows. Lists that aren't in strictly ascending key are refused as if there were no memory.
     pub fn from_rows(alloc: Global, rows: &Rows) -> Result<Self, AllocError>
         ensures { IfOk result (λ t. t ≡ rows.now) }
     {
@@ -145,7 +144,7 @@ impl Tables {
         self.is_group(device) || self.is_station(device)
     }
 
-    /// What is planned at the device, if anything is.
+    /// The kind of the planned device, if there is one.
     #[tactic(auto, unfolding(crate::specs::Kinds::kind_of))]
     pub fn kind_of(&self, device: DeviceId) -> Option<DeviceKind>
         ensures { result ≡ kind_of self.now device }

@@ -1,4 +1,4 @@
--- Digits behind a 1, and what passing each character of a text gives.
+-- Digits after a 1, and what passing each character of a text gives.
 use Rattle.std.proofs.Common.{◌≡◌, ℕ, zero, suc, ◌+◌, ◌-◌, ◌*◌, ◌^◌, ◌<◌, ◌≤◌, Bool, true, false, not, List, [], ◌∷◌, length, take, drop, get_or, Some, None, cond, ◌==◌, decimal, refl, sym, ap, ◌∙◌, arith, le-leb}
 use Rattle.std.proofs.lemmas.Fmt.{decimal_is_IsNumeral, decimal-digits_value}
 use Rattle.std.proofs.lemmas.Str.Parse.{digit_from_value, digits_value_short, IsNumeralModel, numerals_by_value, tells_digits}
@@ -54,8 +54,8 @@ pub all_digits : (ds : List ℕ) → AllDigits 10 ds → list_all is_ascii_digit
 all_digits [] h = refl
 all_digits (d ∷ ds) h = both_true (one_digit d h.0) (all_digits ds h.1)
 
-own : IsNumeralModel (AllDigits 10) (digits_value 10)
-own = numerals_by_value (AllDigits 10) tells_digits
+decimal_model : IsNumeralModel (AllDigits 10) (digits_value 10)
+decimal_model = numerals_by_value (AllDigits 10) tells_digits
 
 digit_range : (c : ℕ) → is_ascii_digit c ≡ true → IsInRange 48 57 c
 digit_range c h = (grind (arith, nat_tests), grind (arith, nat_tests))
@@ -83,7 +83,7 @@ digit_at (b ∷ bytes) (suc i) h d = digit_at bytes i (omega arith) (and_parts (
 
 pub bounded : (bytes : List ℕ) (i number : ℕ) → i < length bytes → length bytes ≤ 15 → list_all is_ascii_digit bytes ≡ true → number ≡ digits_value 10 (49 ∷ take i bytes) → number < 1000000000000000
 bounded bytes i number h short d e =
-    let v = digits_value_short own (49 ∷ take i bytes) 15 (with_one (take i bytes) (take_digits bytes i d)) (omega (arith, length-take-le i bytes (omega arith))) in
+    let v = digits_value_short decimal_model (49 ∷ take i bytes) 15 (with_one (take i bytes) (take_digits bytes i d)) (omega (arith, length-take-le i bytes (omega arith))) in
     omega (arith, e, v)
 
 pub next_value : (bytes : List ℕ) (i number d : ℕ) → i < length bytes → list_all is_ascii_digit bytes ≡ true → number ≡ digits_value 10 (49 ∷ take i bytes) → d ≡ get_or bytes i 0 - 48 → number * 10 + d ≡ digits_value 10 (49 ∷ take (i + 1) bytes)
@@ -95,12 +95,12 @@ next_value bytes i number d h ds e f =
     let more = ap (λ (l : List ℕ). digits_value 10 (49 ∷ l)) (take_more bytes i 0 h) in
     omega (arith, e, f, v, pushed, more)
 
--- what is read is the digit 1 and the digits read
+-- the value read is the digit 1 and the digits read
 pub formed : (longest : ℕ) (bytes : List ℕ) → longest ≤ 15 → 0 < length bytes → length bytes ≤ longest → list_all is_ascii_digit bytes ≡ true → IsNumberOf longest (number_of bytes)
 formed longest bytes few some short d =
     let all = with_one bytes d in
-    let small = digits_value_short own (49 ∷ bytes) 16 all (omega arith) in
-    let text = decimal-digits_value own (49 ∷ bytes) all (omega arith) (λ e. absurd (omega arith)) (omega arith) in
+    let small = digits_value_short decimal_model (49 ∷ bytes) 16 all (omega arith) in
+    let text = decimal-digits_value decimal_model (49 ∷ bytes) all (omega arith) (λ e. absurd (omega arith)) (omega arith) in
     record { range = omega arith; one = ap (λ (l : List ℕ). get_or l 0 0) text; some = rw text (omega arith); short = rw text (omega arith) }
 
 drop_ascii : (ds : List ℕ) → AllDigits 10 ds → list_all is_ascii (drop 1 ds) ≡ true

@@ -24,7 +24,7 @@ eqb_self n = grind (arith, nat_tests)
 pub eqb_swap : (m n : ℕ) → (m == n) ≡ (n == m)
 eqb_swap m n = grind (arith, nat_tests)
 
--- what stands after the first of numbers in order is in order
+-- the numbers after the first of numbers in order are in order
 pub tail_ascends : (y : ℕ) (ys : List ℕ) → ascends nat_cmp (y ∷ ys) ≡ true → ascends nat_cmp ys ≡ true
 tail_ascends y [] a = refl
 tail_ascends y (z ∷ zs) a = (and_parts (is_less (nat_cmp y z)) (ascends nat_cmp (z ∷ zs)) a).1

@@ -11,11 +11,11 @@ use Rattle.acd_terms.proofs.Numbers.{cmp_equal, tail_ascends}
 turned : (x y : ℕ) → nat_cmp x y ≡ Greater → nat_cmp y x ≡ Less
 turned x y e = grind (arith, nat_tests)
 
--- one that stands before the list and before the number stands before both together
-behind : (y x : ℕ) (xs : List ℕ) → ascends nat_cmp (y ∷ xs) ≡ true → nat_cmp y x ≡ Less → ascends nat_cmp (put_by (nat_cmp x) xs x) ≡ true
+-- one that is before the list and before the number is before both together
+after : (y x : ℕ) (xs : List ℕ) → ascends nat_cmp (y ∷ xs) ≡ true → nat_cmp y x ≡ Less → ascends nat_cmp (put_by (nat_cmp x) xs x) ≡ true
     → ascends nat_cmp (y ∷ put_by (nat_cmp x) xs x) ≡ true
-behind y x [] a l h = and_from (is_less (nat_cmp y x)) true (ap is_less l) refl
-behind y x (w ∷ ws) a l h = by (nat_cmp x w) h
+after y x [] a l h = and_from (is_less (nat_cmp y x)) true (ap is_less l) refl
+after y x (w ∷ ws) a l h = by (nat_cmp x w) h
   where
     by : (o : Ordering) → ascends nat_cmp (match_ordering o (x ∷ w ∷ ws) (x ∷ ws) (w ∷ put_by (nat_cmp x) ws x)) ≡ true
         → ascends nat_cmp (y ∷ match_ordering o (x ∷ w ∷ ws) (x ∷ ws) (w ∷ put_by (nat_cmp x) ws x)) ≡ true
@@ -32,4 +32,4 @@ put_ascends x (y ∷ ys) a = by (nat_cmp x y) refl (put_ascends x ys (tail_ascen
         → ascends nat_cmp (match_ordering o (x ∷ y ∷ ys) (x ∷ ys) (y ∷ put_by (nat_cmp x) ys x)) ≡ true
     by Less q h = and_from (is_less (nat_cmp x y)) (ascends nat_cmp (y ∷ ys)) (ap is_less q) a
     by Equal q h = subst (λ (z : ℕ). ascends nat_cmp (z ∷ ys) ≡ true) (sym (cmp_equal x y q)) a
-    by Greater q h = behind y x ys a (turned x y q) h
+    by Greater q h = after y x ys a (turned x y q) h

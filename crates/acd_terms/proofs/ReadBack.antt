@@ -1,4 +1,4 @@
--- What is written for an identifier or a name reads as it.
+-- The text written for an identifier or a name reads as it.
 use Rattle.std.proofs.Common.{◌≡◌, ℕ, ◌+◌, ◌<◌, ◌≤◌, Bool, true, false, not, List, [], ◌∷◌, length, drop, get_or, Some, None, Ok, ◌==◌, nat_lt, decimal, refl, sym, ap, ◌∙◌, arith, le-leb}
 use Rattle.std.proofs.lemmas.Fmt.{decimal_is_IsNumeral}
 use Rattle.std.proofs.lemmas.Bool.{and_parts}
@@ -28,22 +28,22 @@ read_digits : (longest : ℕ) (ds : List ℕ) → 0 < length ds → length ds �
 unfolding read_id
 read_digits longest ds some short all = rw (not_zero (length ds) some, not_longer longest (length ds) short, none_fails is_ascii_digit ds all) refl
 
-behind_one : (longest : ℕ) (ds : List ℕ) (n : ℕ) → get_or ds 0 0 ≡ 49 → 1 < length ds → length ds ≤ longest + 1 → AllDigits 10 ds → digits_value 10 ds ≡ n → read_id longest (drop 1 ds) ≡ Ok n
-behind_one longest [] n one some short all value = absurd (omega arith)
-behind_one longest (d ∷ ds) n one some short all value =
+after_one : (longest : ℕ) (ds : List ℕ) (n : ℕ) → get_or ds 0 0 ≡ 49 → 1 < length ds → length ds ≤ longest + 1 → AllDigits 10 ds → digits_value 10 ds ≡ n → read_id longest (drop 1 ds) ≡ Ok n
+after_one longest [] n one some short all value = absurd (omega arith)
+after_one longest (d ∷ ds) n one some short all value =
     read_digits longest ds (omega arith) (omega arith) (all_digits ds all.1)
     ∙ ap Ok (ap (λ (x : ℕ). digits_value 10 (x ∷ ds)) (sym one) ∙ value)
 
 -- the digits of an identifier read as it
 pub id_again : (longest n : ℕ) → IsNumberOf longest n → read_id longest (digits_of n) ≡ Ok n
-id_again longest n h = let numeral = decimal_is_IsNumeral n h.range in behind_one longest (decimal n) n h.one h.some h.short numeral.0.1 numeral.1
+id_again longest n h = let numeral = decimal_is_IsNumeral n h.range in after_one longest (decimal n) n h.one h.some h.short numeral.0.1 numeral.1
 
 -- a name reads as itself
 pub text_again : (passes : ℕ → Bool) (longest : ℕ) (text : List ℕ) → IsText passes longest text → read_text passes longest text ≡ Ok text
 unfolding read_text
 text_again passes longest text h = rw (not_zero (length text) h.some, not_longer longest (length text) h.short, none_fails passes text h.all) refl
 
--- a number in its range is taken
+-- a number in its range is accepted
 pub number_again : (least greatest n : ℕ) → IsBetween least greatest n → number_between least greatest n ≡ Some n
 unfolding number_between
 number_again least greatest n h = rw (le-leb least n h.0, le-leb n greatest h.1) refl

@@ -1,7 +1,7 @@
--- Results that are told apart.
+-- Results that differ.
 use Rattle.std.proofs.Common.{◌≡◌, Result, Ok, Err}
 
--- what was found is no error
+-- a value that was found is no error
 pub ok_err : {A E : Type 0} {found : A} {e : E} → ◌≡◌ {A = Result A E} (Ok found) (Err e) → ⊥
 ok_err h = cc
 

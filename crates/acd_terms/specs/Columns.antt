@@ -1,4 +1,4 @@
--- A report as columns: the one place that says which member stands in which column.
+-- A report as columns: the one place that says which member is in which column.
 use Rattle.std.specs.Prelude.{ℕ, Option, Some, None, option_map}
 use Rattle.acd_terms.specs.declared.event.Cause.TheVariants.{Busy as StationBusy}
 use Rattle.acd_terms.specs.declared.event.Report.{Report}

@@ -1,4 +1,4 @@
--- At most eight devices held in place: those of a list, and behind them the device of the one digit 0.
+-- At most eight devices held in place: those of a list, and after them the device of the one digit 0.
 use Rattle.std.specs.Prelude.{◌≡◌, ℕ, ◌≤◌, ◌-◌, ◌++◌, List, length, take, replicate}
 use Rattle.std.proofs.Common.{arith, length-take-le, sym}
 

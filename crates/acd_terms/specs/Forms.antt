@@ -19,7 +19,7 @@ agent_digits = 9
 abbrev pub number_of : List ℕ → ℕ
 number_of digits = digits_value 10 (49 ∷ digits)
 
--- the digits of a number: all behind its first
+-- the digits of a number: all after its first
 abbrev pub digits_of : ℕ → List ℕ
 digits_of number = drop 1 (decimal number)
 
@@ -87,6 +87,6 @@ IsRequester text = IsText is_requester_byte 32 text
 abbrev pub IsBetween : ℕ → ℕ → ℕ → Type 0
 IsBetween least greatest n = (least ≤ n) × (n ≤ greatest)
 
--- the number, where it lies from the least to the greatest
+-- the number, if it is from the least to the greatest
 unfoldable pub number_between : ℕ → ℕ → ℕ → Option ℕ
 number_between least greatest n = if nat_le least n && nat_le n greatest then Some n else None

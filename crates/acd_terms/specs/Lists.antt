@@ -23,7 +23,7 @@ abbrev pub is_less : Ordering → Bool
 is_less Less = true
 is_less _ = false
 
--- each stands before the next
+-- each is before the next
 abbrev pub ascends : {T : Type 0} → (T → T → Ordering) → List T → Bool
 ascends cmp [] = true
 ascends cmp (x ∷ []) = true
@@ -43,7 +43,7 @@ abbrev pub total : {T : Type 0} → (T → ℕ) → List T → ℕ
 total f [] = 0
 total f (x ∷ xs) = f x + total f xs
 
--- x stands in the list
+-- x is in the list
 abbrev pub Among : {T : Type 0} → T → List T → Type 0
 Among x [] = ⊥
 Among x (y ∷ ys) = (x ≡ y) ⊎ Among x ys
@@ -53,7 +53,7 @@ abbrev pub Every : {T : Type 0} → (T → Type 0) → List T → Type 0
 Every P [] = Unit {0}
 Every P (x ∷ xs) = P x × Every P xs
 
--- x stands before each of the list
+-- x is before each of the list
 abbrev pub AllAfter : {T : Type 0} → (T → T → Ordering) → T → List T → Type 0
 AllAfter cmp x [] = Unit {0}
 AllAfter cmp x (y ∷ ys) = (cmp x y ≡ Less) × AllAfter cmp x ys

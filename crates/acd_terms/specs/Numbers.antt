@@ -1,4 +1,4 @@
--- What a number stands for, so that a definition's type tells what it takes. Each of these is a number and nothing more.
+-- The meanings of numbers, so that a definition's type says what it takes. Each of these is a number and nothing more.
 use Rattle.std.specs.Prelude.{ℕ}
 
 -- a group, a station or an external caller

@@ -1,4 +1,4 @@
--- Work that goes on while all is well: the first error ends it.
+-- Work that continues while all is well: the first error ends it.
 use Rattle.std.specs.Prelude.{Result, Ok, Err}
 
 infixl 10 ◌>>=◌

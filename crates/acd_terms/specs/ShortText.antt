@@ -1,4 +1,4 @@
--- Text held in place: the bytes of a list, and zeros behind them.
+-- Text held in place: the bytes of a list, and zeros after them.
 use Rattle.std.specs.Prelude.{◌≡◌, ℕ, ◌≤◌, ◌-◌, ◌++◌, List, length, take, replicate, true}
 use Rattle.std.specs.List.{list_all}
 use Rattle.std.specs.Char.{is_ascii}

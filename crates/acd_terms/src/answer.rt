@@ -1,4 +1,4 @@
-//! What the switch answers.
+//! The answers of the switch.
 
 ghost use Rattle.std.specs.Prelude.{◌≡◌};
 ghost use Rattle.acd_terms.specs.Refusals.{refusal_code, refusal_name};

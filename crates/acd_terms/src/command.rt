@@ -1,4 +1,4 @@
-//! What is asked of the switch.
+//! The requests to the switch.
 
 use crate::groups::SomeGroups;
 use crate::id::{AgentId, DeviceId};
@@ -6,7 +6,7 @@ use crate::name::{Name, Requester};
 use crate::number::{Invoke, Priority, Seconds, Serial};
 use crate::state::Pending;
 
-/// What Set Agent State asks for.
+/// The states that Set Agent State asks for.
 #[derive(Clone, Copy, Debug, PartialEq, Eq)]
 pub enum Requested {
     LoggedOn {
@@ -16,9 +16,9 @@ pub enum Requested {
     State(Pending),
 }
 
-/// A service with its members. Answer Call, Hold Call, Retrieve Call, Clear Connection, Deflect Call,
-/// Single Step Transfer, Set Agent State, Make Call, Monitor Start and Monitor Stop are services of
-/// ECMA-269; the others are this desk's own.
+/// A service with its members. Answer Call, Hold Call, Retrieve Call, Clear Connection, Deflect Call, Single Step
+/// Transfer, Set Agent State, Make Call, Monitor Start and Monitor Stop are services of ECMA-269; the others are this
+/// desk's extensions.
 #[derive(Clone, Copy, Debug, PartialEq, Eq)]
 pub enum Command {
     AddGroup {
@@ -43,7 +43,7 @@ pub enum Command {
         device: DeviceId,
         called: DeviceId,
     },
-    /// The station that made the call goes off hook, and the call goes to the called device.
+    /// The station that made the call goes off hook, and the call is sent to the called device.
     PhoneOffHook {
         call: Serial,
         device: DeviceId,
@@ -90,7 +90,7 @@ pub enum Command {
         device: DeviceId,
         priority: Priority,
     },
-    /// A call that distribution offered at the station isn't taken, and goes back to its queue.
+    /// A call that distribution offered at the station isn't answered, and returns to its queue.
     RejectCall {
         call: Serial,
         device: DeviceId,

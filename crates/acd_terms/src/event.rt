@@ -1,4 +1,4 @@
-//! What the switch reports.
+//! The reports of the switch.
 
 ghost use Rattle.std.specs.Prelude.{◌≡◌};
 ghost use Rattle.acd_terms.specs.Columns.{columns_of, at_device, of_agent};
@@ -33,7 +33,7 @@ impl Cause {
     }
 }
 
-/// For how many seconds an answered call had waited, and in which group.
+/// For how many seconds an answered call waited, and in which group.
 #[derive(Clone, Copy, Debug, PartialEq, Eq)]
 pub struct Waited {
     pub group: DeviceId,
@@ -108,7 +108,7 @@ pub enum Report {
     AgentLoggedOn {
         agent: AgentId,
         station: DeviceId,
-        /// Of an agent who serves just one.
+        /// Of an agent who is in just one.
         group: Option<DeviceId>,
     },
     AgentLoggedOff {

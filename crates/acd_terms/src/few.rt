@@ -5,7 +5,7 @@ ghost use Rattle.std.specs.Prelude.{◌≡◌, ◌++◌, ◌<◌, ◌≤◌, [],
 use crate::id::{DeviceId, FILLER};
 use std::marker::Model;
 
-/// At most eight devices, in the order in which they were put. They take no memory beyond their own.
+/// At most eight devices, in the order in which they were put. They take no other memory.
 #[derive(Clone, Copy, Debug)]
 pub struct Few {
     cells: [DeviceId; 8],
@@ -62,7 +62,7 @@ impl Few {
         &self.cells[..self.len]
     }
 
-    /// Puts one more behind the others.
+    /// Puts one more after the others.
     pub fn push(&mut self, device: DeviceId)
         requires { length self.old < 8 }
         ensures { self.new ≡ self.old ++ device ∷ [] }

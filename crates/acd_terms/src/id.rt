@@ -22,8 +22,8 @@ pub enum IdFault {
     NotDigit(usize),
 }
 
-/// A device: 1 to 15 digits, held as the value of the digit 1 followed by them. A group, a station and
-/// an external caller are devices. Devices stand in the order of these numbers: `7`, `07`, `99`, `100`.
+/// A device: 1 to 15 digits, held as the value of the digit 1 followed by them. A group, a station and an external
+/// caller are devices. The order of devices is that of these numbers: `7`, `07`, `99`, `100`.
 #[derive(Clone, Copy, Debug, PartialEq, Eq, PartialOrd, Ord, Hash)]
 pub struct DeviceId {
     value: u64,
@@ -42,7 +42,7 @@ impl Model for DeviceId {
     ghost inverse = { λ n. record { value = n } };
 }
 
-/// What stands in cells that hold no device: the device of the one digit 0.
+/// The value of cells that hold no device: the device of the one digit 0.
 pub(crate) const FILLER: DeviceId = DeviceId { value: 10 };
 
 impl DeviceId {
@@ -79,7 +79,7 @@ impl DeviceId {
         ensures { result ≡ digits_of self }
     {
         let mut buffer = Buffer::new();
-        let digits = digits_behind_one(self.value, &mut buffer);
+        let digits = digits_after_one(self.value, &mut buffer);
         ShortText::holding(digits)
     }
 }
@@ -137,7 +137,7 @@ impl AgentId {
         ensures { result ≡ digits_of self }
     {
         let mut buffer = Buffer::new();
-        let digits = digits_behind_one(self.value, &mut buffer);
+        let digits = digits_after_one(self.value, &mut buffer);
         ShortText::holding(digits)
     }
 }
@@ -191,8 +191,8 @@ fn number_of(digits: &[u8]) -> u64
     number
 }
 
-// The digits behind the first digit of a number.
-fn digits_behind_one(number: u64, buffer: &mut Buffer) -> &[u8]
+// The digits after the first digit of a number.
+fn digits_after_one(number: u64, buffer: &mut Buffer) -> &[u8]
     requires { IsNumberOf device_digits number }
     ensures value { result.now ≡ digits_of number }
     ensures ascii { list_all is_ascii result.now ≡ true }

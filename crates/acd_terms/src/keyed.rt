@@ -120,7 +120,7 @@ pub fn find<R: Keyed>(records: &[R], key: R::Key) -> Option<R>
     None
 }
 
-/// Each record stands before the next.
+/// Each record is before the next.
 pub fn ascends<R: Keyed>(records: &[R]) -> bool
     ensures { result ≡ ascends (λ x y. R.Key.cmp (R.key_of x) (R.key_of y)) records.now }
 {

@@ -1,9 +1,8 @@
 //! The terms of the desk: identifiers, records, commands, answers and event reports.
 //!
-//! A command names devices and agents by [`DeviceId`] and [`AgentId`], which hold only well
-//! formed numbers; [`Command`] has one variant a service. What a service answers is an
-//! [`Outcome`], and what it reports is a [`Report`]. [`Rows`] is the whole state
-//! of a switch as lists. What a switch does is defined over these, in `acd_model`.
+//! A command names devices and agents by [`DeviceId`] and [`AgentId`], which hold only well formed numbers; [`Command`]
+//! has one variant a service. A service answers an [`Outcome`], and reports a [`Report`]. [`Rows`] is the whole state
+//! of a switch as lists. `acd_model` defines over these what a switch does.
 //!
 //! ```ignore
 //! let caller = DeviceId::read(b"0301234")?;

@@ -14,7 +14,7 @@ pub enum NameFault {
     Empty,
     #[error("too many characters")]
     TooLong,
-    /// The place of the first byte that may not stand there, counted from 0.
+    /// The place of the first byte that may not be there, counted from 0.
     #[error("byte {0} may not stand there")]
     BadCharacter(usize),
 }

@@ -1,4 +1,4 @@
-//! Whole numbers with a range of their own.
+//! Whole numbers, each type with its range.
 
 ghost use Rattle.std.specs.Prelude.{◌≡◌};
 ghost use Rattle.acd_terms.specs.Forms.{number_between, IsBetween};
@@ -64,11 +64,11 @@ impl Seconds {
     }
 }
 
-/// How soon a group is served: 0 to 9, and 9 is served first.
+/// The priority of a group: 0 to 9, and 9 comes first.
 pub type Priority = Between<0, 9>;
 
 impl Priority {
-    /// That of a group to which none was given: 0.
+    /// The priority of a group that got none: 0.
     pub fn lowest() -> Priority
         ensures { result ≡ 0 }
     {

@@ -13,7 +13,7 @@ use crate::name::Name;
 use crate::number::{Priority, Seconds};
 use crate::state::{AgentState, ConnectionState, Pending};
 
-/// What a group has counted since it was added.
+/// The counts of a group since it was added.
 #[derive(Clone, Copy, Debug, Default, PartialEq, Eq)]
 pub struct Figures {
     /// Calls that entered the queue, but for returns after no answer.
@@ -24,7 +24,7 @@ pub struct Figures {
     pub abandoned: u64,
     /// Calls deflected while they waited in the group or rang from it.
     pub moved: u64,
-    /// Seconds that the answered calls had waited, in all.
+    /// Seconds that the answered calls waited, in all.
     pub waited: u64,
 }
 
@@ -37,7 +37,7 @@ pub struct GroupRecord {
     pub ring: Seconds,
     /// How long after-call work lasts.
     pub wrap: Seconds,
-    /// Among groups that have a waiting call and an eligible agent, the highest is served first.
+    /// Among groups that have a waiting call and an eligible agent, the highest comes first.
     pub priority: Priority,
     pub figures: Figures,
 }
@@ -53,7 +53,7 @@ pub struct StationRecord {
 pub struct AgentRecord {
     pub agent: AgentId,
     pub name: Name,
-    /// Where the agent is logged on.
+    /// The station where the agent is logged on.
     pub station: Option<DeviceId>,
     pub groups: Groups,
     /// The stamp of the executed request that last changed the state.

@@ -15,7 +15,7 @@ use std::hash::{Hash, Hasher};
 use std::marker::Model;
 use std::str;
 
-/// At most `N` characters of ASCII. It takes no memory beyond its own.
+/// At most `N` characters of ASCII. It takes no other memory.
 #[derive(Clone, Copy, Debug)]
 pub struct ShortText<const N: usize> {
     cells: [u8; N],

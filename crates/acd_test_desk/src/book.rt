@@ -9,13 +9,13 @@ use acd_terms::{Event, Invoke, Limits, Requester, Rows};
 use std::alloc::Global;
 use std::process::Abort;
 
-/// What a scene does with its book, without the clauses of any.
+/// A scene's operations on its book, without the clauses of any.
 pub trait Reopened {
-    /// What a reopening finds.
+    /// The book that a reopening finds.
     fn again(self) -> Self;
 
-    /// What it holds, and what it has counted.
-    fn told(&mut self, rt: &impl Abort, alloc: Global) -> String;
+    /// Its content, and what it has counted.
+    fn summary(&mut self, rt: &impl Abort, alloc: Global) -> String;
 }
 
 /// How a call fails.
@@ -27,8 +27,8 @@ enum Failure {
     Made,
 }
 
-/// A book in memory that does nothing at some of its calls but to fail. Which they are stands in a text, each as
-/// `NUMBER:FAILURE`, from 1.
+/// A book in memory that does nothing at some of its calls but to fail. A text lists these, each as `NUMBER:FAILURE`,
+/// from 1.
 #[derive(Drop)]
 pub struct FailingBook {
     inner: MemoryBook,
@@ -107,7 +107,7 @@ impl FailingBook {
         }
     }
 
-    // Whether the store stops behind this call.
+    // Whether the store stops after this call.
     fn stops(&self) -> bool {
         matches!(failure_at(self.said, self.calls), Some(Failure::Made))
     }
@@ -121,13 +121,13 @@ impl Reopened for FailingBook {
         }
     }
 
-    fn told(&mut self, rt: &impl Abort, alloc: Global) -> String {
+    fn summary(&mut self, rt: &impl Abort, alloc: Global) -> String {
         let (executed, groups, stations) = self.counts(rt);
         let (failures, reads) = (self.failures, self.row_reads);
-        let told = format!(in alloc;
+        let summary = format!(in alloc;
             "executed {executed}, groups {groups}, stations {stations}, failures {failures}, reads {reads}"
         );
-        told.expect(rt, "memory")
+        summary.expect(rt, "memory")
     }
 }
 

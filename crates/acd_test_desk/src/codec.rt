@@ -1,6 +1,6 @@
-//! What no clause says: that the definitions of what is read are the formats, and that reading succeeds. The texts of
-//! replies, of event reports and of what is read of a desk stand in the scenes; those of several groups and of
-//! priorities are shown here.
+//! No clause says this: that the definitions of what is read are the formats, and that reading succeeds. The texts of
+//! replies, of event reports and of reads of a desk are in the scenes; those of several groups and of priorities are
+//! shown here.
 
 mod faulty;
 mod read;
@@ -11,7 +11,7 @@ use std::alloc::Global;
 use std::process::Abort;
 
 // The text of the request that is read, or the fault.
-fn told(rt: &impl Abort, alloc: Global, bytes: &[u8]) -> String {
+fn text_read(rt: &impl Abort, alloc: Global, bytes: &[u8]) -> String {
     let read = match read_request(alloc, bytes) {
         Ok(request) => request_text(alloc, &request),
         Err(fault) => format!(in alloc; "{fault}"),
@@ -21,8 +21,8 @@ fn told(rt: &impl Abort, alloc: Global, bytes: &[u8]) -> String {
 
 // A request with this text is read, or this fault.
 fn reads(rt: &impl Abort, alloc: Global, bytes: &[u8], text: &str) {
-    let told = told(rt, alloc, bytes);
-    assert!(rt; told.as_str() == text, "{bytes:?}: {told}");
+    let text_read = text_read(rt, alloc, bytes);
+    assert!(rt; text_read.as_str() == text, "{bytes:?}: {text_read}");
 }
 
 #[test]

@@ -24,7 +24,7 @@ fn scenes_of_exchanges(rt: HostRuntime) {
     play(&rt, rt.alloc(), scenes::reads());
 }
 
-// The first bytes of the group's request, in pieces of this size, and behind them a failure or an end.
+// The first bytes of the group's request, in pieces of this size, and after them a failure or an end.
 fn begun(bytes: usize, size: usize, fails: bool) -> Pieces<'static> {
     let group = group();
     Pieces::new(&group[..bytes.min(group.len())], size, fails)
@@ -49,7 +49,7 @@ fn is_cut_at<B: Book>(rt: &impl Abort, alloc: Global, desk: &mut Desk<B>, n: usi
     writes(rt, alloc, desk, begun(n, 160, true), "read\n");
 }
 
-// The request comes in pieces of one byte, or of seven, behind each of its beginnings.
+// The request comes in pieces of one byte, or of seven, after each of its beginnings.
 fn comes_in_pieces<B: Book + Drop>(rt: &impl Abort, alloc: Global, mut desk: Desk<B>) {
     for n in 0..160 {
         is_cut_at(rt, alloc, &mut desk, n);

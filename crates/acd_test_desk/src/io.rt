@@ -5,8 +5,8 @@ use crate::streams::Narrow;
 use acd_io::{Stopped, send};
 use std::process::Abort;
 
-// With so many calls this many bytes are taken, and so many calls are left. The writer takes a byte at a time, and is
-// interrupted before each.
+// With so many calls this many bytes are written, and so many calls are left. The writer writes a byte at a time, and
+// is interrupted before each.
 fn sends(
     rt: &(impl Abort + AllocGlobal),
     text: &str,

@@ -1,6 +1,7 @@
-//! Tests of values, of the state below the desk, of the codec and of the desk with its lines and exchanges, by their public calls:
-//! what no contract says of them. Each module of tests is named as its crate. They stand here so that no crate is proved a
-//! second time for its tests, and in one crate, since each program of tests is linked with all that it reaches.
+//! Tests of values, of the state below the desk, of the codec and of the desk with its lines and exchanges, by their
+//! public calls: what no contract says of them. Each module of tests is named as its crate. They are here so that no
+//! crate is proved a second time for its tests, and in one crate, since each program of tests is linked with all that
+//! it reaches.
 #![tactic(auto)]
 
 #[cfg(test)]

@@ -8,7 +8,7 @@
 //! | `> KIND TEXT` | the desk reads this |
 //! | any others | what it writes then, line by line |
 //! | `again` | the desk is closed, and opened again over its book. Where that fails, the fault is all that follows |
-//! | `closed TEXT` | what the book then tells ([`Reopened::told`]) |
+//! | `closed TEXT` | what the book then reads ([`Reopened::summary`]) |
 //!
 //! | kind | how it is read and written |
 //! |---|---|
@@ -18,11 +18,10 @@
 //! | `until` | the same, until the desk has failed |
 //! | `reads` | as lines and reads, by a reader that gives one byte at a time |
 //! | `http` | as one exchange |
-//! | `json` | the same; of the reply stand the status and the JSON |
+//! | `json` | the same; of the reply there are the status and the JSON |
 //! | `#` | not at all: a comment, with no answer |
 //!
-//! `<N TEXT>`, once in what is read, stands for a text that is repeated N times, and signs stand for other texts
-//! ([`signs`]).
+//! `<N TEXT>`, once in what is read, means a text that is repeated N times, and signs mean other texts ([`signs`]).
 
 use crate::book::{FailingBook, Reopened};
 use crate::comparing::same;
@@ -37,7 +36,7 @@ use std::alloc::Global;
 use std::fmt::Display;
 use std::process::Abort;
 
-// A sign in each line, and the requests or the answer that it stands for.
+// A sign in each line, and the requests or the answer that it means.
 fn signs() -> &'static str {
     r#"@group 0 {"requester":"plan","invoke":1,"service":"addGroup","device":"100","name":"Billing","ring":20,"wrap":30}\n
 @station 0 {"requester":"plan","invoke":2,"service":"addStation","device":"201"}\n
@@ -57,7 +56,7 @@ fn replaced(rt: &impl Abort, alloc: Global, text: &str, sign: &str, meant: &str)
     text.replace(alloc, sign, meant).expect(rt, "memory")
 }
 
-// The text with what its signs stand for.
+// The text with the meanings of its signs.
 fn read_signs(rt: &impl Abort, alloc: Global, text: &str) -> String {
     let mut read = String::from_str(alloc, text).expect(rt, "memory");
     for line in signs().lines() {
@@ -78,13 +77,13 @@ fn repeats(rt: &impl Abort, alloc: Global, said: &str) -> String {
 
 // The text with what is repeated in it.
 fn read_repeats(rt: &impl Abort, alloc: Global, text: &str) -> String {
-    let (before, behind) = text.split_once('<').unwrap_or((text, "0 >"));
-    let (said, behind) = behind.split_once('>').expect(rt, "an end");
+    let (before, rest) = text.split_once('<').unwrap_or((text, "0 >"));
+    let (said, rest) = rest.split_once('>').expect(rt, "an end");
     let repeats = repeats(rt, alloc, said);
-    format!(in alloc; "{before}{repeats}{behind}").expect(rt, "memory")
+    format!(in alloc; "{before}{repeats}{rest}").expect(rt, "memory")
 }
 
-/// What was written, and behind it the fault in a line.
+/// The lines that were written, and after them the fault in a line.
 pub fn with_fault<F: Display + Drop>(
     rt: &impl Abort,
     alloc: Global,
@@ -113,7 +112,7 @@ pub fn expect_executed<B: Book>(rt: &impl Abort, desk: &mut Desk<B>, requests: u
     same(rt, &desk.executed(), &Ok(requests));
 }
 
-/// What an exchange writes, and its fault.
+/// The output of an exchange, and its fault.
 pub fn exchanged<B: Book>(
     rt: &impl Abort,
     alloc: Global,
@@ -140,7 +139,7 @@ fn read_lines<B: Book>(
     lines(alloc, desk, reader, writer)
 }
 
-/// What is written to lines, and the fault at their end.
+/// The output for lines, and the fault at their end.
 pub fn lined<B: Book>(
     rt: &impl Abort,
     alloc: Global,
@@ -152,7 +151,7 @@ pub fn lined<B: Book>(
     with_fault(rt, alloc, &writer.taken, ended)
 }
 
-// What is written to the text of two readings, and the counts.
+// The output for the text of two readings, and the counts.
 fn counted<B: Book>(
     rt: &impl Abort,
     alloc: Global,
@@ -170,7 +169,7 @@ fn counted<B: Book>(
     format!(in alloc; "{written}written {calls}, left {left}\n").expect(rt, "memory")
 }
 
-/// What is written to lines and the reads among them, and the fault at their end.
+/// The output for lines and the reads among them, and the fault at their end.
 pub fn read_and_lined<B: Book>(
     rt: &impl Abort,
     alloc: Global,
@@ -188,7 +187,7 @@ pub fn wide(alloc: Global) -> Narrow {
     Narrow::new(Vec::new(alloc), usize::MAX, usize::MAX, false)
 }
 
-// What the desk writes to this text.
+// The desk's output for this text.
 fn written<B: Book>(
     rt: &impl Abort,
     alloc: Global,
@@ -223,7 +222,7 @@ fn reply(rt: &impl Abort, alloc: Global, said: &str) -> String {
     reply.expect(rt, "memory")
 }
 
-// What is to be written, where the script has this. Each line has an end.
+// The expected output, where the script has this. Each line has an end.
 fn wanted(rt: &impl Abort, alloc: Global, kind: &str, said: &str) -> String {
     if kind == "json" {
         return reply(rt, alloc, said);
@@ -235,7 +234,7 @@ fn wanted(rt: &impl Abort, alloc: Global, kind: &str, said: &str) -> String {
     format!(in alloc; "{text}\n").expect(rt, "memory")
 }
 
-// What the desk writes, and what it is to write.
+// The desk's output, and the expected one.
 fn expect_written<B: Book>(
     rt: &impl Abort,
     alloc: Global,
@@ -280,7 +279,7 @@ pub fn new_desk(rt: &impl Abort, alloc: Global) -> Desk<MemoryBook> {
 }
 
 // A desk over the book plays the exchanges, and gives the book back.
-fn behind<B: Book + Drop>(rt: &impl Abort, alloc: Global, book: B, part: &str) -> B {
+fn played<B: Book + Drop>(rt: &impl Abort, alloc: Global, book: B, part: &str) -> B {
     match Desk::open(alloc, book) {
         Ok(mut desk) => {
             play_exchanges(rt, alloc, &mut desk, part);
@@ -294,7 +293,7 @@ fn behind<B: Book + Drop>(rt: &impl Abort, alloc: Global, book: B, part: &str) -
     }
 }
 
-// What is said of a scene: its limits, and the failures of its book.
+// The book of a scene: its limits, and its failures.
 fn book_of(rt: &impl Abort, alloc: Global, said: &'static str) -> FailingBook {
     let mut limits = Limits::GREATEST;
     if let Some((_, number)) = said.split_once(" within ") {
@@ -303,27 +302,27 @@ fn book_of(rt: &impl Abort, alloc: Global, said: &'static str) -> FailingBook {
     FailingBook::new(MemoryBook::new(alloc, limits), said)
 }
 
-// What the book tells, once the parts are played.
-fn told_behind<B: Book + Reopened + Drop>(
+// What the book reads, once the parts are played.
+fn summary_after<B: Book + Reopened + Drop>(
     rt: &impl Abort,
     alloc: Global,
     mut book: B,
     parts: &str,
 ) -> String {
     for part in parts.split("\nagain\n") {
-        book = behind(rt, alloc, book.again(), part);
+        book = played(rt, alloc, book.again(), part);
     }
-    book.told(rt, alloc)
+    book.summary(rt, alloc)
 }
 
 fn play_scene(rt: &impl Abort, alloc: Global, scene: &'static str) {
     let (said, scene) = scene.split_once('\n').expect(rt, "exchanges");
     let (parts, closed) = scene.split_once("\nclosed ").expect(rt, "an end");
-    let told = told_behind(rt, alloc, book_of(rt, alloc, said), parts);
-    assert!(rt; told.as_str() == closed.trim_end(), "{said}: {told}");
+    let found = summary_after(rt, alloc, book_of(rt, alloc, said), parts);
+    assert!(rt; found.as_str() == closed.trim_end(), "{said}: {found}");
 }
 
-/// What each scene's desk writes is what the script says.
+/// Each scene's desk writes what the script says.
 pub fn play(rt: &impl Abort, alloc: Global, script: &'static [u8]) {
     for scene in text_in(rt, script).split("\nscene ").skip(1) {
         play_scene(rt, alloc, scene);

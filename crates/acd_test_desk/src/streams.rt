@@ -51,7 +51,7 @@ pub struct Narrow {
 }
 
 impl Narrow {
-    /// Has room for so many bytes behind those that are taken.
+    /// Has room for so many bytes after those that are there.
     pub fn new(taken: Vec<u8>, room: usize, size: usize, fails: bool) -> Narrow {
         Narrow {
             taken,

@@ -4,7 +4,7 @@ use acd_terms::{AgentId, DeviceId, Invoke, Name, Requester, Seconds, Serial};
 use std::alloc::{AllocError, Global};
 use std::process::Abort;
 
-// What is read, from what text, and what comes of it.
+// The kinds of what is read, the texts, and the results.
 fn rows() -> &'static str {
     "
 device||no digits
@@ -90,7 +90,7 @@ fn is_number(rt: &impl Abort, alloc: Global, kind: &str, text: &str) -> Result<S
     format!(in alloc; "{is_one}")
 }
 
-// What comes of the text.
+// The result of the text.
 fn read(rt: &impl Abort, alloc: Global, kind: &str, text: &str) -> String {
     let read = match kind {
         "device" => device(alloc, text.as_bytes()),

@@ -1,4 +1,4 @@
-//! What is told of a book whose database something else has changed.
+//! What is found in a book whose database something else has changed.
 
 use crate::sessions::{Scene, answers_so, opened};
 use crate::shelf::{book_in, changed};
@@ -10,7 +10,7 @@ use sqlite::{Alter, Connection, MemStore};
 use std::alloc::Global;
 use std::process::Abort;
 
-// The place in the kept list that an audit tells, or `sound`.
+// The place in the kept list that an audit finds, or `sound`.
 fn audited<B: Book>(rt: &impl Abort, alloc: Global, desk: &mut Desk<B>) -> String {
     match desk.audit() {
         Ok(Audit::Sound) => joined(rt, alloc, &["sound"]),
@@ -20,23 +20,23 @@ fn audited<B: Book>(rt: &impl Abort, alloc: Global, desk: &mut Desk<B>) -> Strin
 }
 
 // Why there is no desk: the rule that the rows break.
-fn rule_told(rt: &impl Abort, alloc: Global, fault: OpenFault) -> String {
+fn broken_rule(rt: &impl Abort, alloc: Global, fault: OpenFault) -> String {
     match fault {
         OpenFault::Rows(rule) => format!(in alloc; "{rule:?}").expect(rt, "memory"),
         fault => panic!(rt; "{fault:?}"),
     }
 }
 
-// What is told of the book.
-fn told<B: Book + Drop>(rt: &impl Abort, alloc: Global, book: B) -> String {
+// What is found in the book.
+fn finding<B: Book + Drop>(rt: &impl Abort, alloc: Global, book: B) -> String {
     match Desk::open(alloc, book) {
         Ok(mut desk) => audited(rt, alloc, &mut desk),
-        Err((fault, _book)) => rule_told(rt, alloc, fault),
+        Err((fault, _book)) => broken_rule(rt, alloc, fault),
     }
 }
 
-// What is told of a database in which a new book takes the scene, and which is then changed.
-fn told_behind<S: Alter + Drop>(
+// What is found in a database in which a new book takes the scene, and which is then changed.
+fn finding_after<S: Alter + Drop>(
     rt: &impl Abort,
     alloc: Global,
     conn: Connection<S>,
@@ -47,7 +47,7 @@ fn told_behind<S: Alter + Drop>(
     let (input, output) = (scene.input.as_str(), scene.output.as_str());
     let book = answers_so(rt, alloc, book, input, output);
     let conn = changed(rt, book.into_connection(), sql);
-    told(rt, alloc, book_in(rt, alloc, conn, None))
+    finding(rt, alloc, book_in(rt, alloc, conn, None))
 }
 
 /// A database in memory.
@@ -58,19 +58,19 @@ pub fn database(rt: &impl Abort, alloc: Global) -> Connection<MemStore> {
     }
 }
 
-// Nothing, or what else than the line `TOLD SQL` is told of its change.
+// Nothing, or what else than the line `TOLD SQL` is found of its change.
 fn unseen(rt: &impl Abort, alloc: Global, scene: &Scene, change: &str) -> Option<String> {
     let (wanted, sql) = halves(rt, change);
-    let told = told_behind(rt, alloc, database(rt, alloc), scene, sql);
-    if told.as_str() == wanted {
+    let found = finding_after(rt, alloc, database(rt, alloc), scene, sql);
+    if found.as_str() == wanted {
         return None;
     }
-    let mut what = told;
+    let mut what = found;
     push_both(rt, &mut what, " behind ", change);
     Some(what)
 }
 
-// The first change of the transcript of which something else is told.
+// The first change of the transcript of which something else is found.
 fn first_unseen(rt: &impl Abort, alloc: Global, scene: &Scene, text: &str) -> Option<String> {
     for line in text.lines() {
         if let Some(change) = line.strip_prefix("~ ") {
@@ -82,8 +82,8 @@ fn first_unseen(rt: &impl Abort, alloc: Global, scene: &Scene, text: &str) -> Op
     None
 }
 
-/// For each line `~ TOLD SQL` of the last transcript: a book takes the requests of all, its database is changed so, and just
-/// this is told of it. Else answers what is told of the first one.
+/// For each line `~ TOLD SQL` of the last transcript: a book executes the requests of all, its database is changed so,
+/// and just this is found in it. Else answers what is found of the first one.
 pub fn play(rt: &impl Abort, alloc: Global, texts: &[&str]) -> Option<String> {
     let scene = Scene::new(rt, alloc, texts);
     let changes = texts.last().expect(rt, "changes");

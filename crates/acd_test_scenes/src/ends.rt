@@ -1,4 +1,4 @@
-//! What each scene tests at its end.
+//! The tests of each scene at its end.
 
 use crate::exports;
 use crate::look_ups::same;
@@ -72,7 +72,7 @@ fn compare_monitor<B: Book>(rt: &impl Abort, book: &mut B, monitor: u64) {
     same(rt, &some.len(), &all.len().min(4));
 }
 
-// What is kept, and what the monitors tell.
+// What is kept, and what the monitors report.
 fn compare_reads<B: Book>(rt: &impl Abort, book: &mut B, rows: &Rows) {
     same(rt, &count_kept(rt, book), &rows.last_stamp);
     for monitor in &rows.monitors {
@@ -80,8 +80,13 @@ fn compare_reads<B: Book>(rt: &impl Abort, book: &mut B, rows: &Rows) {
     }
 }
 
-// A desk over the book exports these events, and tells them by hundreds.
-fn compare_told<B: Book + Drop>(rt: &impl Abort, alloc: Global, book: B, events: &[Event]) -> B {
+// A desk over the book exports these events, and reads them by hundreds.
+fn compare_reported<B: Book + Drop>(
+    rt: &impl Abort,
+    alloc: Global,
+    book: B,
+    events: &[Event],
+) -> B {
     let mut desk = opened(rt, alloc, book);
     exports::compare(rt, alloc, &mut desk, events);
     exports::compare_pages(rt, alloc, &mut desk, events);
@@ -134,13 +139,13 @@ fn compare_kept<B: Book>(rt: &impl Abort, book: B, held: &Held) -> B {
     book
 }
 
-/// All requests that are sent again get their answers, and change nothing. The desk tells and exports all events. What
+/// All requests that are sent again get their answers, and change nothing. The desk reads and exports all events. What
 /// it reads of its rows gives them back, and so does a copy of them.
 pub fn compare<B: Book + Drop>(rt: &impl Abort, alloc: Global, book: B, texts: &[&str]) -> B {
     let mut book = book;
     let held = held_by(rt, &mut book);
     let book = send_again(rt, alloc, book, texts);
-    let book = compare_told(rt, alloc, book, &held.1);
+    let book = compare_reported(rt, alloc, book, &held.1);
     compare_loaded(rt, alloc, &held.0);
     compare_kept(rt, book, &held)
 }
@@ -193,7 +198,7 @@ pub fn expect_committed<B: Book + Drop>(
     );
 }
 
-// The book behind a session over all these requests.
+// The book after a session over all these requests.
 fn ran<B: Book + Drop>(rt: &impl Abort, alloc: Global, book: B, arrivals: &[Arrival]) -> B {
     match Desk::session(alloc, book, arrivals) {
         Ok((answers, book)) => {
@@ -204,7 +209,7 @@ fn ran<B: Book + Drop>(rt: &impl Abort, alloc: Global, book: B, arrivals: &[Arri
     }
 }
 
-/// A new book holds the same behind one session over all requests.
+/// A new book holds the same after one session over all requests.
 pub fn expect_run<B: Book + Drop>(
     rt: &impl Abort,
     alloc: Global,

@@ -1,4 +1,4 @@
-//! The export of a desk holds what its event reports tell, and its pages are these reports.
+//! The export of a desk holds its event reports, and its pages are these reports.
 
 ghost use Rattle.std.specs.Prelude.{◌<◌};
 
@@ -45,7 +45,7 @@ fn value<'a>(members: &'a str, name: &str) -> &'a str {
     ""
 }
 
-// What stands before the value at this place, from 0.
+// The text before the value at this place, from 0.
 fn between(place: usize) -> &'static str {
     match place {
         0 => "",
@@ -70,7 +70,7 @@ fn records(rt: &impl Abort, alloc: Global, events: &[Event]) -> String {
     records
 }
 
-// The desk tells this of what is asked.
+// The desk answers this to what is asked.
 fn expect_read<B: Book>(
     rt: &impl Abort,
     alloc: Global,
@@ -78,8 +78,8 @@ fn expect_read<B: Book>(
     asked: &str,
     wanted: &str,
 ) {
-    let told = reads::text(rt, alloc, desk, asked);
-    same_text(rt, told.as_str(), wanted);
+    let answer = reads::text(rt, alloc, desk, asked);
+    same_text(rt, answer.as_str(), wanted);
 }
 
 /// The desk exports a record of each of its events, which are these.
@@ -100,7 +100,7 @@ fn page_of(rt: &impl Abort, alloc: Global, events: &[Event], last: u64) -> Strin
     page
 }
 
-// The desk tells its events, which are these, so many at a time.
+// The desk reads its events, which are these, so many at a time.
 fn compare_pages_of<B: Book>(
     rt: &impl Abort,
     alloc: Global,
@@ -120,7 +120,7 @@ fn compare_pages_of<B: Book>(
     }
 }
 
-/// The desk tells its events, which are these, by hundreds and by thousands.
+/// The desk reads its events, which are these, by hundreds and by thousands.
 pub fn compare_pages<B: Book>(
     rt: &impl Abort,
     alloc: Global,

@@ -15,7 +15,7 @@ use sqlite_disk::{Fuse, Memory};
 use std::alloc::Global;
 use std::process::Abort;
 
-// A desk over the book that lies there answers the line, at the end of the answers.
+// A desk over the book that is there answers the line, at the end of the answers.
 fn answer<S: Alter + Drop>(
     rt: &impl Abort,
     alloc: Global,
@@ -41,7 +41,7 @@ fn play_closed(rt: &impl Abort, alloc: Global, new: Files<Fuse<Memory>>, scene: 
     same_text(rt, answers.as_str(), scene.output.as_str());
 }
 
-// How many requests were answered 200, which are the first of them. All behind them are answered storeFault.
+// How many requests were answered 200, which are the first of them. All after them are answered storeFault.
 fn replied(rt: &impl Abort, answers: &[Taken]) -> u64 {
     let mut replied = 0u64;
     for (i, answer) in answers.iter().enumerate() {
@@ -105,7 +105,7 @@ fn run_over(
     }
 }
 
-/// What the book keeps is sound.
+/// The book's content is sound.
 pub fn expect_sound<B: Book + Drop>(rt: &impl Abort, alloc: Global, book: B) -> B {
     let mut desk = opened(rt, alloc, book);
     same(rt, &desk.audit(), &Ok(Audit::Sound));
@@ -143,7 +143,7 @@ fn ends_whole(rt: &impl Abort, alloc: Global, files: Files<Fuse<Memory>>, scene:
     ended.replied == arrivals.len() as u64 && ended.is_closed
 }
 
-// No session stops for good: behind so many calls of a file the scene has ended.
+// No session stops for good: after so many calls of a file the scene has ended.
 const CALLS: u64 = 1000;
 
 // Which of the two files stops.
@@ -153,7 +153,7 @@ enum Stops {
     Database,
 }
 
-// A copy of the files, of which one stops behind so many calls.
+// A copy of the files, of which one stops after so many calls.
 fn stopping(
     rt: &impl Abort,
     alloc: Global,
@@ -167,7 +167,7 @@ fn stopping(
     }
 }
 
-// The number of calls goes up until a session ends without a stop.
+// The number of calls increases until a session ends without a stop.
 fn stop_at_each(
     rt: &impl Abort,
     alloc: Global,
@@ -199,11 +199,11 @@ fn with_new_book<S: Alter + Drop>(
     book_in(rt, alloc, conn, Some(Limits::GREATEST)).into_connection()
 }
 
-// What makes version 1 of a new book.
+// The statements that make version 1 of a new book.
 const OLDER: &str =
     "DROP TABLE group_priority; DROP TABLE agent_groups; UPDATE meta SET version = 1";
 
-// A connection whose database has a new book as version 1 had it.
+// A connection whose database has a new book as it was in version 1.
 fn with_old_book<S: Alter + Drop>(
     rt: &impl Abort,
     alloc: Global,
@@ -212,8 +212,8 @@ fn with_old_book<S: Alter + Drop>(
     changed(rt, with_new_book(rt, alloc, conn), OLDER)
 }
 
-/// The requests are one session over two files of version 1, of which one stops behind each number of its calls in turn, as
-/// `play` has it.
+/// The requests are one session over two files of version 1, of which one stops after each number of its calls in turn,
+/// as `play` has it.
 pub fn play_old(rt: &impl Abort, alloc: Global, texts: &[&str]) {
     let scene = Scene::new(rt, alloc, texts);
     let conn = connected(rt, alloc, empty_files(alloc));
@@ -221,10 +221,10 @@ pub fn play_old(rt: &impl Abort, alloc: Global, texts: &[&str]) {
     play_stopping(rt, alloc, files, &scene);
 }
 
-/// Each request of the transcripts is answered by a desk that was opened for it, over the files that the one before it has
-/// closed. Or their requests, which are all answered 200, are one session over two files, of which one stops behind each
-/// number of its calls in turn. The desk is then opened again over what is left: it is sound, and has executed all that
-/// was answered, or one request more.
+/// Each request of the transcripts is answered by a desk that was opened for it, over the files that the one before it
+/// has closed. Or their requests, which are all answered 200, are one session over two files, of which one stops after
+/// each number of its calls in turn. The desk is then opened again over what is left: it is sound, and has executed all
+/// that was answered, or one request more.
 pub fn play(rt: &impl Abort, alloc: Global, texts: &[&str], stops: bool) {
     let scene = Scene::new(rt, alloc, texts);
     let conn = connected(rt, alloc, empty_files(alloc));

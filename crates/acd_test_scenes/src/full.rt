@@ -1,4 +1,5 @@
-//! A desk that has as many of all as there may be. All requests come as one input: behind each its answer alone is compared.
+//! A desk that has as many of all as there may be. All requests come as one input: after each its answer alone is
+//! compared.
 
 use crate::ends::AT_LAST;
 use crate::files::expect_sound;
@@ -16,19 +17,19 @@ fn last_line(text: &str) -> &str {
     text.lines().last().unwrap_or("")
 }
 
-// The first line of the transcript that isn't the last one of what the desk tells.
-fn untold<'a, B: Book>(
+// The first line of the transcript that isn't the last one of what the desk reads.
+fn unanswered<'a, B: Book>(
     rt: &impl Abort,
     alloc: Global,
     desk: &mut Desk<B>,
     text: &'a str,
 ) -> Option<&'a str> {
-    let mut told = String::new(alloc);
+    let mut answer = String::new(alloc);
     for line in text.lines() {
         if let Some(asked) = line.strip_prefix("? ") {
-            told = reads::text(rt, alloc, desk, asked);
+            answer = reads::text(rt, alloc, desk, asked);
         } else if let Some(wanted) = line.strip_prefix(". ") {
-            if last_line(told.as_str()) != wanted {
+            if last_line(answer.as_str()) != wanted {
                 return Some(line);
             }
         }
@@ -60,13 +61,13 @@ fn unmet<'a, B: Book + Drop>(
         return (book, line);
     }
     let mut desk = opened(rt, alloc, book);
-    let line = untold(rt, alloc, &mut desk, text);
+    let line = unanswered(rt, alloc, &mut desk, text);
     (desk.close(), line)
 }
 
-/// A desk over a new book answers the requests of the transcripts, which come as one input. Then the rows hold the lines
-/// of the last one, its reads end with the lines behind them, all requests that are sent again at the greatest moment get
-/// their answers, and the audit is sound. Answers the line that isn't so.
+/// A desk over a new book answers the requests of the transcripts, which come as one input. Then the rows hold the
+/// lines of the last one, its reads end with the lines after them, all requests that are sent again at the greatest
+/// moment get their answers, and the audit is sound. Answers the line that isn't so.
 pub fn play<B: Book + Drop>(
     rt: &impl Abort,
     alloc: Global,

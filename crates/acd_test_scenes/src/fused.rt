@@ -1,4 +1,4 @@
-//! Two files of a database in memory, each of which may stop behind a number of calls, and connections over them.
+//! Two files of a database in memory, each of which may stop after a number of calls, and connections over them.
 
 use sqlite::{Connection, FileStore, Files, Options};
 use sqlite_disk::{Disk, Fuse, Memory};
@@ -56,7 +56,7 @@ pub fn closed(rt: &impl Abort, conn: Connection<FileStore<Fuse<Memory>>>) -> Fil
     files
 }
 
-// What a file holds, in a file of its own that stops behind so many calls.
+// A file's content, in a separate file that stops after so many calls.
 fn fused(rt: &impl Abort, alloc: Global, bytes: &[u8], calls: u64) -> Fuse<Memory> {
     let mut copy = Memory::new(alloc);
     assert!(rt; copy.write_at(0, bytes).is_ok());
@@ -64,7 +64,7 @@ fn fused(rt: &impl Abort, alloc: Global, bytes: &[u8], calls: u64) -> Fuse<Memor
     Fuse::new(copy, calls)
 }
 
-/// Copies of the files, of which the log stops behind so many calls, and the database behind so many.
+/// Copies of the files, of which the log stops after so many calls, and the database after so many.
 pub fn copied(
     rt: &impl Abort,
     alloc: Global,

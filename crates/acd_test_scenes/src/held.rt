@@ -1,4 +1,4 @@
-//! What the rows hold, in lines of transcripts.
+//! The content of the rows, in lines of transcripts.
 
 use crate::texts::push;
 use acd_terms::{
@@ -37,7 +37,7 @@ fn add_agent(rt: &impl Abort, text: &mut String, agent: &AgentRecord) {
     written.expect(rt, "memory");
 }
 
-// What the group has counted.
+// The counts of the group.
 fn add_figures(rt: &impl Abort, text: &mut String, group: &GroupRecord) {
     let digits = group.device.text();
     let f = group.figures;

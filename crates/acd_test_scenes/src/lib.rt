@@ -1,7 +1,8 @@
-//! Scenes from request to reply, played over a desk, its book and a switch, with ample memory; and tests of the book in SQLite and
-//! of the program by their public calls, what no contract says of them: the modules `sqlbook` and `program` are named as their
-//! crates. They stand in a crate of their own, so that no other crate is proved a second time for them, and in one, since each
-//! program of tests is linked with all that it reaches, which takes longer than many of its functions.
+//! Scenes from request to reply, played over a desk, its book and a switch, with ample memory; and tests of the book in
+//! SQLite and of the program by their public calls, for what no contract says of them: the modules `sqlbook` and
+//! `program` are named as their crates. They are in a separate crate, so that no other crate is proved a second time
+//! for them, and in one, since each program of tests is linked with all that it reaches, which takes longer than many
+//! of its functions.
 #![tactic(auto)]
 
 #[cfg(test)]

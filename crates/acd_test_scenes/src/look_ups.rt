@@ -120,7 +120,7 @@ fn compare_ready(rt: &impl Abort, tables: &Tables, rows: &Rows, group: DeviceId)
     same(rt, &ready.len(), &eligible);
 }
 
-// The numbers up to the last one and the one behind it, of calls and monitors that are gone too.
+// The numbers up to the last one and the one after it, of calls and monitors that have ended too.
 fn compare_numbers(rt: &impl Abort, tables: &Tables, rows: &Rows) {
     for call in 0..=rows.last_call {
         same(rt, &tables.call(call), &scans::call_of(rows, call));
@@ -145,7 +145,7 @@ fn compare_figures(rt: &impl Abort, switch: &Switch, rows: &Rows) {
     }
 }
 
-/// Compares them all with the rows, which are the switch's own.
+/// Compares them all with the rows, which are those of the switch.
 pub fn compare(rt: &impl Abort, switch: &Switch, rows: &Rows) {
     compare_devices(rt, switch.tables(), rows);
     compare_records(rt, switch.tables(), rows);

@@ -43,7 +43,7 @@ fn book_of_many(rt: &impl Abort, alloc: Global, events: &[Event]) -> MemoryBook 
     book
 }
 
-/// A desk over that book exports them all, and tells them in pages.
+/// A desk over that book exports them all, and reads them in pages.
 pub fn export_of_many_events(rt: &impl Abort, alloc: Global) {
     let events = many_events(rt, alloc);
     let mut desk = opened(rt, alloc, book_of_many(rt, alloc, &events));

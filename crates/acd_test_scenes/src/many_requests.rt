@@ -86,12 +86,12 @@ fn expect_page(
     first: u64,
     last: u64,
 ) {
-    let told = reads::text(rt, alloc, desk, asked);
-    same_text(rt, told.as_str(), page(rt, alloc, first, last).as_str());
-    assert!(rt; told.len() <= 600_000);
+    let answer = reads::text(rt, alloc, desk, asked);
+    same_text(rt, answer.as_str(), page(rt, alloc, first, last).as_str());
+    assert!(rt; answer.len() <= 600_000);
 }
 
-/// The desk tells them in pages of none, of one, and of a thousand or one less.
+/// The desk reads them in pages of none, of one, and of a thousand or one less.
 pub fn pages_of_many_requests(rt: &impl Abort, alloc: Global) {
     let book = MemoryBook::new(alloc, Limits::GREATEST);
     let (book, answers) = answered(rt, alloc, book, lines(rt, alloc).as_str());

@@ -7,10 +7,10 @@
 //! | `> MOMENT JSON` | a request, as the program reads it |
 //! | `< STATUS JSON` | its answer, as the program writes it; each request has one |
 //! | `! JSON` | an event report that the request makes, in order; none is left out |
-//! | `! *` | all event reports that it makes: only the switch and the rows tell them |
+//! | `! *` | all event reports that it makes: only the switch and the rows give them |
 //! | `= TEXT` | what the rows then hold, a line of [`held::text`] |
-//! | `? READ` | a read of the desk, as [`reads::told`] has them |
-//! | `. TEXT` | a line of what it tells; where there is no such thing there is none |
+//! | `? READ` | a read of the desk, as [`reads::read`] has them |
+//! | `. TEXT` | a line of the answer; where there is no such thing there is none |
 //! | `# TEXT` | a comment |
 
 use crate::reference::Reference;
@@ -31,14 +31,15 @@ pub const ALL: usize = 1000;
 struct Player {
     alloc: Global,
     reference: Reference,
-    // what the last request made or the last read told, in lines of a transcript, and how many of them were read
+    // the lines of the last request or the last read, as in a transcript, and how many of them were read
     made: String,
     read: usize,
-    // how many events were told
-    told: u64,
+    // how many events were read
+    reported: u64,
     // whether a request or a read was played
     has_asked: bool,
-    // where a line isn't what happens: the line, from 0, and what happened there, which is empty before that
+    // the first line that differs from what happens: the line, from 0, and what happened there, which is empty before
+    // that
     line: usize,
     wrong: String,
 }
@@ -68,9 +69,9 @@ pub fn rows_of<B: Book>(rt: &impl Abort, book: &mut B) -> Rows {
     book.rows().expect(rt, "memory")
 }
 
-/// Its events behind so many.
-pub fn events_of<B: Book>(rt: &impl Abort, book: &mut B, told: u64) -> Vec<Event> {
-    book.events_after(told, ALL).expect(rt, "memory")
+/// Its events after so many.
+pub fn events_of<B: Book>(rt: &impl Abort, book: &mut B, after: u64) -> Vec<Event> {
+    book.events_after(after, ALL).expect(rt, "memory")
 }
 
 fn limits_of<B: Book>(rt: &impl Abort, book: &mut B) -> Limits {
@@ -106,23 +107,23 @@ fn add_events(rt: &impl Abort, alloc: Global, made: &mut String, events: &[Event
     }
 }
 
-// What a read told, in lines of a transcript.
-fn told_lines(rt: &impl Abort, alloc: Global, told: &str) -> String {
+// The answer of a read, in lines of a transcript.
+fn answer_lines(rt: &impl Abort, alloc: Global, answer: &str) -> String {
     let mut lines = String::new(alloc);
-    for line in told.lines() {
+    for line in answer.lines() {
         push(rt, &mut lines, &[". ", line, "\n"]);
     }
     lines
 }
 
-// What a desk over the book tells of what is asked, in lines of a transcript.
+// What a desk over the book answers to what is asked, in lines of a transcript.
 fn looked<B: Book + Drop>(rt: &impl Abort, alloc: Global, book: B, asked: &str) -> (B, String) {
     let mut desk = opened(rt, alloc, book);
-    let told = reads::text(rt, alloc, &mut desk, asked);
-    (desk.close(), told_lines(rt, alloc, told.as_str()))
+    let answer = reads::text(rt, alloc, &mut desk, asked);
+    (desk.close(), answer_lines(rt, alloc, answer.as_str()))
 }
 
-// What a desk over the book answers to the line.
+// The answer of a desk over the book to the line.
 fn line_answered<B: Book + Drop>(
     rt: &impl Abort,
     alloc: Global,
@@ -140,7 +141,7 @@ impl Player {
             reference: Reference::new(rt, alloc, limits),
             made: String::new(alloc),
             read: 0,
-            told: 0,
+            reported: 0,
             has_asked: false,
             line: 0,
             wrong: String::new(alloc),
@@ -173,7 +174,7 @@ impl Player {
         }
     }
 
-    // Keeps what was made or told.
+    // Keeps what was made or read.
     fn keep(&mut self, made: String) {
         self.made = made;
         self.read = 0;
@@ -185,7 +186,7 @@ impl Player {
         let mut made = joined(rt, self.alloc, &["< ", answer]);
         add_events(rt, self.alloc, &mut made, events);
         self.keep(made);
-        self.told = self.told.saturating_add(events.len() as u64);
+        self.reported = self.reported.saturating_add(events.len() as u64);
     }
 
     // The switch makes the answer and the events too.
@@ -204,8 +205,8 @@ impl Player {
         }
     }
 
-    // The book has made the events behind this answer. Then the look-ups are the scans of the rows, and the reports
-    // tell the rows.
+    // The book has made the events after this answer. Then the look-ups are the scans of the rows, and the reports give
+    // the rows.
     fn compare<B: Book>(
         &mut self,
         rt: &impl Abort,
@@ -213,7 +214,7 @@ impl Player {
         arrival: Option<Arrival>,
         answer: &str,
     ) {
-        let events = events_of(rt, book, self.told);
+        let events = events_of(rt, book, self.reported);
         self.make(rt, answer, &events);
         self.follow(rt, arrival, answer, &events);
     }
@@ -237,8 +238,8 @@ impl Player {
 
     // A desk over the book is asked for a read.
     fn look<B: Book + Drop>(&mut self, rt: &impl Abort, book: B, asked: &str) -> B {
-        let (book, told) = looked(rt, self.alloc, book, asked);
-        self.keep(told);
+        let (book, lines) = looked(rt, self.alloc, book, asked);
+        self.keep(lines);
         book
     }
 
@@ -250,7 +251,7 @@ impl Player {
         }
     }
 
-    // One line that asks, or tells what is held.
+    // One line that asks, or says what is held.
     fn play_asked<B: Book + Drop>(&mut self, rt: &impl Abort, book: B, line: &str) -> B {
         if let Some(asked) = line.strip_prefix("> ") {
             return self.ask(rt, book, asked);
@@ -305,7 +306,7 @@ impl Player {
         }
     }
 
-    // Where a line isn't what happens.
+    // The line that differs from what happens.
     fn mismatch(&self, rt: &impl Abort) -> String {
         let mismatch = format!(in self.alloc; "line {}: {}", self.line, self.wrong.as_str());
         mismatch.expect(rt, "memory")

@@ -1,4 +1,4 @@
-//! What transcripts ask of a desk: its reads.
+//! The questions of transcripts to a desk: its reads.
 
 use crate::texts::{halves, moment, number};
 use acd_book::Book;
@@ -26,11 +26,11 @@ fn monitor_events<B: Book>(
     desk.monitor_events(number(rt, monitor), number(rt, after))
 }
 
-/// What the desk tells of what is asked: `agent 7`, `call 1`, `device 201`, `queue 100`, `events 10`,
-/// `history 10`, `monitor 1 9`, `requests 10`, `report 40`, `snapshot all` or `export all`.
-pub fn told<B: Book>(rt: &impl Abort, desk: &mut Desk<B>, asked: &str) -> Option<String> {
+/// The desk's answer to what is asked: `agent 7`, `call 1`, `device 201`, `queue 100`, `events 10`, `history 10`,
+/// `monitor 1 9`, `requests 10`, `report 40`, `snapshot all` or `export all`.
+pub fn read<B: Book>(rt: &impl Abort, desk: &mut Desk<B>, asked: &str) -> Option<String> {
     let (what, of) = halves(rt, asked);
-    let told = if what == "agent" {
+    let read = if what == "agent" {
         desk.agent(agent(rt, of))
     } else if what == "call" {
         desk.call(number(rt, of))
@@ -54,12 +54,12 @@ pub fn told<B: Book>(rt: &impl Abort, desk: &mut Desk<B>, asked: &str) -> Option
         assert_eq!(rt; asked, "export all");
         desk.export()
     };
-    told.expect(rt, "memory")
+    read.expect(rt, "memory")
 }
 
 /// The same, and nothing where there is no such thing.
 pub fn text<B: Book>(rt: &impl Abort, alloc: Global, desk: &mut Desk<B>, asked: &str) -> String {
-    match told(rt, desk, asked) {
+    match read(rt, desk, asked) {
         Some(text) => text,
         None => String::new(alloc),
     }

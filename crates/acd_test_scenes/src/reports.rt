@@ -1,5 +1,4 @@
-//! The event reports alone tell the connections, the agents and the order of the queues that stand in the
-//! rows.
+//! The event reports alone give the connections, the agents and the order of the queues in the rows.
 
 use crate::look_ups::same;
 use crate::scans::is_planned;
@@ -10,8 +9,8 @@ use acd_terms::{
 use std::alloc::Global;
 use std::process::Abort;
 
-// What an event tells of its call at its device.
-fn state_told(kind: EventKind) -> Option<ConnectionState> {
+// What an event reports of its call at its device.
+fn state_reported(kind: EventKind) -> Option<ConnectionState> {
     match kind {
         EventKind::ServiceInitiated => Some(ConnectionState::Initiated),
         EventKind::Originated | EventKind::Established | EventKind::Retrieved => {
@@ -43,7 +42,7 @@ fn without(rt: &impl Abort, alloc: Global, ends: &[End], call: u64, device: Devi
     others
 }
 
-// What an event tells of a connection is all that is known of it.
+// The report of an event on a connection is all that is known of it.
 fn learned(
     rt: &impl Abort,
     alloc: Global,
@@ -53,14 +52,14 @@ fn learned(
     device: DeviceId,
 ) -> Vec<End> {
     let mut others = without(rt, alloc, ends, call, device);
-    if let Some(state) = state_told(event.report.columns().kind) {
+    if let Some(state) = state_reported(event.report.columns().kind) {
         add(rt, &mut others, &(call, device, state));
     }
     others
 }
 
-// The connections that the events tell.
-fn ends_told(rt: &impl Abort, alloc: Global, events: &[Event]) -> Vec<End> {
+// The connections that the events report.
+fn ends_reported(rt: &impl Abort, alloc: Global, events: &[Event]) -> Vec<End> {
     let mut ends = Vec::new(alloc);
     for event in events {
         let columns = event.report.columns();
@@ -74,7 +73,7 @@ fn ends_told(rt: &impl Abort, alloc: Global, events: &[Event]) -> Vec<End> {
 // An agent's state, and station unless it is null.
 type Seat = (AgentState, Option<DeviceId>);
 
-// What an event of the agent tells, of whom this is known.
+// What an event reports of the agent, of whom this is known.
 fn seat_after(seat: Seat, kind: EventKind, device: Option<DeviceId>) -> Seat {
     match kind {
         EventKind::AgentLoggedOn => (AgentState::NotReady, device),
@@ -87,7 +86,7 @@ fn seat_after(seat: Seat, kind: EventKind, device: Option<DeviceId>) -> Seat {
     }
 }
 
-fn seat_told(events: &[Event], agent: AgentId) -> Seat {
+fn seat_reported(events: &[Event], agent: AgentId) -> Seat {
     let mut seat = (AgentState::Null, None);
     for event in events {
         let columns = event.report.columns();
@@ -126,30 +125,30 @@ fn is_external_caller(rows: &Rows, call: u64, device: DeviceId) -> bool {
     false
 }
 
-// Each connection of the rows is told, but that of an external caller, and no other one is.
+// Each connection of the rows is reported, but that of an external caller, and no other one is.
 fn compare_connections(rt: &impl Abort, alloc: Global, events: &[Event], rows: &Rows) {
-    let told = ends_told(rt, alloc, events);
+    let reported = ends_reported(rt, alloc, events);
     let mut kept = 0usize;
     for c in rows.connections.as_slice() {
         if !is_external_caller(rows, c.call, c.device) {
-            assert!(rt; told.contains(&(c.call, c.device, c.state)));
+            assert!(rt; reported.contains(&(c.call, c.device, c.state)));
             kept = kept.saturating_add(1);
         }
     }
-    same(rt, &told.len(), &kept);
+    same(rt, &reported.len(), &kept);
 }
 
 fn compare_agents(rt: &impl Abort, events: &[Event], rows: &Rows) {
     for agent in rows.agents.as_slice() {
         same(
             rt,
-            &seat_told(events, agent.agent),
+            &seat_reported(events, agent.agent),
             &(agent.state, agent.station),
         );
     }
     for event in events {
-        if let Some(told) = event.report.columns().agent {
-            assert!(rt; find(rows.agents.as_slice(), told).is_some());
+        if let Some(reported) = event.report.columns().agent {
+            assert!(rt; find(rows.agents.as_slice(), reported).is_some());
         }
     }
 }
@@ -174,7 +173,7 @@ fn compare_queue(rt: &impl Abort, events: &[Event], rows: &Rows, group: DeviceId
     }
 }
 
-/// Compares what all events tell with the rows.
+/// Compares what all events report with the rows.
 pub fn compare(rt: &impl Abort, alloc: Global, events: &[Event], rows: &Rows) {
     compare_connections(rt, alloc, events, rows);
     compare_agents(rt, events, rows);

@@ -1,4 +1,4 @@
-//! Look-ups and scans of rows, each of which goes over a whole list.
+//! Look-ups and scans of rows, each of which scans a whole list.
 
 use acd_terms::{
     AgentId, AgentRecord, CallRecord, ConnectionRecord, DeviceId, GroupRecord, MonitorRecord, Rows,

@@ -1,4 +1,4 @@
-//! The scenes, in lines of a [script](crate::script), and what is told of them.
+//! The scenes, in lines of a [script](crate::script), and what is found in them.
 
 pub mod agents;
 pub mod calls;
@@ -7,8 +7,8 @@ pub mod limits;
 pub mod morning;
 pub mod office;
 pub mod priorities;
+pub mod reads;
 pub mod refusals;
-pub mod told;
 
 /// The name of each scene but those of offices, and where each wrong one is wrong.
 pub fn names() -> &'static str {

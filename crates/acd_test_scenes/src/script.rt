@@ -5,16 +5,16 @@
 //! | `part NAME` | the lines of a transcript follow ([`player`](crate::player)), up to the next line of this table |
 //! | `- MOMENT CODE NAME JSON` | in a transcript: a request that is refused with this code and name, and its answer |
 //! | `+ MOMENT RESULT JSON` | in a transcript: a request that gets this result, and its answer |
-//! | `* FIRST LAST BEHIND MOMENT RESULT JSON` | for each number `$1` from the first to the last one, such a request, and `! *` behind it. `$2` is the number and so many more, for the invoke; `$3` is its group, of twelve; `$4` and `$5` are its station and its caller; `$6` and `$7` are of four digits: its group of 64, and the number from 1000 on |
-//! | `scene NAME: PART PART` | these parts, one behind the other, are played over a new book in memory and over one in a database |
+//! | `* FIRST LAST BEHIND MOMENT RESULT JSON` | for each number `$1` from the first to the last one, such a request, and `! *` after it. `$2` is the number and so many more, for the invoke; `$3` is its group, of twelve; `$4` and `$5` are its station and its caller; `$6` and `$7` are of four digits: its group of 64, and the number from 1000 on |
+//! | `scene NAME: PART PART` | these parts, one after the other, are played over a new book in memory and over one in a database |
 //! | `scene NAME within R C G S A M: PART` | the same with these limits on requests, calls, groups, stations, agents and monitors |
 //! | `table NAME: PART PART` | the lines of a transcript follow, with the places `$1`, `$2` and so on in them and in the name |
-//! | `row VALUE VALUE` | with these values in its places the table's transcript, behind the parts, is a scene of that name |
+//! | `row VALUE VALUE` | with these values in its places the table's transcript, after the parts, is a scene of that name |
 //! | `full NAME: PART PART` | all requests come as one input, over a new book in memory ([`full`](crate::full)) |
 //! | `wrong NAME: PART` | isn't what happens, and the player says where |
 //! | `files NAME: PART` | is played over files that are closed and opened between any two requests |
 //! | `stops NAME: PART` | is played over files of which one stops at each of its calls in turn ([`files`](crate::files)) |
-//! | `altered NAME: PART` | is taken by a book whose database is then changed by each of its lines `~ TOLD SQL` ([`altered`](crate::altered)) |
+//! | `altered NAME: PART` | a book executes it, whose database is then changed by each of its lines `~ TOLD SQL` ([`altered`](crate::altered)) |
 
 use crate::altered::database;
 use crate::ends::{expect_committed, expect_run, held_by};
@@ -156,7 +156,7 @@ fn request(rt: &impl Abort, alloc: Global, json: &str) -> Request {
     read_request(alloc, json.as_bytes()).expect(rt, "a request")
 }
 
-// The members of a reply that tell its request.
+// The members of a reply that identify its request.
 fn key_of(rt: &impl Abort, alloc: Global, json: &str) -> String {
     let request = request(rt, alloc, json);
     let (invoke, requester) = (request.invoke.number(), request.requester.as_str());
@@ -217,8 +217,8 @@ fn filled(rt: &impl Abort, alloc: Global, text: &str, values: &str) -> String {
 }
 
 // The values of a number: itself, so many more, its group, station and caller, and two of four digits.
-fn values_of(rt: &impl Abort, alloc: Global, number: u64, behind: u64) -> String {
-    let more = number.saturating_add(behind);
+fn values_of(rt: &impl Abort, alloc: Global, number: u64, offset: u64) -> String {
+    let more = number.saturating_add(offset);
     let group = number % 12 + 100;
     let station = number.saturating_add(200);
     let caller = number.saturating_add(301000);
@@ -228,8 +228,8 @@ fn values_of(rt: &impl Abort, alloc: Global, number: u64, behind: u64) -> String
 }
 
 // The lines of this number.
-fn granted_to(rt: &impl Abort, alloc: Global, said: &str, number: u64, behind: u64) -> String {
-    let values = values_of(rt, alloc, number, behind);
+fn granted_to(rt: &impl Abort, alloc: Global, said: &str, number: u64, offset: u64) -> String {
+    let values = values_of(rt, alloc, number, offset);
     let said = filled(rt, alloc, said, values.as_str());
     granted(rt, alloc, said.as_str())
 }
@@ -238,16 +238,16 @@ fn granted_to(rt: &impl Abort, alloc: Global, said: &str, number: u64, behind: u
 fn add_each(rt: &impl Abort, alloc: Global, text: &mut String, said: &str) {
     let (first, said) = halves(rt, said);
     let (last, said) = halves(rt, said);
-    let (behind, said) = halves(rt, said);
-    let (first, last, behind) = (number(rt, first), number(rt, last), number(rt, behind));
+    let (offset, said) = halves(rt, said);
+    let (first, last, offset) = (number(rt, first), number(rt, last), number(rt, offset));
     for number in first..last.saturating_add(1) {
-        let lines = granted_to(rt, alloc, said, number, behind);
+        let lines = granted_to(rt, alloc, said, number, offset);
         push(rt, text, &[lines.as_str(), "! *\n"]);
     }
 }
 
-// What is said of a scene and its parts: the name, behind it the limits where they aren't the greatest, and
-// the parts' names.
+// What is said of a scene and its parts: the name, after it the limits where they aren't the greatest, and the parts'
+// names.
 fn read_scene<'a>(rt: &impl Abort, said: &'a str) -> (&'a str, Limits, &'a str) {
     let (scene, names) = said.split_once(": ").expect(rt, "parts");
     match scene.split_once(" within ") {
@@ -277,12 +277,12 @@ fn mismatch(
     }
 }
 
-/// The parts that were read, and what is told of the scenes.
+/// The parts that were read, and what is found in the scenes.
 #[derive(Drop)]
 pub struct Script<'a> {
     alloc: Global,
     parts: Vec<Part<'a>>,
-    told: String,
+    results: String,
 }
 
 impl<'a> Script<'a> {
@@ -290,30 +290,30 @@ impl<'a> Script<'a> {
         Script {
             alloc,
             parts: Vec::new(alloc),
-            told: String::new(alloc),
+            results: String::new(alloc),
         }
     }
 
     /// Each scene that is as it should be has a line here, its name; a wrong one has also the line in its last part
     /// from 0, and what is wrong there.
-    pub fn told(&self) -> &str {
-        self.told.as_str()
+    pub fn results(&self) -> &str {
+        self.results.as_str()
     }
 
     // A scene was played. It is what happens, unless it is a wrong one.
-    fn tell(&mut self, rt: &impl Abort, word: &str, name: &str, wrong: Option<String>) {
+    fn add_result(&mut self, rt: &impl Abort, word: &str, name: &str, wrong: Option<String>) {
         match wrong {
             None => {
                 assert!(rt; word != "wrong");
-                push(rt, &mut self.told, &[name, "\n"]);
+                push(rt, &mut self.results, &[name, "\n"]);
             }
             Some(what) => {
                 let what = what.as_str();
                 if word != "wrong" {
                     panic!(rt; "{name}, {what}");
                 }
-                push(rt, &mut self.told, &[name, ", "]);
-                push(rt, &mut self.told, &[what, "\n"]);
+                push(rt, &mut self.results, &[name, ", "]);
+                push(rt, &mut self.results, &[what, "\n"]);
             }
         }
     }
@@ -324,14 +324,14 @@ impl<'a> Script<'a> {
         mismatch(rt, self.alloc, word, limits, &texts)
     }
 
-    // Plays a scene, and tells of it.
+    // Plays a scene, and answers what it found.
     fn play_scene(&mut self, rt: &impl Abort, word: &str, said: &str) {
         let (name, limits, names) = read_scene(rt, said);
         let wrong = self.wrong(rt, word, limits, names);
-        self.tell(rt, word, name, wrong);
+        self.add_result(rt, word, name, wrong);
     }
 
-    // Plays these parts, and this text behind them.
+    // Plays these parts, and this text after them.
     fn wrong_row(
         &self,
         rt: &impl Abort,
@@ -344,11 +344,11 @@ impl<'a> Script<'a> {
         played(rt, self.alloc, limits, &texts)
     }
 
-    // Plays what is said of the table, with this text behind its parts.
+    // Plays what is said of the table, with this text after its parts.
     fn play_filled(&mut self, rt: &impl Abort, said: &str, text: &str) {
         let (name, limits, names) = read_scene(rt, said);
         let wrong = self.wrong_row(rt, limits, names, text);
-        self.tell(rt, "row", name, wrong);
+        self.add_result(rt, "row", name, wrong);
     }
 
     // Plays what a row makes of the table that was begun last.

@@ -92,7 +92,7 @@ pub fn opened<B: Book + Drop>(rt: &impl Abort, alloc: Global, book: B) -> Desk<B
     }
 }
 
-// What the program writes to this input.
+// The program's output for this input.
 fn written<B: Book>(rt: &impl Abort, alloc: Global, desk: &mut Desk<B>, input: &str) -> Vec<u8> {
     let mut reader = input.as_bytes();
     let mut writer = Vec::new(alloc);
@@ -101,7 +101,7 @@ fn written<B: Book>(rt: &impl Abort, alloc: Global, desk: &mut Desk<B>, input: &
     writer
 }
 
-/// What a desk over the book answers to this input.
+/// The answer of a desk over the book to this input.
 pub fn answered<B: Book + Drop>(
     rt: &impl Abort,
     alloc: Global,

@@ -35,8 +35,8 @@ fn adopted<S: Alter + Drop>(
     }
 }
 
-/// A new book in the database with these limits, or else the one that lies there; and the connection where there is none, or
-/// its store has stopped.
+/// A new book in the database with these limits, or else the one that is there; and the connection where there is none,
+/// or its store has stopped.
 pub fn take<S: Alter + Drop>(
     alloc: Global,
     conn: Connection<S>,
@@ -48,7 +48,7 @@ pub fn take<S: Alter + Drop>(
     }
 }
 
-/// The connection behind these statements.
+/// The connection after these statements.
 pub fn changed<S: Alter + Drop>(rt: &impl Abort, conn: Connection<S>, sql: &str) -> Connection<S> {
     let mut conn = conn;
     conn.execute_batch(sql).expect(rt, "a change");

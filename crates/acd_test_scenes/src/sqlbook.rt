@@ -1,4 +1,4 @@
-//! A book in SQLite: new ones, those that are taken, and commits. What a database holds is a text of SQL.
+//! A book in SQLite: new ones, those that are adopted, and commits. A text of SQL gives the content of a database.
 
 mod adopted;
 mod carried;
@@ -25,7 +25,7 @@ fn created<S: Alter + Drop>(rt: &impl Abort, alloc: Global, conn: Connection<S>)
     book_in(rt, alloc, conn, Some(Limits::GREATEST))
 }
 
-// The connection, in whose database a new book is made, behind a change of it.
+// The connection, in whose database a new book is made, after a change of it.
 fn altered<S: Alter + Drop>(
     rt: &impl Abort,
     alloc: Global,
@@ -64,7 +64,7 @@ fn a_new_book(rt: HostRuntime) {
     );
 }
 
-// What is told where a book is to be made.
+// What is answered where a book is to be made.
 fn fault_of_making<S: Alter + Drop>(
     rt: &impl Abort,
     alloc: Global,
@@ -79,7 +79,7 @@ fn fault_of_making<S: Alter + Drop>(
     }
 }
 
-// A table that isn't a book's, or a view; and a book. What is there stays, by the clause `occupied`.
+// A table that isn't a book's, or a view; and a book. The content stays, by the clause `occupied`.
 #[test]
 fn a_book_is_made_in_no_other_database(rt: HostRuntime) {
     for sql in [

@@ -1,7 +1,7 @@
 //! All scenes.
 
 use crate::scenes::{
-    self, agents, calls, corrections, limits, morning, office, priorities, refusals, told,
+    self, agents, calls, corrections, limits, morning, office, priorities, reads, refusals,
 };
 use crate::script::Script;
 use crate::texts::same_text;
@@ -15,8 +15,8 @@ fn all_scenes(rt: HostRuntime) {
     script.play(&rt, priorities::lines());
     script.play(&rt, corrections::lines());
     script.play(&rt, refusals::lines());
-    script.play(&rt, told::lines());
-    same_text(&rt, script.told(), scenes::names());
+    script.play(&rt, reads::lines());
+    same_text(&rt, script.results(), scenes::names());
 }
 
 #[test]
@@ -25,7 +25,7 @@ fn offices(rt: HostRuntime) {
     script.play(&rt, office::lines());
     script.play(&rt, morning::first_lines());
     script.play(&rt, morning::last_lines());
-    same_text(&rt, script.told(), "office\nmorning\n");
+    same_text(&rt, script.results(), "office\nmorning\n");
     many_events::export_of_many_events(&rt, rt.alloc());
     many_requests::pages_of_many_requests(&rt, rt.alloc());
 }
@@ -34,5 +34,5 @@ fn offices(rt: HostRuntime) {
 fn an_office_at_its_limits(rt: HostRuntime) {
     let mut script = Script::new(rt.alloc());
     script.play(&rt, limits::lines());
-    same_text(&rt, script.told(), "office_at_its_limits\n");
+    same_text(&rt, script.results(), "office_at_its_limits\n");
 }

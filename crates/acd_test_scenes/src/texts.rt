@@ -16,7 +16,7 @@ pub fn push_both(rt: &impl Abort, text: &mut String, first: &str, second: &str) 
     text.push_str(second).expect(rt, "memory");
 }
 
-/// The parts, one behind the other.
+/// The parts, one after the other.
 pub fn joined(rt: &impl Abort, alloc: Global, parts: &[&str]) -> String {
     let mut text = String::new(alloc);
     push(rt, &mut text, parts);
@@ -33,7 +33,7 @@ pub fn moment(rt: &impl Abort, digits: &str) -> u32 {
     digits.parse::<u32>().expect(rt, "a moment")
 }
 
-/// What stands before the first space, and what behind it.
+/// The part before the first space, and the part after it.
 pub fn halves<'a>(rt: &impl Abort, text: &'a str) -> (&'a str, &'a str) {
     text.split_once(' ').expect(rt, "a space")
 }

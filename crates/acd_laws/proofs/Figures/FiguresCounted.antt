@@ -12,7 +12,7 @@ use Rattle.acd_model.specs.Services.{no_figures, new_group, waiting_group, first
 use Rattle.acd_model.specs.declared.moves.Ending.TheVariants.{NoAnswer}
 use Rattle.acd_model.specs.declared.moves.Change.TheVariants.{PutGroup, PutAgent}
 use Rattle.acd_lemmas.proofs.Facts.{Rules, GroupColumn, ConnectionRule}
-use Rattle.acd_laws.proofs.MoveKinds.{LeavesGroups, left_groups, AgentMove, stays, remains, tells, Anyone, goes_from, released_by, occupied_by, Arrival, queues, alerts, fails, arrival_of}
+use Rattle.acd_laws.proofs.MoveKinds.{LeavesGroups, left_groups, AgentMove, stays, remains, reports, Anyone, goes_from, released_by, occupied_by, Arrival, queues, alerts, fails, arrival_of}
 use Rattle.acd_lemmas.proofs.Lists.{every_among, among_put, mapped_among, some_is}
 use Rattle.acd_lemmas.proofs.State.{connection_among, other_among, group_found_put, group_counted_found, is_some_mapped, group_among, group_key, group_put_found}
 use Rattle.acd_laws.proofs.Figures.CountedEvents.{group_counted, quiet, figures_joined, figures_numbered, figures_skipped, no_events, nothing_sum}
@@ -65,7 +65,7 @@ fits_state gs a _ agent station = (tt, tt)
 fits_agent : {K : AgentRecord → Type 0} {turn : Turn} {x : Move} (gs : List GroupRecord) → AgentMove K turn x → Fits gs x
 fits_agent gs stays = (tt, tt)
 fits_agent gs (remains _ _ _ _) = (tt, tt)
-fits_agent gs (tells a b d _ _) = fits_state gs b b.state b.agent d
+fits_agent gs (reports a b d _ _) = fits_state gs b b.state b.agent d
 
 fits_arrival : (s : Rows) {turn : Turn} {call to : ℕ} {why : Cause} {x : Move} → Arrival s turn call to why x → Fits s.groups x
 fits_arrival s (queues e) = (tt, known_group s _ e)
@@ -99,7 +99,7 @@ fits_clearing s turn x (Some y) h g =
 pub fits_round : (s : Rows) (turn : Turn) (ms : List Move) → Round s turn ms → Rules s → AllFit s.groups ms
 fits_round s turn _ (offers o x a d h) r = ((tt, known s x r h.there), ((tt, tt), tt))
 fits_round s turn _ (returns x g there _ e) r =
-    let own = known s x r (connection_among s x.call x.device x there) in ((tt, own), ((tt, subst (IsAmongGroups s.groups) e own), (fits_agent s.groups (released_by s turn x NoAnswer), tt)))
+    let in_group = known s x r (connection_among s x.call x.device x there) in ((tt, in_group), ((tt, subst (IsAmongGroups s.groups) e in_group), (fits_agent s.groups (released_by s turn x NoAnswer), tt)))
 fits_round s turn _ (rests a _ _) r = (fits_agent s.groups (goes_from Anyone turn a a.station Ready tt), tt)
 
 -- each deed: it fits, or adds a group
@@ -107,13 +107,13 @@ fits_round s turn _ (rests a _ _) r = (fits_agent s.groups (goes_from Anyone tur
 pub record Adds (s : Rows) (ms : List Move) : Type 0 where
   pub group : GroupRecord
   pub alone : ms ≡ silent (PutGroup group) ∷ []
-  pub fresh : is_group s group.device ≡ false
+  pub unused : is_group s group.device ≡ false
   pub new : group.figures ≡ no_figures
 
 pub fits_deed : (s : Rows) (turn : Turn) (ms : List Move) → Deed s turn ms → Rules s → AllFit s.groups ms ⊎ Adds s ms
 fits_deed s turn _ nothing r = inl tt
 fits_deed s turn _ (adds_group device name ring wrap free _) r =
-    inr (record { group = new_group device name ring wrap; alone = refl; fresh = (or_parts (is_group s device) (is_station s device) (or_parts (is_planned s device) (is_calling s device) free).0).0; new = refl })
+    inr (record { group = new_group device name ring wrap; alone = refl; unused = (or_parts (is_group s device) (is_station s device) (or_parts (is_planned s device) (is_calling s device) free).0).0; new = refl })
 fits_deed s turn _ (adds_station _ _ _) r = inl ((tt, tt), tt)
 fits_deed s turn _ (adds_agent _ _ _ _) r = inl ((tt, tt), tt)
 fits_deed s turn _ (watches _ _ _) r = inl ((tt, tt), tt)
@@ -151,7 +151,8 @@ quiet_moves : (gs : List GroupRecord) (m d : ℕ) (ms : List Move) → AllFit gs
 quiet_moves gs m d [] h e = no_events d
 quiet_moves gs m d (x ∷ ms) h e = quiet_event gs m d x.report (events_of m ms) h.0.1 e ∙ quiet_moves gs m d ms h.1 e
 
--- within a step: the groups have the figures of the events before it, and its own count for planned groups alone
+-- within a step: the groups have the figures of the events before it, and the counts of the step for planned groups
+-- alone
 
 record Uncounted (old : List Event) (gs : List GroupRecord) (es : List Event) : Type 0 where
   groups : (g : GroupRecord) → Among g gs → g.figures ≡ figures_of g.device old
@@ -165,9 +166,9 @@ not_before : (d : ℕ) (g : GroupRecord) (gs : List GroupRecord) → is_some (fi
 not_before d g gs e = false_from_ne_true (is_some (find_by (at_group d) gs)) (λ q. cc (e, some_stays d g gs q))
 
 uncounted_added : (old : List Event) (gs : List GroupRecord) (es : List Event) (g : GroupRecord) → is_some (find_by (at_group g.device) gs) ≡ false → g.figures ≡ no_figures → Uncounted old gs es → Uncounted old (put_by (at_group g.device) gs g) es
-uncounted_added old gs es g fresh new k = record {
+uncounted_added old gs es g unused new k = record {
   groups = λ z a. elim (among_put (at_group g.device) g gs z a) [
-    | inl e ↦ subst (λ (y : GroupRecord). y.figures ≡ figures_of y.device old) (sym e) (new ∙ sym (k.others g.device fresh))
+    | inl e ↦ subst (λ (y : GroupRecord). y.figures ≡ figures_of y.device old) (sym e) (new ∙ sym (k.others g.device unused))
     | inr b ↦ k.groups z b
   ];
   others = λ d e. k.others d (not_before d g gs e);
@@ -198,21 +199,21 @@ uncounted_moved old m s es ms fit k =
 
 uncounted_with : (old : List Event) (m : ℕ) (s : Rows) (es : List Event) (g : GroupRecord) → is_group s g.device ≡ false → g.figures ≡ no_figures → UncountedIn old s es → Kept (UncountedIn old) m s es (silent (PutGroup g) ∷ [])
 unfolding with_group group_of
-uncounted_with old m s es g fresh new k = subst (Uncounted old (put_by (at_group g.device) s.groups g)) (sym (append-nil es)) (uncounted_added old s.groups es g fresh new k)
+uncounted_with old m s es g unused new k = subst (Uncounted old (put_by (at_group g.device) s.groups g)) (sym (append-nil es)) (uncounted_added old s.groups es g unused new k)
 
 uncounted_deed : (old : List Event) (turn : Turn) (s : Rows) (es : List Event) (ms : List Move) → Deed s turn ms → Rules s → UncountedIn old s es → Kept (UncountedIn old) turn.moment s es ms
 uncounted_deed old turn s es ms d r h =
     elim (fits_deed s turn ms d r) [
       | inl f ↦ uncounted_moved old turn.moment s es ms f h
-      | inr a ↦ subst (Kept (UncountedIn old) turn.moment s es) (sym a.alone) (uncounted_with old turn.moment s es a.group a.fresh a.new h)
+      | inr a ↦ subst (Kept (UncountedIn old) turn.moment s es) (sym a.alone) (uncounted_with old turn.moment s es a.group a.unused a.new h)
     ]
 
 uncounted_regroups : (old : List Event) (m : ℕ) (s : Rows) (es : List Event) (c : Command) (ms : List Move) → Regroups s c ms → UncountedIn old s es → Kept (UncountedIn old) m s es ms
 unfolding with_group
 uncounted_regroups old m s es c _ (refuses device it none) k = subst (UncountedIn old s) (sym (append-nil es)) k
-uncounted_regroups old m s es c _ (puts device g it own) k =
+uncounted_regroups old m s es c _ (puts device g it found) k =
     let h : GroupRecord = group_given c g in
-    subst (Uncounted old (put_by (at_group h.device) s.groups h)) (sym (append-nil es)) (uncounted_regrouped old s.groups es g h (group_among s device g own) (given_device c g) (given_figures c g) k)
+    subst (Uncounted old (put_by (at_group h.device) s.groups h)) (sym (append-nil es)) (uncounted_regrouped old s.groups es g h (group_among s device g found) (given_device c g) (given_figures c g) k)
 
 -- the end of a step
 
@@ -279,10 +280,10 @@ found_ended t es n a b c d g e =
 
 found_added : (s : Rows) (h g : GroupRecord) (d : ℕ) → is_group s h.device ≡ false → group_of s d ≡ Some g → group_of (with_group s h) d ≡ Some g
 unfolding with_group group_of
-found_added s h g d fresh e =
+found_added s h g d unused e =
     group_found_put d h s.groups ∙
     (elim (h.device == d) as (λ b. (h.device == d) ≡ b → cond b (Some h) (find_by (at_group d) s.groups) ≡ Some g) [
-      | true ↦ λ q. absurd (cc (fresh, ap (λ v. is_some (find_by (at_group v) s.groups)) (eqb-true h.device d q)))
+      | true ↦ λ q. absurd (cc (unused, ap (λ v. is_some (find_by (at_group v) s.groups)) (eqb-true h.device d q)))
       | false ↦ λ q. e
     ]) refl
 
@@ -298,17 +299,17 @@ not_regrouped c g e = rw e refl
 found_regroups : (s : Rows) (c : Command) (ms : List Move) (d : ℕ) (g : GroupRecord) → Regroups s c ms → group_of s d ≡ Some g → group_of (moved s ms) d ≡ Some (regrouped c g)
 found_regroups s c _ d g (refuses device it none) e =
     e ∙ ap Some (sym (not_regrouped c g (rw it (false_from_ne_true (device == g.device) (λ q. cc (none, e, ap (group_of s) (eqb-true device g.device q ∙ group_key s d g e)))))))
-found_regroups s c _ d g (puts device was it own) e =
+found_regroups s c _ d g (puts device was it found) e =
     let h : GroupRecord = group_given c was in
-    let at : h.device ≡ device = given_device c was ∙ group_key s device was own in
+    let at : h.device ≡ device = given_device c was ∙ group_key s device was found in
     let key : g.device ≡ d = group_key s d g e in
     group_put_found s h d ∙
     (elim (h.device == d) as (λ b. (h.device == d) ≡ b → cond b (Some h) (group_of s d) ≡ Some (regrouped c g)) [
       | true ↦ λ q.
           let here : d ≡ device = sym (eqb-true h.device d q) ∙ at in
-          let same : was ≡ g = some_is was g (sym own ∙ ap (group_of s) (sym here) ∙ e) in
-          let own_number : (device == g.device) ≡ true = eq-eqb device g.device (sym here ∙ sym key) in
-          rw (it, own_number) (ap (λ v. Some (group_given c v)) same)
+          let same : was ≡ g = some_is was g (sym found ∙ ap (group_of s) (sym here) ∙ e) in
+          let same_number : (device == g.device) ≡ true = eq-eqb device g.device (sym here ∙ sym key) in
+          rw (it, same_number) (ap (λ v. Some (group_given c v)) same)
       | false ↦ λ q. e ∙ ap Some (sym (not_regrouped c g (rw it (false_from_ne_true (device == g.device) (λ p. true≢false (sym (eq-eqb h.device d (at ∙ eqb-true device g.device p ∙ key)) ∙ q))))))
     ]) refl
 
@@ -323,6 +324,6 @@ step_adds_figures s moment command d g r e =
     (by_parts (λ t es. group_of t d ≡ Some g) (λ t es. group_of t d ≡ Some (regrouped command g)) turn command
     (λ other t es ns deed rt h. left other (moved t ns) (elim (fits_deed t turn ns deed rt) [
       | inl f ↦ found_moved t ns d g f h
-      | inr a ↦ subst (λ w. group_of (moved t w) d ≡ Some g) (sym a.alone) (found_added t a.group g d a.fresh h)
+      | inr a ↦ subst (λ w. group_of (moved t w) d ≡ Some g) (sym a.alone) (found_added t a.group g d a.unused h)
     ])) (λ t es ns regroup rt h. found_regroups t command ns d g regroup h) (λ other t es h. left other t h)
     (λ t es ns round rt h. found_moved t ns d (regrouped command g) (fits_round t turn ns round rt) h) s [] r e)

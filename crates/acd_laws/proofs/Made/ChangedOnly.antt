@@ -40,14 +40,14 @@ unfolding step change_group change_agent refuse_if
 changes_change_only s moment h =
     let none = (keeps_read s h).offers in
     record {
-      group = λ device name ring wrap g own.
+      group = λ device name ring wrap g found.
           let put : GroupRecord = record g { name = name; ring = ring; wrap = wrap } in
-          let served : change_group s device name ring wrap ≡ gives Nothing (silent (PutGroup put) ∷ []) = rw own refl in
-          let q = quiet_step s moment (ChangeGroup device name ring wrap) (silent (PutGroup put) ∷ []) (ap moves_of served) refl (no_offer_regrouped s g put (group_among s device g own) refl none) in
+          let served : change_group s device name ring wrap ≡ gives Nothing (silent (PutGroup put) ∷ []) = rw found refl in
+          let q = quiet_step s moment (ChangeGroup device name ring wrap) (silent (PutGroup put) ∷ []) (ap moves_of served) refl (no_offer_regrouped s g put (group_among s device g found) refl none) in
           record { outcome = ap outcome_of served; events = q.0; rows = q.1 };
-      agent = λ agent name a own.
+      agent = λ agent name a found.
           let put : AgentRecord = record a { name = name } in
-          let served : change_agent s agent name ≡ gives Nothing (silent (PutAgent put) ∷ []) = rw own refl in
-          let q = quiet_step s moment (ChangeAgent agent name) (silent (PutAgent put) ∷ []) (ap moves_of served) refl (no_offer_renamed s a name (agent_among s agent a own) none) in
+          let served : change_agent s agent name ≡ gives Nothing (silent (PutAgent put) ∷ []) = rw found refl in
+          let q = quiet_step s moment (ChangeAgent agent name) (silent (PutAgent put) ∷ []) (ap moves_of served) refl (no_offer_renamed s a name (agent_among s agent a found) none) in
           record { outcome = ap outcome_of served; events = q.0; rows = q.1 };
     }

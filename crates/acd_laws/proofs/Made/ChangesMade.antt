@@ -1,4 +1,4 @@
--- What a step changes: its changes make its rows, and a refused request changes nothing.
+-- The changes of a step: they make its rows, and a refused request changes nothing.
 use Rattle.std.proofs.Common.{◌≡◌, ℕ, suc, ◌+◌, true, false, not, cond, List, [], ◌∷◌, Some, None, refl, sym, ◌∙◌, ap, subst, inl, inr, length, map, add-zero, append-nil, Ok, Err}
 use Rattle.std.specs.Prelude.{◌==◌}
 use Rattle.std.specs.Cmp.{IsTotalOrder}
@@ -50,7 +50,7 @@ put_mapped cmp o f g h self (y ∷ ys) s (inr a) =
 other_number : (a b : ℕ) → is_eq (nat_cmp a b) ≡ false → (a == b) ≡ false
 other_number a b e = false_from_ne_true (a == b) (λ q. cc (e, is_eq_of (nat_cmp a b) (cmp_self a b (eqb-true a b q))))
 
--- what an event counts for a group
+-- the counts of an event for a group
 
 still : (g : ℕ) (r : Report) → has (counted_group r) g ≡ false → Quiet g r
 still g (Queued call group cause) e =

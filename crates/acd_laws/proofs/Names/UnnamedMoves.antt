@@ -35,7 +35,7 @@ unnamed_change change = change
 abbrev pub unnamed_move : Move → Move
 unnamed_move move = record move { change = unnamed_change move.change }
 
--- what moves make and report
+-- the effects and reports of moves
 
 unnamed_changed : (s : Rows) (c : Change) → changed (unnamed s) (unnamed_change c) ≡ unnamed (changed s c)
 unfolding unnamed with_group with_station with_agent with_call with_connection with_monitor without_call without_connection without_monitor
@@ -69,7 +69,7 @@ module _ (s : Rows) (turn : Turn) where
       comes Idle = refl
       comes Busy = refl
 
-  -- what is done with the agent at a station, where a test passes
+  -- the move of the agent at a station, where a test passes
   of_agent_at : (move : Option AgentRecord → Move) → move None ≡ unnamed_move (move None) → ((a : AgentRecord) → move (Some (unnamed_agent a)) ≡ unnamed_move (move (Some a))) → (b : Bool) (d : Device)
       → cond b (move (agent_at (unnamed s) d)) no_move ≡ unnamed_move (cond b (move (agent_at s d)) no_move)
   of_agent_at move none some true d = ap move (unnamed_agent_at s d) ∙ of-option_map unnamed_agent move (λ o. unnamed_move (move o)) none some (agent_at s d)

@@ -5,7 +5,7 @@ use Rattle.std.proofs.lemmas.Simd.{map-map}
 use Rattle.acd_terms.specs.Numbers.{Device, Agent}
 use Rattle.acd_lemmas.proofs.Words.{Rows, GroupRecord, AgentRecord, group_of, agent_of, agent_at, is_group, is_planned, is_occupied, is_idle, is_eligible, eligible_in, waiting_in, station_of, is_calling, at_group, at_agent, has}
 use Rattle.acd_model.specs.Scans.{is_used}
-use Rattle.acd_model.specs.Choice.{least_from, ready_pair, first_waiting, first_eligible, offer_in, is_served_before, sooner, first_served, has_both, offer_of}
+use Rattle.acd_model.specs.Choice.{least_from, ready_pair, first_waiting, first_eligible, offer_in, precedes, sooner, foremost, has_both, offer_of}
 use Rattle.acd_lemmas.proofs.State.{is_some_mapped}
 use Rattle.acd_laws.specs.NameLaws.{unnamed_group, unnamed_agent, unnamed}
 use Rattle.acd_lemmas.proofs.MappedLists.{find_by-map, find-map, filter-map, of-option_map}
@@ -56,15 +56,15 @@ module _ (s : Rows) where
 
 unnamed_sooner : (o : Option GroupRecord) (g : GroupRecord) → sooner (option_map unnamed_group o) (unnamed_group g) ≡ unnamed_group (sooner o g)
 unnamed_sooner None g = refl
-unnamed_sooner (Some h) g = elim (is_served_before g h) as (λ b. cond b (unnamed_group g) (unnamed_group h) ≡ unnamed_group (cond b g h)) [ true ↦ refl | false ↦ refl ]
+unnamed_sooner (Some h) g = elim (precedes g h) as (λ b. cond b (unnamed_group g) (unnamed_group h) ≡ unnamed_group (cond b g h)) [ true ↦ refl | false ↦ refl ]
 
-unnamed_first_served : (o : Option GroupRecord) (gs : List GroupRecord) → first_served (option_map unnamed_group o) (map unnamed_group gs) ≡ option_map unnamed_group (first_served o gs)
-unnamed_first_served o [] = refl
-unnamed_first_served o (g ∷ gs) = ap (λ h. first_served (Some h) (map unnamed_group gs)) (unnamed_sooner o g) ∙ unnamed_first_served (Some (sooner o g)) gs
+unnamed_foremost : (o : Option GroupRecord) (gs : List GroupRecord) → foremost (option_map unnamed_group o) (map unnamed_group gs) ≡ option_map unnamed_group (foremost o gs)
+unnamed_foremost o [] = refl
+unnamed_foremost o (g ∷ gs) = ap (λ h. foremost (Some h) (map unnamed_group gs)) (unnamed_sooner o g) ∙ unnamed_foremost (Some (sooner o g)) gs
 
 pub unnamed_offer_of : (s : Rows) → offer_of (unnamed s) ≡ offer_of s
 unfolding unnamed offer_of
 unnamed_offer_of s =
-    ap (λ l. option_and_then (offer_in (unnamed s)) (first_served None l)) (filter-map unnamed_group (has_both (unnamed s)) (has_both s) (unnamed_has_both s) s.groups)
-    ∙ ap (option_and_then (offer_in (unnamed s))) (unnamed_first_served None (filter (has_both s) s.groups))
-    ∙ of-option_map unnamed_group (option_and_then (offer_in (unnamed s))) (option_and_then (offer_in s)) refl (unnamed_offer_in s) (first_served None (filter (has_both s) s.groups))
+    ap (λ l. option_and_then (offer_in (unnamed s)) (foremost None l)) (filter-map unnamed_group (has_both (unnamed s)) (has_both s) (unnamed_has_both s) s.groups)
+    ∙ ap (option_and_then (offer_in (unnamed s))) (unnamed_foremost None (filter (has_both s) s.groups))
+    ∙ of-option_map unnamed_group (option_and_then (offer_in (unnamed s))) (option_and_then (offer_in s)) refl (unnamed_offer_in s) (foremost None (filter (has_both s) s.groups))

@@ -19,8 +19,8 @@ use Rattle.acd_laws.specs.NameLaws.{unnamed_group, unnamed_agent, unnamed, unnam
 use Rattle.acd_laws.proofs.Names.UnnamedScans.{unnamed_group_of, unnamed_agent_of, unnamed_is_group, unnamed_is_planned, unnamed_is_used, unnamed_agent_is_there, unnamed_is_taken}
 use Rattle.acd_laws.proofs.Names.UnnamedMoves.{unnamed_move, unnamed_arrive, unnamed_release, unnamed_occupy, unnamed_go_from, unnamed_return_moves, unnamed_tick}
 
--- what a service answers over rows without their names, and over the rows: the same refusal, or the same answer with the same moves, less
--- the names that they put
+-- the answer of a service over rows without their names, and over the rows: the same refusal, or the same answer with the same moves,
+-- less the names that they put
 pub record IsUnnamed (v w : Served) : Type 0 where
   pub outcome : outcome_of v ≡ outcome_of w
   pub moves : moves_of v ≡ map unnamed_move (moves_of w)

@@ -1,4 +1,5 @@
--- A distribution and tick: what each offer, return and rest keeps, one after another; and that a distribution's offers are those that are to be made.
+-- A distribution and tick: each offer, return and rest, one after another, with what it keeps; and a distribution's offers are those that are to be
+-- made.
 use Rattle.std.proofs.Common.{◌≡◌, ℕ, zero, suc, ◌+◌, ◌≤◌, Bool, true, false, ◌&&◌, List, [], ◌++◌, Option, Some, None, refl, sym, ◌∙◌, ap, subst, arith, length, append_assoc, append-nil, inl, inr, ◌∷◌, eq-eqb}
 use Rattle.std.specs.Prelude.{◌==◌, filter, ◌↔◌, is_some}
 use Rattle.acd_terms.specs.Groups.{is_one_of, least_group}
@@ -236,12 +237,12 @@ other_call t x z r a b ax az l e =
     (λ q. cc (l, order_same x z (ap (λ (w : ConnectionRecord). w.call) q) (ap (λ (w : ConnectionRecord). w.device) q))) in
     let o = r.one_open x.call in absurd (omega (arith, two, o))
 
--- what a return of a call keeps
+-- a return of a call keeps this
 abbrev pub ReturnKeeps : (Rows → List Event → Type 0) → Turn → Type 0
 ReturnKeeps P turn = (t : Rows) (es : List Event) (x : ConnectionRecord) (g : ℕ) → Rules t → P t es → connection_of t x.call x.device ≡ Some x → is_alerting x.state ≡ true → x.group ≡ Some g
     → Kept P turn.moment t es (return_to t turn x (Some g))
 
--- what an end of after-call work keeps
+-- an end of after-call work keeps this
 abbrev pub RestKeeps : (Rows → List Event → Type 0) → Turn → Type 0
 RestKeeps P turn = (t : Rows) (es : List Event) (a : AgentRecord) → Rules t → P t es → agent_of t a.agent ≡ Some a → is_working_after_call a.state ≡ true → Kept P turn.moment t es (rest_moves turn a)
 
@@ -261,12 +262,12 @@ returns_keep P turn f t es [] so b r h = (r, kept_nothing P turn.moment t es h)
 returns_keep P turn f t es (x ∷ xs) so b r h =
     let bx = b x (inl refl) in
     let g = some_from x.group bx.grouped in
-    let own : connection_of t x.call x.device ≡ Some x = connection_there t r x bx.there in
+    let found : connection_of t x.call x.device ≡ Some x = connection_there t r x bx.there in
     let one : List Move = return_moves t turn x in
     let same : return_to t turn x (Some g.0) ≡ one = ap (return_to t turn x) (sym g.1) in
     let rest : List Move = each (λ t x. return_moves t turn x) (moved t one) xs in
-    let r1 : Rules (moved t one) = subst (λ ms. Rules (moved t ms)) same (kept_return_to t turn g.0 x r own bx.alerting g.1) in
-    let h1 : Kept P turn.moment t es one = subst (Kept P turn.moment t es) same (f t es x g.0 r h own bx.alerting g.1) in
+    let r1 : Rules (moved t one) = subst (λ ms. Rules (moved t ms)) same (kept_return_to t turn g.0 x r found bx.alerting g.1) in
+    let h1 : Kept P turn.moment t es one = subst (Kept P turn.moment t es) same (f t es x g.0 r h found bx.alerting g.1) in
     let ih = returns_keep P turn f (moved t one) (es ++ events_of turn.moment one) xs so.1
     (λ z a. let bz = b z (inr a) in record {
       there = subst (λ ms. Among z (moved t ms).connections) same (return_stays t turn g.0 x z bz.there (other_call t x z r bx.there bz.there bx.alerting bz.alerting (after_among connection_order x xs z so.0 a)));

@@ -2,7 +2,7 @@
 use Rattle.std.proofs.Common.{◌≡◌, ℕ, inl, inr, true, false, ◌&&◌, List, [], ◌∷◌, Some, None, refl, sym, ◌∙◌, ap, ap₂, subst, arith, ◌<◌, Option, zero, suc}
 use Rattle.std.specs.Prelude.{is_some, option_and_then, filter}
 use Rattle.std.proofs.lemmas.Bool.Decides.{nat_tests}
-use Rattle.acd_model.specs.Choice.{waiting_pair, ready_pair, first_waiting, first_eligible, offer_by, offer_in, offer_of, is_served_before, first_served, has_both}
+use Rattle.acd_model.specs.Choice.{waiting_pair, ready_pair, first_waiting, first_eligible, offer_by, offer_in, offer_of, precedes, foremost, has_both}
 use Rattle.acd_model.specs.Offers.{HasNoOffer, IsOffer, FindsTheOffer, GroupsAscend}
 use Rattle.std.proofs.lemmas.Bool.{false_from_ne_true}
 use Rattle.acd_lemmas.proofs.Lists.{some_is, filter_among, among-filter, filter_none}
@@ -10,7 +10,7 @@ use Rattle.std.specs.Ordering.{nat_cmp}
 use Rattle.std.specs.declared.cmp.Ordering.TheVariants.{Less}
 use Rattle.acd_lemmas.proofs.Words.{Rows, GroupRecord, Offer, Among, AllAfter, IsAscending}
 use Rattle.acd_model.specs.Distribution.{offers}
-use Rattle.acd_lemmas.proofs.Least.{none_of, least_is, least_found, none_mapped, IsServedFirst, none_served, served_is}
+use Rattle.acd_lemmas.proofs.Least.{none_of, least_is, least_found, none_mapped, IsForemost, none_foremost, foremost_is}
 use Rattle.acd_lemmas.proofs.Numbers.{less_is}
 
 -- a group has both, or no offer
@@ -41,9 +41,9 @@ none_has_both s gs h = filter_none (has_both s) gs (λ g there. not_both s g (h 
 
 found_is : (s : Rows) (o : Offer) → offer_of s ≡ Some o → IsOffer s o
 unfolding offer_of first_waiting first_eligible
-found_is s o e = by (first_served None (filter (has_both s) s.groups)) refl e
+found_is s o e = by (foremost None (filter (has_both s) s.groups)) refl e
   where
-    in_group : (g : GroupRecord) → IsServedFirst g (filter (has_both s) s.groups) → (w r : Option (ℕ × ℕ)) → first_waiting s g.device ≡ w
+    in_group : (g : GroupRecord) → IsForemost g (filter (has_both s) s.groups) → (w r : Option (ℕ × ℕ)) → first_waiting s g.device ≡ w
         → first_eligible s g.device ≡ r → offer_by g.device w r ≡ Some o → IsOffer s o
     in_group g f None r q p h = absurd (cc (h))
     in_group g f (Some w) None q p h = absurd (cc (h))
@@ -58,9 +58,9 @@ found_is s o e = by (first_served None (filter (has_both s) s.groups)) refl e
       first = λ k a before. no_offer_there s k (false_from_ne_true (has_both s k) (λ both. let n = f.first k (among-filter (has_both s) s.groups k a both) in cc (n, before)));
     })
 
-    by : (f : Option GroupRecord) → first_served None (filter (has_both s) s.groups) ≡ f → option_and_then (offer_in s) f ≡ Some o → IsOffer s o
+    by : (f : Option GroupRecord) → foremost None (filter (has_both s) s.groups) ≡ f → option_and_then (offer_in s) f ≡ Some o → IsOffer s o
     by None q h = absurd (cc (h))
-    by (Some g) q h = in_group g (served_is (filter (has_both s) s.groups) g q) (first_waiting s g.device) (first_eligible s g.device) refl refl h
+    by (Some g) q h = in_group g (foremost_is (filter (has_both s) s.groups) g q) (first_waiting s g.device) (first_eligible s g.device) refl refl h
 
 abbrev Ascends : List GroupRecord → Type 0
 Ascends gs = IsAscending (λ (g h : GroupRecord). nat_cmp g.device h.device) gs
@@ -75,18 +75,18 @@ same_group : (g h : GroupRecord) (gs : List GroupRecord) → Ascends gs → Amon
 same_group g h [] asc a b e = absurd a
 same_group g h (k ∷ gs) asc (inl a) (inl b) e = a ∙ sym b
 same_group g h (k ∷ gs) asc (inl a) (inr b) e =
-    let late = later_device k h gs asc.0 b in let own : g.device ≡ k.device = ap (λ (z : GroupRecord). z.device) a in absurd (omega (arith, late, own, e))
+    let late = later_device k h gs asc.0 b in let same : g.device ≡ k.device = ap (λ (z : GroupRecord). z.device) a in absurd (omega (arith, late, same, e))
 same_group g h (k ∷ gs) asc (inr a) (inl b) e =
-    let late = later_device k g gs asc.0 a in let own : h.device ≡ k.device = ap (λ (z : GroupRecord). z.device) b in absurd (omega (arith, late, own, e))
+    let late = later_device k g gs asc.0 a in let same : h.device ≡ k.device = ap (λ (z : GroupRecord). z.device) b in absurd (omega (arith, late, same, e))
 same_group g h (k ∷ gs) asc (inr a) (inr b) e = same_group g h gs asc.1 a b e
 
--- two groups of which neither is served before the other have one number
-same_device : (g h : GroupRecord) → is_served_before g h ≡ false → is_served_before h g ≡ false → g.device ≡ h.device
+-- two groups of which neither precedes the other have one number
+same_device : (g h : GroupRecord) → precedes g h ≡ false → precedes h g ≡ false → g.device ≡ h.device
 same_device g h e f = grind (arith, nat_tests)
 
 is_found : (s : Rows) (o : Offer) → GroupsAscend s → IsOffer s o → offer_of s ≡ Some o
 unfolding offer_of first_waiting first_eligible
-is_found s o asc h = by (first_served None (filter (has_both s) s.groups)) refl
+is_found s o asc h = by (foremost None (filter (has_both s) s.groups)) refl
   where
     waiting : first_waiting s h.group.device ≡ Some (h.place, o.call)
     waiting = subst (λ d. first_waiting s d ≡ Some (h.place, o.call)) (sym h.named) (least_found _ (h.place, o.call) h.call)
@@ -94,20 +94,20 @@ is_found s o asc h = by (first_served None (filter (has_both s) s.groups)) refl
     eligible : first_eligible s h.group.device ≡ Some (h.stamp, o.agent)
     eligible = subst (λ d. first_eligible s d ≡ Some (h.stamp, o.agent)) (sym h.named) (least_found _ (h.stamp, o.agent) h.agent)
 
-    own : offer_in s h.group ≡ Some o
-    own = ap₂ (offer_by h.group.device) waiting eligible ∙ ap (λ (d : ℕ). let p : Offer = record { group = d; call = o.call; agent = o.agent } in Some p) h.named
+    offered : offer_in s h.group ≡ Some o
+    offered = ap₂ (offer_by h.group.device) waiting eligible ∙ ap (λ (d : ℕ). let p : Offer = record { group = d; call = o.call; agent = o.agent } in Some p) h.named
 
     listed : Among h.group (filter (has_both s) s.groups)
     listed = among-filter (has_both s) s.groups h.group h.planned (ap₂ (λ (w r : Option (ℕ × ℕ)). is_some w && is_some r) waiting eligible)
 
-    by : (f : Option GroupRecord) → first_served None (filter (has_both s) s.groups) ≡ f → option_and_then (offer_in s) f ≡ Some o
-    by None e = absurd (subst (λ l. Among h.group l) (none_served (filter (has_both s) s.groups) e) listed)
+    by : (f : Option GroupRecord) → foremost None (filter (has_both s) s.groups) ≡ f → option_and_then (offer_in s) f ≡ Some o
+    by None e = absurd (subst (λ l. Among h.group l) (none_foremost (filter (has_both s) s.groups) e) listed)
     by (Some g) e =
-        let f = served_is (filter (has_both s) s.groups) g e in
+        let f = foremost_is (filter (has_both s) s.groups) g e in
         let there = filter_among (has_both s) s.groups g f.there in
-        let not_before : is_served_before g h.group ≡ false = false_from_ne_true _ (λ before. let n = not_both s g (h.first g there.0 before) in let y = there.1 in cc (n, y)) in
+        let not_before : precedes g h.group ≡ false = false_from_ne_true _ (λ before. let n = not_both s g (h.first g there.0 before) in let y = there.1 in cc (n, y)) in
         let same : g ≡ h.group = same_group g h.group s.groups asc there.0 h.planned (same_device g h.group not_before (f.first h.group listed)) in
-        ap (offer_in s) same ∙ own
+        ap (offer_in s) same ∙ offered
 
 pub finds_the_offer : FindsTheOffer
 finds_the_offer s o asc = (found_is s o, is_found s o asc)
@@ -115,17 +115,17 @@ finds_the_offer s o asc = (found_is s o, is_found s o asc)
 -- where no offer is found, no group has one
 pub nothing_found : (s : Rows) (g : GroupRecord) → offer_of s ≡ None → Among g s.groups → HasNoOffer s g.device
 unfolding offer_of
-nothing_found s g e a = no_offer_there s g (false_from_ne_true (has_both s g) (λ both. by (first_served None (filter (has_both s) s.groups)) refl (among-filter (has_both s) s.groups g a both) e))
+nothing_found s g e a = no_offer_there s g (false_from_ne_true (has_both s g) (λ both. by (foremost None (filter (has_both s) s.groups)) refl (among-filter (has_both s) s.groups g a both) e))
   where
     has_offer : (k : GroupRecord) (w r : Option (ℕ × ℕ)) → (is_some w && is_some r) ≡ true → offer_by k.device w r ≡ None → ⊥
     has_offer k None r b e = absurd (cc (b))
     has_offer k (Some w) None b e = absurd (cc (b))
     has_offer k (Some w) (Some r) b e = absurd (cc (e))
 
-    by : (f : Option GroupRecord) → first_served None (filter (has_both s) s.groups) ≡ f → Among g (filter (has_both s) s.groups) → option_and_then (offer_in s) f ≡ None → ⊥
-    by None q listed e = subst (λ l. Among g l) (none_served (filter (has_both s) s.groups) q) listed
+    by : (f : Option GroupRecord) → foremost None (filter (has_both s) s.groups) ≡ f → Among g (filter (has_both s) s.groups) → option_and_then (offer_in s) f ≡ None → ⊥
+    by None q listed e = subst (λ l. Among g l) (none_foremost (filter (has_both s) s.groups) q) listed
     by (Some k) q listed e =
-        let f = served_is (filter (has_both s) s.groups) k q in
+        let f = foremost_is (filter (has_both s) s.groups) k q in
         has_offer k (first_waiting s k.device) (first_eligible s k.device) (filter_among (has_both s) s.groups k f.there).1 e
 
 -- and where none has one, none is found, and none made

@@ -10,7 +10,7 @@ use Rattle.acd_lemmas.proofs.Lists.{every_among, counted, some_from}
 use Rattle.acd_lemmas.proofs.Keyed.{eqb_self}
 use Rattle.acd_lemmas.proofs.States.{ready_is, busy_is}
 use Rattle.acd_laws.proofs.Rules.KeptOffer.{talking_is}
-use Rattle.acd_laws.proofs.Releasing.{serving, alerting_or_answered}
+use Rattle.acd_laws.proofs.Releasing.{attending, alerting_or_answered}
 use Rattle.acd_lemmas.proofs.Decided.{one_that}
 use Rattle.acd_laws.proofs.Rules.Ended.{rules_step, kept_by_run, rules_first}
 use Rattle.acd_model.specs.Step.{step}
@@ -19,10 +19,10 @@ planned_some : (s : Rows) (o : Option ℕ) → IsPlannedStation s o → is_some 
 planned_some s None h = absurd h
 planned_some s (Some d) h = refl
 
--- a distributed connection stands at a station and has its agent
+-- a distributed connection is at a station and has its agent
 attended : (s : Rows) (x : ConnectionRecord) → Rules s → Among x s.connections → is_distributed x ≡ true → IsAttended s x
 attended s x r i e =
-    let h = serving s x r i e in
+    let h = attending s x r i e in
     let ready : is_alerting x.state ≡ true → h.0.state ≡ A.Ready = λ w. ready_is h.0.state (h.1.ready w) in
     let busy : is_answered x.state ≡ true → h.0.state ≡ A.Busy = λ w. busy_is h.0.state (h.1.busy w) in
     record {

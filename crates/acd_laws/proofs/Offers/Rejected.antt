@@ -15,12 +15,12 @@ use Rattle.acd_lemmas.proofs.Lists.{none_filtered, filter_put}
 use Rattle.acd_lemmas.proofs.State.{connection_there, agent_seat}
 use Rattle.acd_lemmas.proofs.States.{alerting_is}
 use Rattle.acd_laws.specs.RejectLaws.{RejectsAsATick}
-use Rattle.acd_laws.proofs.MoveKinds.{AgentMove, stays, remains, tells, releases}
+use Rattle.acd_laws.proofs.MoveKinds.{AgentMove, stays, remains, reports, releases}
 use Rattle.acd_laws.proofs.Offers.Distributing.{Back, overdue_back}
 use Rattle.acd_laws.proofs.Places.Cleared.{live_call}
 use Rattle.acd_laws.proofs.Rules.DecidedAll.{keeps_read}
 
--- what is to go back is refused by no test
+-- no test refuses a call that is to return
 rejected : (s : Rows) (turn : Turn) (x : ConnectionRecord) → Rules s → Back s x → reject_call s turn x.call x.device ≡ gives Nothing (return_moves s turn x)
 unfolding reject_call refuse_if
 rejected s turn x r b =
@@ -45,7 +45,7 @@ unfolding rested_in is_rested with_agent group_of
 none_rested s turn _ stays e = e
 none_rested s turn _ (remains a name pending there) e =
     filter_put (is_rested s turn.moment) (at_agent a.agent) (record a { name = name; pending = pending }) s.agents e (none_filtered (is_rested s turn.moment) s.agents e a there)
-none_rested s turn _ (tells a b d there h) e = filter_put (is_rested s turn.moment) (at_agent b.agent) b s.agents e (not_rested s turn.moment b h.since)
+none_rested s turn _ (reports a b d there h) e = filter_put (is_rested s turn.moment) (at_agent b.agent) b s.agents e (not_rested s turn.moment b h.since)
 
 still_none_rested : (s : Rows) (turn : Turn) (x : ConnectionRecord) (o : Option ℕ) → rested_in s turn.moment ≡ [] → rested_in (moved s (return_to s turn x o)) turn.moment ≡ []
 unfolding rested_in is_rested with_connection without_connection group_of

@@ -16,7 +16,7 @@ use Rattle.acd_model.specs.AgentMoves.{state_report}
 use Rattle.acd_lemmas.proofs.Facts.{Rules}
 use Rattle.acd_lemmas.proofs.Keyed.{eqb_self}
 use Rattle.acd_lemmas.proofs.State.{call_put, call_remove, connection_among, call_known, none_of_call, other_device}
-use Rattle.acd_laws.proofs.MoveKinds.{AgentMove, stays, remains, tells, Anyone, goes_from, released_by, occupied_by, Arrival, queues, alerts, fails, arrival_of}
+use Rattle.acd_laws.proofs.MoveKinds.{AgentMove, stays, remains, reports, Anyone, goes_from, released_by, occupied_by, Arrival, queues, alerts, fails, arrival_of}
 use Rattle.acd_terms.specs.declared.state.AgentState.TheVariants.{Ready}
 use Rattle.acd_terms.specs.declared.event.Cause.TheVariants.{NewCall}
 use Rattle.acd_model.specs.Release.{release, ending_of}
@@ -25,7 +25,7 @@ use Rattle.acd_model.specs.declared.moves.Ending.TheVariants.{NoAnswer}
 use Rattle.acd_laws.proofs.Deeds.{new_call, Party, Round, offers, returns, rests, Deed, nothing, adds_group, adds_station, adds_agent, watches, unwatches, arrives, makes, goes_out, answers, holds, retrieves, clears as clears_call, deflects, transfers, logs_on, rejects, renames, waits, goes, Regroups, refuses, puts}
 use Rattle.acd_terms.specs.declared.command.Turn.{Turn}
 
--- what a report that may be there clears and names
+-- the calls that an optional report clears and names
 
 abbrev pub cleared_in : ℕ → Option Report → ℕ
 cleared_in n None = 0
@@ -201,7 +201,7 @@ plain_state a st n d = plain_reported tt (λ n. refl) tt
 pub plain_agent : {K : AgentRecord → Type 0} {last : ℕ} {turn : Turn} {x : Move} → AgentMove K turn x → Plain last x
 plain_agent stays = plain_nothing
 plain_agent (remains _ _ _ _) = plain_silent tt
-plain_agent (tells a b d _ _) = plain_state b b.state b.agent d
+plain_agent (reports a b d _ _) = plain_state b b.state b.agent d
 
 -- a new call is one above the last
 

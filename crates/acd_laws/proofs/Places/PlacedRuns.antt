@@ -1,4 +1,4 @@
--- Where each call stands, how often it was cleared and which calls events name: of a state, by each step, and after every run.
+-- The place of each call, how often it was cleared and which calls events name: of a state, by each step, and after every run.
 use Rattle.std.proofs.Common.{◌≡◌, ℕ, ◌+◌, ◌≤◌, ◌⊎◌, inl, inr, Bool, true, false, ◌&&◌, List, Some, None, refl, sym, ◌∙◌, ap, subst, arith, [], ◌++◌, length, ◌<◌, Option}
 use Rattle.std.specs.Prelude.{◌==◌, is_some, is_none, nat_le}
 use Rattle.std.proofs.lemmas.Bool.{and_parts, and_from, eqb-true, false_from_ne_true, le-leb, lt-leb}
@@ -30,7 +30,7 @@ queued_or_alerting c x = go x.state (x.call == c)
     go _ true = omega arith
     go _ false = omega arith
 
--- a connection that isn't queued stands at a station or at the caller
+-- a connection that isn't queued is at a station or at the caller
 at_device : (s : Rows) (x : ConnectionRecord) (k : CallRecord) (st : ConnectionState) → StandsAt s x st → is_queued st ≡ false → call_of s x.call ≡ Some k → (x.device ≡ k.caller) ⊎ (is_station s x.device ≡ true)
 at_device s x k S.Queued h e q = absurd (cc (e))
 at_device s x k S.Initiated h e q = inr h.0
@@ -90,7 +90,7 @@ placed_from s events r h c pos le =
 pub places_exclude : PlacesExclude
 places_exclude s events c = (λ a b. cc (a.ended, b.there), λ a b. cc (a.ended, b.there), λ a b. let e = a.once in let z = b.none_queued in absurd (omega (arith, e, z)))
 
--- what counted moves keep, deeds and rounds keep, and so a step's moves
+-- a property that counted moves keep, deeds and rounds keep, and so a step's moves
 moves_keep : (P : Rows → List Event → Type 0) (turn : Turn) → ((s : Rows) (es : List Event) (ms : List Move) → AllCounted s ms → P s es → Kept P turn.moment s es ms)
     → (s : Rows) (es : List Event) (c : Command) → Rules s → P s es → Kept P turn.moment s es (step_moves s turn.moment (serve s turn c))
 moves_keep P turn f s es c r h =
@@ -165,7 +165,7 @@ never_cleared s events c h l =
     count_zero (λ (e : Event). clears c e.report) events
     (λ e i. clears_none s.last_call c e.report l (every_among (λ (e : Event). IsUpTo s.last_call (columns_of e.report).call) events e h i))
 
--- where each call stands tells how often it was cleared
+-- the place of each call gives how often it was cleared
 cleared_as_placed : (s : Rows) (events : List Event) → NamesNoLaterCall s events → IsPlaced s events → KeepsClearings s events
 cleared_as_placed s events names placed c above =
     elim (leb_tells c s.last_call) [

@@ -34,7 +34,7 @@ use Rattle.acd_laws.proofs.Rules.Rounds.{AllWait, Within, round_steps, steps_ent
 use Rattle.acd_laws.proofs.Rules.Numbers.{events_length, connections_length, greatest, distribution_length, tick_length}
 use Rattle.acd_terms.specs.declared.command.Turn.{Turn}
 
--- what holds before a step
+-- this holds before a step
 pub record Before (s : Rows) (k m : ℕ) : Type 0 where
   pub rules : Rules s
   pub timed : Timed k m s
@@ -42,7 +42,7 @@ pub record Before (s : Rows) (k m : ℕ) : Type 0 where
   pub sizes : Sizes s
   pub monitors : Monitored s
 
--- what the moves of a service keep
+-- the moves of a service keep this
 pub record Behaves (s : Rows) (k m : ℕ) (ms : List Move) : Type 0 where
   pub comes : Bool
   pub steps : Steps k m comes s ms
@@ -250,21 +250,21 @@ behaves_deed s k m _ (clears p) b =
     (omega arith) (tt, (steady_clears s o, (tt, (steady_agent s h, (steady_agent s g, tt)))))
 behaves_deed s k m _ (deflects p to _ _) b = given s k m to p.x (report.Diverted p.x.call p.x.device to Deflected p.x.group) Deflected b tt (λ g. refl)
 behaves_deed s k m _ (transfers p to _ _ _) b = given s k m to p.x (report.Transferred p.x.call p.x.device to) Transferred b tt (λ g. refl)
-behaves_deed s k m _ (logs_on a device groups own _ _ _ _) b =
+behaves_deed s k m _ (logs_on a device groups found _ _ _ _) b =
     let c : AgentRecord = record a { state = A.NotReady; pending = None; station = Some device; groups = groups; stamp = k; since = m } in
-    steadily b (neat (neat_quiet (PutAgent c) (Some (report.AgentLoggedOn a.agent device (only_group groups))) (record { above = b.stamp; stamp = omega arith; since = omega arith }) tt tt (λ g. refl)) done) (omega arith) (ap is_some own, tt)
+    steadily b (neat (neat_quiet (PutAgent c) (Some (report.AgentLoggedOn a.agent device (only_group groups))) (record { above = b.stamp; stamp = omega arith; since = omega arith }) tt tt (λ g. refl)) done) (omega arith) (ap is_some found, tt)
 behaves_deed s k m _ (rejects p g alerting group) b = let f = round_steps s k m _ b.stamp (returns p.x g p.found alerting group) b.rules b.timed in steadily b f.0 (omega arith) f.1
-behaves_deed s k m _ (renames a name own) b = agent_behaves s k m _ b (remains a name a.pending own)
-behaves_deed s k m _ (waits a wanted own _ _) b = agent_behaves s k m _ b (remains a a.name (Some wanted) own)
-behaves_deed s k m _ (goes a wanted own _ _) b = agent_behaves s k m _ b (goes_from (Recorded s) (turn_at m k) a a.station (state_wanted wanted) own)
+behaves_deed s k m _ (renames a name found) b = agent_behaves s k m _ b (remains a name a.pending found)
+behaves_deed s k m _ (waits a wanted found _ _) b = agent_behaves s k m _ b (remains a a.name (Some wanted) found)
+behaves_deed s k m _ (goes a wanted found _ _) b = agent_behaves s k m _ b (goes_from (Recorded s) (turn_at m k) a a.station (state_wanted wanted) found)
 
 behaves_regroups : (s : Rows) (k m : ℕ) (c : Command) (ms : List Move) → Regroups s c ms → Before s k m → Behaves s k m ms
 behaves_regroups s k m c _ (refuses device it none) b = steadily b done (omega arith) tt
-behaves_regroups s k m c _ (puts device g it own) b =
+behaves_regroups s k m c _ (puts device g it found) b =
     behaves_regrouped s k m (group_given c g) b.rules.orders.groups
-    (record { was = g; there = group_among s device g own; device = given_device c g; figures = given_figures c g; in_range = given_priority c g }) (given_planned s c device g own)
+    (record { was = g; there = group_among s device g found; device = given_device c g; figures = given_figures c g; in_range = given_priority c g }) (given_planned s c device g found)
 
--- what holds after moves of a step, with their events
+-- this holds after moves of a step, with their events
 pub record After (s : Rows) (k m most : ℕ) (t : Rows) (es : List Event) : Type 0 where
   pub timed : Timed k m t
   pub places : (p : ℕ) → count (at_place p) t.connections ≤ one (k == p) + count (at_place p) s.connections

@@ -17,7 +17,7 @@ use Rattle.acd_lemmas.proofs.Keyed.{eqb_self}
 use Rattle.acd_lemmas.proofs.State.{call_among, call_key, call_found, is_station_any, agent_seat, none_of_call}
 use Rattle.acd_laws.proofs.Rules.KeptOffer.{ringing_is, talking_is}
 use Rattle.acd_lemmas.proofs.States.{initiated_is, busy_is}
-use Rattle.acd_laws.proofs.Releasing.{serving, alerting_or_answered}
+use Rattle.acd_laws.proofs.Releasing.{attending, alerting_or_answered}
 use Rattle.acd_laws.proofs.Offers.OneOffer.{rules_give_one_offer}
 use Rattle.acd_lemmas.proofs.Decided.{◌and◌, ◌or◌, like, holds, fails, absent, within, when, each, any, is_number, zero_or, one_that, at_most, station_there, AgentsKept, limits_decided, orders_decided, kinds_decided, agents_decided, calls_decided, counters_decided, offers_decided, monitors_decided, balance_decided}
 use Rattle.acd_model.specs.Rules.Counters.{keeps_counters}
@@ -36,15 +36,15 @@ alerting_decided : (x : ConnectionRecord) (o : Option ℕ) → Decides (if is_so
 alerting_decided x None = bare_decided x
 alerting_decided x (Some g) = like (placed_decided x and holds (is_some x.offered)) (λ p. record { place = p.0.0; queued = p.0.1; offered = p.1 }) (λ h. ((h.place, h.queued), h.offered))
 
-fresh_decided : (x : ConnectionRecord) → Decides (is_none x.group && is_bare x) (Bare x × (x.group ≡ None))
-fresh_decided x = like (absent x.group and bare_decided x) (λ p. (p.1, p.0)) (λ h. (h.1, h.0))
+without_group_decided : (x : ConnectionRecord) → Decides (is_none x.group && is_bare x) (Bare x × (x.group ≡ None))
+without_group_decided x = like (absent x.group and bare_decided x) (λ p. (p.1, p.0)) (λ h. (h.1, h.0))
 
 columns_decided : (x : ConnectionRecord) (st : ConnectionState) → Decides (has_columns st x) (HasColumns x st)
 columns_decided x S.Queued = like (is_number x.group x.device and placed_decided x and absent x.offered)
     (λ p. record { group = p.0.0; place = p.0.1.0; queued = p.0.1.1; offered = p.1 }) (λ h. ((h.group, (h.place, h.queued)), h.offered))
 columns_decided x S.Alerting = alerting_decided x x.group
-columns_decided x S.Initiated = fresh_decided x
-columns_decided x S.Fail = fresh_decided x
+columns_decided x S.Initiated = without_group_decided x
+columns_decided x S.Fail = without_group_decided x
 columns_decided x _ = bare_decided x
 
 -- connections
@@ -57,17 +57,17 @@ caller_decided : (o : Option CallRecord) (d : ℕ) → Decides (is_caller o d) (
 caller_decided None d = (λ e. absurd (cc (e)), λ h. absurd h)
 caller_decided (Some c) d = equals c.caller d
 
-record ConnectionTold (s : Rows) (x : ConnectionRecord) : Type 0 where
+record ConnectionKept (s : Rows) (x : ConnectionRecord) : Type 0 where
   live : is_some (call_of s x.call) ≡ true
   party : IsCaller (call_of s x.call) x.device ⊎ (is_planned s x.device ≡ true)
   columns : HasColumns x x.state
   group : GroupColumn s x.group
   stands : may_stand s x.state x ≡ true
 
-abbrev ConnectionsTold : Rows → Type 0
-ConnectionsTold s = (x : ConnectionRecord) → Among x s.connections → ConnectionTold s x
+abbrev ConnectionsKept : Rows → Type 0
+ConnectionsKept s = (x : ConnectionRecord) → Among x s.connections → ConnectionKept s x
 
-connections_decided : (s : Rows) → Decides (keeps_connection s) (ConnectionsTold s)
+connections_decided : (s : Rows) → Decides (keeps_connection s) (ConnectionsKept s)
 unfolding keeps_connection
 connections_decided s = each (λ (x : ConnectionRecord). like
     (holds (is_some (call_of s x.call)) and (caller_decided (call_of s x.call) x.device or holds (is_planned s x.device)) and columns_decided x x.state and group_decided s x.group and holds (may_stand s x.state x))
@@ -81,10 +81,10 @@ BeingMade s c = (count (parties_of c.call) s.connections ≡ 1) × (count (initi
 abbrev TwoParties : Rows → CallRecord → Type 0
 TwoParties s c = ((count (parties_of c.call) s.connections ≡ 2) × (count (initiated_of c.call) s.connections ≡ 0)) × (count (open_of c.call) s.connections ≤ 1)
 
-abbrev PartiesTold : Rows → Type 0
-PartiesTold s = (c : CallRecord) → Among c s.calls → BeingMade s c ⊎ TwoParties s c
+abbrev PartiesKept : Rows → Type 0
+PartiesKept s = (c : CallRecord) → Among c s.calls → BeingMade s c ⊎ TwoParties s c
 
-parties_decided : (s : Rows) → Decides (keeps_parties s) (PartiesTold s)
+parties_decided : (s : Rows) → Decides (keeps_parties s) (PartiesKept s)
 unfolding keeps_parties
 parties_decided s = each (λ (c : CallRecord). (equals (count (parties_of c.call) s.connections) 1 and equals (count (initiated_at c.call c.caller) s.connections) 1)
     or (equals (count (parties_of c.call) s.connections) 2 and equals (count (initiated_of c.call) s.connections) 0 and within (count (open_of c.call) s.connections) 1)) s.calls
@@ -131,22 +131,22 @@ unfolding is_occupied
 occupied_decided s a = like (any (λ (x : ConnectionRecord). has a.station x.device && is_distributed x) s.connections)
     (λ f. (f.0, (f.1.0, (is_number a.station f.0.device and holds (is_distributed f.0)).0 f.1.1))) (λ h. (h.0, (h.1.0, (is_number a.station h.0.device and holds (is_distributed h.0)).1 h.1.1)))
 
-record OccupiedTold (s : Rows) : Type 0 where
+record OccupiedKept (s : Rows) : Type 0 where
   attended : (x : ConnectionRecord) → Among x s.connections → is_distributed x ≡ true → (count (is_distributed_at x.device) s.connections ≤ 1) × ((a : AgentRecord) × ((agent_at s x.device ≡ Some a) × Attended s x a))
   talking : (a : AgentRecord) → Among a s.agents → is_busy a.state ≡ true → IsTalking s a
   pending : (a : AgentRecord) → Among a s.agents → is_some a.pending ≡ true → Occupied s a
 
-occupied_told : (s : Rows) → Decides (keeps_occupied s) (OccupiedTold s)
+keeps_occupied_decided : (s : Rows) → Decides (keeps_occupied s) (OccupiedKept s)
 unfolding keeps_occupied
-occupied_told s = like
+keeps_occupied_decided s = like
     (each (λ (x : ConnectionRecord). when (is_distributed x) (within (count (is_distributed_at x.device) s.connections) 1 and attends_decided s x (agent_at s x.device))) s.connections
     and each (λ (a : AgentRecord). when (is_busy a.state) (talking_decided s a) and pending_when a.pending (occupied_decided s a)) s.agents)
     (λ p. record { attended = p.0; talking = λ a i. (p.1 a i).0; pending = λ a i. (p.1 a i).1 }) (λ h. (h.attended, λ a i. (h.talking a i, h.pending a i)))
 
 -- from the tests to the facts
 
--- an initiated connection stands at the caller of its call
-initiated_caller : (s : Rows) → ConnectionsTold s → PartiesTold s → (x : ConnectionRecord) → Among x s.connections → x.state ≡ S.Initiated → IsCaller (call_of s x.call) x.device
+-- an initiated connection is at the caller of its call
+initiated_caller : (s : Rows) → ConnectionsKept s → PartiesKept s → (x : ConnectionRecord) → Among x s.connections → x.state ≡ S.Initiated → IsCaller (call_of s x.call) x.device
 initiated_caller s connections parties x i st =
     let c = some_from (call_of s x.call) (connections x i).live in
     let mine : (x.call == c.0.call) ≡ true = eq-eqb x.call c.0.call (sym (call_key s x.call c.0 c.1)) in
@@ -177,7 +177,7 @@ initiated_one n d x e = (and_parts (initiated_of n x) (x.device == d) e).0
 abbrev Parties : Rows → ℕ → ℕ → Type 0
 Parties s n parties = (count (parties_of n) s.connections + count (initiated_of n) s.connections ≡ parties) × (count (open_of n) s.connections ≤ 1)
 
--- what is initiated, and what is open, is of the call
+-- initiated and open connections are of the call
 few : (s : Rows) (n : ℕ) → (count (initiated_of n) s.connections ≤ count (parties_of n) s.connections) × (count (open_of n) s.connections ≤ count (parties_of n) s.connections)
 few s n = (fewer (initiated_of n) (parties_of n) (λ z h. (and_parts (is_initiated z.state) (z.call == n) h).1) s.connections, fewer (open_of n) (parties_of n) (λ z h. (and_parts (is_open z.state) (z.call == n) h).1) s.connections)
 
@@ -188,7 +188,7 @@ call_parties s c (inl h) =
     (omega (arith, i, g, a, b), omega (arith, o, a))
 call_parties s c (inr h) = let a = h.0.0 in let b = h.0.1 in (omega (arith, a, b), h.1)
 
-parties_read : (s : Rows) → ConnectionsTold s → PartiesTold s → (n : ℕ) → Parties s n (two_if (is_some (call_of s n)))
+parties_read : (s : Rows) → ConnectionsKept s → PartiesKept s → (n : ℕ) → Parties s n (two_if (is_some (call_of s n)))
 parties_read s connections parties n = (elim (call_of s n) as (λ o. call_of s n ≡ o → Parties s n (two_if (is_some o))) [
   | None ↦ λ e.
       let none = count_zero (parties_of n) s.connections (λ x i. false_from_ne_true (x.call == n) (λ q.
@@ -202,9 +202,9 @@ not_both S.Alerting a b = cc (b)
 not_both _ a b = cc (a)
 
 -- a ringing or talking connection at the device, with its agent
-serves_read : (s : Rows) → OccupiedTold s → (d : ℕ) (x : ConnectionRecord) → Among x s.connections → is_distributed_at d x ≡ true
+attended_read : (s : Rows) → OccupiedKept s → (d : ℕ) (x : ConnectionRecord) → Among x s.connections → is_distributed_at d x ≡ true
     → (is_alerting x.state ≡ true → 1 ≤ count (ready_at d) s.agents) × (is_answered x.state ≡ true → 1 ≤ count (busy_at d) s.agents)
-serves_read s t d x i h =
+attended_read s t d x i h =
     let w = and_parts (is_distributed x) (x.device == d) h in
     let a = (t.attended x i w.0).1 in
     let q = agent_seat s x.device a.0 a.1.0 in
@@ -213,16 +213,16 @@ serves_read s t d x i h =
       λ an. elim a.1.1 [ inl v ↦ absurd (not_both x.state v.0 an) | inr v ↦ counted (busy_at d) s.agents a.0 q.0 (and_from _ _ v.1 at) ],
     )
 
-one_offer_read : (s : Rows) → OccupiedTold s → (d : ℕ) → count (is_distributed_at d) s.connections ≤ 1
+one_offer_read : (s : Rows) → OccupiedKept s → (d : ℕ) → count (is_distributed_at d) s.connections ≤ 1
 one_offer_read s t = at_most is_distributed_at s.connections (λ d x i e.
     let h = and_parts (is_distributed x) (x.device == d) e in subst (λ v. count (is_distributed_at v) s.connections ≤ 1) (eqb-true x.device d h.1) (t.attended x i h.0).0)
 
-ready_read : (s : Rows) → OccupiedTold s → (d : ℕ) → count (ringing_at d) s.connections ≤ count (ready_at d) s.agents
+ready_read : (s : Rows) → OccupiedKept s → (d : ℕ) → count (ringing_at d) s.connections ≤ count (ready_at d) s.agents
 ready_read s t d = elim (zero_or (count (ringing_at d) s.connections)) [
   | inl z ↦ omega (arith, z)
   | inr l ↦ (let f = one_that (ringing_at d) s.connections l in
       let h = (holds (is_alerting f.0.state) and holds (is_some f.0.group) and holds (f.0.device == d)).0 f.1.1 in
-      let r = (serves_read s t d f.0 f.1.0 (ringing_is d f.0 f.1.1)).0 h.0.0 in
+      let r = (attended_read s t d f.0 f.1.0 (ringing_is d f.0 f.1.1)).0 h.0.0 in
       let m = fewer (ringing_at d) (is_distributed_at d) (ringing_is d) s.connections in
       let o = one_offer_read s t d in omega (arith, r, m, o))
 ]
@@ -231,7 +231,7 @@ ready_read s t d = elim (zero_or (count (ringing_at d) s.connections)) [
 at_device : (a : AgentRecord) (x : ConnectionRecord) (d : ℕ) → has a.station d ≡ true → a.station ≡ Some x.device → (x.device == d) ≡ true
 at_device a x d at e = eq-eqb x.device d (some_is x.device d (sym e ∙ (is_number a.station d).0 at))
 
-busy_read : (s : Rows) → OccupiedTold s → AgentsKept s → (d : ℕ) → count (talking_at d) s.connections ≡ count (busy_at d) s.agents
+busy_read : (s : Rows) → OccupiedKept s → AgentsKept s → (d : ℕ) → count (talking_at d) s.connections ≡ count (busy_at d) s.agents
 busy_read s t agents d =
     let m = fewer (talking_at d) (is_distributed_at d) (talking_is d) s.connections in
     let o = one_offer_read s t d in
@@ -247,10 +247,10 @@ busy_read s t agents d =
       | inl z ↦ elim (zero_or (count (busy_at d) s.agents)) [ inl y ↦ z ∙ sym y | inr l ↦ (let w = back l in absurd (omega (arith, w, z))) ]
       | inr l ↦ (let f = one_that (talking_at d) s.connections l in
           let h = (holds (is_answered f.0.state) and holds (is_some f.0.group) and holds (f.0.device == d)).0 f.1.1 in
-          let w = (serves_read s t d f.0 f.1.0 (talking_is d f.0 f.1.1)).1 h.0.0 in omega (arith, l, w, m, o, b, u))
+          let w = (attended_read s t d f.0 f.1.0 (talking_is d f.0 f.1.1)).1 h.0.0 in omega (arith, l, w, m, o, b, u))
     ]
 
-pending_read : (s : Rows) → OccupiedTold s → AgentsKept s → (d : ℕ) → count (pending_at d) s.agents ≤ count (is_distributed_at d) s.connections
+pending_read : (s : Rows) → OccupiedKept s → AgentsKept s → (d : ℕ) → count (pending_at d) s.agents ≤ count (is_distributed_at d) s.connections
 pending_read s t agents d = elim (zero_or (count (pending_at d) s.agents)) [
   | inl z ↦ omega (arith, z)
   | inr l ↦ (let f = one_that (pending_at d) s.agents l in
@@ -266,7 +266,7 @@ rules_read s orders kinds agents calls connection parties live occupied =
     let connections = (connections_decided s).0 connection in
     let made = (parties_decided s).0 parties in
     let lives = (live_decided s).0 live in
-    let t = (occupied_told s).0 occupied in
+    let t = (keeps_occupied_decided s).0 occupied in
     record {
       orders = orders;
       kinds = kinds;
@@ -292,7 +292,7 @@ never_distributed : (s : Rows) (x : ConnectionRecord) → Rules s → Among x s.
 never_distributed s x r i outside st = (elim x.group as (λ o. x.group ≡ o → is_none o ≡ true) [
   | None ↦ λ _. refl
   | Some g ↦ λ e.
-      let b = serving s x r i (rw (e, st) refl) in
+      let b = attending s x r i (rw (e, st) refl) in
       let seat : IsPlannedStation s (Some x.device) = subst (IsPlannedStation s) b.1.station b.1.seat.0 in
       absurd (cc (or_right (is_group s x.device) (is_station s x.device) seat, outside))
 ]) refl
@@ -357,7 +357,7 @@ seated s a st h e = there a.station (planned st h)
 pub occupied_written : (s : Rows) → Rules s → keeps_occupied s ≡ true
 occupied_written s r =
     let o = rules_give_one_offer s r in
-    (occupied_told s).1 record {
+    (keeps_occupied_decided s).1 record {
       attended = λ x i e. let a = o.attended x i e in (
         r.one_offer x.device,
         (a.agent, (a.there, elim (alerting_or_answered s x (every_among (ConnectionRule s) s.connections x r.connections i) e) [ inl w ↦ inl (w, ap is_ready (a.ready w)) | inr w ↦ inr (w, ap is_busy (a.busy w)) ])),

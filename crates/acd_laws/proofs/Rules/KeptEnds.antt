@@ -32,7 +32,7 @@ pub and_not : (a : Bool) → (a && not a) ≡ false
 and_not true = refl
 and_not false = refl
 
--- the call has no connection yet at the group to which it goes back
+-- the call has no connection yet at the group to which it returns
 pub return_new : (s : Rows) (g : ℕ) (x : ConnectionRecord) → Rules s → connection_of s x.call x.device ≡ Some x → is_alerting x.state ≡ true → x.group ≡ Some g → connection_of s x.call g ≡ None
 return_new s g x r ex alerting group =
     let xs : x.state ≡ S.Alerting = alerting_is x.state alerting in
@@ -81,7 +81,7 @@ moved_on s turn x y d how r ex a none_d not_initiated opens ends =
     loosen (λ e. loose e && not (loose e)) (λ _. false) _ (λ e q. absurd (cc (q))) (λ e q. and_not (loose e))
     (after_release loose s v x how turn rv (λ a h. h.there) r among (λ d. free x.device (and_from _ _ d (eqb_self x.device))) ends)
 
--- an offer goes back to its group
+-- an offer returns to its group
 pub kept_return_to : (s : Rows) (turn : Turn) (g : ℕ) (x : ConnectionRecord) → Rules s → connection_of s x.call x.device ≡ Some x → is_alerting x.state ≡ true → x.group ≡ Some g → Rules (moved s (return_to s turn x (Some g)))
 kept_return_to s turn g x r ex alerting group =
     let y : ConnectionRecord = queueing x.call g x.place x.queued in
@@ -156,7 +156,7 @@ kept_clear s turn x None eo r ex =
     false_from_ne_true (z.call == call) (λ q.
     let same : (z.call == x.call) ≡ true = q in
     let other = find_none (λ (w : ConnectionRecord). w.call == x.call && not (w.device == x.device)) s.connections eo z h.0 in
-    let elsewhere : (z.device == x.device) ≡ false = false_from_ne_true _ (λ w. let own : is_of x.call x.device z ≡ true = and_from _ _ same w in cc (rw own at h.1)) in
+    let elsewhere : (z.device == x.device) ≡ false = false_from_ne_true _ (λ w. let same_key : is_of x.call x.device z ≡ true = and_from _ _ same w in cc (rw same_key at h.1)) in
     cc (other, and_from _ _ same (ap not elsewhere)))) in
     let v : Rows = moved s (clear x ∷ end_call x.call (waiting_group x) ∷ []) in
     let loose : ℕ → Bool = λ e. is_distributed x && (x.device == e) in

@@ -15,7 +15,7 @@ use Rattle.acd_lemmas.proofs.Keyed.{eqb_self}
 use Rattle.acd_laws.proofs.Arriving.{alerting_is_live, Arrived, rule_same, lone, with_connections, most_one, arrived_live, arrived_hold, arrived_open}
 use Rattle.acd_laws.proofs.Rules.KeptOffer.{ringing_is}
 use Rattle.acd_lemmas.proofs.States.{alerting_is, ready_is, initiated_is, connected_is, hold_is}
-use Rattle.acd_laws.proofs.Releasing.{Serves, serving}
+use Rattle.acd_laws.proofs.Releasing.{Attends, attending}
 use Rattle.acd_model.specs.Services.{occupy, busy_agent}
 use Rattle.acd_laws.proofs.Rules.KeptEnds.{two_le}
 use Rattle.acd_terms.specs.declared.command.Turn.{Turn}
@@ -53,7 +53,7 @@ after_answer s x agents r ex alerting sorted rules one_agent ready busy pending 
     }
 
 -- the agent of a distributed connection becomes busy
-answer_busy : (s : Rows) (turn : Turn) (x : ConnectionRecord) → Rules s → connection_of s x.call x.device ≡ Some x → is_alerting x.state ≡ true → is_distributed x ≡ true → (a : AgentRecord) → Serves s x a
+answer_busy : (s : Rows) (turn : Turn) (x : ConnectionRecord) → Rules s → connection_of s x.call x.device ≡ Some x → is_alerting x.state ≡ true → is_distributed x ≡ true → (a : AgentRecord) → Attends s x a
     → Rules (changed (changed s (PutConnection (talking x))) (become_busy turn a x.device).change)
 unfolding with_connection with_agent call_of connection_of agent_of group_of station_of
 answer_busy s turn x r ex alerting dist a h =
@@ -87,7 +87,7 @@ pub kept_answer : (s : Rows) (turn : Turn) (x : ConnectionRecord) → Rules s �
 unfolding occupy
 kept_answer s turn x r ex alerting =
     (elim (is_distributed x) as (λ b. is_distributed x ≡ b → Rules (changed (changed s (PutConnection (talking x))) (cond b (busy_agent turn (agent_at s x.device) x.device) no_move).change)) [
-      | true ↦ λ e. let h = serving s x r (connection_among s x.call x.device x ex) e in
+      | true ↦ λ e. let h = attending s x r (connection_among s x.call x.device x ex) e in
           busy_by s turn x (agent_at s x.device) h.0 h.1.at_station (answer_busy s turn x r ex alerting e h.0 h.1)
       | false ↦ λ e. answer_plain s x r ex alerting e
     ]) refl
@@ -281,7 +281,7 @@ initiated_alone s x r among initiated =
     let p = r.parties x.call in let w = counted (initiated_of x.call) s.connections x among (and_from _ _ initiated (eqb_self x.call)) in
     let f = fewer (initiated_of x.call) (parties_of x.call) (λ z h. (and_parts (is_initiated z.state) (z.call == x.call) h).1) s.connections in let t = two_le (is_some (call_of s x.call)) in omega (arith, p, w, f, t)
 
--- an initiated call goes out: x is connected, and y stands at the destination
+-- an initiated call is sent on: x is connected, and y is at the destination
 pub gone_out : (s : Rows) (x y : ConnectionRecord) (c : CallRecord) (d : ℕ) → Rules s → connection_of s x.call x.device ≡ Some x → is_initiated x.state ≡ true → call_of s x.call ≡ Some c → (x.device ≡ d → ⊥) → Arrived s x.call d y → connection_of s x.call d ≡ None
     → Rules (changed (changed s (PutConnection (record x { state = S.Connected }))) (PutConnection y))
 unfolding with_connection call_of connection_of agent_of group_of station_of
@@ -318,7 +318,7 @@ gone_out s x y c d r ex initiated ec apart a none =
       free = λ e h. absurd (cc (h));
     })
 
--- what an initiated call's destination is
+-- the destination of an initiated call
 pub record Outgoing (s : Rows) (x : ConnectionRecord) (d : ℕ) : Type 0 where
   pub planned : is_planned s d ≡ true
   pub apart : x.device ≡ d → ⊥

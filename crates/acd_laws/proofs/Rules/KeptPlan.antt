@@ -1,4 +1,4 @@
--- The rules are kept by what is planned, and by agents' own moves.
+-- Planning keeps the rules, and so do the agents' moves.
 use Rattle.std.proofs.Common.{◌≡◌, ℕ, ◌+◌, inl, inr, Bool, true, false, ◌&&◌, ◌||◌, List, Option, Some, None, refl, sym, ◌∙◌, ap, subst, arith, eq-eqb, ◌≤◌, ◌⊎◌, not}
 use Rattle.std.specs.Prelude.{◌==◌, IsTrue, max, is_some, find}
 use Rattle.std.specs.List.{list_any}
@@ -24,7 +24,7 @@ use Rattle.acd_terms.specs.declared.command.Turn.{Turn}
 any_false : {X : Type 0} (p : X → Bool) (xs : List X) → list_any p xs ≡ false → (x : X) → Among x xs → p x ≡ false
 any_false p xs e x a = false_from_ne_true (p x) (λ q. cc (any_some p xs x a q, e))
 
--- a device that isn't taken is no connection's
+-- no connection is at a device that isn't in use
 pub nobody_at : (s : Rows) (d : ℕ) → Rules s → is_used s d ≡ false → (z : ConnectionRecord) → Among z s.connections → (z.device == d) ≡ false
 unfolding is_calling
 nobody_at s d r free z a =
@@ -211,7 +211,7 @@ same_agent s a b r there number rule seats ready busy pending =
       pending = λ d _. let c = counts (pending_at d) in let o = pending d in omega (arith, c, o);
     })
 
--- at an occupied agent's station stands a distributed connection
+-- at an occupied agent's station there is a distributed connection
 occupying : (s : Rows) (a : AgentRecord) → is_occupied s a ≡ true → (x : ConnectionRecord) × Among x s.connections × (has a.station x.device ≡ true) × (is_distributed x ≡ true)
 unfolding is_occupied
 occupying s a e =
@@ -259,7 +259,7 @@ kept_wait s a w r there seated occupied = kept_remains s a a.name (Some w) r the
 pub kept_rename : (s : Rows) (a : AgentRecord) (name : List ℕ) → Rules s → agent_of s a.agent ≡ Some a → Rules (changed s (PutAgent (record a { name = name })))
 kept_rename s a name r there = kept_remains s a name a.pending r there (λ _. refl) (λ d. let p = r.pending d refl in omega (arith, p))
 
--- an unoccupied agent goes to a state other than busy
+-- an unoccupied agent changes to a state other than busy
 kept_go_to : (s : Rows) (a : AgentRecord) (st : AgentState) (turn : Turn) (d : ℕ) → Rules s → agent_of s a.agent ≡ Some a → a.station ≡ Some d → is_occupied s a ≡ false → is_busy st ≡ false → Rules (changed s (go_to turn a d st).change)
 kept_go_to s a st turn d r there station free not_busy =
     let seat = seat_from s a d a.state (every_among (AgentRule s) s.agents a r.agents (agent_among s a.agent a there)) station in

@@ -1,4 +1,4 @@
--- What moves keep of stamps, moments, places and of what is planned: one by one, and in a row.
+-- Moves and stamps, moments, places and plans: what one move keeps, and what moves in a row keep.
 use Rattle.std.proofs.Common.{◌≡◌, ℕ, ◌+◌, ◌≤◌, ◌⊎◌, inl, Bool, true, false, cond, List, [], ◌∷◌, Option, Some, refl, sym, ◌∙◌, ap, subst, arith, length, eq-eqb, None}
 use Rattle.std.specs.Prelude.{◌==◌, is_some}
 use Rattle.std.proofs.lemmas.Bool.{eqb-true}
@@ -17,7 +17,7 @@ use Rattle.acd_model.specs.Services.{no_figures}
 use Rattle.acd_model.specs.CallMoves.{plain, queueing, arrive}
 use Rattle.acd_model.specs.AgentMoves.{state_report}
 use Rattle.acd_model.specs.Figures.{is_entry}
-use Rattle.acd_laws.proofs.MoveKinds.{LeavesConnections, left_connections, AgentMove, stays, remains, tells, Recorded, Arrival, queues, alerts, fails, arrival_of}
+use Rattle.acd_laws.proofs.MoveKinds.{LeavesConnections, left_connections, AgentMove, stays, remains, reports, Recorded, Arrival, queues, alerts, fails, arrival_of}
 use Rattle.acd_laws.proofs.Watched.Order.{entries, entry_by}
 use Rattle.acd_terms.specs.declared.command.Turn.{Turn}
 use Rattle.acd_model.specs.Step.{turn_at}
@@ -37,7 +37,7 @@ knows s n = is_some (agent_of s n)
 abbrev pub AllSteady : Rows → List Move → Type 0
 AllSteady s ms = Every (λ (x : Move). Steady (knows s) x.change) ms
 
--- what such moves leave
+-- such moves leave this
 pub record Steadied (s t : Rows) : Type 0 where
   pub limits : t.limits ≡ s.limits
   pub groups : t.groups ≡ s.groups
@@ -153,7 +153,7 @@ pub record IsRegrouped (s : Rows) (g : GroupRecord) : Type 0 where
 abbrev pub IsGroupAfter : Rows → GroupRecord → Type 0
 IsGroupAfter s g = Among g s.groups ⊎ (IsNew s g ⊎ IsRegrouped s g)
 
--- what a service leaves of the bounds
+-- a service leaves this of the bounds
 pub record Settled (s : Rows) (ms : List Move) : Type 0 where
   pub sizes : Sizes s → Sizes (moved s ms)
   pub monitors : Monitored s → Monitored (moved s ms)
@@ -202,7 +202,7 @@ pub record Comes (k m : ℕ) (t : Rows) (x : Move) : Type 0 where
   pub waits : WaitsUpTo m x.report
   pub places : (p : ℕ) → count (at_place p) (changed t x.change).connections ≤ one (k == p) + count (at_place p) t.connections
 
--- a connection goes, and another has its place
+-- a connection ends, and another has its place
 pub record Carries (k m : ℕ) (t : Rows) (x y : Move) : Type 0 where
   pub fit : Fit k m x.change × Fit k m y.change
   pub waits : WaitsUpTo m x.report × WaitsUpTo m y.report
@@ -247,7 +247,7 @@ timed_more k j m n s l q h = record {
       (λ x t. record { place = place_more k j x.place l t.place; queued = moment_more m n x.queued q t.queued; offered = moment_more m n x.offered q t.offered; order = t.order }) h.connections;
 }
 
--- what moves in a row keep
+-- moves in a row keep this
 
 pub steps_timed : {k m : ℕ} {e : Bool} {t : Rows} {ms : List Move} → Steps k m e t ms → Timed k m t → Timed k m (moved t ms)
 steps_timed done h = h
@@ -304,12 +304,12 @@ agent_timed s k m a h e = every_among (AgentTimed k m) s.agents a h.agents (agen
 pub neat_agent : {k m : ℕ} {t : Rows} {x : Move} (s : Rows) → 1 ≤ k → Timed k m s → AgentMove (Recorded s) (turn_at m k) x → Neat k m t x
 neat_agent s l h stays = neat_silent Nothing tt tt
 neat_agent {k} {m} s l h (remains a name pending e) = let w = agent_timed s k m a h e in neat_silent (PutAgent (record a { name = name; pending = pending })) (record { above = w.above; stamp = w.stamp; since = w.since }) tt
-neat_agent {k} {m} s l h (tells a b d e r) = let x : b.stamp ≡ k = r.stamp in let y : b.since ≡ m = r.since in neat_state b b.state b.agent d (record { above = omega (arith, x, l); stamp = omega (arith, x); since = omega (arith, y) })
+neat_agent {k} {m} s l h (reports a b d e r) = let x : b.stamp ≡ k = r.stamp in let y : b.since ≡ m = r.since in neat_state b b.state b.agent d (record { above = omega (arith, x, l); stamp = omega (arith, x); since = omega (arith, y) })
 
 pub steady_agent : {turn : Turn} {x : Move} (s : Rows) → AgentMove (Recorded s) turn x → Steady (knows s) x.change
 steady_agent s stays = tt
 steady_agent s (remains a name pending e) = ap is_some e
-steady_agent s (tells a b d e r) = ap is_some (ap (agent_of s) r.agent ∙ e)
+steady_agent s (reports a b d e r) = ap is_some (ap (agent_of s) r.agent ∙ e)
 
 -- a connection ends
 pub neat_remove : {k m : ℕ} {t : Rows} (c d : ℕ) (r : Report) → WaitsUpTo m (Some r) → ((g : ℕ) → entry_by g (Some r) ≡ 0) → Neat k m t (reported (RemoveConnection c d) r)

@@ -48,7 +48,7 @@ steps_wait {k} {m} (neat {x = x} {ms = ms} n more) = waits_event m x.report (eve
 steps_wait {k} {m} (comes {x = x} {ms = ms} n more) = waits_event m x.report (events_of m ms) n.waits (steps_wait more)
 steps_wait {k} {m} (carries {x = x} {y = y} {ms = ms} n more) = waits_event m x.report (with_event m y.report (events_of m ms)) n.waits.0 (waits_event m y.report (events_of m ms) n.waits.1 (steps_wait more))
 
--- what rounds keep, from the state in which they begin
+-- rounds keep this, from the state in which they begin
 pub record Within (s : Rows) (k m : ℕ) (t : Rows) (es : List Event) : Type 0 where
   pub timed : Timed k m t
   pub places : (p : ℕ) → count (at_place p) t.connections ≤ count (at_place p) s.connections
@@ -91,7 +91,7 @@ timed_back k m g x h = record { place = h.place; queued = h.queued; offered = tt
     after None = tt
     after (Some q) = tt
 
--- a connection goes, and another of its call has its place
+-- a connection ends, and another of its call has its place
 carried : {k m : ℕ} (t : Rows) (x y : ConnectionRecord) (e f : Report) → Timed k m t → connection_of t x.call x.device ≡ Some x → (ConnectionTimed k m x → ConnectionTimed k m y) → y.place ≡ x.place → WaitsUpTo m (Some e) → WaitsUpTo m (Some f)
     → ((g : ℕ) → entry_by g (Some e) + entry_by g (Some f) ≡ 0) → Carries k m t (reported (RemoveConnection x.call x.device) e) (reported (PutConnection y) f)
 carried {k} {m} t x y e f h ex same place we wf n = record { fit = (tt, same (connection_timed t k m x h ex)); waits = (we, wf); entry = n; places = λ p. places_carried t x y p ex place }
@@ -102,13 +102,13 @@ round_steps t k m _ l (offers o x a d i) r h = (
   carries (carried t x (ringing m x d) (report.Diverted x.call x.device d Distributed x.group) (report.Delivered x.call d Distributed x.group) h (connection_there t r x i.there) (timed_ringing k m d x) refl tt tt (λ g. refl)) done,
   (tt, (tt, tt)),
 )
-round_steps t k m _ l (returns x g own _ _) r h =
+round_steps t k m _ l (returns x g found _ _) r h =
     let w = releases_here t (turn_at m k) x NoAnswer r.orders.agents in (
-      carries (carried t x (queueing x.call g x.place x.queued) (report.Diverted x.call x.device g Unanswered x.group) (report.Queued x.call g Unanswered) h own (timed_back k m g x) refl tt tt (λ i. ap (λ b. 0 + one b) (and_right (g == i) false refl)))
+      carries (carried t x (queueing x.call g x.place x.queued) (report.Diverted x.call x.device g Unanswered x.group) (report.Queued x.call g Unanswered) h found (timed_back k m g x) refl tt tt (λ i. ap (λ b. 0 + one b) (and_right (g == i) false refl)))
           (neat (neat_agent t l h w) done),
       (tt, (tt, (steady_agent t w, tt))),
     )
-round_steps t k m _ l (rests a own _) r h = let w = goes_from (Recorded t) (turn_at m k) a a.station Ready own in (neat (neat_agent t l h w) done, (steady_agent t w, tt))
+round_steps t k m _ l (rests a found _) r h = let w = goes_from (Recorded t) (turn_at m k) a a.station Ready found in (neat (neat_agent t l h w) done, (steady_agent t w, tt))
 
 within_round : (s : Rows) (k m : ℕ) → 1 ≤ k → RoundKeeps (Within s k m) (turn_at m k)
 within_round s k m l t es ms d r h = let f = round_steps t k m ms l d r h.timed in within s k m t es ms h f.0 f.1
@@ -122,4 +122,4 @@ tick_within s k m l r t = by_tick (Within s k m) (turn_at m k) (within_round s k
 -- the agents are as many after the returns
 pub returns_agents : (s : Rows) (k m : ℕ) → 1 ≤ k → Rules s → Timed k m s → length (moved s (all_returns s (turn_at m k))).agents ≡ length s.agents
 returns_agents s k m l r t =
-    (returned (Within s k m) (turn_at m k) (λ u es x g ru h own alerting group. within_round s k m l u es _ (returns x g own alerting group) ru h) s [] r (within_nothing s k m r.orders.agents t)).1.steady.agents
+    (returned (Within s k m) (turn_at m k) (λ u es x g ru h found alerting group. within_round s k m l u es _ (returns x g found alerting group) ru h) s [] r (within_nothing s k m r.orders.agents t)).1.steady.agents

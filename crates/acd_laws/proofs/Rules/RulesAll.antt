@@ -18,7 +18,7 @@ use Rattle.acd_model.specs.Step.{step, next_turn}
 use Rattle.acd_model.specs.Run.{TimedCommand, run}
 use Rattle.acd_laws.specs.RuleLaws.{StepKeepsRules, RunKeepsRules, RulesBound, RulesLeaveRoom}
 use Rattle.acd_laws.proofs.Watched.Order.{holding}
-use Rattle.acd_laws.proofs.Watched.WatchedRuns.{follows_step, step_leaves_no_offer, step_keeps_watched, step_balances, run_is_watched, run_tells_no_more, run_is_balanced, run_leaves_no_offer}
+use Rattle.acd_laws.proofs.Watched.WatchedRuns.{follows_step, step_leaves_no_offer, step_keeps_watched, step_balances, run_is_watched, run_reports_no_more, run_is_balanced, run_leaves_no_offer}
 use Rattle.acd_laws.proofs.Rules.Ended.{rules_first, ended, planned_ended, rules_step}
 use Rattle.acd_laws.proofs.Rules.Orderly.{IsGroupAfter, WaitsUpTo, timed_more}
 use Rattle.acd_terms.specs.Limits.{greatest_priority}
@@ -81,7 +81,7 @@ counted_up k m j n g es h e l a b =
 new_counted : (j n : ℕ) (f : Figures) → f ≡ no_figures → (f.entered ≤ j) × (f.waited ≤ f.answered * n)
 new_counted j n f e = rw e (omega arith, omega arith)
 
--- what a group that isn't planned holds
+-- a group that isn't planned holds none
 none_held : (s : Rows) (d : ℕ) → Rules s → is_group s d ≡ false → holding s d ≡ 0
 none_held s d r e =
     let a = count_zero (waits_in d) s.connections (λ x i. false_from_ne_true (waits_in d x) (λ q.
@@ -99,7 +99,7 @@ none_held s d r e =
 new_balanced : (n : ℕ) (f : Figures) → f ≡ no_figures → n ≡ 0 → f.entered ≡ n + f.answered + f.abandoned + f.moved
 new_balanced n f e z = rw e (omega (arith, z))
 
--- what a group of the state after the moves had before the step
+-- what a group of the state after the moves held before the step
 record WasKept (s : Rows) (g : GroupRecord) : Type 0 where
   counted : IsCountedUpTo s.last_stamp s.last_moment g
   balanced : g.figures.entered ≡ holding s g.device + g.figures.answered + g.figures.abandoned + g.figures.moved
@@ -158,7 +158,7 @@ keeps_ended s t es k m h e l a b rules offers =
       priorities = every-map (λ (g : GroupRecord). g.priority ≤ greatest_priority) (counting es) t.groups (λ g i. (kept g i).in_range);
     }
 
--- what a step makes of the rows: its stamp is the next, and the limits stay
+-- the rows after a step: its stamp is the next, and the limits stay
 step_on : (s : Rows) (moment : ℕ) (c : Command) → KeepsRules s → KeepsRules (step s moment c).rows × ((step s moment c).rows.last_stamp ≡ s.last_stamp + 1) × ((step s moment c).rows.limits ≡ s.limits)
 unfolding step with_last with_figures
 step_on s moment c h =
@@ -255,5 +255,5 @@ run_keeps_laws limits commands fit few = record {
   balanced = run_is_balanced limits commands;
   figures = figures_kept limits commands;
   watched = run_is_watched limits commands;
-  no_more = run_tells_no_more limits commands;
+  no_more = run_reports_no_more limits commands;
 }

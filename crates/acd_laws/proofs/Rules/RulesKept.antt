@@ -51,15 +51,15 @@ kept_deed s turn _ (deflects p to state free) r =
 kept_deed s turn _ (transfers p to state other free) r =
     moved_on s turn p.x (arriving (destination_of s to) turn p.x.call to) to (ending_of p.x) r p.found (arrived s turn p.x.call to free.planned) free.apart (ap is_initiated (connected_is p.x.state state))
     (closed_call s p.x r (connection_among s p.x.call p.x.device p.x p.found) state other) (ends_by s p.x (connection_rule s r p.x.call p.x.device p.x p.found))
-kept_deed s turn _ (logs_on a device groups own null station free planned) r = kept_log_on s a device groups turn r own null station planned free
+kept_deed s turn _ (logs_on a device groups found null station free planned) r = kept_log_on s a device groups turn r found null station planned free
 kept_deed s turn _ (rejects p g alerting group) r = kept_return_to s turn g p.x r p.found alerting group
-kept_deed s turn _ (renames a name own) r = kept_rename s a name r own
-kept_deed s turn _ (waits a wanted own seated occupied) r = kept_wait s a wanted r own seated occupied
-kept_deed s turn _ (goes a wanted own _ free) r = kept_go_from s turn a (state_wanted wanted) r own free (wanted_not_busy wanted)
+kept_deed s turn _ (renames a name found) r = kept_rename s a name r found
+kept_deed s turn _ (waits a wanted found seated occupied) r = kept_wait s a wanted r found seated occupied
+kept_deed s turn _ (goes a wanted found _ free) r = kept_go_from s turn a (state_wanted wanted) r found free (wanted_not_busy wanted)
 
 kept_regroups : (s : Rows) (c : Command) (ms : List Move) → Regroups s c ms → Rules s → Rules (moved s ms)
 kept_regroups s c _ (refuses device it none) r = r
-kept_regroups s c _ (puts device g it own) r = kept_put_group s (group_given c g) r (given_planned s c device g own)
+kept_regroups s c _ (puts device g it found) r = kept_put_group s (group_given c g) r (given_planned s c device g found)
 
 pub rules_serve : (s : Rows) (turn : Turn) (c : Command) → Rules s → Rules (moved s (moves_of (serve s turn c)))
 rules_serve s turn c r = elim (deed_of_serve s turn c) [
@@ -93,7 +93,7 @@ by_rounds P turn f s es r h =
 
 pub by_tick : (P : Rows → List Event → Type 0) (turn : Turn) → RoundKeeps P turn → (s : Rows) (es : List Event) → Rules s → P s es → Kept P turn.moment s es (tick s turn)
 by_tick P turn f s es r h =
-    (tick_keeps P turn (λ t fs x g rt p own alerting group. f t fs _ (returns x g own alerting group) rt p) (λ t fs a rt p own works. f t fs _ (rests a own works) rt p) s es r h).1
+    (tick_keeps P turn (λ t fs x g rt p found alerting group. f t fs _ (returns x g found alerting group) rt p) (λ t fs a rt p found works. f t fs _ (rests a found works) rt p) s es r h).1
 
 -- the service leads from P to Q, and rounds keep Q
 pub by_parts : (P Q : Rows → List Event → Type 0) (turn : Turn) (c : Command) → DeedLeads P Q turn c → RegroupLeads P Q turn.moment c → (regroups c ≡ None → (s : Rows) (es : List Event) → P s es → Q s es) → RoundKeeps Q turn

@@ -1,4 +1,4 @@
--- What a group holds is what entered and didn't leave; and the order of entries is that of places.
+-- A group holds what entered and didn't leave; and the order of entries is that of places.
 use Rattle.std.proofs.Common.{◌≡◌, ℕ, ◌+◌, List, [], ◌∷◌, ◌++◌, Option, Some, None, refl, ◌∙◌, ap, arith, ◌<◌, ◌≤◌, ◌⊎◌, inl, inr, Bool, true, false, ◌&&◌, cond, sym, subst, length, append_assoc, eq-eqb}
 use Rattle.acd_lemmas.proofs.Words.{Rows, ConnectionRecord, Event, Move, Report, put_by, count, total, Among, IsAscending, connection_of, has, with_connection, without_connection, moved, event_at, with_event, events_of, connection_order, is_open}
 use Rattle.acd_model.specs.Figures.{is_entry, is_answer, is_abandonment, is_moving_away, figures_of}
@@ -11,13 +11,13 @@ use Rattle.std.proofs.lemmas.List.{length-append}
 use Rattle.std.proofs.lemmas.Bool.{and_left, and_right, and_from, eqb-true, false_from_ne_true}
 use Rattle.acd_terms.specs.Columns.{columns_of}
 use Rattle.acd_terms.specs.declared.state.ConnectionState.TheVariants as S
-use Rattle.acd_model.specs.Told.{enters, last_entry}
+use Rattle.acd_model.specs.Reported.{enters, last_entry}
 use Rattle.acd_model.specs.Watched.{waits_or_rings, HasPlace, InOrder}
 use Rattle.acd_model.specs.Step.{numbered}
-use Rattle.acd_laws.proofs.Watched.Told.{HasEntries, UpTo}
+use Rattle.acd_laws.proofs.Watched.Reported.{HasEntries, UpTo}
 use Rattle.acd_laws.proofs.Figures.CountedEvents.{numbered-append}
 
--- of a group: what waits in it and rings from it
+-- of a group: the calls that wait in it and ring from it
 abbrev pub holding : Rows → ℕ → ℕ
 holding s g = count (waits_in g) s.connections + count (rings_from g) s.connections
 
@@ -57,7 +57,7 @@ entries g ms = total (λ (x : Move). entry_by g x.report) ms
 abbrev pub leaves : ℕ → List Move → ℕ
 leaves g ms = total (λ (x : Move). gone_by g x.report) ms
 
--- what a group holds after moves, and what left by them, is what it held and what entered
+-- after moves, a group's calls and those that left by them are the calls that it held before and those that entered
 abbrev pub Balances : Rows → List Move → Type 0
 Balances s ms = (g : ℕ) → holding (moved s ms) g + leaves g ms ≡ holding s g + entries g ms
 
@@ -174,7 +174,7 @@ order-append m a b c s ms ns f g events n o =
     (subst (λ (es : List Event). Ordered c (n + length es) (moved (moved s ms) ns) (events ++ numbered n es)) (sym (events_of_append m ms ns))
     (ordered_on c n (moved (moved s ms) ns) events first second (g (events ++ numbered n first) (n + length first) (f events n o))))
 
--- what is held after a change of connections
+-- the calls held after a change of connections
 
 pub placed_within : (s t : Rows) (g c p : ℕ) → ((z : ConnectionRecord) → Among z t.connections → Among z s.connections) → HasPlace t g c p → HasPlace s g c p
 placed_within s t g c p f h = record { connection = h.connection; there = f h.connection h.there; of_group = h.of_group; of_call = h.of_call; at_place = h.at_place }

@@ -1,4 +1,4 @@
--- What deeds and rounds tell, balance and keep in order.
+-- Deeds and rounds: their reports, balance and order.
 use Rattle.std.proofs.Common.{◌≡◌, ℕ, ◌+◌, ◌<◌, ◌≤◌, inl, inr, true, false, ◌||◌, cond, List, [], ◌∷◌, Option, Some, None, refl, sym, ◌∙◌, ap, subst, arith, eq-eqb}
 use Rattle.std.specs.Prelude.{◌==◌}
 use Rattle.std.proofs.lemmas.Bool.{and_right, and_from, or_right}
@@ -13,7 +13,7 @@ use Rattle.acd_model.specs.Scans.{is_used}
 use Rattle.acd_model.specs.CallMoves.{plain, queueing, ringing, begin, connect_caller, initiate, originate, arrive, answer, talking, waited_by, divert, transfer, go_back, clear, end_call}
 use Rattle.acd_model.specs.AgentMoves.{log_on_at}
 use Rattle.acd_model.specs.Release.{release, ending_of}
-use Rattle.acd_model.specs.Told.{state_by}
+use Rattle.acd_model.specs.Reported.{state_by}
 use Rattle.acd_model.specs.Watched.{seat_of}
 use Rattle.acd_model.specs.Figures.{is_entry, is_answer, is_no_answer}
 use Rattle.acd_model.specs.Services.{new_group, new_agent, next_monitor, next_call, occupy, waiting_group, first_group, clearing}
@@ -32,7 +32,7 @@ use Rattle.acd_lemmas.proofs.States.{initiated_is, alerting_is, hold_is}
 use Rattle.acd_laws.proofs.Rules.KeptOut.{initiated_alone, outgoing}
 use Rattle.acd_laws.proofs.Rules.KeptEnds.{open_cases, closed_call, return_new}
 use Rattle.acd_laws.proofs.Rules.KeptOffer.{offer_station, offer_new}
-use Rattle.acd_laws.proofs.Watched.Told.{truthful_put, truthful_remove, truthful_outside, truthful_unseen, truthful_group, truthful_put_group, truthful_station, truthful_end, truthful_agent, truthful_silent_agent}
+use Rattle.acd_laws.proofs.Watched.Reported.{truthful_put, truthful_remove, truthful_outside, truthful_unseen, truthful_group, truthful_put_group, truthful_station, truthful_end, truthful_agent, truthful_silent_agent}
 use Rattle.acd_laws.proofs.Watched.Order.{holding, held, gone, holding_less, holding_new, stays, placed_put, placed_within}
 use Rattle.acd_laws.proofs.Watched.SoundMoves.{Sound, sound-append, sound_later, sound_nothing, sound_unheard, silently, sound_agent, put, remove, ungrouped, connections_put, removed_within, ascending_less, held_shut, held_is, waits_or_rings_is, waiting_alerting, waiting_open, sound_put_new, sound_put_old, sound_remove, sound_arrival, arrive_leaves, open_gone, planned_station, planned_group}
 use Rattle.acd_laws.specs.FigureLaws.{group_given}
@@ -46,7 +46,7 @@ later {m} {b} {k} {s} {ms} l h = sound_later m b k s ms (omega (arith, l)) h
 none_stands : (s : Rows) (d : ℕ) → Rules s → is_used s d ≡ false → (call : ℕ) → connection_of s call d ≡ None
 none_stands s d r free call = none_from (connection_of s call d) (λ z e. cc (nobody_at s d r free z (connection_among s call d z e), eq-eqb z.device d (found_key s call d z e).1))
 
--- behind moves that put no agent, the agents of a connection's station are as they were
+-- after moves that put no agent, the agents of a connection's station are as they were
 
 sound_released : (s : Rows) (turn : Turn) (b : ℕ) (ms : List Move) (x : ConnectionRecord) (how : Ending) → Rules s → Every (λ (y : Move). LeavesAgents y.change) ms → Sound turn.moment b b (moved s ms) (release s turn x how ∷ [])
 sound_released s turn b ms x how r h = sound_agent (releases (Recorded (moved s ms)) s turn x how (λ a e. left_agents s ms a.agent h ∙ agent_there s r.orders.agents x.device a e))
@@ -91,7 +91,7 @@ sound_makes s m b device called r planned =
     (truthful_put t x (report.ServiceInitiated n device) refl refl refl refl (left_plan s (PutCall c) device tt ∙ planned))
     (left_connection s (PutCall c) n device tt ∙ none_above s r n device (omega arith)) (ungrouped n device S.Initiated refl) (λ g. refl) (λ g. refl))
 
--- an initiated call goes out
+-- an initiated call is sent on
 
 none_open : (s : Rows) (x : ConnectionRecord) → Rules s → Among x s.connections → is_initiated x.state ≡ true
     → (z : ConnectionRecord) → Among z (with_connection s (record x { state = S.Connected })).connections → is_open z.state ≡ true → z.call ≡ x.call → ⊥
@@ -107,7 +107,7 @@ none_open s x r among initiated z a e q =
 initiated_shut : (st : ConnectionState) → is_initiated st ≡ true → is_open st ≡ false
 initiated_shut st e = rw (initiated_is st e) refl
 
--- a connection that isn't open goes to another such state
+-- a connection that isn't open changes to another such state
 sound_turned : (s : Rows) (m b : ℕ) (x : ConnectionRecord) (st : ConnectionState) (e : Report) → Rules s → connection_of s x.call x.device ≡ Some x → is_open st ≡ false → is_planned s x.device ≡ true → is_open x.state ≡ false
     → ((g : ℕ) → gone g e ≡ 0) → (columns_of e).call ≡ Some x.call → (columns_of e).device ≡ Some x.device → (columns_of e).agent ≡ None → state_by (columns_of e).kind ≡ Some st
     → ((g : ℕ) → one (is_entry g e) ≡ 0) → Sound m b b s (put (record x { state = st }) (Some e) ∷ [])
@@ -157,7 +157,7 @@ connected_shut _ e = absurd (cc (e))
 
 -- a clearing
 
--- what waits is open
+-- a waiting connection is open
 waits_open : (x : ConnectionRecord) (g : ℕ) → waiting_group x ≡ Some g → is_open x.state ≡ true
 waits_open x g e = go x.state e
   where
@@ -246,7 +246,7 @@ sound_clearing s turn b x (Some y) r there other =
     (sound_agent (releases (Recorded v) s turn y (ending_of y) (λ c f.
     release_other_kept s t x (ending_of x) turn c.agent (λ a e. other_agents s r.orders.agents x.device y.device a c e f w.1) ∙ left_agents s three c.agent (tt, (tt, (tt, tt))) ∙ agent_there s r.orders.agents y.device c f))))
 
--- a deflection and a transfer: the connection goes, its call comes to a destination, and an agent is released
+-- a deflection and a transfer: the connection ends, its call comes to a destination, and an agent is released
 
 sound_given : (s : Rows) (turn : Turn) (b to : ℕ) (p : Party s) (e : Report) (why : Cause) → Rules s → b < turn.stamp → Sound turn.moment b b s (remove p.x (Some e) ∷ []) → Free s p.x to → is_no_answer why ≡ false
     → count (open_of p.x.call) s.connections ≤ one (is_open p.x.state) → Sound turn.moment b turn.stamp s (remove p.x (Some e) ∷ arrive s turn p.x.call to why ∷ release s turn p.x (ending_of p.x) ∷ [])
@@ -309,7 +309,7 @@ sound_offer_at s m b d x r there queued planned none =
           (λ w. (x, connection_among s x.call x.device x there, waits_or_rings_is g x columns ∙ ap (λ o. has o g) (queued_group x queued) ∙ w, refl, refl)) (connections_put u y) h);
     }
 
--- an offer goes back to its group
+-- an offer returns to its group
 
 sound_return : (s : Rows) (turn : Turn) (b g : ℕ) (x : ConnectionRecord) → Rules s → connection_of s x.call x.device ≡ Some x → is_alerting x.state ≡ true → x.group ≡ Some g
     → Sound turn.moment b b s (return_to s turn x (Some g))
@@ -345,11 +345,11 @@ sound_return s turn b g x r there alerting group =
 
 pub sound_round : (s : Rows) (turn : Turn) (b : ℕ) (ms : List Move) → Round s turn ms → Rules s → Sound turn.moment b b s ms
 sound_round s turn b _ (offers o x a d h) r =
-    let own = connection_there s r x h.there in
+    let found = connection_there s r x h.there in
     let at = offer_station s a d r h.known h.ready h.station in
-    sound_offer_at s turn.moment b d x r own h.queued (planned_station s d at) (offer_new s x d r own h.queued at h.idle)
-sound_round s turn b _ (returns x g own alerting group) r = sound_return s turn b g x r own alerting group
-sound_round s turn b _ (rests a own _) r = sound_agent (goes_from (Recorded s) turn a a.station A.Ready own)
+    sound_offer_at s turn.moment b d x r found h.queued (planned_station s d at) (offer_new s x d r found h.queued at h.idle)
+sound_round s turn b _ (returns x g found alerting group) r = sound_return s turn b g x r found alerting group
+sound_round s turn b _ (rests a found _) r = sound_agent (goes_from (Recorded s) turn a a.station A.Ready found)
 
 -- each deed
 
@@ -382,11 +382,11 @@ sound_deed s turn b _ (logs_on a device groups _ _ _ _ _) r l =
     let c : AgentRecord = record a { state = A.NotReady; pending = None; station = Some device; groups = groups; stamp = turn.stamp; since = turn.moment } in
     later l (sound_unheard turn.moment b s (log_on_at turn a device groups) (truthful_agent s c (report.AgentLoggedOn a.agent device (only_group groups)) refl refl refl) (record { leaves = tt; entry = λ g. refl; gone = λ g. refl }))
 sound_deed s turn b _ (rejects p g alerting group) r l = later l (sound_round s turn b _ (returns p.x g p.found alerting group) r)
-sound_deed s turn b _ (renames a name own) r l = later l (sound_agent {turn = turn} (remains a name a.pending own))
-sound_deed s turn b _ (waits a wanted own _ _) r l = later l (sound_agent {turn = turn} (remains a a.name (Some wanted) own))
-sound_deed s turn b _ (goes a wanted own _ _) r l = later l (sound_agent (goes_from (Recorded s) turn a a.station (state_wanted wanted) own))
+sound_deed s turn b _ (renames a name found) r l = later l (sound_agent {turn = turn} (remains a name a.pending found))
+sound_deed s turn b _ (waits a wanted found _ _) r l = later l (sound_agent {turn = turn} (remains a a.name (Some wanted) found))
+sound_deed s turn b _ (goes a wanted found _ _) r l = later l (sound_agent (goes_from (Recorded s) turn a a.station (state_wanted wanted) found))
 
 pub sound_regroups : (s : Rows) (turn : Turn) (b : ℕ) (c : Command) (ms : List Move) → Regroups s c ms → b < turn.stamp → Sound turn.moment b turn.stamp s ms
 sound_regroups s turn b c _ (refuses _ _ _) l = later l (sound_nothing turn.moment b s)
-sound_regroups s turn b c _ (puts_group device g it own) l =
-    let h : GroupRecord = group_given c g in later l (silently (PutGroup h) (truthful_put_group s h (given_planned s c device g own)) tt)
+sound_regroups s turn b c _ (puts_group device g it found) l =
+    let h : GroupRecord = group_given c g in later l (silently (PutGroup h) (truthful_put_group s h (given_planned s c device g found)) tt)

@@ -1,14 +1,14 @@
--- What moves tell, balance and keep in order, all three together.
+-- Moves: their reports, balance and order, all three together.
 use Rattle.std.proofs.Common.{◌≡◌, ℕ, ◌≤◌, List, [], ◌∷◌, ◌++◌, Option, Some, None, refl, sym, ◌∙◌, ap, subst, arith, ◌+◌, ◌<◌, Bool, true, false, not, ◌&&◌, ◌||◌, cond, eq-eqb}
 use Rattle.acd_lemmas.proofs.Words.{Rows, AgentRecord, ConnectionRecord, ConnectionState, AgentState, Cause, Change, Move, Report, put_by, remove_by, count, Among, IsAscending, is_alerting, is_queued, at_connection, agent_of, connection_of, is_group, is_station, is_planned, has, with_connection, without_connection, silent, reported, changed, moved, connection_order, is_open, open_of}
 use Rattle.acd_terms.specs.Columns.{columns_of}
 use Rattle.acd_terms.specs.declared.state.AgentState.TheVariants as A
 use Rattle.acd_model.specs.AgentMoves.{while_logged_on, state_report}
-use Rattle.acd_model.specs.Told.{Seat, seat_by}
+use Rattle.acd_model.specs.Reported.{Seat, seat_by}
 use Rattle.acd_model.specs.Watched.{seat_of, waits_or_rings}
 use Rattle.acd_model.specs.declared.moves.Change.TheVariants.{Nothing, PutAgent, PutConnection, RemoveConnection}
-use Rattle.acd_laws.proofs.MoveKinds.{LeavesConnections, left_connections, LeavesAgents, AgentMove, stays as nothing, remains, tells, Recorded, Arrival, queues, alerts, fails}
-use Rattle.acd_laws.proofs.Watched.Told.{Truthful, AllTruthful, truthful-append, truthful_unseen, truthful_agent, truthful_silent_agent, truthful_put}
+use Rattle.acd_laws.proofs.MoveKinds.{LeavesConnections, left_connections, LeavesAgents, AgentMove, stays as nothing, remains, reports, Recorded, Arrival, queues, alerts, fails}
+use Rattle.acd_laws.proofs.Watched.Reported.{Truthful, AllTruthful, truthful-append, truthful_unseen, truthful_agent, truthful_silent_agent, truthful_put}
 use Rattle.acd_laws.proofs.Watched.Order.{Balances, balances-append, holding, entry_by, gone_by, held, holding_new, holding_old, holding_less, OrderKept, stays, order-append, order_later, placed_within, placed_put, comes}
 use Rattle.std.specs.Prelude.{◌==◌}
 use Rattle.std.proofs.lemmas.Bool.{and_right, or_left, or_right}
@@ -64,7 +64,7 @@ sound_unheard m b s x t u =
 pub silently : {m b : ℕ} {s : Rows} (c : Change) → Truthful s (silent c) → LeavesConnections c → Sound m b b s (silent c ∷ [])
 silently {m} {b} {s} c t h = sound_unheard m b s (silent c) t (record { leaves = h; entry = λ g. refl; gone = λ g. refl })
 
--- what an agent's move tells
+-- what an agent's move reports
 
 record StateReport (st : AgentState) (n d : ℕ) (r : Report) : Type 0 where
   agent : (columns_of r).agent ≡ Some n
@@ -73,21 +73,21 @@ record StateReport (st : AgentState) (n d : ℕ) (r : Report) : Type 0 where
   entry : (g : ℕ) → entry_by g (Some r) ≡ 0
   gone : (g : ℕ) → gone_by g (Some r) ≡ 0
 
-state_told : (st : AgentState) (n d : ℕ) → StateReport st n d (state_report st n d)
-state_told A.Null n d = record { agent = refl; call = refl; seat = λ old. refl; entry = λ g. refl; gone = λ g. refl }
-state_told st n d = record { agent = refl; call = refl; seat = λ old. refl; entry = λ g. refl; gone = λ g. refl }
+state_reported : (st : AgentState) (n d : ℕ) → StateReport st n d (state_report st n d)
+state_reported A.Null n d = record { agent = refl; call = refl; seat = λ old. refl; entry = λ g. refl; gone = λ g. refl }
+state_reported st n d = record { agent = refl; call = refl; seat = λ old. refl; entry = λ g. refl; gone = λ g. refl }
 
 pub sound_agent : {turn : Turn} {b : ℕ} {t : Rows} {x : Move} → AgentMove (Recorded t) turn x → Sound turn.moment b b t (x ∷ [])
 sound_agent {turn} {b} {t} nothing = silently Nothing (truthful_unseen t Nothing tt tt tt) tt
 sound_agent {turn} {b} {t} (remains a name pending e) =
     let c : AgentRecord = record a { name = name; pending = pending } in silently (PutAgent c) (truthful_silent_agent t c (ap seat_of (sym e))) tt
-sound_agent {turn} {b} {t} (tells a c d e h) =
+sound_agent {turn} {b} {t} (reports a c d e h) =
     let r : Report = state_report c.state c.agent d in
-    let w = state_told c.state c.agent d in
+    let w = state_reported c.state c.agent d in
     let was : agent_of t c.agent ≡ Some a = ap (agent_of t) h.agent ∙ e in
-    let told : seat_of (Some c) ≡ seat_by (columns_of r).kind (columns_of r).device (seat_of (agent_of t c.agent)) =
+    let seated : seat_of (Some c) ≡ seat_by (columns_of r).kind (columns_of r).device (seat_of (agent_of t c.agent)) =
     ap (λ (o : Option ℕ). let v : Seat = record { state = c.state; station = o } in v) h.station ∙ w.seat (seat_of (Some a)) ∙ ap (λ o. seat_by (columns_of r).kind (columns_of r).device (seat_of o)) (sym was) in
-    sound_unheard turn.moment b t (reported (PutAgent c) r) (truthful_agent t c r w.agent w.call told) (record { leaves = tt; entry = w.entry; gone = w.gone })
+    sound_unheard turn.moment b t (reported (PutAgent c) r) (truthful_agent t c r w.agent w.call seated) (record { leaves = tt; entry = w.entry; gone = w.gone })
 
 -- the change of a connection, with a report or none
 abbrev pub put : ConnectionRecord → Option Report → Move
@@ -111,7 +111,7 @@ pub ascending_less : (s : Rows) (c d : ℕ) → IsAscending connection_order s.c
 unfolding without_connection
 ascending_less s c d h = ascending-remove connection_order (at_connection c d) s.connections h
 
--- what a group holds of a connection
+-- the part of a connection in what a group holds
 
 -- one that isn't open is in no queue and rings from none
 pub held_shut : (g : ℕ) (x : ConnectionRecord) → is_open x.state ≡ false → held g x ≡ 0
@@ -214,7 +214,7 @@ sound_remove m b s x o t there entry gone = record {
   order = stays m b s (remove x o ∷ []) (λ g. let f = entry g in omega (arith, f)) (λ g c p h. placed_within s (without_connection s x.call x.device) g c p (removed_within s x.call x.device) h);
 }
 
--- where the one open connection of a call is taken away, none is left
+-- where the one open connection of a call is removed, none is left
 pub open_gone : (s : Rows) (call : ℕ) (x : ConnectionRecord) → connection_of s x.call x.device ≡ Some x → x.call ≡ call → count (open_of call) s.connections ≤ one (is_open x.state)
     → (z : ConnectionRecord) → Among z (without_connection s x.call x.device).connections → is_open z.state ≡ true → z.call ≡ call → ⊥
 open_gone s call x there xc most z a e q =

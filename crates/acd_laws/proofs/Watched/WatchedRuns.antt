@@ -1,12 +1,12 @@
--- What follows of a state and of the events since, over a whole step: the reports of every run tell its state; every run is balanced, and leaves no offer.
+-- What follows of a state and of the events since, over a whole step: the reports of every run give its state; every run is balanced, and leaves no offer.
 use Rattle.std.proofs.Common.{◌≡◌, ℕ, ◌+◌, ◌<◌, ◌≤◌, List, [], ◌++◌, refl, sym, ◌∙◌, ap, subst, length, arith, append-nil, ◌⊎◌, inl, inr, true, false, ◌&&◌, ◌||◌, cond, ◌∷◌, Option, Some, None, Bool, not, eq-eqb}
 use Rattle.acd_lemmas.proofs.Words.{Rows, Limits, GroupRecord, CallRecord, ConnectionRecord, Figures, ConnectionState, Command, Event, Move, Among, is_alerting, is_queued, agent_of, call_of, connection_of, is_group, is_station, is_planned, has, is_idle, is_occupied, waiting_in, is_eligible, eligible_in, empty_rows, with_last, moved, events_of}
 use Rattle.acd_model.specs.Figures.{figures_of, sum_of_figures, counting, with_figures}
-use Rattle.acd_model.specs.Told.{known_after, connection_told, seat_told, enters, last_entry}
+use Rattle.acd_model.specs.Reported.{known_after, connection_reported, seat_reported, enters, last_entry}
 use Rattle.acd_model.specs.Services.Serve.{serve}
 use Rattle.acd_model.specs.Step.{numbered, step_moves, step, next_turn}
 use Rattle.acd_lemmas.proofs.Facts.{Rules, AlertingColumns, HasColumns, ConnectionRule, IsCaller, StandsAt}
-use Rattle.acd_laws.proofs.Watched.Told.{shown, seat, after-append, shown_after, seat_after, HasEntries, Tells, after-numbered}
+use Rattle.acd_laws.proofs.Watched.Reported.{shown, seat, after-append, shown_after, seat_after, HasEntries, Reports, after-numbered}
 use Rattle.acd_laws.proofs.Figures.CountedEvents.{figures_joined, figures_numbered}
 use Rattle.acd_laws.proofs.Watched.Order.{holding, balanced_events, Ordered, ordered_on}
 use Rattle.acd_laws.proofs.Watched.SoundMoves.{Sound}
@@ -20,7 +20,7 @@ use Rattle.std.proofs.lemmas.Bool.{and_parts, not-true, or_left, or_right}
 use Rattle.acd_model.specs.Offers.{HasNoOffer}
 use Rattle.acd_model.specs.Distribution.{distribution}
 use Rattle.acd_model.specs.Served.{moves_of}
-use Rattle.acd_laws.specs.WatchedLaws.{TellsNoMore, RunIsWatched, RunTellsNoMore}
+use Rattle.acd_laws.specs.WatchedLaws.{ReportsNoMore, RunIsWatched, RunReportsNoMore}
 use Rattle.acd_laws.specs.BalanceLaws.{IsBalanced, RunIsBalanced}
 use Rattle.acd_laws.specs.OfferLaws.{LeavesNoOffer, RunLeavesNoOffer}
 use Rattle.acd_lemmas.proofs.State.{found_key, connection_rule}
@@ -31,8 +31,8 @@ use Rattle.acd_terms.specs.declared.command.Turn.{Turn}
 
 -- t is the state after s and these events; places are up to b in s, and up to c in t
 pub record Follows (s : Rows) (b c : ℕ) (t : Rows) (es : List Event) : Type 0 where
-  pub connections : (call device : ℕ) → shown t call device ≡ known_after (connection_told call device) (shown s call device) es
-  pub agents : (agent : ℕ) → seat t agent ≡ known_after (seat_told agent) (seat s agent) es
+  pub connections : (call device : ℕ) → shown t call device ≡ known_after (connection_reported call device) (shown s call device) es
+  pub agents : (agent : ℕ) → seat t agent ≡ known_after (seat_reported agent) (seat s agent) es
   pub balances : (g : ℕ) → holding t g + ((figures_of g es).answered + (figures_of g es).abandoned + (figures_of g es).moved) ≡ holding s g + (figures_of g es).entered
   pub order : (events : List Event) (n : ℕ) → Ordered b n s events → Ordered c (n + length es) t (events ++ numbered n es)
 
@@ -51,10 +51,10 @@ follows_nothing s b = record {
 -- sound moves lead on
 pub follows_moves : (s : Rows) (b c d m : ℕ) (t : Rows) (es : List Event) (ms : List Move) → Follows s b c t es → Sound m c d t ms → Follows s b d (moved t ms) (es ++ events_of m ms)
 follows_moves s b c d m t es ms f g = record {
-  connections = λ call device. shown_after t m ms g.truthful call device ∙ ap (λ v. known_after (connection_told call device) v (events_of m ms)) (f.connections call device)
-      ∙ sym (after-append (connection_told call device) (shown s call device) es (events_of m ms));
-  agents = λ agent. seat_after t m ms g.truthful agent ∙ ap (λ v. known_after (seat_told agent) v (events_of m ms)) (f.agents agent)
-      ∙ sym (after-append (seat_told agent) (seat s agent) es (events_of m ms));
+  connections = λ call device. shown_after t m ms g.truthful call device ∙ ap (λ v. known_after (connection_reported call device) v (events_of m ms)) (f.connections call device)
+      ∙ sym (after-append (connection_reported call device) (shown s call device) es (events_of m ms));
+  agents = λ agent. seat_after t m ms g.truthful agent ∙ ap (λ v. known_after (seat_reported agent) v (events_of m ms)) (f.agents agent)
+      ∙ sym (after-append (seat_reported agent) (seat s agent) es (events_of m ms));
   balances = λ x.
       let a = f.balances x in
       let e = balanced_events t m ms g.balances x in
@@ -86,7 +86,7 @@ follows_step s turn b c r l =
 abbrev EntryIn : ℕ → ℕ → List Event → ℕ → Type 0
 EntryIn group call events last = (e : Event) × (Among e events) × (enters group call e ≡ true) × (e.number ≡ last)
 
--- what is known from before is the last entry, or one of the events is
+-- the last entry known before is the last, or one of the events is
 last_found : (g c known : ℕ) (es : List Event) → (last_entry g c known es ≡ known) ⊎ EntryIn g c es (last_entry g c known es)
 last_found g c known [] = inl refl
 last_found g c known (e ∷ es) =
@@ -129,32 +129,32 @@ entered_by s events g x r h a e =
     let place = some_from x.place (place_in x g x.state rule.0 e) in
     entered_from g x.call events (h g x.call place.0 (record { connection = x; there = a; of_group = e; of_call = refl; at_place = place.1 }))
 
--- what a step tells
+-- what a step reports
 
-tells_ended : (s t : Rows) (events es : List Event) (k m : ℕ) → Tells s events → Follows s s.last_stamp k t es → Tells (ended t es k m (s.last_event + length es)) (events ++ numbered s.last_event es)
+reports_ended : (s t : Rows) (events es : List Event) (k m : ℕ) → Reports s events → Follows s s.last_stamp k t es → Reports (ended t es k m (s.last_event + length es)) (events ++ numbered s.last_event es)
 unfolding with_last with_figures connection_of agent_of
-tells_ended s t events es k m told f =
+reports_ended s t events es k m reports f =
     let n : ℕ = s.last_event + length es in
-    let w : Ordered k n t (events ++ numbered s.last_event es) = f.order events s.last_event (record { in_order = told.queues; entered = told.entries; up_to = told.up_to }) in
+    let w : Ordered k n t (events ++ numbered s.last_event es) = f.order events s.last_event (record { in_order = reports.queues; entered = reports.entries; up_to = reports.up_to }) in
     let back : (g c p : ℕ) → HasPlace (ended t es k m n) g c p → HasPlace t g c p = λ g c p h. record { connection = h.connection; there = h.there; of_group = h.of_group; of_call = h.of_call; at_place = h.at_place } in
     record {
-      connections = λ call device. ap (λ b. cond b (state_at t call device) None) (planned_ended t es k m n device) ∙ f.connections call device ∙ ap (λ v. known_after (connection_told call device) v es) (told.connections call device)
-          ∙ sym (after-append (connection_told call device) None events (numbered s.last_event es) ∙ after-numbered (connection_told call device) _ s.last_event es);
-      agents = λ agent. f.agents agent ∙ ap (λ v. known_after (seat_told agent) v es) (told.agents agent)
-          ∙ sym (after-append (seat_told agent) _ events (numbered s.last_event es) ∙ after-numbered (seat_told agent) _ s.last_event es);
+      connections = λ call device. ap (λ b. cond b (state_at t call device) None) (planned_ended t es k m n device) ∙ f.connections call device ∙ ap (λ v. known_after (connection_reported call device) v es) (reports.connections call device)
+          ∙ sym (after-append (connection_reported call device) None events (numbered s.last_event es) ∙ after-numbered (connection_reported call device) _ s.last_event es);
+      agents = λ agent. f.agents agent ∙ ap (λ v. known_after (seat_reported agent) v es) (reports.agents agent)
+          ∙ sym (after-append (seat_reported agent) _ events (numbered s.last_event es) ∙ after-numbered (seat_reported agent) _ s.last_event es);
       entries = λ g c p h. w.entered g c p (back g c p h);
       queues = λ g c d p q x y. w.in_order g c d p q (back g c p x) (back g d q y);
       up_to = record { entries = w.up_to.entries; places = λ g c p h. w.up_to.places g c p (back g c p h) };
     }
 
-step_tells : KeptByRules Tells
+step_reports : KeptByRules Reports
 unfolding step
-step_tells s events moment command r told =
+step_reports s events moment command r reports =
     let turn : Turn = next_turn s moment in
     let ms : List Move = step_moves s turn.moment (serve s turn command) in
-    tells_ended s (moved s ms) events (events_of turn.moment ms) turn.stamp turn.moment told (follows_step s turn s.last_stamp command r (omega arith))
+    reports_ended s (moved s ms) events (events_of turn.moment ms) turn.stamp turn.moment reports (follows_step s turn s.last_stamp command r (omega arith))
 
--- what the reports tell of a state that keeps the rules
+-- what the reports give of a state that keeps the rules
 
 not_caller : (o : Option CallRecord) (d : ℕ) → is_caller o d ≡ false → IsCaller o d → ⊥
 not_caller None d e i = i
@@ -167,13 +167,13 @@ not_standing s x S.Connected p c (inl h) = cc (p, or_right (is_group s x.device)
 not_standing s x S.Connected p c (inr h) = not_caller (call_of s x.call) x.device c h.1
 not_standing s x _ p c h = cc (p, or_right (is_group s x.device) (is_station s x.device) h)
 
--- neither at a planned device nor at the caller of its call a connection stands
+-- a connection is neither at a planned device nor at the caller of its call
 none_outside : (s : Rows) (c d : ℕ) → Rules s → is_planned s d ≡ false → is_caller (call_of s c) d ≡ false → connection_of s c d ≡ None
 none_outside s c d r p q = none_from (connection_of s c d) (λ x e.
     let k = found_key s c d x e in
     not_standing s x x.state (ap (is_planned s) k.1 ∙ p) (ap (λ v. is_caller (call_of s v) x.device) k.0 ∙ ap (is_caller (call_of s c)) k.1 ∙ q) (connection_rule s r c d x e).2)
 
--- what is shown of a connection is its state, but of an external caller nothing
+-- a connection is shown by its state, and that of an external caller isn't
 
 shown_by : (s : Rows) (c d : ℕ) (b : Bool) → Rules s → is_planned s d ≡ b → (not b && is_caller (call_of s c) d) ≡ false → state_at s c d ≡ cond b (state_at s c d) None
 shown_by s c d true r p e = refl
@@ -185,24 +185,24 @@ shown_inside s c d r e = shown_by s c d (is_planned s d) r refl e
 shown_outside : (s : Rows) (c d : ℕ) → is_external_caller s c d ≡ true → shown s c d ≡ None
 shown_outside s c d e = ap (λ b. cond b (state_at s c d) None) (not-true (is_planned s d) (and_parts (not (is_planned s d)) (is_caller (call_of s c) d) e).0)
 
-watched_by : (s : Rows) (events : List Event) → Rules s → Tells s events → IsWatched s events
-watched_by s events r told = record {
-  connections = λ c d e. shown_inside s c d r e ∙ told.connections c d;
-  agents = told.agents;
-  entries = λ g x a h. entered_by s events g x r told.entries a h;
-  queues = told.queues;
+watched_by : (s : Rows) (events : List Event) → Rules s → Reports s events → IsWatched s events
+watched_by s events r reports = record {
+  connections = λ c d e. shown_inside s c d r e ∙ reports.connections c d;
+  agents = reports.agents;
+  entries = λ g x a h. entered_by s events g x r reports.entries a h;
+  queues = reports.queues;
 }
 
-no_more_by : (s : Rows) (events : List Event) → Tells s events → TellsNoMore s events
-no_more_by s events told = record {
-  outside = λ c d e. sym (told.connections c d) ∙ shown_outside s c d e;
-  entries = told.up_to.entries;
-  places = told.up_to.places;
+no_more_by : (s : Rows) (events : List Event) → Reports s events → ReportsNoMore s events
+no_more_by s events reports = record {
+  outside = λ c d e. sym (reports.connections c d) ∙ shown_outside s c d e;
+  entries = reports.up_to.entries;
+  places = reports.up_to.places;
 }
 
-told_by : (s : Rows) (events : List Event) → Rules s → IsWatched s events → TellsNoMore s events → Tells s events
-told_by s events r w n = record {
-  connections = λ c d. (elim (is_external_caller s c d) as (λ b. is_external_caller s c d ≡ b → shown s c d ≡ known_after (connection_told c d) None events) [
+reports_by : (s : Rows) (events : List Event) → Rules s → IsWatched s events → ReportsNoMore s events → Reports s events
+reports_by s events r w n = record {
+  connections = λ c d. (elim (is_external_caller s c d) as (λ b. is_external_caller s c d ≡ b → shown s c d ≡ known_after (connection_reported c d) None events) [
     | true ↦ λ e. shown_outside s c d e ∙ sym (n.outside c d e)
     | false ↦ λ e. sym (shown_inside s c d r e) ∙ w.connections c d e
   ]) refl;
@@ -212,11 +212,11 @@ told_by s events r w n = record {
   up_to = record { entries = n.entries; places = n.places };
 }
 
-pub step_keeps_watched : (s : Rows) (events : List Event) (moment : ℕ) (command : Command) → Rules s → IsWatched s events → TellsNoMore s events
-    → IsWatched (step s moment command).rows (events ++ (step s moment command).events) × TellsNoMore (step s moment command).rows (events ++ (step s moment command).events)
+pub step_keeps_watched : (s : Rows) (events : List Event) (moment : ℕ) (command : Command) → Rules s → IsWatched s events → ReportsNoMore s events
+    → IsWatched (step s moment command).rows (events ++ (step s moment command).events) × ReportsNoMore (step s moment command).rows (events ++ (step s moment command).events)
 step_keeps_watched s events moment command r w n =
-    let told = step_tells s events moment command r (told_by s events r w n) in
-    (watched_by _ _ (rules_step s moment command r) told, no_more_by _ _ told)
+    let reports = step_reports s events moment command r (reports_by s events r w n) in
+    (watched_by _ _ (rules_step s moment command r) reports, no_more_by _ _ reports)
 
 -- balance
 
@@ -257,13 +257,13 @@ step_leaves_no_offer s moment command r =
 -- all of it, which a step keeps
 record Holds (s : Rows) (events : List Event) : Type 0 where
   rules : Rules s
-  tells : Tells s events
+  reports : Reports s events
   balanced : IsBalanced s events
   no_offer : LeavesNoOffer s
 
-nothing_told : (limits : Limits) → Tells (empty_rows limits) []
+nothing_reported : (limits : Limits) → Reports (empty_rows limits) []
 unfolding connection_of agent_of
-nothing_told limits = record {
+nothing_reported limits = record {
   connections = λ c d. elim (is_planned (empty_rows limits) d) as (λ b. cond {A = Option ConnectionState} b None None ≡ None) [ true ↦ refl | false ↦ refl ];
   agents = λ a. refl;
   entries = λ g c p a. absurd a.there;
@@ -276,21 +276,21 @@ unfolding figures_of
 nothing_entered limits g = refl
 
 holds_first : (limits : Limits) → Holds (empty_rows limits) []
-holds_first limits = record { rules = rules_first limits; tells = nothing_told limits; balanced = nothing_entered limits; no_offer = λ g a. absurd a }
+holds_first limits = record { rules = rules_first limits; reports = nothing_reported limits; balanced = nothing_entered limits; no_offer = λ g a. absurd a }
 
 holds_step : (s : Rows) (events : List Event) (moment : ℕ) (command : Command) → Holds s events → Holds (step s moment command).rows (events ++ (step s moment command).events)
 holds_step s events moment command h = record {
   rules = rules_step s moment command h.rules;
-  tells = step_tells s events moment command h.rules h.tells;
+  reports = step_reports s events moment command h.rules h.reports;
   balanced = step_balances s events moment command h.rules h.balanced;
   no_offer = step_leaves_no_offer s moment command h.rules;
 }
 
 pub run_is_watched : RunIsWatched
-run_is_watched limits commands = let h = kept_by_run Holds holds_step limits (holds_first limits) commands in watched_by _ _ h.rules h.tells
+run_is_watched limits commands = let h = kept_by_run Holds holds_step limits (holds_first limits) commands in watched_by _ _ h.rules h.reports
 
-pub run_tells_no_more : RunTellsNoMore
-run_tells_no_more limits commands = no_more_by _ _ (kept_by_run Holds holds_step limits (holds_first limits) commands).tells
+pub run_reports_no_more : RunReportsNoMore
+run_reports_no_more limits commands = no_more_by _ _ (kept_by_run Holds holds_step limits (holds_first limits) commands).reports
 
 pub run_is_balanced : RunIsBalanced
 run_is_balanced limits commands = (kept_by_run Holds holds_step limits (holds_first limits) commands).balanced

@@ -1,4 +1,4 @@
--- The law that a call stands in one way.
+-- The law that a call is in one place.
 use Rattle.acd_laws.proofs.Places.PlacedRuns.{places_exclude}
 use Rattle.acd_laws.proofs.places_exclude.Goals as goal
 

@@ -1,4 +1,4 @@
--- What the rules bound.
+-- The bounds that the rules give.
 use Rattle.acd_laws.proofs.Rules.RulesAll.{rules_bound}
 use Rattle.acd_laws.proofs.rules_bound.Goals as goal
 

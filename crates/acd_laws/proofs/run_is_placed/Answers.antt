@@ -1,4 +1,4 @@
--- The law of where each call stands, after every run.
+-- The law of the place of each call, after every run.
 use Rattle.acd_laws.proofs.Places.PlacedRuns.{run_is_placed}
 use Rattle.acd_laws.proofs.run_is_placed.Goals as goal
 

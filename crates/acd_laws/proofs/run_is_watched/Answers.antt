@@ -1,4 +1,4 @@
--- The law of what reports tell, after every run.
+-- The law of what reports give, after every run.
 use Rattle.acd_laws.proofs.Watched.WatchedRuns.{run_is_watched}
 use Rattle.acd_laws.proofs.run_is_watched.Goals as goal
 

@@ -1,4 +1,4 @@
--- The law of where each call stands, by a step.
+-- The law of the place of each call, by a step.
 use Rattle.acd_laws.proofs.Rules.DecidedAll.{rules_are_kept}
 use Rattle.acd_laws.proofs.Places.PlacedRuns.{step_places}
 use Rattle.acd_laws.proofs.step_places.Goals as goal

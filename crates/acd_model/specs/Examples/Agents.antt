@@ -1,4 +1,4 @@
--- Worked examples: what is pending for a busy agent, holding, and giving a call away.
+-- Worked examples: the pending state of a busy agent, holding, and giving a call away.
 use Rattle.std.specs.Prelude.{◌≡◌, [], ◌∷◌, Some, None}
 use Rattle.acd_terms.specs.declared.event.Cause.TheVariants as cause
 use Rattle.acd_terms.specs.declared.event.Report.TheVariants.{ServiceInitiated, Queued, Delivered, Diverted, Held, Retrieved, Transferred, ConnectionCleared, CallCleared, AgentLoggedOff, AgentNotReady, AgentWorkingAfterCall}

@@ -26,10 +26,10 @@ use Rattle.acd_model.specs.Services.AddGroup.{no_figures}
 use Rattle.acd_model.specs.Run.{TimedCommand}
 use Rattle.acd_model.specs.Examples.Words.{billing, claims, first_station, second_station, ana, ben, caller, second_caller, at, logs_on, asks_for, plan, run_after, event, figures_in, counts, ana_in, ringing_from, talking_from, offered, answered}
 use Rattle.acd_model.specs.Examples.Refusals.{RefusesEach, rows_after, nowhere, nobody}
-use Rattle.acd_model.specs.Examples.Priorities.{two_groups, ana_serves_both, ana_of_both}
+use Rattle.acd_model.specs.Examples.Priorities.{two_groups, ana_ready_in_both, ana_of_both}
 
--- a call that has rung for ten seconds is taken back by the next tick where the ring is shortened to five, or once eleven are over; until then it can
--- be answered
+-- the next tick takes a call back that has rung for ten seconds where the ring is shortened to five, or once eleven are over; until then it can be
+-- answered
 abbrev pub RingShortened : Type 0
 RingShortened =
     let r = run_after offered (at 28 (ChangeGroup billing (codes "Billing") 5 30) ∷ at 28 Tick ∷ []) in
@@ -88,7 +88,7 @@ WrapProlonged =
 -- of an agent of two groups the wrap of the least one counts, with its value of then: the other one's is changed in vain
 abbrev pub WrapOfTheLeastGroup : Type 0
 WrapOfTheLeastGroup =
-    let before = two_groups ++ ana_serves_both ++ at 20 (AnswerCall 1 first_station) ∷ at 30 (ClearConnection 1 caller) ∷ [] in
+    let before = two_groups ++ ana_ready_in_both ++ at 20 (AnswerCall 1 first_station) ∷ at 30 (ClearConnection 1 caller) ∷ [] in
     let r = run_after before (at 40 (ChangeGroup claims (codes "Claims") 20 5) ∷ at 40 Tick ∷ at 41 (ChangeGroup billing (codes "Billing") 20 5) ∷ at 41 Tick ∷ []) in
     (r.outcomes ≡ Done answer.Nothing ∷ Done answer.Nothing ∷ Done answer.Nothing ∷ Done answer.Nothing ∷ [])
     × (r.events ≡ event 13 41 (AgentReady ana first_station)
@@ -152,7 +152,7 @@ ChangedAgentKeepsTheTurn =
     × (agent_of r.rows ben ≡ Some (record { agent = ben; name = codes "Benno"; state = Ready; pending = None; station = Some second_station; groups = billing ∷ []; stamp = 8; since = 6 }))
     × (agent_of r.rows ana ≡ ana_in billing Ready None 9 7)
 
--- what is changed to itself takes a stamp and a moment, and changes nothing else
+-- a change to the same values takes a stamp and a moment, and changes nothing else
 abbrev pub ChangedToTheSame : Type 0
 ChangedToTheSame =
     let r = run_after offered (at 20 (ChangeGroup billing (codes "Billing") 20 30) ∷ at 21 (ChangeAgent ana (codes "Ana")) ∷ []) in

@@ -29,7 +29,7 @@ DeflectedToAnotherQueue =
     × (figures_in r.rows billing ≡ counts 1 0 0 1 0)
     × (figures_in r.rows claims ≡ counts 1 0 0 0 0)
 
--- the call goes on to a station and back to its first group, where there is nothing to hold or transfer
+-- the call is sent on to a station and back to its first group, where there is nothing to hold or transfer
 abbrev pub DeflectedFromQueueToStationAndBack : Type 0
 DeflectedFromQueueToStationAndBack =
     let r = run_after (plan ++ to_another_queue) (at 21 (DeflectCall 1 claims second_station) ∷ at 22 (DeflectCall 1 second_station billing)
@@ -48,7 +48,7 @@ to_its_own_group =
     logs_on 5 ana first_station billing ∷ asks_for 6 ana pending.Ready ∷ at 10 (ArriveCall caller billing)
     ∷ at 11 (DeflectCall 1 first_station billing) ∷ []
 
--- an offer that is deflected to its own group comes back to the same agent, who has been ready all the time
+-- an offer that is deflected to the group it came from comes back to the same agent, who has been ready all the time
 abbrev pub DeflectedToItsOwnGroup : Type 0
 DeflectedToItsOwnGroup =
     let r = run_after plan to_its_own_group in

@@ -17,7 +17,7 @@ RecordsOfTheEmptyState =
     × (r.rows.stations ≡ record { device = first_station } ∷ [])
     × (agent_of r.rows ana ≡ ana_logged_off 2 60)
 
--- a monitor of a group or a station tells what comes after its start; a number of a monitor isn't used again
+-- a monitor of a group or a station reports what comes after its start; a number of a monitor isn't used again
 abbrev pub Monitors : Type 0
 Monitors =
     let r = run_after plan (at 5 (MonitorStart billing) ∷ at 6 (MonitorStop 1) ∷ at 7 (ArriveCall caller billing) ∷ at 8 (MonitorStart first_station) ∷ []) in

@@ -19,9 +19,9 @@ use Rattle.acd_model.specs.Examples.Words.{billing, claims, first_station, ana, 
 abbrev pub two_groups : List TimedCommand
 two_groups = plan ++ at 0 (AddGroup claims (codes "Claims") 20 45) ∷ []
 
--- a call waits in each, and Ana, who serves both, becomes ready
-abbrev pub ana_serves_both : List TimedCommand
-ana_serves_both =
+-- a call waits in each, and Ana, who is in both, becomes ready
+abbrev pub ana_ready_in_both : List TimedCommand
+ana_ready_in_both =
     at 10 (ArriveCall caller billing) ∷ at 11 (ArriveCall second_caller claims)
     ∷ at 15 (SetAgentState ana (LoggedOn first_station (billing ∷ claims ∷ []))) ∷ asks_for 18 ana pending.Ready ∷ []
 
@@ -29,11 +29,11 @@ abbrev pub ana_of_both : AgentState → Stamp → Moment → AgentRecord
 ana_of_both state stamp since =
     record { agent = ana; name = codes "Ana"; state = state; pending = None; station = Some first_station; groups = billing ∷ claims ∷ []; stamp = stamp; since = since }
 
--- the group of higher priority is served first, though the other's call came sooner, and after-call work lasts as long as the
--- group of least number has it
+-- the group of higher priority precedes, though the other's call came sooner, and after-call work lasts as long as the wrap
+-- of the group of least number
 abbrev pub HigherPriorityFirst : Type 0
 HigherPriorityFirst =
-    let r = run_after (two_groups ++ at 0 (SetGroupPriority claims 5) ∷ []) (ana_serves_both
+    let r = run_after (two_groups ++ at 0 (SetGroupPriority claims 5) ∷ []) (ana_ready_in_both
     ++ at 20 (AnswerCall 2 first_station) ∷ at 50 (ClearConnection 2 second_caller) ∷ at 79 Tick ∷ at 80 Tick ∷ []) in
     (r.outcomes ≡ Done (answer.Call 1) ∷ Done (answer.Call 2) ∷ Done (answer.State NotReady) ∷ Done (answer.State Ready)
     ∷ Done answer.Nothing ∷ Done answer.Nothing ∷ Done answer.Nothing ∷ Done answer.Nothing ∷ [])
@@ -50,10 +50,10 @@ HigherPriorityFirst =
     × (figures_in r.rows billing ≡ counts 1 0 0 0 0)
     × (figures_in r.rows claims ≡ counts 1 1 0 0 9)
 
--- of equal priorities the least number is served first: here each has 5
+-- of equal priorities the least number precedes: here each has 5
 abbrev pub EqualPriorities : Type 0
 EqualPriorities =
-    let r = run_after (two_groups ++ at 0 (SetGroupPriority claims 5) ∷ at 0 (SetGroupPriority billing 5) ∷ []) ana_serves_both in
+    let r = run_after (two_groups ++ at 0 (SetGroupPriority claims 5) ∷ at 0 (SetGroupPriority billing 5) ∷ []) ana_ready_in_both in
     (connection_of r.rows 1 first_station ≡ Some (ringing_from billing 1 first_station 9 10 18))
     × (agent_of r.rows ana ≡ Some (ana_of_both Ready 12 18))
 

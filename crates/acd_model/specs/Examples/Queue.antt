@@ -102,7 +102,7 @@ TwoCallsAnswered =
     × (figures_in r.rows billing ≡ counts 2 2 0 0 4)
     × (r.rows.calls ≡ []) × (r.rows.connections ≡ [])
 
--- an offer that rings too long goes back to its old place, and its agent is not ready
+-- an offer that rings too long returns to its old place, and its agent is not ready
 abbrev pub NoAnswerReturnsToItsPlace : Type 0
 NoAnswerReturnsToItsPlace =
     let before = plan ++ logs_on 90 ana first_station billing ∷ asks_for 91 ana pending.Ready ∷ at 100 (ArriveCall caller billing) ∷ [] in
@@ -114,7 +114,7 @@ NoAnswerReturnsToItsPlace =
     × (agent_of r.rows ana ≡ ana_in billing NotReady None 10 120)
     × (figures_in r.rows billing ≡ counts 1 0 0 0 0)
 
--- a moment that goes back is taken as the last one
+-- a moment before the last one counts as the last one
 abbrev pub MomentNeverGoesBack : Type 0
 MomentNeverGoesBack =
     let r = run_after plan (at 100 (ArriveCall caller billing) ∷ at 50 (ArriveCall second_caller billing) ∷ []) in
@@ -134,7 +134,7 @@ RefusalTakesAStamp =
     × (later.outcomes ≡ Done (answer.Call 1) ∷ [])
     × (waiting_in later.rows billing ≡ queueing 1 billing (Some 7) (Some 11) ∷ [])
 
--- the number of an external caller of a live call is taken
+-- the number of an external caller of a live call is in use
 abbrev pub CallerNumberTaken : Type 0
 CallerNumberTaken =
     let r = run_after (plan ++ call_arrives) (at 11 (AddStation caller) ∷ []) in
@@ -143,7 +143,7 @@ CallerNumberTaken =
     × (connections_of r.rows 1 ≡ queueing 1 billing (Some 6) (Some 10) ∷ plain 1 caller Connected ∷ [])
     × (r.rows.last_stamp ≡ 7) × (r.rows.last_moment ≡ 11)
 
--- two live calls may come from one number, which is taken until both are cleared
+-- two live calls may come from one number, which is in use until both are cleared
 abbrev pub CallerNumberShared : Type 0
 CallerNumberShared =
     let r = run_after plan (at 10 (ArriveCall caller billing) ∷ at 11 (ArriveCall caller billing) ∷ at 12 (ClearConnection 1 caller)
@@ -155,7 +155,7 @@ CallerNumberShared =
     × (r.rows.stations ≡ record { device = first_station } ∷ record { device = second_station } ∷ record { device = caller } ∷ [])
     × (figures_in r.rows billing ≡ counts 2 0 2 0 0)
 
--- a call that comes back to its group by a deflection waits behind one that came in the meantime
+-- a call that comes back to its group by a deflection waits after one that came in the meantime
 abbrev pub LeastPlaceFirst : Type 0
 LeastPlaceFirst =
     let r = run_after plan (at 10 (ArriveCall caller billing) ∷ at 11 (ArriveCall second_caller billing)

@@ -52,7 +52,7 @@ RefusalsOfPlanAndCalls =
     ∷ (MonitorStart nowhere, UnknownDevice) ∷ (MonitorStart caller, UnknownDevice) ∷ (MonitorStart second_station, PlanFull)
     ∷ (MonitorStop 2, UnknownMonitor) ∷ [])
 
--- connected at the station, and its other party is the external caller; the second station has a call of its own
+-- connected at the station, and its other party is the external caller; the second station has another call
 abbrev pub RefusalsOfAnAnsweredCall : Type 0
 RefusalsOfAnAnsweredCall =
     RefusesEach (rows_after (answered ++ at 30 (MakeCall second_station billing) ∷ [])) (

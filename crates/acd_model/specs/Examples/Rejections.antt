@@ -17,10 +17,10 @@ use Rattle.acd_model.specs.Examples.Words.{billing, claims, first_station, secon
 use Rattle.acd_model.specs.Examples.Queue.{two_ready}
 use Rattle.acd_model.specs.Examples.Releases.{Released, and_asks}
 use Rattle.acd_model.specs.Examples.Refusals.{RefusesEach, rows_after, nowhere}
-use Rattle.acd_model.specs.Examples.Priorities.{two_groups, ana_serves_both, ana_of_both}
+use Rattle.acd_model.specs.Examples.Priorities.{two_groups, ana_ready_in_both, ana_of_both}
 
--- it goes back to its place and, in the same request, to the agent who is ready; its place, its queued moment and the figures stay, and the answer
--- counts from when it arrived
+-- it returns to its place and, in the same request, is offered to the agent who is ready; its place, its queued moment and the figures stay, and
+-- the answer counts from when it arrived
 abbrev pub RejectedToTheSecondAgent : Type 0
 RejectedToTheSecondAgent =
     let before = plan ++ two_ready in
@@ -100,9 +100,9 @@ two_of_three_ring =
     ∷ at 10 (ArriveCall caller billing) ∷ at 11 (ArriveCall second_caller billing) ∷ at 12 (ArriveCall third_caller billing)
     ∷ asks_for 20 ana pending.Ready ∷ asks_for 21 ben pending.Ready ∷ []
 
--- both are rejected, and wait behind one another and before the third
-abbrev pub RejectedBehindAnOlderCall : Type 0
-RejectedBehindAnOlderCall =
+-- both are rejected, and wait one after another and before the third
+abbrev pub RejectedAfterAnOlderCall : Type 0
+RejectedAfterAnOlderCall =
     let r = run_after two_of_three_ring (at 22 (RejectCall 1 first_station) ∷ at 23 (RejectCall 2 second_station)
     ∷ asks_for 24 ben pending.Ready ∷ asks_for 25 ana pending.Ready ∷ []) in
     (r.outcomes ≡ Done answer.Nothing ∷ Done answer.Nothing ∷ Done (answer.State Ready) ∷ Done (answer.State Ready) ∷ [])
@@ -122,7 +122,7 @@ RejectedBehindAnOlderCall =
 abbrev pub rejected_after : List TimedCommand → AfterRun
 rejected_after before = run_after before (at 35 (RejectCall 1 first_station) ∷ [])
 
--- the agent goes to what is pending; with nothing or ready pending it is not ready
+-- the agent changes to the pending state; with nothing or ready pending it is not ready
 abbrev pub ReleasedByARejection : Type 0
 ReleasedByARejection =
     Released 2 (rejected_after offered) (event 8 35 (AgentNotReady ana first_station) ∷ []) (ana_in billing NotReady None 9 35)
@@ -131,10 +131,10 @@ ReleasedByARejection =
     × Released 2 (rejected_after (and_asks offered pending.WorkingAfterCall)) (event 8 35 (AgentWorkingAfterCall ana first_station) ∷ []) (ana_in billing WorkingAfterCall None 10 35)
     × Released 2 (rejected_after (and_asks offered pending.LoggedOff)) (event 8 35 (AgentLoggedOff ana first_station) ∷ []) (ana_logged_off 10 35)
 
--- a call of the group of higher priority goes back there, and comes again before one of the other group that came sooner
+-- a call of the group of higher priority returns there, and comes again before one of the other group that came sooner
 abbrev pub RejectedInAFurtherGroup : Type 0
 RejectedInAFurtherGroup =
-    let before = two_groups ++ at 0 (SetGroupPriority claims 5) ∷ ana_serves_both in
+    let before = two_groups ++ at 0 (SetGroupPriority claims 5) ∷ ana_ready_in_both in
     let r = run_after before (at 20 (RejectCall 2 first_station) ∷ asks_for 22 ana pending.Ready ∷ []) in
     (r.outcomes ≡ Done answer.Nothing ∷ Done (answer.State Ready) ∷ [])
     × (r.events ≡ event 7 20 (Diverted 2 first_station claims cause.NoAnswer (Some claims)) ∷ event 8 20 (Queued 2 claims cause.NoAnswer)
@@ -193,7 +193,7 @@ RejectionAndTick =
     ∷ event 11 30 (Diverted 1 billing first_station cause.Distributed (Some billing)) ∷ event 12 30 (Delivered 1 first_station cause.Distributed (Some billing)) ∷ [])
     × (connection_of offered_again.rows 1 first_station ≡ Some (ringing_from billing 1 first_station 10 10 30))
 
--- what is refused, in its order: of an offered call, an answered and a held one, one that waits and one that failed, one that was rejected; of calls that
+-- the refusals, in their order: of an offered call, an answered and a held one, one that waits and one that failed, one that was rejected; of calls that
 -- ring because they were deflected, transferred, called privately or from outside; and of a private call to the group, which rings
 abbrev pub RefusalsOfRejections : Type 0
 RefusalsOfRejections =

@@ -11,9 +11,9 @@ use Rattle.acd_model.specs.Scans.{agent_of}
 use Rattle.acd_model.specs.Run.{TimedCommand, AfterRun}
 use Rattle.acd_model.specs.Examples.Words.{billing, first_station, ana, caller, at, asks_for, run_after, event, ana_in, ana_logged_off, offered, answered}
 
--- what is told of Ana behind the events of her call, and what becomes of her
+-- what is reported of Ana after the events of her call, and what becomes of her
 abbrev pub Released : ℕ → AfterRun → List Event → Option AgentRecord → Type 0
-Released told r more agent = (drop told r.events ≡ more) × (agent_of r.rows ana ≡ agent)
+Released reported r more agent = (drop reported r.events ≡ more) × (agent_of r.rows ana ≡ agent)
 
 -- Ana asks for a state
 abbrev pub and_asks : List TimedCommand → Pending → List TimedCommand
@@ -43,7 +43,7 @@ ReleasedUnanswered =
     × Released 3 (cleared_after (and_asks offered pending.WorkingAfterCall)) (event 9 40 (AgentWorkingAfterCall ana first_station) ∷ []) (ana_in billing WorkingAfterCall None 10 40)
     × Released 3 (cleared_after (and_asks offered pending.LoggedOff)) (event 9 40 (AgentLoggedOff ana first_station) ∷ []) (ana_logged_off 10 40)
 
--- the call rang too long, and goes back
+-- the call rang too long, and returns
 abbrev pub ReleasedByNoAnswer : Type 0
 ReleasedByNoAnswer =
     Released 2 (tick_after offered) (event 8 40 (AgentNotReady ana first_station) ∷ []) (ana_in billing NotReady None 9 40)

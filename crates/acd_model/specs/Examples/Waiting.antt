@@ -1,4 +1,4 @@
--- Worked examples: what waits for time (offers that ring, after-call work), and who is ready longest.
+-- Worked examples: waiting for time (offers that ring, after-call work), and who is ready longest.
 use Rattle.std.specs.Prelude.{◌≡◌, List, [], ◌∷◌, ◌++◌, codes, Some, None}
 use Rattle.acd_terms.specs.declared.event.Cause.TheVariants as cause
 use Rattle.acd_terms.specs.declared.event.Report.TheVariants.{Queued, Delivered, Diverted, Established, ConnectionCleared, CallCleared, AgentLoggedOn, AgentNotReady, AgentReady, AgentBusy, AgentWorkingAfterCall}
@@ -39,7 +39,7 @@ OffersGoBack =
     × (agent_of r.rows ben ≡ ben_in billing NotReady None 13 61)
     × (figures_in r.rows billing ≡ counts 2 0 0 0 0)
 
--- offers and after-call work end when their time is over and not before; at one tick the offers go back first, and a call that went back is offered again
+-- offers and after-call work end when their time is over and not before; at one tick the offers return first, and a call that returned is offered again
 abbrev pub Ticks : Type 0
 Ticks =
     let r = run_after (plan ++ two_offers_in_vain) (asks_for 70 ana pending.Ready ∷ at 75 (AnswerCall 1 first_station) ∷ at 80 (ClearConnection 1 caller)
@@ -106,7 +106,7 @@ WhoIsReadyLongest =
     × (agent_of r.rows ben ≡ ben_in billing Ready None 9 7)
     × (figures_in r.rows billing ≡ counts 2 1 1 0 2)
 
--- after-call work ends in two groups at one tick: all agents become ready, and then the group of least number is served first
+-- after-call work ends in two groups at one tick: all agents become ready, and then the group of least number precedes
 abbrev pub TwoGroupsAtOnce : Type 0
 TwoGroupsAtOnce =
     let r = run_after plan (at 1 (AddGroup claims (codes "Claims") 20 30) ∷ logs_on 2 ana first_station claims ∷ logs_on 3 ben second_station billing

@@ -81,7 +81,7 @@ plan =
     ∷ at 0 (AddStation first_station) ∷ at 0 (AddStation second_station)
     ∷ at 0 (AddAgent ana (codes "Ana")) ∷ at 0 (AddAgent ben (codes "Ben")) ∷ []
 
--- what a run leaves after another run
+-- the state that a run leaves after another run
 abbrev pub run_after : List TimedCommand → List TimedCommand → AfterRun
 run_after before commands = run (run (empty_rows greatest_limits) before).rows commands
 

@@ -44,7 +44,7 @@ may_stand s Queued x = is_group s x.device
 may_stand s Connected x = is_station s x.device || (not (is_planned s x.device) && is_none x.group)
 may_stand s _ x = is_station s x.device
 
--- of a live call, at its caller or a planned device, with its columns, in a state that may stand there
+-- of a live call, at its caller or a planned device, with its columns, in a state that may be there
 unfoldable pub keeps_connection : Rows → Bool
 keeps_connection s = list_all (λ (x : ConnectionRecord).
     is_some (call_of s x.call) && (is_caller (call_of s x.call) x.device || is_planned s x.device)

@@ -18,9 +18,9 @@ is_moment_or_none s None = true
 is_moment_or_none s (Some moment) = nat_le moment s.last_moment
 
 -- the place is a stamp, and no other connection has it
-abbrev pub is_own_place : Rows → Option Stamp → Bool
-is_own_place s None = true
-is_own_place s (Some p) = is_stamp s p && nat_le (count (λ (x : ConnectionRecord). has x.place p) s.connections) 1
+abbrev pub is_unique_place : Rows → Option Stamp → Bool
+is_unique_place s None = true
+is_unique_place s (Some p) = is_stamp s p && nat_le (count (λ (x : ConnectionRecord). has x.place p) s.connections) 1
 
 abbrev pub is_offered_after : Option Moment → Option Moment → Bool
 is_offered_after (Some queued) (Some offered) = nat_le queued offered
@@ -28,9 +28,9 @@ is_offered_after _ _ = true
 
 abbrev pub is_timed : Rows → ConnectionRecord → Bool
 is_timed s x =
-    is_own_place s x.place && is_moment_or_none s x.queued && is_moment_or_none s x.offered && is_offered_after x.queued x.offered
+    is_unique_place s x.place && is_moment_or_none s x.queued && is_moment_or_none s x.offered && is_offered_after x.queued x.offered
 
--- what a group counted is no more than can have been
+-- a group's counts are no more than is possible
 abbrev pub is_countable : Rows → GroupRecord → Bool
 is_countable s g =
     nat_le g.figures.entered s.last_stamp && nat_le g.figures.answered g.figures.entered

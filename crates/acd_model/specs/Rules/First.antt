@@ -8,7 +8,7 @@ use Rattle.acd_model.specs.Rules.Calls.{keeps_call, keeps_connection, keeps_part
 use Rattle.acd_model.specs.Rules.Occupied.{keeps_occupied, keeps_offer, keeps_balance}
 use Rattle.acd_model.specs.Rules.Counters.{keeps_counters}
 
--- goes on where the rule is kept
+-- continues where the rule is kept
 abbrev pub or_broken : Bool → Rule → Option Rule → Option Rule
 or_broken kept which rest = if kept then rest else Some which
 

@@ -70,7 +70,8 @@ abbrev pub is_alone_at : Rows → Option Device → Bool
 is_alone_at s None = true
 is_alone_at s (Some d) = nat_le (count (λ (b : AgentRecord). has b.station d) s.agents) 1
 
--- an agent in null has no station, group or pending state, any other a planned station, its own, and one to eight planned groups
+-- an agent in null has no station, group or pending state, any other a planned station that no other agent has, and one to eight
+-- planned groups
 abbrev pub is_seated : Rows → AgentRecord → Bool
 is_seated s a =
     (if is_null a.state then is_none a.station && is_empty a.groups && is_none a.pending

@@ -1,4 +1,4 @@
--- deflectCall: an alerting or queued connection ends, and its call goes to another device.
+-- deflectCall: an alerting or queued connection ends, and its call is sent to another device.
 use Rattle.std.specs.Prelude.{not, ◌||◌, [], ◌∷◌}
 use Rattle.std.specs.Option.{ok_or}
 use Rattle.acd_terms.specs.Results.{◌>>=◌, ◌>>◌}

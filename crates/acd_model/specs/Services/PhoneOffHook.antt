@@ -1,4 +1,5 @@
--- phoneOffHook: the station that began a call goes off hook, and the call goes to the device that its makeCall called.
+-- phoneOffHook: the station that began a call goes off hook, and the call is sent to the device that its makeCall
+-- called.
 use Rattle.std.specs.Prelude.{not, [], ◌∷◌}
 use Rattle.std.specs.Option.{ok_or}
 use Rattle.acd_terms.specs.Results.{◌>>=◌, ◌>>◌}

@@ -1,4 +1,4 @@
--- rejectCall: a call that distribution offered, and that rings, goes back to its group's queue now, as a tick takes an offer back
+-- rejectCall: a call that distribution offered, and that rings, returns to its group's queue now, as a tick takes an offer back
 -- that rang too long.
 use Rattle.std.specs.Prelude.{not, ◌&&◌}
 use Rattle.std.specs.Option.{ok_or}

@@ -40,7 +40,7 @@ log_on s turn agent device groups = do
   refuse_if (not (is_choice groups)) NotGroup
   gives (answer.State NotReady) (log_on_at turn a device groups ∷ [])
 
--- an occupied agent waits for the state, any other goes to it; asking for the present state changes nothing
+-- an occupied agent waits for the state, any other changes to it; asking for the present state changes nothing
 abbrev pub go_or_wait : Rows → Turn → AgentRecord → Pending → Served
 go_or_wait s turn a wanted =
     if is_occupied s a then gives (answer.Pending a.state wanted) (wait_for a (Some wanted) ∷ [])

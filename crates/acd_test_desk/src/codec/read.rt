@@ -3,7 +3,7 @@
 use super::reads;
 use crate::texts::text_in;
 
-// Requests that are their own text, and others with their text behind `=>`.
+// Requests that equal their text, and others with their text after `=>`.
 fn requests() -> &'static [u8] {
     br##"
 {"device":"100","invoke":1,"name":"Billing","requester":"plan","ring":20,"service":"addGroup","wrap":30}

@@ -40,13 +40,13 @@ fn ana(rt: &impl Abort) -> AgentRecord {
     }
 }
 
-fn tells_agent(rt: &impl Abort, alloc: Global, agent: &AgentRecord, text: &str) {
-    let told = agent_text(alloc, agent).expect(rt, "memory");
-    assert!(rt; told.as_str() == text, "{told}");
+fn shows_agent(rt: &impl Abort, alloc: Global, agent: &AgentRecord, text: &str) {
+    let shown = agent_text(alloc, agent).expect(rt, "memory");
+    assert!(rt; shown.as_str() == text, "{shown}");
 }
 
-// An agent who serves these groups at station 201.
-fn serving(rt: &impl Abort, digits: &str) -> AgentRecord {
+// An agent who is in these groups at station 201.
+fn ready_in(rt: &impl Abort, digits: &str) -> AgentRecord {
     AgentRecord {
         state: AgentState::Ready,
         station: Some(device(rt, "201")),
@@ -59,22 +59,22 @@ fn serving(rt: &impl Abort, digits: &str) -> AgentRecord {
 #[test]
 fn texts_of_agents(rt: HostRuntime) {
     let alloc = rt.alloc();
-    tells_agent(
+    shows_agent(
         &rt,
         alloc,
         &ana(&rt),
         r#"{"agent":"7","name":"Ana","since":0,"state":"null"}"#,
     );
-    tells_agent(
+    shows_agent(
         &rt,
         alloc,
-        &serving(&rt, "110"),
+        &ready_in(&rt, "110"),
         r#"{"agent":"7","device":"201","group":"110","name":"Ana","since":18,"state":"ready"}"#,
     );
-    tells_agent(
+    shows_agent(
         &rt,
         alloc,
-        &serving(&rt, "110 100"),
+        &ready_in(&rt, "110 100"),
         r#"{"agent":"7","device":"201","groups":["100","110"],"name":"Ana","since":18,"state":"ready"}"#,
     );
 }
@@ -84,9 +84,9 @@ fn text_of_an_agent_of_eight_groups(rt: HostRuntime) {
     let busy = AgentRecord {
         state: AgentState::Busy,
         pending: Some(Pending::NotReady),
-        ..serving(&rt, "107 106 105 104 103 102 101 100")
+        ..ready_in(&rt, "107 106 105 104 103 102 101 100")
     };
-    tells_agent(
+    shows_agent(
         &rt,
         rt.alloc(),
         &busy,
@@ -105,27 +105,27 @@ fn claims(rt: &impl Abort, priority: u64) -> PlannedDevice {
     })
 }
 
-fn tells_group(rt: &impl Abort, alloc: Global, priority: u64, text: &str) {
-    let told = device_text(alloc, &claims(rt, priority)).expect(rt, "memory");
-    assert!(rt; told.as_str() == text, "{told}");
+fn shows_group(rt: &impl Abort, alloc: Global, priority: u64, text: &str) {
+    let shown = device_text(alloc, &claims(rt, priority)).expect(rt, "memory");
+    assert!(rt; shown.as_str() == text, "{shown}");
 }
 
 #[test]
 fn texts_of_groups(rt: HostRuntime) {
     let alloc = rt.alloc();
-    tells_group(
+    shows_group(
         &rt,
         alloc,
         0,
         r#"{"device":"110","kind":"group","name":"Claims","ring":20,"wrap":45}"#,
     );
-    tells_group(
+    shows_group(
         &rt,
         alloc,
         1,
         r#"{"device":"110","kind":"group","name":"Claims","priority":1,"ring":20,"wrap":45}"#,
     );
-    tells_group(
+    shows_group(
         &rt,
         alloc,
         5,
@@ -133,7 +133,7 @@ fn texts_of_groups(rt: HostRuntime) {
     );
 }
 
-fn tells_log_on(rt: &impl Abort, alloc: Global, group: Option<DeviceId>, text: &str) {
+fn shows_log_on(rt: &impl Abort, alloc: Global, group: Option<DeviceId>, text: &str) {
     let event = Event {
         number: 3,
         moment: 15,
@@ -143,20 +143,20 @@ fn tells_log_on(rt: &impl Abort, alloc: Global, group: Option<DeviceId>, text: &
             group,
         },
     };
-    let told = event_text(alloc, &event).expect(rt, "memory");
-    assert!(rt; told.as_str() == text, "{told}");
+    let shown = event_text(alloc, &event).expect(rt, "memory");
+    assert!(rt; shown.as_str() == text, "{shown}");
 }
 
 #[test]
 fn texts_of_log_ons(rt: HostRuntime) {
     let alloc = rt.alloc();
-    tells_log_on(
+    shows_log_on(
         &rt,
         alloc,
         Some(device(&rt, "100")),
         r#"{"agent":"7","device":"201","event":"agentLoggedOn","group":"100","moment":15,"number":3}"#,
     );
-    tells_log_on(
+    shows_log_on(
         &rt,
         alloc,
         None,

@@ -44,8 +44,8 @@ fn is_sent(rt: &impl Abort, alloc: Global, client: &mut TcpStream, reply: &str) 
     assert_eq!(rt; bytes.as_slice(), reply.as_bytes());
 }
 
-// Serves so many connections, and then these lines were written.
-fn serves<B: Book>(
+// Answers so many connections, and then these lines were written.
+fn answer_connections<B: Book>(
     rt: &(impl Abort + AllocGlobal + Clock),
     listener: &TcpListener,
     desk: &mut Desk<B>,
@@ -66,31 +66,31 @@ fn seconds_now(rt: &(impl Abort + Clock)) -> u64 {
 }
 
 // One request was executed, at one of these moments.
-fn executed_within<B: Book + Drop>(rt: &impl Abort, desk: Desk<B>, before: u64, behind: u64) {
+fn executed_within<B: Book + Drop>(rt: &impl Abort, desk: Desk<B>, before: u64, after: u64) {
     let mut book = desk.close();
     let rows = book.rows().expect(rt, "rows");
     same(rt, &rows.last_stamp, &1);
     let moment = u64::from(rows.last_moment);
-    assert!(rt; before <= moment && moment <= behind);
+    assert!(rt; before <= moment && moment <= after);
 }
 
-// A connection is served, at the moment of the clock.
-fn is_served<R, B: Book + Drop>(rt: &R, mut desk: Desk<B>)
+// A connection is answered, at the moment of the clock.
+fn is_answered<R, B: Book + Drop>(rt: &R, mut desk: Desk<B>)
 where
     R: Abort + AllocGlobal + Clock + Net<Listener = TcpListener, Stream = TcpStream>,
 {
     let listener = listener(rt);
     let mut client = client(rt, &listener, group(), 0);
     let before = seconds_now(rt);
-    serves(rt, &listener, &mut desk, 1, "");
-    let behind = seconds_now(rt);
+    answer_connections(rt, &listener, &mut desk, 1, "");
+    let after = seconds_now(rt);
     is_sent(rt, rt.alloc(), &mut client, group_reply());
-    executed_within(rt, desk, before, behind);
+    executed_within(rt, desk, before, after);
 }
 
 #[test]
-fn connection_is_served(rt: HostRuntime) {
-    is_served(&rt, new_desk(&rt, rt.alloc()));
+fn connection_is_answered(rt: HostRuntime) {
+    is_answered(&rt, new_desk(&rt, rt.alloc()));
 }
 
 fn begun() -> &'static [u8] {
@@ -98,14 +98,14 @@ fn begun() -> &'static [u8] {
 }
 
 // The first client sends half a request, and the second one more than is read at once.
-fn next_is_served<R, B: Book + Drop>(rt: &R, mut desk: Desk<B>)
+fn next_is_answered<R, B: Book + Drop>(rt: &R, mut desk: Desk<B>)
 where
     R: Abort + AllocGlobal + Clock + Net<Listener = TcpListener, Stream = TcpStream>,
 {
     let listener = listener(rt);
     let mut first = client(rt, &listener, begun(), 0);
     let mut second = client(rt, &listener, group(), 200);
-    serves(
+    answer_connections(
         rt,
         &listener,
         &mut desk,
@@ -117,8 +117,8 @@ where
 }
 
 #[test]
-fn next_is_served_behind_a_fault(rt: HostRuntime) {
-    next_is_served(&rt, new_desk(&rt, rt.alloc()));
+fn next_is_answered_after_a_fault(rt: HostRuntime) {
+    next_is_answered(&rt, new_desk(&rt, rt.alloc()));
 }
 
 fn store_fault() -> &'static str {
@@ -142,7 +142,7 @@ where
 }
 
 #[test]
-fn nothing_is_served_behind_a_store_that_failed(rt: HostRuntime) {
+fn nothing_is_answered_after_a_store_that_failed(rt: HostRuntime) {
     let alloc = rt.alloc();
     let book = FailingBook::new(MemoryBook::new(alloc, Limits::GREATEST), "4:store");
     failure_is_the_last(&rt, desk_over(&rt, alloc, book));

@@ -1,6 +1,6 @@
-//! What a desk is asked over HTTP, and its replies, in lines of a [script](crate::player).
+//! The requests to a desk over HTTP, and its replies, in lines of a [script](crate::player).
 
-/// The tests of a request: the first failure of each, and which goes before which. Of a target that is asked by GET no
+/// The tests of a request: the first failure of each, and which comes before which. Of a target that is asked by GET no
 /// body is waited for.
 pub fn refusals() -> &'static [u8] {
     br#"
@@ -192,7 +192,7 @@ closed executed 0, groups 0, stations 0, failures 0, reads 1
 "#
 }
 
-/// What a desk executes, keeps and refuses, and what is read of it.
+/// The requests that a desk executes, keeps and refuses, and what is read of it.
 pub fn reads() -> &'static [u8] {
     br#"
 scene body_of_the_greatest_length

@@ -1,4 +1,4 @@
-//! A book in memory behind 300 commits, and what it refuses.
+//! A book in memory after 300 commits, and what it refuses.
 
 mod watched;
 
@@ -121,7 +121,7 @@ fn counters_of(rows: &Rows) -> (usize, u64, u32, u64) {
     )
 }
 
-// What the book of 300 commits tells.
+// What the book of 300 commits reads.
 fn expect_filled<B: Book>(rt: &(impl Abort + AllocGlobal), book: &mut B) {
     same(rt, &counters(rt, book), &(1, 300, 10, 300));
     same(rt, &events_after(rt, book, 290), &Some((291, 300)));
@@ -159,7 +159,7 @@ fn commit_rows<B: Book>(
     book.commit(rows, &[], &kept)
 }
 
-// Commits rows of two stations in this order, behind the 300 commits.
+// Commits rows of two stations in this order, after the 300 commits.
 fn commit_stations<B: Book>(
     rt: &(impl Abort + AllocGlobal),
     book: &mut B,
@@ -193,7 +193,7 @@ fn expect_refused<B: Book>(rt: &(impl Abort + AllocGlobal), book: &mut B) {
     same(rt, &refused, &Err(BookFault::NoMemory));
 }
 
-// What is refused changes nothing.
+// A refused commit changes nothing.
 fn play<B: Book>(rt: &(impl Abort + AllocGlobal), book: &mut B) {
     fill(rt, book);
     expect_filled(rt, book);

@@ -1,4 +1,4 @@
-//! What no clause says: that the definitions are the formats, and that calls succeed.
+//! No clause says this: that the definitions are the formats, and that calls succeed.
 
 mod exports;
 mod plans;

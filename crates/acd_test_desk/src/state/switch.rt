@@ -181,7 +181,7 @@ fn each_rule_refuses_what_breaks_it(rt: HostRuntime) {
     }
 }
 
-// The agent at 201 serves a second group. The rule is broken where that isn't planned, or is a station.
+// The agent at 201 has a second group. The rule is broken where that isn't planned, or is a station.
 #[test]
 fn each_group_of_an_agent_is_planned(rt: HostRuntime) {
     let broken = Some(RowFault::Broken(Rule::Agent));
@@ -196,7 +196,7 @@ fn each_group_of_an_agent_is_planned(rt: HostRuntime) {
 }
 
 #[test]
-fn just_those_logged_on_serve_groups(rt: HostRuntime) {
+fn just_those_logged_on_have_groups(rt: HostRuntime) {
     let broken = Some(RowFault::Broken(Rule::Agent));
     let mut parts = answered_call(&rt);
     parts.agents[0].groups = Groups::none();
@@ -206,7 +206,7 @@ fn just_those_logged_on_serve_groups(rt: HostRuntime) {
     same(&rt, &fault_of(&rt, &parts), &broken);
 }
 
-// A call waits in 100. The agent who is ready serves 05, and then 100 too.
+// A call waits in 100. The agent who is ready is in 05, and then in 100 too.
 #[test]
 fn an_agent_is_eligible_in_a_second_group(rt: HostRuntime) {
     let billing = device(&rt, "100");

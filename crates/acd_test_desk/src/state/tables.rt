@@ -1,4 +1,4 @@
-//! What the tables refuse as if there were no memory.
+//! Rows that the tables refuse as if there were no memory.
 
 use crate::comparing::same;
 use crate::state::values::{agent, device, group, listed, ready, two_groups, waiting};
@@ -29,7 +29,7 @@ fn changes(rt: &impl Abort) -> [(Change, bool); 8] {
             Change::PutAgent(ready(agent(rt, "4", 6), first, help)),
             false,
         ),
-        // a group that isn't planned, alone and behind one that is
+        // a group that isn't planned, alone and after one that is
         (
             Change::PutAgent(ready(agent(rt, "4", 6), second, other)),
             false,
@@ -83,7 +83,7 @@ fn fill(rt: &(impl Abort + AllocGlobal), first: &str, second: &str) -> Result<()
     filled(rt.alloc(), &rows)
 }
 
-// The number of an identifier has the digit 1 before its own, so that 07 comes before 100.
+// The number of an identifier has the digit 1 before its digits, so that 07 comes before 100.
 #[test]
 fn rows_out_of_order(rt: HostRuntime) {
     same(&rt, &fill(&rt, "07", "100"), &Ok(()));

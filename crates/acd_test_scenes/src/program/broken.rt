@@ -78,8 +78,8 @@ pub fn cannot_write(rt: &HostRuntime, line: &str, step: &str) -> io::Result<bool
     Ok(status == 1 && is_marked(step, '!', &errors))
 }
 
-/// Whether the program, called with this line, ends with its status where the fault can't be told.
-pub fn cannot_tell(rt: &HostRuntime, said: &str) -> io::Result<bool> {
+/// Whether the program, called with this line, ends with its status where the fault can't be printed.
+pub fn cannot_print(rt: &HostRuntime, said: &str) -> io::Result<bool> {
     let (status, line) = said.split_once(' ').unwrap_or((said, ""));
     let words = words_of(rt.alloc(), line)?;
     let mut reader: &[u8] = b"";

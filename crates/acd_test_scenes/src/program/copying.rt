@@ -5,7 +5,7 @@ use acd_program::program;
 use std::fs;
 use std::io::{self, Read};
 
-/// An input, behind whose last line the file of a desk and its log are copied as they are then.
+/// An input, after whose last line the file of a desk and its log are copied as they are then.
 #[derive(Drop)]
 struct Copying<'a> {
     rt: &'a HostRuntime,
@@ -34,8 +34,8 @@ impl<'a> Read for Copying<'a> {
     }
 }
 
-/// Whether the program, called with the last of these words, which stand behind the path of its file and one for a copy,
-/// answers the step's lines, and a copy is made behind them.
+/// Whether the program, called with the last of these words, which follow the path of its file and one for a copy,
+/// answers the step's lines, and a copy is made after them.
 pub fn is_copied(rt: &HostRuntime, said: &str, step: &str) -> io::Result<bool> {
     let (file, said) = said.split_once(' ').unwrap_or((said, ""));
     let (copy, line) = said.split_once(' ').unwrap_or((said, ""));

@@ -10,7 +10,7 @@ pub fn remove(rt: &HostRuntime, path: &str) -> io::Result<()> {
     Ok(())
 }
 
-/// A path at which nothing stands.
+/// A path at which there is nothing.
 pub fn free_path(rt: &HostRuntime, name: &str) -> io::Result<String> {
     let folder = env::temp_dir(rt)?;
     let id = process::id(rt.process());
@@ -19,7 +19,7 @@ pub fn free_path(rt: &HostRuntime, name: &str) -> io::Result<String> {
     Ok(path)
 }
 
-/// Writes the text, and behind it this byte up to a length.
+/// Writes the text, and after it this byte up to a length.
 pub fn write(rt: &HostRuntime, path: &str, text: &str, len: usize, byte: u8) -> io::Result<()> {
     let mut bytes = Vec::new(rt.alloc());
     bytes.extend_from_slice(text.as_bytes())?;
@@ -28,7 +28,7 @@ pub fn write(rt: &HostRuntime, path: &str, text: &str, len: usize, byte: u8) -> 
     fs::write(rt, path, bytes.as_slice())
 }
 
-/// Puts bytes in the place of the first ones of the file that are as these, and tells whether there are any.
+/// Puts bytes in the place of the first ones of the file that are as these, and answers whether there are any.
 pub fn patch(rt: &HostRuntime, path: &str, these: &[u8], bytes: &[u8]) -> io::Result<bool> {
     if these.is_empty() {
         return Ok(false);
@@ -46,7 +46,7 @@ pub fn patch(rt: &HostRuntime, path: &str, these: &[u8], bytes: &[u8]) -> io::Re
     }
 }
 
-/// Whether nothing stands at a path, a file of no bytes, a database with pages of 1,024 bytes, or something else.
+/// Whether a path has nothing, a file of no bytes, a database with pages of 1,024 bytes, or something else.
 pub fn state_of(rt: &HostRuntime, path: &str) -> &'static str {
     match fs::read(rt, path) {
         Ok(bytes) => state_of_bytes(&bytes),

@@ -583,11 +583,11 @@ taken
 > ! acd: cannot open /"#
 }
 
-// A file that was changed by hand, and each time back. In the head of a row a byte stands for each value: 8 is the
-// number 0, and 9 the number 1; 1 and 4 are numbers of one byte and of four behind it, as the 20 seconds of ring behind
-// the group's name. So the version takes three bytes of the greatest number of requests; a name gets a control character; the
-// group has no entry; a table has another range; and the last event is none, so that the next one has the
-// number of one that is there. Of the changed reply and the changed name an audit tells.
+// A file that was changed by hand, and each time back. In the head of a row a byte says the type of each value: 8 is
+// the number 0, and 9 the number 1; 1 and 4 are numbers of one byte and of four after it, as the 20 seconds of ring
+// after the group's name. So the version takes three bytes of the greatest number of requests; a name gets a control
+// character; the group has no entry; a table has another range; and the last event is none, so that the next one has
+// the number of one that is there. An audit finds the changed reply and the changed name.
 fn altered_file() -> &'static [u8] {
     b"altered_file: behind each change what is told.
 0 acd lines --file {file}

@@ -1,5 +1,5 @@
-//! A script of runs of the program, over two files of its own. Empty lines part its steps, `{file}` and `{plan}` stand
-//! for paths at which nothing is at first, and the first line of a step says what it is:
+//! A script of runs of the program, over two files of the script. Empty lines part its steps, `{file}` and `{plan}` are
+//! replaced by paths at which nothing is at first, and the first line of a step says what it is:
 //!
 //! | line | what it is |
 //! |---|---|
@@ -8,37 +8,37 @@
 //! | `untold STATUS WORD WORD` | the same, and the stream of errors fails too |
 //! | `slowly WORD WORD` | the program, called with these words, succeeds, and its output takes a byte at a time |
 //! | `copied PATH PATH WORD WORD` | the program, called with these words, succeeds; when it asks for more input than the step's the file and the log at the first path are copied to the second one, while the desk is open |
-//! | `lines PATH LENGTH` | a file gets lines, and behind them empty ones up to a length |
+//! | `lines PATH LENGTH` | a file gets lines, and after them empty ones up to a length |
 //! | `zeros PATH LENGTH` | a file gets so many bytes that are 0 |
 //! | `gone PATH` | a file is removed |
 //! | `put PATH PATH` | the file at the first path is copied to the second one, without its log |
 //! | `patch PATH THESE BYTES` | the first bytes of the file that are as these are replaced |
-//! | `serve PATH` | the program serves a file to two callers, and the runs behind `>` are made when it listens |
-//! | `taken` | the runs behind `>` are made where something else listens on `{port}` |
+//! | `serve PATH` | the program answers two callers over a file, and makes the runs after `>` when it listens |
+//! | `taken` | the runs after `>` are made where something else listens on `{port}` |
 //! | `is PATH STATE` | a path has this [state](super::files::state_of) |
 //!
-//! Behind it `>` begins a line that is read, `<` one that is written, and `!` one on the stream of errors. There are no
+//! After it `>` begins a line that is read, `<` one that is written, and `!` one on the stream of errors. There are no
 //! others.
 
-use super::broken::{cannot_tell, cannot_write, writes_slowly};
+use super::broken::{cannot_print, cannot_write, writes_slowly};
 use super::copying::is_copied;
 use super::files::{free_path, patch, remove, state_of, write};
-use super::serving::{cannot_listen, serves};
+use super::listening::{answers_callers, cannot_listen};
 use acd_program::program;
 use std::alloc::{AllocError, Global};
 use std::{fs, io};
 
-// What stands behind this sign and a space.
-fn behind(line: &str, sign: char) -> Option<&str> {
+// The rest after this sign and a space.
+fn rest_after_sign(line: &str, sign: char) -> Option<&str> {
     let said = line.strip_prefix(sign)?;
     Some(said.strip_prefix(' ').unwrap_or(said))
 }
 
-/// The lines of the step behind this sign.
+/// The lines of the step after this sign.
 pub fn marked(alloc: Global, step: &str, sign: char) -> Result<String, AllocError> {
     let mut text = String::new(alloc);
     for line in step.lines() {
-        if let Some(said) = behind(line, sign) {
+        if let Some(said) = rest_after_sign(line, sign) {
             text.push_str(said)?;
             text.push_str("\n")?;
         }
@@ -46,12 +46,12 @@ pub fn marked(alloc: Global, step: &str, sign: char) -> Result<String, AllocErro
     Ok(text)
 }
 
-/// Whether these are the bytes of the step's lines behind this sign.
+/// Whether these are the bytes of the step's lines after this sign.
 pub fn is_marked(step: &str, sign: char, bytes: &[u8]) -> bool {
     let mut left = bytes;
     for line in step.lines() {
-        if let Some(said) = behind(line, sign) {
-            match behind_line(left, said) {
+        if let Some(said) = rest_after_sign(line, sign) {
+            match rest_after_line(left, said) {
                 Some(rest) => left = rest,
                 None => return false,
             }
@@ -60,8 +60,8 @@ pub fn is_marked(step: &str, sign: char, bytes: &[u8]) -> bool {
     left.is_empty()
 }
 
-// What stands behind this line.
-fn behind_line<'a>(bytes: &'a [u8], line: &str) -> Option<&'a [u8]> {
+// The rest after this line.
+fn rest_after_line<'a>(bytes: &'a [u8], line: &str) -> Option<&'a [u8]> {
     bytes.strip_prefix(line.as_bytes())?.strip_prefix(b"\n")
 }
 
@@ -83,7 +83,7 @@ fn gives(rt: &HostRuntime, words: &[&str], input: &str, status: u8, step: &str) 
     given == status && is_marked(step, '<', &written) && is_marked(step, '!', &errors)
 }
 
-// The first word of the step's first line, and those behind it.
+// The first word of the step's first line, and those after it.
 fn parts_of(step: &str) -> (&str, &str) {
     let (line, _) = step.split_once('\n').unwrap_or((step, ""));
     line.split_once(' ').unwrap_or((line, ""))
@@ -141,7 +141,7 @@ fn happens(rt: &HostRuntime, step: &str) -> io::Result<bool> {
     let (what, said) = parts_of(step);
     match what {
         "cut" => cannot_write(rt, said, step),
-        "untold" => cannot_tell(rt, said),
+        "untold" => cannot_print(rt, said),
         "slowly" => writes_slowly(rt, said, step),
         "copied" => is_copied(rt, said, step),
         "lines" => is_written(rt, said, step, b'\n'),
@@ -150,7 +150,7 @@ fn happens(rt: &HostRuntime, step: &str) -> io::Result<bool> {
         "put" => is_put(rt, said),
         "patch" => is_patched(rt, said),
         "is" => Ok(is_so(rt, said)),
-        "serve" => serves(rt, said, step),
+        "serve" => answers_callers(rt, said, step),
         "taken" => cannot_listen(rt, step),
         _ => is_run(rt, step),
     }

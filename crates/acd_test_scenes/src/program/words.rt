@@ -47,7 +47,7 @@ fn command_lines() -> &'static str {
 0 acd audit --help"
 }
 
-// The status of the program, called with this line, and whether it writes nothing, and tells no fault.
+// The status of the program, called with this line, and whether it writes nothing, and prints no fault.
 fn given(rt: &HostRuntime, line: &str) -> io::Result<(u8, bool, bool)> {
     let words = words_of(rt.alloc(), line)?;
     let mut reader: &[u8] = b"";
@@ -57,7 +57,7 @@ fn given(rt: &HostRuntime, line: &str) -> io::Result<(u8, bool, bool)> {
     Ok((status, written.is_empty(), errors.is_empty()))
 }
 
-// What is refused is told on the stream of errors alone, and help on the output alone.
+// What is refused is printed on the stream of errors alone, and help on the output alone.
 #[test]
 fn refused_command_lines(rt: HostRuntime) {
     for line in command_lines().lines() {

@@ -396,7 +396,7 @@ pub fn first_lines() -> &'static [u8] {
 "#
 }
 
-/// The lines behind them: in two texts each takes less to prove.
+/// The lines after them: in two texts each takes less to prove.
 pub fn last_lines() -> &'static [u8] {
     br#"! {"call":29,"cause":"newCall","device":"110","event":"queued","moment":165,"number":221}
 + 165 {"state":"ready"} {"requester":"help-line-office-of-the-city-001","invoke":25,"service":"setAgentState","agent":"16","requested":"ready"}

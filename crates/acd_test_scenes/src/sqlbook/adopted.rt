@@ -1,4 +1,4 @@
-//! Connections that are taken for a book, and those that aren't, each by its fault.
+//! Connections that are adopted as a book, and those that aren't, each by its fault.
 
 use super::altered;
 use crate::altered::database;
@@ -168,39 +168,39 @@ pub fn old_tables(rt: &impl Abort) -> &'static str {
     part_of(rt, parts(), "old_tables")
 }
 
-// What is told of the connection.
-fn told<S: Alter + Drop>(rt: &impl Abort, alloc: Global, conn: Connection<S>) -> String {
+// What is found of the connection.
+fn finding<S: Alter + Drop>(rt: &impl Abort, alloc: Global, conn: Connection<S>) -> String {
     if !conn.is_autocommit() {
         panic!(rt; "a transaction");
     }
-    let told = match SqlBook::adopt(alloc, conn) {
+    let finding = match SqlBook::adopt(alloc, conn) {
         Ok(_) => format!(in alloc; "book"),
         Err((fault, _)) => format!(in alloc; "{fault:?}"),
     };
-    told.expect(rt, "memory")
+    finding.expect(rt, "memory")
 }
 
-// The line's change of a database is told so.
-fn expect_told<S: Alter + Drop>(rt: &impl Abort, alloc: Global, conn: Connection<S>, line: &str) {
+// This is found of the line's change of a database.
+fn expect_found<S: Alter + Drop>(rt: &impl Abort, alloc: Global, conn: Connection<S>, line: &str) {
     let (wanted, sql) = line.split_once(' ').expect(rt, "a change");
-    let told = told(rt, alloc, changed(rt, conn, sql));
-    assert_eq!(rt; told.as_str(), wanted, "{sql}");
+    let finding = finding(rt, alloc, changed(rt, conn, sql));
+    assert_eq!(rt; finding.as_str(), wanted, "{sql}");
 }
 
 #[test]
 fn databases_that_are_books(rt: HostRuntime) {
     let alloc = rt.alloc();
-    let none = told(&rt, alloc, database(&rt, alloc));
+    let none = finding(&rt, alloc, database(&rt, alloc));
     assert_eq!(rt; none.as_str(), "WrongVersion(0)");
     for line in part_of(&rt, parts(), "of_new_book").lines() {
         let conn = altered(&rt, alloc, database(&rt, alloc), "");
-        expect_told(&rt, alloc, conn, line);
+        expect_found(&rt, alloc, conn, line);
     }
     for (first, lines) in [("rows", "of_rows"), ("history", "of_history")] {
         for line in part_of(&rt, parts(), lines).lines() {
             let first = part_of(&rt, parts(), first);
             let conn = altered(&rt, alloc, database(&rt, alloc), first);
-            expect_told(&rt, alloc, conn, line);
+            expect_found(&rt, alloc, conn, line);
         }
     }
 }
@@ -215,7 +215,7 @@ fn more(rt: &impl Abort, alloc: Global) -> Connection<MemStore> {
 fn further_groups_and_priorities(rt: HostRuntime) {
     let alloc = rt.alloc();
     for line in part_of(&rt, parts(), "of_new_tables").lines() {
-        expect_told(&rt, alloc, more(&rt, alloc), line);
+        expect_found(&rt, alloc, more(&rt, alloc), line);
     }
     let mut conn = more(&rt, alloc);
     for sql in part_of(&rt, parts(), "refused_by_the_store").lines() {
@@ -223,7 +223,7 @@ fn further_groups_and_priorities(rt: HostRuntime) {
     }
 }
 
-// Its bad rows are told as those of version 2 are.
+// Its bad rows are found as those of version 2 are.
 #[test]
 fn databases_of_version_1(rt: HostRuntime) {
     let alloc = rt.alloc();
@@ -231,7 +231,7 @@ fn databases_of_version_1(rt: HostRuntime) {
         for line in part_of(&rt, parts(), lines).lines() {
             let conn = changed(&rt, database(&rt, alloc), old_tables(&rt));
             let conn = changed(&rt, conn, part_of(&rt, parts(), first));
-            expect_told(&rt, alloc, conn, line);
+            expect_found(&rt, alloc, conn, line);
         }
     }
 }

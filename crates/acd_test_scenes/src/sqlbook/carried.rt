@@ -1,8 +1,8 @@
-//! A book that goes on from an archive, and what an audit of both tells where one of them was changed.
+//! A book that goes on from an archive, and what an audit of both finds where one of them was changed.
 
 use super::adopted::old_tables;
 use super::created;
-use super::further::served;
+use super::further::after_session;
 use super::migrated::left;
 use crate::altered::database;
 use crate::look_ups::same;
@@ -14,7 +14,7 @@ use sqlite::{Connection, MemStore};
 use std::alloc::Global;
 use std::process::Abort;
 
-// What goes on from the archive, and changes of one of both.
+// The book that continues the archive, and changes of one of both.
 fn parts() -> &'static [u8] {
     br#"newer: The call is ended, and the after-call work.
 > 40 {"requester":"pbx","invoke":2,"service":"clearConnection","call":1,"device":"0301234"}
@@ -46,16 +46,16 @@ changes: The stamp that is told, which of both is changed, and how: records and 
 10 file UPDATE kept SET invoke = 1, request = '{"call":1,"device":"0301234","invoke":1,"requester":"pbx","service":"clearConnection"}', body = '{"invoke":1,"requester":"pbx","result":{}}' WHERE stamp = 10"#
 }
 
-// What an older program left, in tables of version 2.
+// The archive that an older program left, in tables of version 2.
 fn archive(rt: &impl Abort, alloc: Global) -> Connection<MemStore> {
     let conn = changed(rt, database(rt, alloc), old_tables(rt));
     let conn = changed(rt, conn, left(rt));
     book_in(rt, alloc, conn, None).into_connection()
 }
 
-// A book behind the archive, and behind newer requests.
+// A book after the archive, and after newer requests.
 fn whole(rt: &impl Abort, alloc: Global) -> Connection<MemStore> {
-    served(rt, alloc, archive(rt, alloc), part_of(rt, parts(), "newer"))
+    after_session(rt, alloc, archive(rt, alloc), part_of(rt, parts(), "newer"))
 }
 
 // The same, without what came before the agent got ready.
@@ -67,8 +67,8 @@ fn carried(rt: &impl Abort, alloc: Global) -> Connection<MemStore> {
     )
 }
 
-// What an audit of the file tells behind the archive.
-fn told(
+// What an audit of the file with the archive finds.
+fn audit_with_archive(
     rt: &impl Abort,
     alloc: Global,
     archive: Connection<MemStore>,
@@ -81,43 +81,47 @@ fn told(
     }
 }
 
-// What is told where the archive is behind the first change, and the file behind the second.
-fn told_behind(
+// What is found where the archive is read after the first change, and the file after the second.
+fn audit_after_changes(
     rt: &impl Abort,
     alloc: Global,
     first: &str,
     second: &str,
 ) -> Result<Audit, AuditFault> {
     let archive = changed(rt, archive(rt, alloc), first);
-    told(rt, alloc, archive, changed(rt, carried(rt, alloc), second))
+    audit_with_archive(rt, alloc, archive, changed(rt, carried(rt, alloc), second))
 }
 
 #[test]
 fn differences_from_an_archive(rt: HostRuntime) {
     let alloc = rt.alloc();
-    same(&rt, &told_behind(&rt, alloc, "", ""), &Ok(Audit::Sound));
+    same(
+        &rt,
+        &audit_after_changes(&rt, alloc, "", ""),
+        &Ok(Audit::Sound),
+    );
     for line in part_of(&rt, parts(), "changes").lines() {
         let (place, change) = halves(&rt, line);
         let (of, sql) = halves(&rt, change);
         let (first, second) = if of == "file" { ("", sql) } else { (sql, "") };
-        let found = told_behind(&rt, alloc, first, second);
+        let found = audit_after_changes(&rt, alloc, first, second);
         same(&rt, &found, &Ok(Audit::Differs(number(&rt, place))));
     }
 }
 
-// The whole is an archive too, of which nothing was left behind. Not so are a later file, and a new one.
+// The whole is an archive too, in which nothing was left. Not so are a later file, and a new one.
 #[test]
 fn wrong_archives(rt: HostRuntime) {
     let alloc = rt.alloc();
-    let found = told(&rt, alloc, archive(&rt, alloc), whole(&rt, alloc));
+    let found = audit_with_archive(&rt, alloc, archive(&rt, alloc), whole(&rt, alloc));
     same(&rt, &found, &Ok(Audit::Sound));
-    let found = told(&rt, alloc, carried(&rt, alloc), archive(&rt, alloc));
+    let found = audit_with_archive(&rt, alloc, carried(&rt, alloc), archive(&rt, alloc));
     same(&rt, &found, &Ok(Audit::Differs(1)));
     let new = created(&rt, alloc, database(&rt, alloc)).into_connection();
-    let found = told(&rt, alloc, new, carried(&rt, alloc));
+    let found = audit_with_archive(&rt, alloc, new, carried(&rt, alloc));
     same(&rt, &found, &Ok(Audit::Differs(1)));
     let broken = "UPDATE acd_groups SET entered = 0";
-    let found = told_behind(&rt, alloc, broken, "");
+    let found = audit_after_changes(&rt, alloc, broken, "");
     let rows = OpenFault::Rows(Rule::Counters);
     same(&rt, &found, &Err(AuditFault::Archive(rows)));
 }

@@ -1,7 +1,7 @@
 //! Commits of changes over a book in memory: what they leave in the tables, one that is refused, and what is answered
 //! of them.
 
-use super::commits::{events_of, holding, kept_behind, part};
+use super::commits::{events_of, holding, kept_after, part};
 use super::{created, expect_numbers};
 use crate::altered::database;
 use crate::look_ups::same;
@@ -14,7 +14,7 @@ use acd_terms::{Limits, Rows};
 use std::alloc::Global;
 use std::process::Abort;
 
-// What another book holds, and what is then in the tables.
+// The content of another book, and then of the tables.
 fn parts() -> &'static [u8] {
     br#"watched: A monitor, and an event at its device.
 INSERT INTO monitors VALUES (3, 1201, 0);
@@ -40,19 +40,19 @@ fn monitor_changes(rt: &impl Abort, alloc: Global, rows: &Rows) -> Vec<Change> {
 fn commit_monitors<B: Book>(rt: &impl Abort, alloc: Global, book: &mut B, other: &mut B) {
     let changes = monitor_changes(rt, alloc, &rows_of(rt, other));
     let events = events_of(rt, other);
-    let done = book.commit_changes(&changes, &events, &kept_behind(rt, other, 0));
+    let done = book.commit_changes(&changes, &events, &kept_after(rt, other, 0));
     same(rt, &done, &Ok(()));
 }
 
-// The record of another book behind a stamp is committed, with this stamp.
+// The record of another book after a stamp is committed, with this stamp.
 fn commit_record<B: Book>(
     rt: &impl Abort,
     book: &mut B,
     other: &mut B,
-    behind: u64,
+    after: u64,
     stamp: u64,
 ) -> Result<(), BookFault> {
-    let mut kept = kept_behind(rt, other, behind);
+    let mut kept = kept_after(rt, other, after);
     kept.stamp = stamp;
     book.commit_changes(&[], &[], &kept)
 }
@@ -67,7 +67,7 @@ fn commit_records<B: Book>(rt: &impl Abort, book: &mut B, other: &mut B) {
     same(rt, &book.failures(), &1);
 }
 
-// The book answers as the other one does, that both have the limits of a new one, and that nothing is behind the last
+// The book answers as the other one does, that both have the limits of a new one, and that nothing comes after the last
 // event and the greatest number.
 fn expect_answers<B: Book>(rt: &impl Abort, alloc: Global, book: &mut B, other: &mut B) {
     same(rt, &book.limits(), &Ok(Limits::GREATEST));

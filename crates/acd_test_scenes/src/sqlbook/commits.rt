@@ -1,5 +1,5 @@
-//! Commits of whole tables over a book in memory: the store takes each change on the way, and so tells their order, it
-//! has the new rows then, and it refuses what is never taken out. What is committed is what other databases hold.
+//! Commits of whole tables over a book in memory: the store makes each change on the way, and so shows their order, it
+//! has the new rows then, and it refuses what is never removed. What is committed is what other databases hold.
 
 use super::{altered, created};
 use crate::altered::database;
@@ -86,15 +86,15 @@ pub fn events_of<B: Book>(rt: &impl Abort, book: &mut B) -> Vec<Event> {
     book.events_after(0, 10).expect(rt, "the events")
 }
 
-/// The record that the book has behind a stamp.
-pub fn kept_behind<B: Book>(rt: &impl Abort, book: &mut B, stamp: u64) -> Kept {
+/// The record that the book has after a stamp.
+pub fn kept_after<B: Book>(rt: &impl Abort, book: &mut B, stamp: u64) -> Kept {
     match book.kept_after(stamp) {
         Ok(Some(kept)) => kept,
         _ => panic!(rt; "no record"),
     }
 }
 
-// The record behind a stamp, the rows and the events of another book are committed.
+// The record after a stamp, the rows and the events of another book are committed.
 fn commit_of<B: Book>(
     rt: &impl Abort,
     book: &mut B,
@@ -103,7 +103,7 @@ fn commit_of<B: Book>(
 ) -> Result<(), BookFault> {
     let rows = rows_of(rt, other);
     let events = events_of(rt, other);
-    book.commit(&rows, &events, &kept_behind(rt, other, stamp))
+    book.commit(&rows, &events, &kept_after(rt, other, stamp))
 }
 
 fn expect_same_rows<B: Book>(rt: &impl Abort, book: &mut B, other: &mut B) {
@@ -118,7 +118,7 @@ fn expect_same_record<B: Book>(rt: &impl Abort, book: &mut B, other: &mut B, sta
     same(rt, &book.kept_after(stamp), &other.kept_after(stamp));
 }
 
-// Whether that is committed. Then the book holds what the other one does, and no record behind that one.
+// Whether that is committed. Then the book holds what the other one does, and no record after that one.
 fn takes<B: Book + Drop>(rt: &impl Abort, book: &mut B, mut other: B, stamp: u64) -> bool {
     match commit_of(rt, book, &mut other, stamp) {
         Ok(()) => {

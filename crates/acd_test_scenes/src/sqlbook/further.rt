@@ -15,10 +15,10 @@ use sqlite::{Alter, Connection};
 use std::alloc::Global;
 use std::process::Abort;
 
-/// The connection behind these lines, which get just these answers, and behind which just these rows are there: each line of
-/// the session begins with `>` where it is read, with `<` where it is answered, and with `=` where it is a number and a question
-/// that has it as its answer.
-pub fn served<S: Alter + Drop>(
+/// The connection after these lines, which get just these answers, and after which just these rows are there: each line
+/// of the session begins with `>` where it is read, with `<` where it is answered, and with `=` where it is a number
+/// and a question that has it as its answer.
+pub fn after_session<S: Alter + Drop>(
     rt: &impl Abort,
     alloc: Global,
     conn: Connection<S>,
@@ -37,7 +37,7 @@ pub fn served<S: Alter + Drop>(
     conn
 }
 
-// What is written to these lines.
+// The output for these lines.
 fn written<S: Alter + Drop>(
     rt: &impl Abort,
     alloc: Global,
@@ -63,7 +63,7 @@ fn written<S: Alter + Drop>(
     (written, conn)
 }
 
-// Sessions, each with its requests, their answers and the rows behind it.
+// Sessions, each with its requests, their answers and the rows after it.
 fn sessions() -> &'static [u8] {
     br#"three_groups: A plan, and an agent who logs on in three groups, of which one has priority 5.
 > 0 {"requester":"plan","invoke":1,"service":"addGroup","device":"100","name":"Billing","ring":20,"wrap":30}
@@ -163,17 +163,17 @@ fn rows_of_further_groups_and_priorities(rt: HostRuntime) {
         "log_off",
         "two_groups",
     ] {
-        conn = served(&rt, alloc, conn, part_of(&rt, sessions(), name));
+        conn = after_session(&rt, alloc, conn, part_of(&rt, sessions(), name));
     }
     let _book = expect_sound(&rt, alloc, book_in(&rt, alloc, conn, None));
 }
 
 #[test]
-fn two_groups_behind_a_migration(rt: HostRuntime) {
+fn two_groups_after_a_migration(rt: HostRuntime) {
     let alloc = rt.alloc();
     let conn = changed(&rt, database(&rt, alloc), old_tables(&rt));
     let conn = changed(&rt, conn, left(&rt));
     let session = part_of(&rt, sessions(), "behind_a_migration");
-    let conn = served(&rt, alloc, conn, session);
+    let conn = after_session(&rt, alloc, conn, session);
     let _book = expect_sound(&rt, alloc, book_in(&rt, alloc, conn, None));
 }

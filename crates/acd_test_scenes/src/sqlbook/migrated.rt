@@ -1,4 +1,4 @@
-//! A version 1 that an older program left behind an answered call, and what it is once it is taken.
+//! A version 1 that an older program left after an answered call, and what it is once it is adopted.
 
 use super::adopted::old_tables;
 use super::expect_numbers;
@@ -8,7 +8,7 @@ use crate::shelf::{book_in, changed};
 use crate::texts::part_of;
 use std::process::Abort;
 
-// What was left, and what it is then.
+// The file that was left, and what it is then.
 fn parts() -> &'static [u8] {
     br#"left: The rows of that file, as stock sqlite3 dumped them: the plan, a call that waited, an agent who logged on, got ready and answered it.
 UPDATE meta SET last_stamp = 9, last_moment = 25, last_call = 1, last_event = 7;

@@ -1,9 +1,9 @@
-//! The numbers that stand for states, kinds, causes, devices and agents in a file: rows of each, in a text of SQL, as reads
-//! tell them by their names; and requests that make each, with the numbers of their rows. Each number that is told is
-//! that of the formats: a number that is another one in its definition and its code alike is told here alone.
+//! The numbers of states, kinds, causes, devices and agents in a file: rows of each, in a text of SQL, as reads give
+//! them by their names; and requests that make each, with the numbers of their rows. Each number is that of the
+//! formats: only this test finds a number that is wrong in its definition and its code alike.
 
 use super::adopted::old_tables;
-use super::further::served;
+use super::further::after_session;
 use super::several::expect_exported;
 use crate::altered::database;
 use crate::reads;
@@ -16,7 +16,7 @@ use sqlite::{Connection, MemStore};
 use std::alloc::Global;
 use std::process::Abort;
 
-// Tables and rows, what is told of them, and three sessions.
+// Tables and rows, what is read of them, and three sessions.
 fn parts() -> &'static [u8] {
     br#"new_tables: What version 2 has besides the tables of version 1, by its own texts.
 CREATE TABLE agent_groups (agent INTEGER NOT NULL REFERENCES agents, grp INTEGER NOT NULL REFERENCES acd_groups, PRIMARY KEY (agent, grp)) STRICT;
@@ -309,18 +309,18 @@ more: What is held behind it: who logs on and off, a call that fails, one that w
 = 10110 SELECT device FROM monitors WHERE monitor = 2 AND after_event = 79"#
 }
 
-// The line is a read of the desk and what it tells, an object.
-fn expect_told<B: Book>(rt: &impl Abort, alloc: Global, desk: &mut Desk<B>, line: &str) {
+// The line is a read of the desk and its answer, an object.
+fn expect_read<B: Book>(rt: &impl Abort, alloc: Global, desk: &mut Desk<B>, line: &str) {
     let (asked, wanted) = line.split_once(" {").expect(rt, "a text");
-    let told = reads::text(rt, alloc, desk, asked);
-    assert_eq!(rt; told.as_str().strip_prefix('{'), Some(wanted));
+    let answer = reads::text(rt, alloc, desk, asked);
+    assert_eq!(rt; answer.as_str().strip_prefix('{'), Some(wanted));
 }
 
-// A desk over the book tells each of these.
-fn expect_all_told<B: Book + Drop>(rt: &impl Abort, alloc: Global, book: B, lines: &str) -> B {
+// A desk over the book reads each of these.
+fn expect_reads<B: Book + Drop>(rt: &impl Abort, alloc: Global, book: B, lines: &str) -> B {
     let mut desk = opened(rt, alloc, book);
     for line in lines.lines() {
-        expect_told(rt, alloc, &mut desk, line);
+        expect_read(rt, alloc, &mut desk, line);
     }
     desk.close()
 }
@@ -338,7 +338,7 @@ fn laid(rt: &impl Abort, alloc: Global) -> Connection<MemStore> {
 fn names_of_numbers_in_rows(rt: HostRuntime) {
     let alloc = rt.alloc();
     let book = book_in(&rt, alloc, laid(&rt, alloc), None);
-    let book = expect_all_told(&rt, alloc, book, part_of(&rt, parts(), "told_of_rows"));
+    let book = expect_reads(&rt, alloc, book, part_of(&rt, parts(), "told_of_rows"));
     let _book = expect_exported(&rt, alloc, book, part_of(&rt, parts(), "records"));
 }
 
@@ -347,6 +347,6 @@ fn numbers_of_names_in_rows(rt: HostRuntime) {
     let alloc = rt.alloc();
     let mut conn = laid(&rt, alloc);
     for name in ["kept", "course", "more"] {
-        conn = served(&rt, alloc, conn, part_of(&rt, parts(), name));
+        conn = after_session(&rt, alloc, conn, part_of(&rt, parts(), name));
     }
 }

@@ -2,7 +2,7 @@
 //! and at the end all events.
 
 use super::adopted::old_tables;
-use super::further::served;
+use super::further::after_session;
 use crate::altered::database;
 use crate::files::expect_sound;
 use crate::reads;
@@ -111,19 +111,19 @@ pub fn expect_exported<B: Book + Drop>(
     records: &str,
 ) -> B {
     let mut desk = opened(rt, alloc, book);
-    let told = reads::text(rt, alloc, &mut desk, "export all");
-    assert_eq!(rt; told.as_str().strip_suffix('\n'), Some(records));
+    let answer = reads::text(rt, alloc, &mut desk, "export all");
+    assert_eq!(rt; answer.as_str().strip_suffix('\n'), Some(records));
     desk.close()
 }
 
 // Each session is over what the one before it left.
 #[test]
-fn several_groups_behind_a_migration(rt: HostRuntime) {
+fn several_groups_after_a_migration(rt: HostRuntime) {
     let alloc = rt.alloc();
     let conn = changed(&rt, database(&rt, alloc), old_tables(&rt));
     let conn = changed(&rt, conn, part_of(&rt, parts(), "plan_left"));
-    let conn = served(&rt, alloc, conn, part_of(&rt, parts(), "answered"));
-    let conn = served(&rt, alloc, conn, part_of(&rt, parts(), "offered"));
+    let conn = after_session(&rt, alloc, conn, part_of(&rt, parts(), "answered"));
+    let conn = after_session(&rt, alloc, conn, part_of(&rt, parts(), "offered"));
     let book = expect_sound(&rt, alloc, book_in(&rt, alloc, conn, None));
     let _book = expect_exported(&rt, alloc, book, part_of(&rt, parts(), "records"));
 }

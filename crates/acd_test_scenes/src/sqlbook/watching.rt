@@ -1,6 +1,6 @@
-//! Pages of monitors behind some two hundred commits, where one device has an event in each of them and another one in
+//! Pages of monitors after some two hundred commits, where one device has an event in each of them and another one in
 //! every thirtieth. Monitors are started and stopped on the way, together with events too, a commit is refused, and the
-//! book is closed and opened again. Each page is as the test's own lists have it.
+//! book is closed and opened again. Each page is as the lists of this test have it.
 
 use super::created;
 use crate::altered::database;
@@ -37,7 +37,7 @@ fn place_of(number: u64) -> Option<u64> {
     }
 }
 
-// What the test itself knows: how many commits and events there were, and the monitors that run.
+// The test's knowledge: how many commits and events there were, and the monitors that run.
 #[derive(Drop)]
 struct Known {
     commits: u64,
@@ -49,7 +49,7 @@ fn device(rt: &impl Abort, number: u64) -> DeviceId {
     DeviceId::from_number(number).expect(rt, "a device")
 }
 
-// Starts a monitor of a device, which tells what comes behind an event.
+// Starts a monitor of a device, which reports what comes after an event.
 fn start(rt: &impl Abort, monitor: u64, place: u64, after_event: u64) -> Change {
     Change::PutMonitor(MonitorRecord {
         monitor,
@@ -79,7 +79,7 @@ fn add<T: Copy + Drop>(rt: &impl Abort, list: &mut Vec<T>, item: &T) {
     list.push(*item).expect(rt, "memory");
 }
 
-// The events of a commit behind the last one.
+// The events of a commit after the last one.
 fn next_events(rt: &impl Abort, alloc: Global, last: u64) -> Vec<Event> {
     let mut events = Vec::new(alloc);
     for place in 1..=EVENTS {
@@ -134,8 +134,8 @@ fn commit<B: Book>(
     }
 }
 
-// The first events of the test's own list that are at a place above a number.
-fn told_at(
+// The first events of the test's list that are at a place above a number.
+fn reported_at(
     rt: &impl Abort,
     alloc: Global,
     last: u64,
@@ -143,16 +143,16 @@ fn told_at(
     above: u64,
     limit: usize,
 ) -> Vec<Event> {
-    let mut told = Vec::new(alloc);
+    let mut reported = Vec::new(alloc);
     for number in 1..=last {
-        if number > above && place_of(number) == Some(place) && told.len() < limit {
-            add(rt, &mut told, &event(rt, number));
+        if number > above && place_of(number) == Some(place) && reported.len() < limit {
+            add(rt, &mut reported, &event(rt, number));
         }
     }
-    told
+    reported
 }
 
-// The page of a monitor by the test's own lists. One that doesn't run has none.
+// The page of a monitor by the lists of this test. One that doesn't run has none.
 fn page_of(
     rt: &impl Abort,
     alloc: Global,
@@ -165,7 +165,7 @@ fn page_of(
         if watch.monitor == monitor {
             let place = watch.device.number();
             let above = number.max(watch.after_event);
-            return told_at(rt, alloc, known.events, place, above, limit);
+            return reported_at(rt, alloc, known.events, place, above, limit);
         }
     }
     Vec::new(alloc)
@@ -190,8 +190,8 @@ fn expect_pages_above<B: Book>(
     }
 }
 
-// Pages of each monitor and of two that never run, from the first event to behind the last: above those before each start,
-// and above each event of the quiet device.
+// Pages of each monitor and of two that never run, from the first event to after the last: above those before each
+// start, and above each event of the quiet device.
 fn expect_pages<B: Book>(rt: &impl Abort, alloc: Global, book: &mut B, known: &Known) {
     for monitor in 0..12_u64 {
         for step in 0..8_u64 {
@@ -202,7 +202,7 @@ fn expect_pages<B: Book>(rt: &impl Abort, alloc: Global, book: &mut B, known: &K
     }
 }
 
-// A commit of these changes and twenty-nine of none, and the pages behind all.
+// A commit of these changes and twenty-nine of none, and the pages after all.
 fn go_on<B: Book>(
     rt: &impl Abort,
     alloc: Global,
@@ -237,7 +237,7 @@ fn expect_refused<B: Book>(rt: &impl Abort, alloc: Global, book: &mut B, known: 
     expect_pages(rt, alloc, book, known);
 }
 
-// A monitor that tells events of long ago; one that tells those behind the first ones of its own commit; one of a device
+// A monitor that reports events of long ago; one that reports those after the first ones of its commit; one of a device
 // where nothing happens; and several of a device, of which the last ones are stopped.
 fn end<B: Book>(rt: &impl Abort, alloc: Global, book: &mut B, known: &mut Known) {
     let old = [
@@ -263,7 +263,7 @@ fn end<B: Book>(rt: &impl Abort, alloc: Global, book: &mut B, known: &mut Known)
 }
 
 #[test]
-fn pages_of_monitors_behind_many_commits(rt: HostRuntime) {
+fn pages_of_monitors_after_many_commits(rt: HostRuntime) {
     let alloc = rt.alloc();
     let mut known = Known {
         commits: 0,

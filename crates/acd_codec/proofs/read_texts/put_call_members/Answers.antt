@@ -9,5 +9,5 @@ returns c =
     let end = c.put_number-2.new.out in
     let since = adds_then r c.put_device-2.new.out c.put_parties.new.out end _ _ c.in_ok-put_parties.ensures c.put_number-2.ensures in
     let from = adds_then r c.put_device.new.out c.put_device-2.new.out end _ _ c.in_ok-put_device-2.ensures since in
-    let to = adds_then r c.put_number.new.out c.put_device.new.out end _ _ c.in_ok-put_device.ensures from in
-    rw (sym same) (adds_then r c.args.out.now c.put_number.new.out end _ _ c.in_ok-put_number.ensures to)
+    let from_device = adds_then r c.put_number.new.out c.put_device.new.out end _ _ c.in_ok-put_device.ensures from in
+    rw (sym same) (adds_then r c.args.out.now c.put_number.new.out end _ _ c.in_ok-put_number.ensures from_device)

@@ -2,7 +2,7 @@ use Rattle.std.proofs.Common.{◌≡◌, ℕ, List, ◌∷◌, Option, rules, ap
 use Rattle.std.specs.List.{filter_map}
 use Rattle.acd_model.specs.Scans.{connection_of}
 use Rattle.acd_desk.specs.GroupStates.{first_of, lesser, queued_of}
-use Rattle.acd_desk.proofs.GroupLines.{least_noted, lesser_join}
+use Rattle.acd_desk.proofs.GroupLines.{least_with, lesser_join}
 use Rattle.acd_desk.proofs.group_states.first_in.Goals as goal
 
 pub loop-call-preserved : goal.loop-call-preserved
@@ -15,5 +15,5 @@ loop-call-preserved c =
     let entered : c.queued_at.result ≡ queued_of (connection_of s p.1 g) = search rules in
     ap (λ (o : Option ℕ). lesser o (first_of s g rest)) (c.lesser-first.ensures ∙ ap (lesser c.loop-call.first) entered)
     ∙ lesser_join c.loop-call.first (queued_of (connection_of s p.1 g)) (first_of s g rest)
-    ∙ ap (lesser c.loop-call.first) (sym (least_noted (queued_of (connection_of s p.1 g)) (filter_map (λ (k : ℕ × ℕ). queued_of (connection_of s k.1 g)) rest)) ∙ ap (first_of s g) (sym step))
+    ∙ ap (lesser c.loop-call.first) (sym (least_with (queued_of (connection_of s p.1 g)) (filter_map (λ (k : ℕ × ℕ). queued_of (connection_of s k.1 g)) rest)) ∙ ap (first_of s g) (sym step))
     ∙ c.loop-call.invariant

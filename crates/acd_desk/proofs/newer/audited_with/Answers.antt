@@ -2,24 +2,24 @@ use Rattle.std.proofs.Common.{◌≡◌, ℕ, Option, Ok, Err, refl, rules}
 use Rattle.acd_book.specs.Content.{Content}
 use Rattle.acd_book.specs.declared.fault.BookFault.TheVariants as book
 use Rattle.acd_desk.specs.declared.audit.Audit.{Audit}
-use Rattle.acd_desk.specs.declared.pair.PairFault.TheVariants.{Own}
+use Rattle.acd_desk.specs.declared.pair.PairFault.TheVariants.{Current}
 use Rattle.acd_desk.specs.declared.working.LoadedSwitch.{LoadedSwitch}
 use Rattle.acd_desk.proofs.BothReads.{both_opening, both_ok, both_then, both_fault, both_then_fault, both_no_memory}
-use Rattle.acd_desk.proofs.StepsWith.{IsLoaded, WholeOf, both_told, whole_differs, whole_newer}
+use Rattle.acd_desk.proofs.StepsWith.{IsLoaded, WholeOf, both_then_ok, whole_differs, whole_newer}
 use Rattle.acd_desk.proofs.newer.audited_with.Goals as goal
 
 pub returns-in_err-loaded : goal.returns-in_err-loaded
 returns-in_err-loaded g c =
     both_fault WholeOf (g.A.Book.state c.args.archive.now) (g.A.Book.state c.archive_switch.new.archive) (g.B.Book.state c.args.book.now) (g.B.Book.state c.args.book.now) c.in_err-loaded.field-0.0 c.from_residual.result
     (both_opening (λ (x z : Content) (y : LoadedSwitch). y.switch.value ≡ x.rows) (g.A.Book.state c.args.archive.now) (g.A.Book.state c.archive_switch.new.archive) (g.B.Book.state c.args.book.now) c.archive_switch.result
-    (Err c.in_err-loaded.field-0.0) c.archive_switch.ensures c.in_err-loaded.ensures (λ x z y told. told)) (search rules)
+    (Err c.in_err-loaded.field-0.0) c.archive_switch.ensures c.in_err-loaded.ensures (λ x z y holds. holds)) (search rules)
 
 pub returns-in_err-other : goal.returns-in_err-other
 returns-in_err-other g c =
     both_then_fault WholeOf (g.A.Book.state c.args.archive.now) (g.A.Book.state c.archive_switch.new.archive) (g.A.Book.state c.other_place.new.archive) (g.B.Book.state c.args.book.now) (g.B.Book.state c.args.book.now) (g.B.Book.state c.other_place.new.book)
     c.in_ok-loaded.loaded c.in_err-other.field-0.0 c.from_residual-in_err-other.result
     (both_opening (λ (x z : Content) (y : LoadedSwitch). y.switch.value ≡ x.rows) (g.A.Book.state c.args.archive.now) (g.A.Book.state c.archive_switch.new.archive) (g.B.Book.state c.args.book.now) c.archive_switch.result
-    (Ok c.in_ok-loaded.loaded) c.archive_switch.ensures c.in_ok-loaded.ensures (λ x z y told. told)) c.in_err-other.ensures (search rules)
+    (Ok c.in_ok-loaded.loaded) c.archive_switch.ensures c.in_ok-loaded.ensures (λ x z y holds. holds)) c.in_err-other.ensures (search rules)
 
 pub returns-in-Some : goal.returns-in-Some
 returns-in-Some g c =
@@ -27,16 +27,16 @@ returns-in-Some g c =
     c.in_ok-loaded.loaded.switch.value c.last_of.result c.in_ok-other.other c.in-Some.place c.last_of.ensures.stamp c.last_of.ensures.number c.in-Some.is
     (both_ok (IsLoaded c.in_ok-loaded.loaded.switch.value) (g.A.Book.state c.args.archive.now) (g.A.Book.state c.archive_switch.new.archive) (g.B.Book.state c.args.book.now) (g.B.Book.state c.args.book.now) c.in_ok-loaded.loaded tt
     (both_opening (λ (x z : Content) (y : LoadedSwitch). y.switch.value ≡ x.rows) (g.A.Book.state c.args.archive.now) (g.A.Book.state c.archive_switch.new.archive) (g.B.Book.state c.args.book.now) c.archive_switch.result
-    (Ok c.in_ok-loaded.loaded) c.archive_switch.ensures c.in_ok-loaded.ensures (λ x z y told. told)) (λ p q told. told)) c.in_ok-other.ensures
+    (Ok c.in_ok-loaded.loaded) c.archive_switch.ensures c.in_ok-loaded.ensures (λ x z y holds. holds)) (λ p q holds. holds)) c.in_ok-other.ensures
 
 pub returns-in_err-first : goal.returns-in_err-first
 returns-in_err-first g c =
     both_then_fault WholeOf (g.A.Book.state c.args.archive.now) (g.A.Book.state c.other_place.new.archive) (g.A.Book.state c.other_place.new.archive) (g.B.Book.state c.args.book.now) (g.B.Book.state c.other_place.new.book) (g.B.Book.state c.other_place.new.book)
-    c.in_ok-other.other (Own book.NoMemory) c.from_residual-in_err-first.result
+    c.in_ok-other.other (Current book.NoMemory) c.from_residual-in_err-first.result
     (both_then {S = Option ℕ} (λ (p q : Content) (y : Option ℕ). Unit {0}) (g.A.Book.state c.args.archive.now) (g.A.Book.state c.archive_switch.new.archive) (g.A.Book.state c.other_place.new.archive) (g.B.Book.state c.args.book.now) (g.B.Book.state c.args.book.now)
     (g.B.Book.state c.other_place.new.book) c.in_ok-loaded.loaded (Ok c.in_ok-other.other)
     (both_opening (λ (x z : Content) (y : LoadedSwitch). y.switch.value ≡ x.rows) (g.A.Book.state c.args.archive.now) (g.A.Book.state c.archive_switch.new.archive) (g.B.Book.state c.args.book.now) c.archive_switch.result
-    (Ok c.in_ok-loaded.loaded) c.archive_switch.ensures c.in_ok-loaded.ensures (λ x z y told. told)) c.in_ok-other.ensures (λ p q u y v. tt))
+    (Ok c.in_ok-loaded.loaded) c.archive_switch.ensures c.in_ok-loaded.ensures (λ x z y holds. holds)) c.in_ok-other.ensures (λ p q u y v. tt))
     (both_no_memory {T = Audit} (λ (p q : Content) (y : Audit). Unit {0}) (g.A.Book.state c.other_place.new.archive) (g.B.Book.state c.other_place.new.book)) (search rules)
 
 pub returns : goal.returns
@@ -46,4 +46,4 @@ returns g c =
     c.in_default.is c.in_ok-first.ensures.rows c.in_ok-first.ensures.page
     (both_ok (IsLoaded c.in_ok-loaded.loaded.switch.value) (g.A.Book.state c.args.archive.now) (g.A.Book.state c.archive_switch.new.archive) (g.B.Book.state c.args.book.now) (g.B.Book.state c.args.book.now) c.in_ok-loaded.loaded tt
     (both_opening (λ (x z : Content) (y : LoadedSwitch). y.switch.value ≡ x.rows) (g.A.Book.state c.args.archive.now) (g.A.Book.state c.archive_switch.new.archive) (g.B.Book.state c.args.book.now) c.archive_switch.result
-    (Ok c.in_ok-loaded.loaded) c.archive_switch.ensures c.in_ok-loaded.ensures (λ x z y told. told)) (λ p q told. told)) c.in_ok-other.ensures c.audited_newer.ensures
+    (Ok c.in_ok-loaded.loaded) c.archive_switch.ensures c.in_ok-loaded.ensures (λ x z y holds. holds)) (λ p q holds. holds)) c.in_ok-other.ensures c.audited_newer.ensures

@@ -4,7 +4,7 @@ use Rattle.acd_desk.proofs.Overlaps.{FindsEvent, events_start, events_next, even
 use Rattle.acd_desk.proofs.overlap.other_event.Goals as goal
 
 pub loop-init : goal.loop-init
-loop-init g c = events_start (g.A.Book.state c.args.archive.now) (g.B.Book.state c.args.book.now) c.args.above c.args.last (record { archive = c.empty.result; own = c.empty-2.result }) c.empty.ensures c.empty-2.ensures
+loop-init g c = events_start (g.A.Book.state c.args.archive.now) (g.B.Book.state c.args.book.now) c.args.above c.args.last (record { archive = c.empty.result; current = c.empty-2.result }) c.empty.ensures c.empty-2.ensures
 
 pub loop-preserved : goal.loop-preserved
 loop-preserved g c =
@@ -19,8 +19,8 @@ returns-in-Other g c =
 pub returns-in-Over : goal.returns-in-Over
 returns-in-Over g c =
     events_over (g.A.Book.state c.args.archive.now) (g.A.Book.state c.loop.archive) (g.A.Book.state c.next_event.new.archive) (g.B.Book.state c.args.book.now) (g.B.Book.state c.loop.book) (g.B.Book.state c.next_event.new.book)
-    (g.B.Book.state c.event_up_to.new.book) c.args.above c.args.last c.loop.counter c.loop.number c.loop.pages c.next_event.new.pages c.in_ok-next.field-0 c.event_up_to.result c.of_own.result c.in-Over.is c.loop.invariant c.in_ok-next.ensures
-    c.event_up_to.ensures c.of_own.ensures
+    (g.B.Book.state c.event_up_to.new.book) c.args.above c.args.last c.loop.counter c.loop.number c.loop.pages c.next_event.new.pages c.in_ok-next.field-0 c.event_up_to.result c.of_current.result c.in-Over.is c.loop.invariant c.in_ok-next.ensures
+    c.event_up_to.ensures c.of_current.ensures
 
 pub returns : goal.returns
 returns g c =

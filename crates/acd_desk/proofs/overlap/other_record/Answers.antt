@@ -19,7 +19,7 @@ returns-in-Other g c =
 pub returns-in-Over : goal.returns-in-Over
 returns-in-Over g c =
     records_over (g.A.Book.state c.args.archive.now) (g.A.Book.state c.loop.archive) (g.A.Book.state c.next_record.new.archive) (g.B.Book.state c.args.book.now) (g.B.Book.state c.loop.book) (g.B.Book.state c.next_record.new.book)
-    (g.B.Book.state c.record_up_to.new.book) c.args.above c.args.last c.loop.counter c.loop.stamp c.in_ok-next.field-0 c.record_up_to.result c.of_own.result c.in-Over.is c.loop.invariant c.in_ok-next.ensures c.record_up_to.ensures c.of_own.ensures
+    (g.B.Book.state c.record_up_to.new.book) c.args.above c.args.last c.loop.counter c.loop.stamp c.in_ok-next.field-0 c.record_up_to.result c.of_current.result c.in-Over.is c.loop.invariant c.in_ok-next.ensures c.record_up_to.ensures c.of_current.ensures
 
 pub returns : goal.returns
 returns g c =

@@ -11,7 +11,7 @@ loop-count-preserved g c =
       stamp = counts.1 ∙ ap (λ (n : ℕ). n + 1) c.loop-count.invariant.stamp;
       limit = ap (λ (l : Limits). l.requests) counts.0 ∙ c.loop-count.invariant.limit;
       seen = seen_more (g.B.Book.state c.args.book.now) (g.B.Book.state c.loop-count.book) (g.B.Book.state c.next_step.new.book) c.loop-count.course c.in_ok-next.field-0 c.in-Replayed.next c.in-Replayed.is
-          c.loop-count.invariant.seen c.in_ok-next.ensures.told;
+          c.loop-count.invariant.seen c.in_ok-next.ensures.read;
     }
 
 pub returns-then-all : goal.returns-then-all

@@ -2,8 +2,8 @@ use Rattle.std.proofs.Common.{sym, ◌∙◌}
 use Rattle.acd_desk.proofs.AuditSteps.{begins_fitting, begins_empty}
 use Rattle.acd_desk.proofs.replay.begun.Goals as goal
 
-pub returns-in_ok-uncoursed-clause-told : goal.returns-in_ok-uncoursed-clause-told
-returns-in_ok-uncoursed-clause-told g c =
+pub returns-in_ok-uncoursed-clause-read : goal.returns-in_ok-uncoursed-clause-read
+returns-in_ok-uncoursed-clause-read g c =
     begins_fitting (g.B.Book.state c.args.book.now) (g.B.Book.state c.limits.new.self) c.in_ok-limits.limits c.in_ok-uncoursed.field-0 c.in_ok-limits.ensures (sym c.fits.ensures ∙ c.if-fits.true) c.in_ok-uncoursed.ensures.rows c.in_ok-uncoursed.ensures.page
 
 pub returns-in_ok-uncoursed-clause-empty : goal.returns-in_ok-uncoursed-clause-empty

@@ -1,19 +1,19 @@
 use Rattle.std.proofs.Common.{rules, ◌≡◌, Bool, length}
 use Rattle.std.specs.Bool.{Decides}
-use Rattle.acd_book.specs.Content.{Content, events_behind}
+use Rattle.acd_book.specs.Content.{Content, events_after}
 use Rattle.acd_desk.specs.Pages.{IsPageOf}
 use Rattle.acd_desk.proofs.Comparing.{events_decided}
-use Rattle.acd_desk.proofs.ReadsAhead.{told_ok, told_fault}
+use Rattle.acd_desk.proofs.ReadsAhead.{read_ok, read_nothing}
 use Rattle.acd_desk.proofs.replay.has_events.Goals as goal
 
 pub returns-in_err-found : goal.returns-in_err-found
 returns-in_err-found g c =
-    told_fault (λ (k : Content) (found : Bool). IsPageOf k c.args.page.now → IsPageOf k c.events_after.new.self × Decides found (events_behind k.events c.args.last (length c.args.events.now) ≡ c.args.events.now))
+    read_nothing (λ (k : Content) (found : Bool). IsPageOf k c.args.page.now → IsPageOf k c.events_after.new.self × Decides found (events_after k.events c.args.last (length c.args.events.now) ≡ c.args.events.now))
     (g.B.Book.state c.args.book.now) (g.B.Book.state c.events_after.new.book) c.in_err-found.field-0.0 c.from_residual.result c.in_err-found.ensures (search rules)
 
 pub returns : goal.returns
 returns g c =
-    told_ok (λ (k : Content) (found : Bool). IsPageOf k c.args.page.now → IsPageOf k c.events_after.new.self × Decides found (events_behind k.events c.args.last (length c.args.events.now) ≡ c.args.events.now))
+    read_ok (λ (k : Content) (found : Bool). IsPageOf k c.args.page.now → IsPageOf k c.events_after.new.self × Decides found (events_after k.events c.args.last (length c.args.events.now) ≡ c.args.events.now))
     (g.B.Book.state c.args.book.now) (g.B.Book.state c.events_after.new.book) c.in_ok-found.found c.are_same_events.result c.in_ok-found.ensures
     (λ k has page.
     let both = has page in

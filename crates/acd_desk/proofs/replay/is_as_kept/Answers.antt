@@ -4,7 +4,7 @@ use Rattle.acd_book.specs.Content.{Content}
 use Rattle.acd_desk.specs.Pages.{IsPageOf}
 use Rattle.acd_desk.specs.Replay.{Knows}
 use Rattle.acd_desk.proofs.Comparing.{IsAsKept, other_record, other_key, same_events}
-use Rattle.acd_desk.proofs.ReadsAhead.{known, told_ok, told_fault, told_then}
+use Rattle.acd_desk.proofs.ReadsAhead.{known, read_ok, read_nothing, read_twice}
 use Rattle.acd_desk.proofs.replay.is_as_kept.Goals as goal
 
 pub returns-then-not-is_same_kept : goal.returns-then-not-is_same_kept
@@ -14,18 +14,18 @@ returns-then-not-is_same_kept g c =
 
 pub returns-in_err-is_new : goal.returns-in_err-is_new
 returns-in_err-is_new g c =
-    told_fault (λ (k : Content) (found : Bool). Knows k c.args.keys.now c.args.page.now c.args.kept.now → IsPageOf k c.args.page.now × Decides found (IsAsKept k c.args.kept.now c.args.expected.now c.args.last c.args.events.now)) (g.B.Book.state c.args.book.now) (g.B.Book.state c.is_new_key.new.book)
+    read_nothing (λ (k : Content) (found : Bool). Knows k c.args.keys.now c.args.page.now c.args.kept.now → IsPageOf k c.args.page.now × Decides found (IsAsKept k c.args.kept.now c.args.expected.now c.args.last c.args.events.now)) (g.B.Book.state c.args.book.now) (g.B.Book.state c.is_new_key.new.book)
     c.in_err-is_new.field-0.0 c.from_residual.result c.in_err-is_new.ensures (search rules)
 
 pub returns-then-not-is_new : goal.returns-then-not-is_new
 returns-then-not-is_new g c =
-    told_ok (λ (k : Content) (found : Bool). Knows k c.args.keys.now c.args.page.now c.args.kept.now → IsPageOf k c.args.page.now × Decides found (IsAsKept k c.args.kept.now c.args.expected.now c.args.last c.args.events.now)) (g.B.Book.state c.args.book.now) (g.B.Book.state c.is_new_key.new.book)
+    read_ok (λ (k : Content) (found : Bool). Knows k c.args.keys.now c.args.page.now c.args.kept.now → IsPageOf k c.args.page.now × Decides found (IsAsKept k c.args.kept.now c.args.expected.now c.args.last c.args.events.now)) (g.B.Book.state c.args.book.now) (g.B.Book.state c.is_new_key.new.book)
     c.in_ok-is_new.is_new false c.in_ok-is_new.ensures
     (λ k decides knows. other_key k c.args.keys.now c.args.page.now c.args.kept.now c.args.expected.now c.args.last c.args.events.now c.in_ok-is_new.is_new c.if-not-is_new.true decides knows)
 
 pub returns : goal.returns
 returns g c =
-    told_then (λ (k : Content) (found : Bool). Knows k c.args.keys.now c.args.page.now c.args.kept.now → IsPageOf k c.has_events.new.page × Decides found (IsAsKept k c.args.kept.now c.args.expected.now c.args.last c.args.events.now)) (g.B.Book.state c.args.book.now) (g.B.Book.state c.is_new_key.new.book) (g.B.Book.state c.has_events.new.book)
+    read_twice (λ (k : Content) (found : Bool). Knows k c.args.keys.now c.args.page.now c.args.kept.now → IsPageOf k c.has_events.new.page × Decides found (IsAsKept k c.args.kept.now c.args.expected.now c.args.last c.args.events.now)) (g.B.Book.state c.args.book.now) (g.B.Book.state c.is_new_key.new.book) (g.B.Book.state c.has_events.new.book)
     c.in_ok-is_new.is_new c.has_events.result c.in_ok-is_new.ensures c.has_events.ensures
-    (λ k decides found told knows. same_events k c.args.keys.now c.args.page.now c.has_events.new.page c.args.kept.now c.args.expected.now c.args.last c.args.events.now c.is_same_kept.result c.in_ok-is_new.is_new found
-    c.if-not-is_same_kept.false c.is_same_kept.ensures c.if-not-is_new.false decides told knows)
+    (λ k decides found holds knows. same_events k c.args.keys.now c.args.page.now c.has_events.new.page c.args.kept.now c.args.expected.now c.args.last c.args.events.now c.is_same_kept.result c.in_ok-is_new.is_new found
+    c.if-not-is_same_kept.false c.is_same_kept.ensures c.if-not-is_new.false decides holds knows)

@@ -3,4 +3,4 @@ use Rattle.acd_http.specs.Exchanging.{json_reply}
 use Rattle.acd_http.proofs.answer.arrival.Goals as goal
 
 pub returns : goal.returns
-returns g c = let told = c.take_text.ensures in (told.answer, c.in_json.ensures false ∙ ap (json_reply false) told.says, told.took, told.ran)
+returns g c = let taken = c.take_text.ensures in (taken.answer, c.in_json.ensures false ∙ ap (json_reply false) taken.says, taken.took, taken.ran)

@@ -2,7 +2,7 @@ use Rattle.acd_io.proofs.Sends.{stopped}
 use Rattle.acd_lines.proofs.importing.import.Goals as goal
 
 pub returns-clause-answered : goal.returns-clause-answered
-returns-clause-answered g c = c.in_ok-serve_requests.ensures
+returns-clause-answered g c = c.in_ok-answer_requests.ensures
 
-pub returns-in_err-serve_requests-clause-answered : goal.returns-in_err-serve_requests-clause-answered
-returns-in_err-serve_requests-clause-answered g c = stopped c.from_residual.result _ _ _ c.from_residual.ensures.1 c.in_err-serve_requests.ensures
+pub returns-in_err-answer_requests-clause-answered : goal.returns-in_err-answer_requests-clause-answered
+returns-in_err-answer_requests-clause-answered g c = stopped c.from_residual.result _ _ _ c.from_residual.ensures.1 c.in_err-answer_requests.ensures

@@ -1,6 +1,6 @@
 use Rattle.acd_desk.specs.Ran.{standing}
-use Rattle.acd_lines.proofs.Telling.{told}
+use Rattle.acd_lines.proofs.RunsInTurn.{run_in_turn}
 use Rattle.acd_lines.proofs.laws.requests_run.Goals as goal
 
 pub returns : goal.returns
-returns g c = told (standing g.B.Book) (λ d x clean sound opened stop. g.met.B.Book.settled d.book x clean sound opened stop)
+returns g c = run_in_turn (standing g.B.Book) (λ d x clean sound opened stop. g.met.B.Book.settled d.book x clean sound opened stop)

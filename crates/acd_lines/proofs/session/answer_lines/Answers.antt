@@ -125,7 +125,7 @@ returns-in_err-retried-in-Err g c =
     let loop = c.loop.invariant in
     let failed = c.in_err-retried-in-Err in
     done_by (standing g.B.Book) (InTurn (asked g.A.Answering.unmarked g.A.Answering.long g.A.Answering.read) g.A.Answering.answers) c.args.ends (streams g.R.Read.remaining g.W.Write.contents (c.args.reader.now, c.read.new.self) (c.args.writer.now, c.loop.writer)) c.args.desk.now c.loop.desk
-    c.from_residual-in_err-retried-in-Err.result failed.field-0.0 Read c.from_residual-in_err-retried-in-Err.ensures.1 failed.ensures.told
+    c.from_residual-in_err-retried-in-Err.result failed.field-0.0 Read c.from_residual-in_err-retried-in-Err.ensures.1 failed.ensures.given
     (read_stopped (asked g.A.Answering.unmarked g.A.Answering.long g.A.Answering.read) (by_front g.A.Answering.unmarked g.A.Answering.long g.A.Answering.read) g.A.Answering.answers 4109 c.args.desk.now loop.1 c.loop.partial c.loop.outbox.waiting.items c.loop.desk (g.W.Write.contents c.args.writer.now) (g.W.Write.contents c.loop.writer) (g.R.Read.remaining c.args.reader.now) (g.R.Read.remaining c.loop.reader) loop.4 loop.2)
     (read_done (asked g.A.Answering.unmarked g.A.Answering.long g.A.Answering.read) (by_front g.A.Answering.unmarked g.A.Answering.long g.A.Answering.read) g.A.Answering.answers 4109 c.args.desk.now loop.1 c.loop.partial c.loop.outbox.waiting.items c.loop.desk (g.W.Write.contents c.args.writer.now) (g.W.Write.contents c.loop.writer) (g.R.Read.remaining c.args.reader.now) (g.R.Read.remaining c.read.new.self) loop.4 loop.3 (Consumes-kept _ _ _ loop.1 loop.2 c.in-Err.ensures.bytes))
 

@@ -1,13 +1,13 @@
 use Rattle.std.proofs.Common.{◌≡◌, ℕ, ◌+◌, Bool, false, refl, sym, subst, arith}
 use Rattle.std.proofs.lemmas.Bool.{false≢true}
-use Rattle.acd_log.proofs.Looking.{Looking, salted, looking_begun, looking_past, looking_on, looking_done, looking_ends, none_behind}
+use Rattle.acd_log.proofs.Looking.{Looking, salted, looking_begun, looking_past, looking_on, looking_done, looking_ends, none_after}
 use Rattle.acd_log.proofs.frames.is_before_commit.Goals.{then-is_salted+else-is_committed, else-is_salted}
 use Rattle.acd_log.proofs.frames.is_before_commit.Goals as goal
 
 pub returns-then-not-has_frame : goal.returns-then-not-has_frame
 returns-then-not-has_frame c n place = (
   λ no'. absurd (false≢true no'),
-  λ b. absurd (none_behind c.args.page c.args.log.now n c.args.bad place (λ within. false≢true (c.if-not-has_frame.ensures.1 within)) b),
+  λ b. absurd (none_after c.args.page c.args.log.now n c.args.bad place (λ within. false≢true (c.if-not-has_frame.ensures.1 within)) b),
 )
 
 pub loop-page-init : goal.loop-page-init

@@ -14,9 +14,9 @@ pub returns-clause-rejected_with_nobody_ready : goal.returns-clause-rejected_wit
 unfolding switch_on_literals
 returns-clause-rejected_with_nobody_ready c = (refl, refl, refl, refl, refl, refl, refl, refl)
 
-pub returns-clause-rejected_behind_an_older_call : goal.returns-clause-rejected_behind_an_older_call
+pub returns-clause-rejected_after_an_older_call : goal.returns-clause-rejected_after_an_older_call
 unfolding switch_on_literals
-returns-clause-rejected_behind_an_older_call c = (refl, refl, refl, refl, refl, refl)
+returns-clause-rejected_after_an_older_call c = (refl, refl, refl, refl, refl, refl)
 
 pub returns-clause-released_by_a_rejection : goal.returns-clause-released_by_a_rejection
 unfolding switch_on_literals

@@ -10,7 +10,7 @@ use Rattle.acd_program.proofs.Coming.{late_as, adopt_late, lines_known}
 use Rattle.acd_program.proofs.connection.lines_over_connection.Goals as goal
 
 pub returns-in-Err-clause-done : goal.returns-in-Err-clause-done
-returns-in-Err-clause-done g c = inl (record { why = c.from.result; told = refl; unserved = c.in-Err.ensures.unserved; untouched = (refl, refl) })
+returns-in-Err-clause-done g c = inl (record { why = c.from.result; outcome = refl; unserved = c.in-Err.ensures.unserved; untouched = (refl, refl) })
 
 pub returns-clause-done : goal.returns-clause-done
 returns-clause-done g c =

@@ -2,7 +2,7 @@ use Rattle.std.proofs.Common.{refl, sym, ap, subst, ◌∙◌}
 use Rattle.acd_program.specs.Work.{WasAsked, IsFindingIfOrdered}
 use Rattle.acd_program.proofs.Asking.{audited_by}
 use Rattle.acd_program.specs.Ended.{OnlyAsked}
-use Rattle.acd_program.proofs.Asking.{only_refused, only_told}
+use Rattle.acd_program.proofs.Asking.{only_refused, only_read}
 use Rattle.acd_program.proofs.Coming.{late_as, open_late, desk_late}
 use Rattle.acd_program.proofs.desk.audit.Goals as goal
 
@@ -10,7 +10,7 @@ pub returns-in-Ok-audited-clause-over : goal.returns-in-Ok-audited-clause-over
 returns-in-Ok-audited-clause-over g c = (
   c.in-Ok-audited.ensures.counted,
   subst (λ (b : _). WasAsked (g.B.Book.state c.args.book.inner) IsFindingIfOrdered c.in-Ok-audited.found (g.B.Book.state b)) (sym (c.book_of.ensures ∙ ap (λ (w : _). w.inner) c.close.ensures))
-      (audited_by (g.B.Book.state c.args.book.inner) _ _ c.in-Ok-audited.found c.in-Ok.ensures c.in-Ok-audited.ensures.told c.in-Ok-audited.ensures.found),
+      (audited_by (g.B.Book.state c.args.book.inner) _ _ c.in-Ok-audited.found c.in-Ok.ensures c.in-Ok-audited.ensures.read c.in-Ok-audited.ensures.found),
   refl,
 )
 
@@ -21,12 +21,12 @@ returns-in-Err-clause-kept g c =
 pub returns-in-Ok-audited-clause-kept : goal.returns-in-Ok-audited-clause-kept
 returns-in-Ok-audited-clause-kept g c =
     subst (λ (b : _). OnlyAsked (g.B.Book.state c.args.book.inner) (g.B.Book.state b)) (sym (c.book_of.ensures ∙ ap (λ (w : _). w.inner) c.close.ensures))
-    (only_told (g.B.Book.state c.args.book.inner) _ _ _ _ c.in-Ok.ensures c.in-Ok-audited.ensures.told)
+    (only_read (g.B.Book.state c.args.book.inner) _ _ _ _ c.in-Ok.ensures c.in-Ok-audited.ensures.read)
 
 pub returns-in-Err-audited-clause-kept : goal.returns-in-Err-audited-clause-kept
 returns-in-Err-audited-clause-kept g c =
     subst (λ (b : _). OnlyAsked (g.B.Book.state c.args.book.inner) (g.B.Book.state b)) (sym (c.into_inner-in-Err-audited.ensures ∙ ap (λ (w : _). w.inner) c.close-in-Err-audited.ensures))
-    (only_told (g.B.Book.state c.args.book.inner) _ _ _ _ c.in-Ok.ensures c.in-Err-audited.ensures.told)
+    (only_read (g.B.Book.state c.args.book.inner) _ _ _ _ c.in-Ok.ensures c.in-Err-audited.ensures.read)
 
 pub returns-in-Err-clause-known : goal.returns-in-Err-clause-known
 returns-in-Err-clause-known g c = late_as _ _ c.from.ensures (open_late c.in-Err.fault)

@@ -10,10 +10,10 @@ use Rattle.acd_program.proofs.desk.imported.Goals as goal
 
 pub returns-in-Ok-import-clause-over : goal.returns-in-Ok-import-clause-over
 returns-in-Ok-import-clause-over g c =
-    let before : _ = g.W.Write.contents c.args.writer.now in
-    let behind : _ = g.W.Write.contents c.import.new.writer in
-    subst (λ (b : _). ImportsOver c.args.requests.now (g.B.Book.state c.args.book) before behind (g.B.Book.state b)) (sym c.close.ensures)
-    (imports_over (g.B.Book.state c.args.book) (standing g.B.Book c.in-Ok.desk) (standing g.B.Book c.import.new.desk) c.args.requests.now before behind c.in-Ok.ensures c.in-Ok-import.ensures.answered)
+    let old_output : _ = g.W.Write.contents c.args.writer.now in
+    let new_output : _ = g.W.Write.contents c.import.new.writer in
+    subst (λ (b : _). ImportsOver c.args.requests.now (g.B.Book.state c.args.book) old_output new_output (g.B.Book.state b)) (sym c.close.ensures)
+    (imports_over (g.B.Book.state c.args.book) (standing g.B.Book c.in-Ok.desk) (standing g.B.Book c.import.new.desk) c.args.requests.now old_output new_output c.in-Ok.ensures c.in-Ok-import.ensures.answered)
 
 pub returns-in-Err-clause-stopped : goal.returns-in-Err-clause-stopped
 returns-in-Err-clause-stopped g c = inl (only_refused _ _ _ c.in-Err.ensures, refl)
@@ -23,10 +23,10 @@ returns-in-Err-clause-known g c = late_as _ _ c.from.ensures (open_late c.in-Err
 
 pub returns-in-Err-import-clause-stopped : goal.returns-in-Err-import-clause-stopped
 returns-in-Err-import-clause-stopped g c =
-    let before : _ = g.W.Write.contents c.args.writer.now in
-    let behind : _ = g.W.Write.contents c.import.new.writer in
-    inr (subst (λ (b : _). IsBegunPlan c.args.requests.now before behind (g.B.Book.state c.args.book) (g.B.Book.state b)) (sym c.close-in-Err-import.ensures)
-    (begun_by (g.B.Book.state c.args.book) (standing g.B.Book c.in-Ok.desk) (standing g.B.Book c.import.new.desk) c.args.requests.now before behind c.in-Ok.ensures c.in-Err-import.ensures.answered))
+    let old_output : _ = g.W.Write.contents c.args.writer.now in
+    let new_output : _ = g.W.Write.contents c.import.new.writer in
+    inr (subst (λ (b : _). IsBegunPlan c.args.requests.now old_output new_output (g.B.Book.state c.args.book) (g.B.Book.state b)) (sym c.close-in-Err-import.ensures)
+    (begun_by (g.B.Book.state c.args.book) (standing g.B.Book c.in-Ok.desk) (standing g.B.Book c.import.new.desk) c.args.requests.now old_output new_output c.in-Ok.ensures c.in-Err-import.ensures.answered))
 
 pub returns-in-Err-import-clause-known : goal.returns-in-Err-import-clause-known
 returns-in-Err-import-clause-known g c = late_as _ _ c.from-in-Err-import.ensures (lines_late c.in-Err-import.fault)

@@ -9,8 +9,8 @@ returns-in-Import-clause-stopped g c =
     subst (λ (w : Work). OnErr c.imported.result.0 (StoppedOver w (g.W.Write.contents c.args.writer.now) (g.W.Write.contents c.imported.new.writer) (g.B.Book.state c.args.book) (g.B.Book.state c.imported.result.1)))
     (sym c.in-Import.is) c.imported.ensures.stopped
 
-pub returns-in-Tell-clause-stopped : goal.returns-in-Tell-clause-stopped
-returns-in-Tell-clause-stopped g c = err_always c.told.result.0 _ (inl (c.told.ensures.kept, refl))
+pub returns-in-Print-clause-stopped : goal.returns-in-Print-clause-stopped
+returns-in-Print-clause-stopped g c = err_always c.read_text.result.0 _ (inl (c.read_text.ensures.kept, refl))
 
 pub returns-in-Audit-clause-stopped : goal.returns-in-Audit-clause-stopped
 returns-in-Audit-clause-stopped g c =

@@ -1,5 +1,5 @@
 use Rattle.std.proofs.Common.{rules, sym, ◌∙◌, true≢false}
-use Rattle.acd_program.proofs.Begun.{read_only, begun_read, begun_created, unbegun_read, unbegun_behind, unbegun_created}
+use Rattle.acd_program.proofs.Begun.{read_only, begun_read, begun_created, unbegun_read, unbegun_after_read, unbegun_created}
 use Rattle.acd_program.proofs.Tasks.{err_from}
 use Rattle.acd_program.proofs.paging.begun.Goals as goal
 
@@ -20,7 +20,7 @@ pub returns-in_err-files-in-Ok-true-clause-left : goal.returns-in_err-files-in-O
 returns-in_err-files-in-Ok-true-clause-left g c =
     let mid : _ = c.may_be_new.new.files in
     err_from c.from_residual.result c.in_err-files-in-Ok-true.field-0.0 _ (search rules)
-    (unbegun_behind c.args.files mid _ (read_only c.args.files mid c.may_be_new.ensures.log c.requires.log c.may_be_new.ensures.db) c.in_err-files-in-Ok-true.ensures.left)
+    (unbegun_after_read c.args.files mid _ (read_only c.args.files mid c.may_be_new.ensures.log c.requires.log c.may_be_new.ensures.db) c.in_err-files-in-Ok-true.ensures.left)
 
 pub returns-else-may_be_used-clause-left : goal.returns-else-may_be_used-clause-left
 returns-else-may_be_used-clause-left g c =

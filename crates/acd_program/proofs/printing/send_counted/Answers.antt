@@ -2,7 +2,7 @@ use Rattle.std.proofs.Common.{◌++◌, ◌∷◌, [], ◌∙◌, List, ℕ, sub
 use Rattle.std.specs.Prelude.{codes, decimal}
 use Rattle.std.specs.Io.KnownBytes.{Appends}
 use Rattle.acd_io.specs.Sent.{Breaks}
-use Rattle.acd_io.proofs.Sends.{sent_behind, sent_first}
+use Rattle.acd_io.proofs.Sends.{sent_after, sent_first}
 use Rattle.acd_program.specs.Found.{sound_line}
 use Rattle.acd_program.proofs.printing.send_counted.Goals as goal
 
@@ -18,5 +18,5 @@ returns g c =
     let a : _ = g.W.Write.contents c.args.writer.now in
     let b : _ = g.W.Write.contents c.send.new.writer in
     let d : _ = g.W.Write.contents c.send_number.new.writer in
-    sent_behind c.send_number.result a b d (sound_line c.args.ending) (codes "executed " ++ (decimal c.args.count ++ 10 ∷ []))
+    sent_after c.send_number.result a b d (sound_line c.args.ending) (codes "executed " ++ (decimal c.args.count ++ 10 ∷ []))
     (subst (λ (y : List ℕ). Appends a b y) (c.as_bytes.ensures.value ∙ c.sound_line.ensures) c.in_ok-send.ensures) c.send_number.ensures

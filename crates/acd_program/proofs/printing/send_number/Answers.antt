@@ -2,7 +2,7 @@ use Rattle.std.proofs.Common.{◌++◌, ◌∷◌, [], ◌∙◌, List, ℕ, sub
 use Rattle.std.specs.Prelude.{decimal}
 use Rattle.std.specs.Io.KnownBytes.{Appends}
 use Rattle.acd_io.specs.Sent.{Breaks}
-use Rattle.acd_io.proofs.Sends.{sent_behind, sent_first}
+use Rattle.acd_io.proofs.Sends.{sent_after, sent_first}
 use Rattle.acd_program.proofs.printing.send_number.Goals as goal
 
 pub returns-in_err-send : goal.returns-in_err-send
@@ -15,7 +15,7 @@ returns-in_err-send-2 g c =
     let b : _ = g.W.Write.contents c.send.new.writer in
     let d : _ = g.W.Write.contents c.send-2.new.writer in
     let result : _ = c.from_residual-in_err-send-2.result in
-    sent_behind result a b d c.args.front.now (decimal c.args.number ++ 10 ∷ []) c.in_ok-send.ensures
+    sent_after result a b d c.args.front.now (decimal c.args.number ++ 10 ∷ []) c.in_ok-send.ensures
     (sent_first result _ b d (decimal c.args.number) (10 ∷ []) c.from_residual-in_err-send-2.ensures.1 (subst (λ (y : List ℕ). Breaks b d y) (c.as_bytes.ensures.value ∙ c.format.ensures.text) c.in_err-send-2.ensures))
 
 pub returns : goal.returns
@@ -24,5 +24,5 @@ returns g c =
     let b : _ = g.W.Write.contents c.send.new.writer in
     let d : _ = g.W.Write.contents c.send-2.new.writer in
     let e : _ = g.W.Write.contents c.send-3.new.writer in
-    sent_behind c.send-3.result a b e c.args.front.now (decimal c.args.number ++ 10 ∷ []) c.in_ok-send.ensures
-    (sent_behind c.send-3.result b d e (decimal c.args.number) (10 ∷ []) (subst (λ (y : List ℕ). Appends b d y) (c.as_bytes.ensures.value ∙ c.format.ensures.text) c.in_ok-send-2.ensures) c.send-3.ensures)
+    sent_after c.send-3.result a b e c.args.front.now (decimal c.args.number ++ 10 ∷ []) c.in_ok-send.ensures
+    (sent_after c.send-3.result b d e (decimal c.args.number) (10 ∷ []) (subst (λ (y : List ℕ). Appends b d y) (c.as_bytes.ensures.value ∙ c.format.ensures.text) c.in_ok-send-2.ensures) c.send-3.ensures)

@@ -1,10 +1,10 @@
 use Rattle.std.proofs.Common.{rules, refl, inr}
 use Rattle.sqlite_std_file.specs.File.{IsFresh}
 use Rattle.acd_lines.specs.Lines.{streams}
-use Rattle.acd_program.proofs.AuditsBehind.{behind_task}
+use Rattle.acd_program.proofs.AuditsWithArchive.{with_archive_task}
 use Rattle.acd_program.proofs.Tasks.{lines_task, whole_task, read_task}
-use Rattle.acd_program.proofs.Served.{file_tells, serve_task}
-use Rattle.acd_program.proofs.TasksEnded.{lines_ended, service_ended, import_ended, whole_ended, read_ended, behind_ended, err_elsewhere}
+use Rattle.acd_program.proofs.ServeDone.{file_prints, serve_task}
+use Rattle.acd_program.proofs.TasksEnded.{lines_ended, service_ended, import_ended, whole_ended, read_ended, with_archive_ended, err_elsewhere}
 use Rattle.acd_program.proofs.Tasks.{err_from}
 use Rattle.acd_program.proofs.running.execute.Goals as goal
 
@@ -16,11 +16,11 @@ returns-in-Lines-clause-done g c =
 pub returns-in_ok-serve_file-in-Serve-clause-done : goal.returns-in_ok-serve_file-in-Serve-clause-done
 returns-in_ok-serve_file-in-Serve-clause-done g c =
     serve_task _ IsFresh c.args.task (streams g.R.Read.remaining g.W.Write.contents (c.args.reader.now, c.args.reader.now) (c.args.writer.now, c.serve_file.new.writer))
-    (g.E.Write.contents c.args.errors.now) (g.E.Write.contents c.serve_file.new.errors) c.in-Serve.file c.in-Serve.port c.in-Serve.connections c.in-Serve.is c.in_ok-serve_file-in-Serve.ensures.served
+    (g.E.Write.contents c.args.errors.now) (g.E.Write.contents c.serve_file.new.errors) c.in-Serve.file c.in-Serve.port c.in-Serve.connections c.in-Serve.is c.in_ok-serve_file-in-Serve.ensures.answered
 
-pub returns-in_ok-serve_file-in-Serve-clause-told : goal.returns-in_ok-serve_file-in-Serve-clause-told
-returns-in_ok-serve_file-in-Serve-clause-told g c =
-    inr (refl, file_tells IsFresh c.in-Serve.connections (g.E.Write.contents c.args.errors.now) (g.E.Write.contents c.serve_file.new.errors) c.in_ok-serve_file-in-Serve.ensures.served)
+pub returns-in_ok-serve_file-in-Serve-clause-printed : goal.returns-in_ok-serve_file-in-Serve-clause-printed
+returns-in_ok-serve_file-in-Serve-clause-printed g c =
+    inr (refl, file_prints IsFresh c.in-Serve.connections (g.E.Write.contents c.args.errors.now) (g.E.Write.contents c.serve_file.new.errors) c.in_ok-serve_file-in-Serve.ensures.answered)
 
 pub returns-in-AuditWhole-clause-done : goal.returns-in-AuditWhole-clause-done
 returns-in-AuditWhole-clause-done g c =
@@ -73,15 +73,15 @@ returns-in-AuditWhole-clause-elsewhere g c = err_elsewhere _ IsFresh _ _ _ _ _ (
 pub returns-in-Read-clause-elsewhere : goal.returns-in-Read-clause-elsewhere
 returns-in-Read-clause-elsewhere g c = err_elsewhere _ IsFresh _ _ _ _ _ (returns-in-Read-clause-ended g c)
 
-pub returns-in-AuditBehind-clause-done : goal.returns-in-AuditBehind-clause-done
-returns-in-AuditBehind-clause-done g c =
-    behind_task _ IsFresh c.audit_behind.result c.args.task (streams g.R.Read.remaining g.W.Write.contents (c.args.reader.now, c.args.reader.now) (c.args.writer.now, c.audit_behind.new.writer)) _ _
-    c.in-AuditBehind.file c.in-AuditBehind.archive c.in-AuditBehind.counts c.in-AuditBehind.whole c.in-AuditBehind.is c.audit_behind.ensures.audited
+pub returns-in-AuditWithArchive-clause-done : goal.returns-in-AuditWithArchive-clause-done
+returns-in-AuditWithArchive-clause-done g c =
+    with_archive_task _ IsFresh c.audit_with_archive.result c.args.task (streams g.R.Read.remaining g.W.Write.contents (c.args.reader.now, c.args.reader.now) (c.args.writer.now, c.audit_with_archive.new.writer)) _ _
+    c.in-AuditWithArchive.file c.in-AuditWithArchive.archive c.in-AuditWithArchive.counts c.in-AuditWithArchive.whole c.in-AuditWithArchive.is c.audit_with_archive.ensures.audited
 
-pub returns-in-AuditBehind-clause-ended : goal.returns-in-AuditBehind-clause-ended
-returns-in-AuditBehind-clause-ended g c =
-    behind_ended _ IsFresh c.audit_behind.result c.args.task (streams g.R.Read.remaining g.W.Write.contents (c.args.reader.now, c.args.reader.now) (c.args.writer.now, c.audit_behind.new.writer)) _ _
-    c.in-AuditBehind.file c.in-AuditBehind.archive c.in-AuditBehind.counts c.in-AuditBehind.whole c.in-AuditBehind.is refl refl c.audit_behind.ensures.ended
+pub returns-in-AuditWithArchive-clause-ended : goal.returns-in-AuditWithArchive-clause-ended
+returns-in-AuditWithArchive-clause-ended g c =
+    with_archive_ended _ IsFresh c.audit_with_archive.result c.args.task (streams g.R.Read.remaining g.W.Write.contents (c.args.reader.now, c.args.reader.now) (c.args.writer.now, c.audit_with_archive.new.writer)) _ _
+    c.in-AuditWithArchive.file c.in-AuditWithArchive.archive c.in-AuditWithArchive.counts c.in-AuditWithArchive.whole c.in-AuditWithArchive.is refl refl c.audit_with_archive.ensures.ended
 
-pub returns-in-AuditBehind-clause-elsewhere : goal.returns-in-AuditBehind-clause-elsewhere
-returns-in-AuditBehind-clause-elsewhere g c = err_elsewhere _ IsFresh _ _ _ _ _ (returns-in-AuditBehind-clause-ended g c)
+pub returns-in-AuditWithArchive-clause-elsewhere : goal.returns-in-AuditWithArchive-clause-elsewhere
+returns-in-AuditWithArchive-clause-elsewhere g c = err_elsewhere _ IsFresh _ _ _ _ _ (returns-in-AuditWithArchive-clause-ended g c)

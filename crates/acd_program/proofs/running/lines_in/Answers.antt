@@ -34,4 +34,4 @@ returns-clause-ended g c =
     ended_over _ IsFresh c.done_and_closed.result c.in_ok-conn.conn _ (LinesLeft _ IsFresh c.args.reads c.args.ends io) c.in_ok-conn.ensures.opened
     (ends_late c.done_and_closed.result ended c.database_lines-conn.ensures.known why)
     (lines_left _ IsFresh c.done_and_closed.result c.args.reads c.args.ends io c.in_ok-conn.conn last ended c.close_connection.ensures.shut
-    (ended_made over_files c.in_ok-conn.is_new true c.args.ends io (file_state c.in_ok-conn.conn) ended last c.in_ok-conn.ensures.makes c.args.reads c.database_lines-conn.ensures.told) why)
+    (ended_made over_files c.in_ok-conn.is_new true c.args.ends io (file_state c.in_ok-conn.conn) ended last c.in_ok-conn.ensures.makes c.args.reads c.database_lines-conn.ensures.ended) why)

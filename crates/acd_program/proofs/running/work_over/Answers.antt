@@ -5,18 +5,18 @@ use Rattle.acd_program.proofs.running.work_over.Goals as goal
 
 pub returns-clause-worked : goal.returns-clause-worked
 returns-clause-worked g c =
-    let before : _ = g.W.Write.contents c.args.writer.now in
+    let old_output : _ = g.W.Write.contents c.args.writer.now in
     let between : _ = g.W.Write.contents c.over_database-done.new.writer in
-    let behind : _ = g.W.Write.contents c.print_done.new.writer in
-    worked_over c.print_done.result c.args.work c.args.makes c.args.conn c.over_database-done.result.1 c.over_database-done.result.0 c.close_connection.result before between behind
+    let new_output : _ = g.W.Write.contents c.print_done.new.writer in
+    worked_over c.print_done.result c.args.work c.args.makes c.args.conn c.over_database-done.result.1 c.over_database-done.result.0 c.close_connection.result old_output between new_output
     c.over_database-done.ensures.over c.close_connection.ensures.laid c.print_done.ensures.printed
 
 pub returns-clause-ended : goal.returns-clause-ended
 returns-clause-ended g c =
-    let before : _ = g.W.Write.contents c.args.writer.now in
+    let old_output : _ = g.W.Write.contents c.args.writer.now in
     let between : _ = g.W.Write.contents c.over_database-done.new.writer in
-    let behind : _ = g.W.Write.contents c.print_done.new.writer in
-    work_ended c.print_done.result c.args.work c.args.makes c.args.conn c.over_database-done.result.1 c.over_database-done.result.0 before between behind
+    let new_output : _ = g.W.Write.contents c.print_done.new.writer in
+    work_ended c.print_done.result c.args.work c.args.makes c.args.conn c.over_database-done.result.1 c.over_database-done.result.0 old_output between new_output
     c.over_database-done.ensures.over c.over_database-done.ensures.stopped c.over_database-done.ensures.kept c.close_connection.ensures.shut c.print_done.ensures.cut
 
 pub returns-clause-late : goal.returns-clause-late

@@ -1,13 +1,13 @@
 use Rattle.std.proofs.Common.{ℕ, Option, sym, subst}
 use Rattle.acd_desk.specs.Standing.{standing}
-use Rattle.acd_program.specs.Serving.{ListenTold}
+use Rattle.acd_program.specs.Serving.{ListenEnded}
 use Rattle.acd_program.proofs.serving.answer.Goals as goal
 
-pub returns-in-Some-clause-told : goal.returns-in-Some-clause-told
-returns-in-Some-clause-told g c =
-    subst (λ (x : Option ℕ). ListenTold x (g.E.Write.contents c.args.errors.now) (g.E.Write.contents c.answer_some.new.errors) (standing g.B.Book) c.answer_some.result c.args.desk.now c.answer_some.new.desk) (sym c.in-Some.is) c.answer_some.ensures.told
+pub returns-in-Some-clause-ended : goal.returns-in-Some-clause-ended
+returns-in-Some-clause-ended g c =
+    subst (λ (x : Option ℕ). ListenEnded x (g.E.Write.contents c.args.errors.now) (g.E.Write.contents c.answer_some.new.errors) (standing g.B.Book) c.answer_some.result c.args.desk.now c.answer_some.new.desk) (sym c.in-Some.is) c.answer_some.ensures.ended
 
-pub returns-in-None-clause-told : goal.returns-in-None-clause-told
-returns-in-None-clause-told g c =
-    subst (λ (x : Option ℕ). ListenTold x (g.E.Write.contents c.args.errors.now) (g.E.Write.contents c.answer_until_failed.new.errors) (standing g.B.Book) c.answer_until_failed.result c.args.desk.now c.answer_until_failed.new.desk)
-    (sym c.in-None.is) c.answer_until_failed.ensures.told
+pub returns-in-None-clause-ended : goal.returns-in-None-clause-ended
+returns-in-None-clause-ended g c =
+    subst (λ (x : Option ℕ). ListenEnded x (g.E.Write.contents c.args.errors.now) (g.E.Write.contents c.answer_until_failed.new.errors) (standing g.B.Book) c.answer_until_failed.result c.args.desk.now c.answer_until_failed.new.desk)
+    (sym c.in-None.is) c.answer_until_failed.ensures.ended

@@ -1,34 +1,34 @@
 use Rattle.std.proofs.Common.{◌≢◌, ◌∙◌, inl, inr, ℕ, Err, refl, ap, sym, subst}
 use Rattle.acd_desk.specs.Standing.{standing}
 use Rattle.acd_io.specs.Sent.{Begins}
-use Rattle.acd_http.specs.Listening.{ServedAll}
+use Rattle.acd_http.specs.Listening.{AnsweredAll}
 use Rattle.acd_http.specs.declared.listening.ServeFault.TheVariants.{NoMemory}
-use Rattle.acd_program.proofs.Served.{begins_all}
+use Rattle.acd_program.proofs.ServeDone.{begins_all}
 use Rattle.acd_program.proofs.serving.answer_some.Goals as goal
 
-pub returns-in-Ok-clause-told : goal.returns-in-Ok-clause-told
-returns-in-Ok-clause-told g c =
+pub returns-in-Ok-clause-ended : goal.returns-in-Ok-clause-ended
+returns-in-Ok-clause-ended g c =
     let a : _ = g.E.Write.contents c.args.errors.now in
     let b : _ = g.E.Write.contents c.serve_on.new.errors in
     let some : c.serve_on.result ≢ Err NoMemory = λ e. cc (sym c.in-Ok.is ∙ e) in
     inr (record {
-      served = subst (λ (n : ℕ). ServedAll (standing g.B.Book) n c.args.desk.now c.serve_on.new.desk (Begins a b)) c.from.ensures
-          (begins_all (standing g.B.Book) c.from.result c.args.desk.now c.serve_on.new.desk c.serve_on.result a b (c.serve_on.ensures.served some));
+      answered = subst (λ (n : ℕ). AnsweredAll (standing g.B.Book) n c.args.desk.now c.serve_on.new.desk (Begins a b)) c.from.ensures
+          (begins_all (standing g.B.Book) c.from.result c.args.desk.now c.serve_on.new.desk c.serve_on.result a b (c.serve_on.ensures.answered some));
       ended = refl;
     })
 
-pub returns-in-Err-Write-clause-told : goal.returns-in-Err-Write-clause-told
-returns-in-Err-Write-clause-told g c =
+pub returns-in-Err-Write-clause-ended : goal.returns-in-Err-Write-clause-ended
+returns-in-Err-Write-clause-ended g c =
     let a : _ = g.E.Write.contents c.args.errors.now in
     let b : _ = g.E.Write.contents c.serve_on.new.errors in
     let some : c.serve_on.result ≢ Err NoMemory = λ e. cc (sym (c.in-Err-Write.is ∙ ap Err c.in-Err-Write.field-0-is) ∙ e) in
     inr (record {
-      served = subst (λ (n : ℕ). ServedAll (standing g.B.Book) n c.args.desk.now c.serve_on.new.desk (Begins a b)) c.from.ensures
-          (begins_all (standing g.B.Book) c.from.result c.args.desk.now c.serve_on.new.desk c.serve_on.result a b (c.serve_on.ensures.served some));
+      answered = subst (λ (n : ℕ). AnsweredAll (standing g.B.Book) n c.args.desk.now c.serve_on.new.desk (Begins a b)) c.from.ensures
+          (begins_all (standing g.B.Book) c.from.result c.args.desk.now c.serve_on.new.desk c.serve_on.result a b (c.serve_on.ensures.answered some));
       ended = refl;
     })
 
-pub returns-in-Err-NoMemory-clause-told : goal.returns-in-Err-NoMemory-clause-told
-returns-in-Err-NoMemory-clause-told g c =
+pub returns-in-Err-NoMemory-clause-ended : goal.returns-in-Err-NoMemory-clause-ended
+returns-in-Err-NoMemory-clause-ended g c =
     let none = c.serve_on.ensures.memory (c.in-Err-NoMemory.is ∙ ap Err c.in-Err-NoMemory.field-0-is) in
     inl (record { why = _; ended = refl; same = none.0; quiet = ap g.E.Write.contents none.1 })

@@ -9,5 +9,5 @@ returns c =
     let rest = sym (drop_all c.loop-one.one-index c.args.moves.now past) in
     record {
       rows = ap (moved c.loop-one.tables) rest ∙ c.loop-one.invariant.rows;
-      events = sym (append-nil c.loop-one.events.items) ∙ ap (λ l. c.loop-one.events.items ++ events_of c.args.moment l) rest ∙ c.loop-one.invariant.told;
+      events = sym (append-nil c.loop-one.events.items) ∙ ap (λ l. c.loop-one.events.items ++ events_of c.args.moment l) rest ∙ c.loop-one.invariant.reported;
     }

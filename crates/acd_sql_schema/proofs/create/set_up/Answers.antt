@@ -1,7 +1,7 @@
 use Rattle.std.proofs.Common.{◌≡◌, true, Err, IfErr, rules, sym, subst, arith}
 use Rattle.sqlite.specs.State.{HasCleanDisk}
 use Rattle.sqlite.specs.Held.{state}
-use Rattle.acd_sql_columns.specs.Draft.{Works}
+use Rattle.acd_sql_columns.specs.Transactions.{Works}
 use Rattle.acd_sql_columns.specs.Making.{Builds, no_rows}
 use Rattle.acd_sql_columns.specs.Schema.{no_schema, book_schema}
 use Rattle.acd_sql_columns.proofs.Endings.{works_on}

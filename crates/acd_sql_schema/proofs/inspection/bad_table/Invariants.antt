@@ -4,13 +4,13 @@ use Rattle.sqlite.specs.Held.{state}
 use Rattle.acd_terms.specs.Lists.{Every}
 use Rattle.acd_sql_columns.specs.AnyRows.{Covers}
 use Rattle.acd_sql_columns.specs.Seeing.{Sees}
-use Rattle.acd_sql_statements.specs.Looking.{BlamesLook}
-use Rattle.acd_sql_schema.specs.Inspecting.{HasFiled}
+use Rattle.acd_sql_statements.specs.Looking.{HasLookCause}
+use Rattle.acd_sql_schema.specs.Inspecting.{HasCanonical}
 use Rattle.acd_sql_schema.proofs.Looks.{Good}
 use Rattle.acd_sql_schema.proofs.inspection.bad_table.Given as goal
 
 abbrev pub invariant-loop-table : goal.invariant-loop-table
 invariant-loop-table g l = record {
   seen : (d : Database) → Every (Covers d.schema) l.tables → Sees {A = Unit {0}} d (state g.S.Store l.fn.conn) (state g.S.Store l.conn) (Ok tt) (Good (take l.table-index l.tables) d.trees);
-  looked : BlamesLook {A = Unit {0}} (HasFiled (λ s. Every (Covers s) l.tables)) (state g.S.Store l.fn.conn) (state g.S.Store l.conn) (Ok tt);
+  looked : HasLookCause {A = Unit {0}} (HasCanonical (λ s. Every (Covers s) l.tables)) (state g.S.Store l.fn.conn) (state g.S.Store l.conn) (Ok tt);
 }

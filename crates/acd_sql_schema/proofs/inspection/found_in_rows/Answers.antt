@@ -2,7 +2,7 @@ use Rattle.std.proofs.Common.{◌≡◌, rules}
 use Rattle.acd_sql_columns.specs.AnyRows.{schema_of}
 use Rattle.sqlite.specs.Held.{state}
 use Rattle.acd_sql_schema.proofs.Looks.{row_fault, rows_good, IsFoundIn}
-use Rattle.acd_sql_schema.specs.Inspecting.{HasFiled}
+use Rattle.acd_sql_schema.specs.Inspecting.{HasCanonical}
 use Rattle.acd_sql_statements.proofs.Lookings.{looks_done, looks_as, sees_as}
 use Rattle.acd_sql_schema.proofs.inspection.found_in_rows.Goals as goal
 
@@ -16,10 +16,10 @@ pub returns-in-None-clause-seen : goal.returns-in-None-clause-seen
 returns-in-None-clause-seen g c d is = rows_good c.args.version d (state g.S.Store c.args.conn.now) (state g.S.Store c.bad_row.new.conn) is (rw c.in-None.is at (c.in_ok-fault.ensures.seen d is))
 
 pub returns-in_err-fault-clause-looked : goal.returns-in_err-fault-clause-looked
-returns-in_err-fault-clause-looked g c = looks_as (HasFiled (λ s. s ≡ schema_of c.args.version)) (HasFiled (λ s. s ≡ schema_of c.args.version)) (λ d h. h) (state g.S.Store c.args.conn.now) (state g.S.Store c.bad_row.new.conn) c.in_err-fault.field-0.0 c.from_residual.result (search rules) c.in_err-fault.ensures.looked
+returns-in_err-fault-clause-looked g c = looks_as (HasCanonical (λ s. s ≡ schema_of c.args.version)) (HasCanonical (λ s. s ≡ schema_of c.args.version)) (λ d h. h) (state g.S.Store c.args.conn.now) (state g.S.Store c.bad_row.new.conn) c.in_err-fault.field-0.0 c.from_residual.result (search rules) c.in_err-fault.ensures.looked
 
 pub returns-in-Some-clause-looked : goal.returns-in-Some-clause-looked
-returns-in-Some-clause-looked g c = looks_done (HasFiled (λ s. s ≡ schema_of c.args.version)) (HasFiled (λ s. s ≡ schema_of c.args.version)) (λ d h. h) (state g.S.Store c.args.conn.now) (state g.S.Store c.bad_row.new.conn) c.in_ok-fault.field-0 _ c.in_ok-fault.ensures.looked
+returns-in-Some-clause-looked g c = looks_done (HasCanonical (λ s. s ≡ schema_of c.args.version)) (HasCanonical (λ s. s ≡ schema_of c.args.version)) (λ d h. h) (state g.S.Store c.args.conn.now) (state g.S.Store c.bad_row.new.conn) c.in_ok-fault.field-0 _ c.in_ok-fault.ensures.looked
 
 pub returns-in-None-clause-looked : goal.returns-in-None-clause-looked
-returns-in-None-clause-looked g c = looks_done (HasFiled (λ s. s ≡ schema_of c.args.version)) (HasFiled (λ s. s ≡ schema_of c.args.version)) (λ d h. h) (state g.S.Store c.args.conn.now) (state g.S.Store c.bad_row.new.conn) c.in_ok-fault.field-0 _ c.in_ok-fault.ensures.looked
+returns-in-None-clause-looked g c = looks_done (HasCanonical (λ s. s ≡ schema_of c.args.version)) (HasCanonical (λ s. s ≡ schema_of c.args.version)) (λ d h. h) (state g.S.Store c.args.conn.now) (state g.S.Store c.bad_row.new.conn) c.in_ok-fault.field-0 _ c.in_ok-fault.ensures.looked

@@ -1,19 +1,19 @@
 use Rattle.std.proofs.Common.{Ok, [], rules}
 use Rattle.sqlite.specs.Held.{state}
 use Rattle.acd_sql_columns.specs.declared.tables.Table.TheVariants as table
-use Rattle.acd_sql_columns.specs.AnyRows.{TellsGood}
-use Rattle.acd_sql_columns.proofs.Selected.{all_told}
+use Rattle.acd_sql_columns.specs.AnyRows.{FindsGood}
+use Rattle.acd_sql_columns.proofs.Selected.{finds_good}
 use Rattle.acd_sql_columns.specs.Schema.{nine, BeginsSchema}
 use Rattle.acd_sql_statements.specs.Looking.{HasGood}
 use Rattle.acd_sql_statements.proofs.Lookings.{looks_done, looks_as, sees_as}
 use Rattle.acd_sql_schema.proofs.inspection.is_good_meta.Goals as goal
 
 pub returns-in_err-rows-clause-seen : goal.returns-in_err-rows-clause-seen
-returns-in_err-rows-clause-seen g c d is = sees_as d (state g.S.Store c.args.conn.now) (state g.S.Store c.meta_rows.new.conn) c.in_err-rows.field-0.0 c.from_residual.result (search rules) _ (λ good. TellsGood table.Meta d.trees good) (c.in_err-rows.ensures.seen d is)
+returns-in_err-rows-clause-seen g c d is = sees_as d (state g.S.Store c.args.conn.now) (state g.S.Store c.meta_rows.new.conn) c.in_err-rows.field-0.0 c.from_residual.result (search rules) _ (λ good. FindsGood table.Meta d.trees good) (c.in_err-rows.ensures.seen d is)
 
 pub returns-clause-seen : goal.returns-clause-seen
 returns-clause-seen g c d is =
-    all_told table.Meta d (state g.S.Store c.args.conn.now) (state g.S.Store c.meta_rows.new.conn) c.in_ok-rows.rows (Ok c.are_counters.result) (rw c.deref.ensures.value at c.are_counters.ensures) (c.in_ok-rows.ensures.seen d is)
+    finds_good table.Meta d (state g.S.Store c.args.conn.now) (state g.S.Store c.meta_rows.new.conn) c.in_ok-rows.rows (Ok c.are_counters.result) (rw c.deref.ensures.value at c.are_counters.ensures) (c.in_ok-rows.ensures.seen d is)
 
 pub returns-in_err-rows-clause-looked : goal.returns-in_err-rows-clause-looked
 returns-in_err-rows-clause-looked g c = looks_as (HasGood (BeginsSchema nine) []) (HasGood (BeginsSchema nine) []) (λ d h. h) (state g.S.Store c.args.conn.now) (state g.S.Store c.meta_rows.new.conn) c.in_err-rows.field-0.0 c.from_residual.result (search rules) c.in_err-rows.ensures.looked

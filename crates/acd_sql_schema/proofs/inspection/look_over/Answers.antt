@@ -2,7 +2,7 @@ use Rattle.std.proofs.Common.{◌≡◌, Err, rules, subst, sym}
 use Rattle.sqlite.specs.Held.{state}
 use Rattle.std.specs.Prelude.{⊤}
 use Rattle.sqlite.specs.Effect.{Database}
-use Rattle.acd_sql_columns.specs.AnyRows.{IsFiled}
+use Rattle.acd_sql_columns.specs.AnyRows.{IsCanonical}
 use Rattle.acd_sql_statements.proofs.Lookings.{looks_as, looks_then}
 use Rattle.acd_sql_schema.specs.declared.fault.Found.{Found}
 use Rattle.acd_sql_schema.specs.Inspecting.{IsFound}
@@ -21,13 +21,13 @@ returns-clause-looked g c =
     looked (state g.S.Store c.args.conn.now) (state g.S.Store c.probe.new.conn) (state g.S.Store c.found_in.new.conn) c.found_in.result (λ d f. IsFound d f) (c.in_ok-probe.ensures.seen (state g.S.Store c.args.conn.now).now) c.in_ok-probe.ensures.up c.probe.ensures.stops (c.is_autocommit-settled.ensures.settled (was_idle c.args.conn.now.in_transaction c.is_autocommit-settled.result c.requires c.is_autocommit-settled.ensures.value)) (λ up. (c.schema-obeyed.ensures.live up).0)
     c.found_in.ensures.seen
 
-pub returns-in_err-probe-clause-blamed : goal.returns-in_err-probe-clause-blamed
-returns-in_err-probe-clause-blamed g c =
+pub returns-in_err-probe-clause-cause : goal.returns-in_err-probe-clause-cause
+returns-in_err-probe-clause-cause g c =
     let is : c.from_residual.result ≡ Err c.in_err-probe.field-0.0 = search rules in
-    looks_as IsFiled (λ d. ⊤) (λ d h. tt) (state g.S.Store c.args.conn.now) (state g.S.Store c.probe.new.conn) c.in_err-probe.field-0.0 c.from_residual.result is c.in_err-probe.ensures.looked
+    looks_as IsCanonical (λ d. ⊤) (λ d h. tt) (state g.S.Store c.args.conn.now) (state g.S.Store c.probe.new.conn) c.in_err-probe.field-0.0 c.from_residual.result is c.in_err-probe.ensures.looked
 
-pub returns-clause-blamed : goal.returns-clause-blamed
-returns-clause-blamed g c =
-    looks_then IsFiled (λ d. ⊤) IsFiled (λ (d : Database) (x : Unit {0}). ⊤) (λ (d : Database) (f : Found). IsFound d f) (state g.S.Store c.args.conn.now) (state g.S.Store c.probe.new.conn) (state g.S.Store c.found_in.new.conn) tt c.found_in.result
+pub returns-clause-cause : goal.returns-clause-cause
+returns-clause-cause g c =
+    looks_then IsCanonical (λ d. ⊤) IsCanonical (λ (d : Database) (x : Unit {0}). ⊤) (λ (d : Database) (f : Found). IsFound d f) (state g.S.Store c.args.conn.now) (state g.S.Store c.probe.new.conn) (state g.S.Store c.found_in.new.conn) tt c.found_in.result
     (λ d h. tt) c.in_ok-probe.ensures.looked (λ d h. c.in_ok-probe.ensures.seen d) (λ d h p. h)
     (λ d h. sees_at d (state g.S.Store c.probe.new.conn) (state g.S.Store c.found_in.new.conn) c.found_in.result (λ (d : Database) (f : Found). IsFound d f) c.found_in.ensures.seen) c.found_in.ensures.looked

@@ -9,7 +9,7 @@ use Rattle.acd_sql_columns.specs.declared.tables.Version.TheVariants as version
 use Rattle.acd_sql_schema.proofs.inspection.misplaced.Goals as goal
 
 pub returns-in-First-clause-seen : goal.returns-in-First-clause-seen
-returns-in-First-clause-seen g c d is = sees_here d (state g.S.Store c.args.conn.now) None (λ f. IsPlaceFound c.args.version d f) (λ had. subst (λ v. IsPlaceFound v d None) (sym c.in-First.is) tt)
+returns-in-First-clause-seen g c d is = sees_here d (state g.S.Store c.args.conn.now) None (λ f. IsPlaceFound c.args.version d f) (λ old_database. subst (λ v. IsPlaceFound v d None) (sym c.in-First.is) tt)
 
 pub returns-in-Second-clause-seen : goal.returns-in-Second-clause-seen
 returns-in-Second-clause-seen g c d is =

@@ -1,7 +1,7 @@
 use Rattle.std.proofs.Common.{◌≡◌, true, Err, IfErr, refl, rules, sym, subst, arith}
 use Rattle.sqlite.specs.State.{HasCleanDisk}
 use Rattle.sqlite.specs.Held.{state}
-use Rattle.acd_sql_columns.specs.Draft.{Works}
+use Rattle.acd_sql_columns.specs.Transactions.{Works}
 use Rattle.acd_sql_schema.specs.Migrating.{FailsToMigrate, IsAltered}
 use Rattle.acd_sql_schema.proofs.Migrated.{still_unmade, unmade_if}
 use Rattle.acd_sql_schema.proofs.Stopping.{commit_fails}

@@ -1,5 +1,5 @@
 use Rattle.std.proofs.Common.{inr, sym, ◌∙◌}
-use Rattle.acd_sql_statements.proofs.BlamedRows.{first_fits}
+use Rattle.acd_sql_statements.proofs.RowCauses.{first_fits}
 use Rattle.acd_sql_statements.proofs.lookups.meant.Goals as goal
 
 pub returns-in-Some-clause-other : goal.returns-in-Some-clause-other

@@ -2,12 +2,12 @@ use Rattle.std.proofs.Common.{◌≡◌, take, false, Ok}
 use Rattle.sqlite.specs.Held.{state}
 use Rattle.sqlite.specs.declared.error.Error.{Error}
 use Rattle.acd_sql_columns.specs.Finding.{Finds}
-use Rattle.acd_sql_statements.specs.Picking.{picked, Serves}
-use Rattle.acd_sql_statements.specs.Reading.{Blames}
+use Rattle.acd_sql_statements.specs.Picking.{picked, IsOpenIfClean}
+use Rattle.acd_sql_statements.specs.Reading.{HasReadCause}
 use Rattle.acd_sql_statements.proofs.numbered.events_numbered.Given as goal
 
 abbrev pub invariant-loop-number : goal.invariant-loop-number
 invariant-loop-number g l = record {
-  found : Serves (state g.S.Store l.fn.conn) → Finds {E = Error} (state g.S.Store l.fn.conn) (state g.S.Store l.conn) (Ok l.found) (λ c events. events.items ≡ picked c.events (take l.number-index l.numbers));
-  blamed : Serves (state g.S.Store l.fn.conn) → Blames (state g.S.Store l.fn.conn) (state g.S.Store l.conn) (Ok l.found);
+  found : IsOpenIfClean (state g.S.Store l.fn.conn) → Finds {E = Error} (state g.S.Store l.fn.conn) (state g.S.Store l.conn) (Ok l.found) (λ c events. events.items ≡ picked c.events (take l.number-index l.numbers));
+  cause : IsOpenIfClean (state g.S.Store l.fn.conn) → HasReadCause (state g.S.Store l.fn.conn) (state g.S.Store l.conn) (Ok l.found);
 }

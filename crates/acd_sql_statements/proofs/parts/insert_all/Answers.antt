@@ -4,7 +4,7 @@ use Rattle.sqlite.specs.Held.{state}
 use Rattle.acd_sql_columns.specs.Content.{with_part}
 use Rattle.acd_sql_columns.specs.declared.tables.Table.TheVariants as table
 use Rattle.acd_sql_columns.specs.Relations.{all_put}
-use Rattle.acd_sql_columns.specs.Draft.{Drafts}
+use Rattle.acd_sql_columns.specs.Transactions.{HoldsUncommitted}
 use Rattle.acd_sql_columns.proofs.Endings.{works_on}
 use Rattle.acd_sql_statements.proofs.Planned.{pairs_more}
 use Rattle.std.proofs.Common.{Err, rules, take}
@@ -25,7 +25,7 @@ loop-group-preserved g c =
       works = works_on _ _ _ inv.works e.works;
       put = λ clean r d.
           let before : HasCleanDisk (state g.S.Store c.loop-group.tx.conn.now) = omega (arith, clean, e.works.survives.clean) in
-          subst (λ (ps : List (ℕ × ℕ)). Drafts (state g.S.Store c.insert_further.new.tx.conn.now) (with_part table.AgentGroups ps r)) (sym (pairs_more c.args.agent c.loop-group.group-index c.args.groups.now _ _ r.further c.group-item.is c.loop-group-test.true))
+          subst (λ (ps : List (ℕ × ℕ)). HoldsUncommitted (state g.S.Store c.insert_further.new.tx.conn.now) (with_part table.AgentGroups ps r)) (sym (pairs_more c.args.agent c.loop-group.group-index c.args.groups.now _ _ r.further c.group-item.is c.loop-group-test.true))
           (c.in_ok-insert_further.ensures.put clean _ (inv.put before r d));
     }
 
@@ -34,7 +34,7 @@ returns g c = record {
   same = c.loop-group.invariant.same;
   works = c.loop-group.invariant.works;
   put = λ clean r d.
-      subst (λ (gs : List ℕ). Drafts (state g.S.Store c.loop-group.tx.conn.now) (with_part table.AgentGroups (all_put (map (λ (k : ℕ). (c.args.agent, k)) gs) r.further) r)) (take_all c.loop-group.group-index c.args.groups.now c.loop-group-test.false)
+      subst (λ (gs : List ℕ). HoldsUncommitted (state g.S.Store c.loop-group.tx.conn.now) (with_part table.AgentGroups (all_put (map (λ (k : ℕ). (c.args.agent, k)) gs) r.further) r)) (take_all c.loop-group.group-index c.args.groups.now c.loop-group-test.false)
       (c.loop-group.invariant.put clean r d);
   failed = λ clean r d. tt;
 }

@@ -2,7 +2,7 @@ use Rattle.sqlite.specs.Held.{state}
 use Rattle.acd_sql_columns.specs.Rows.{further_values}
 use Rattle.acd_sql_columns.specs.declared.texts.TheConstants.{INSERT_AGENT_GROUP}
 use Rattle.acd_sql_columns.proofs.AgentGroups.{inserts_group}
-use Rattle.acd_sql_columns.proofs.Common.{drafts}
+use Rattle.acd_sql_columns.proofs.Common.{changes_uncommitted}
 use Rattle.acd_sql_statements.proofs.Refused.{by_one}
 use Rattle.acd_sql_statements.proofs.parts.insert_further.Goals as goal
 
@@ -13,7 +13,7 @@ returns g c = record {
   put = λ clean.
       let old = state g.S.Store c.args.tx.now.conn.now in
       let new = state g.S.Store c.write.new.tx.conn.now in
-      drafts INSERT_AGENT_GROUP.now (further_values (c.args.agent, c.args.group)) _ old new c.write.result (λ x count. inserts_group (c.args.agent, c.args.group) x old new count)
+      changes_uncommitted INSERT_AGENT_GROUP.now (further_values (c.args.agent, c.args.group)) _ old new c.write.result (λ x count. inserts_group (c.args.agent, c.args.group) x old new count)
       (rw (c.agent.ensures, c.device.ensures) at (c.write.ensures.ran clean));
   failed =
       by_one (state g.S.Store c.args.tx.now.conn.now) (state g.S.Store c.write.new.tx.conn.now) INSERT_AGENT_GROUP.now (further_values (c.args.agent, c.args.group)) c.write.result

@@ -6,25 +6,25 @@ use Rattle.acd_terms.specs.declared.record.AgentRecord.{AgentRecord}
 use Rattle.acd_book.specs.Content.{Content}
 use Rattle.acd_sql_columns.specs.declared.relations.AgentRow.{AgentRow}
 use Rattle.acd_sql_columns.specs.Relations.{agent_part}
-use Rattle.acd_sql_statements.proofs.Chained.{behind, finds_failed}
+use Rattle.acd_sql_statements.proofs.Chained.{finds_after, finds_failed}
 use Rattle.acd_sql_statements.proofs.Answered.{agents_answered}
-use Rattle.acd_sql_statements.proofs.Blamed.{blames_then, blames_as}
-use Rattle.acd_sql_statements.proofs.BlamedPlan.{agents_told}
+use Rattle.acd_sql_statements.proofs.ReadCauses.{cause_then, cause_as}
+use Rattle.acd_sql_statements.proofs.PlanCauses.{agents_have_values}
 use Rattle.acd_sql_statements.proofs.plan.agents.Goals as goal
 
 pub returns : goal.returns
 returns g c = record {
   found =
-      behind (state g.S.Store c.args.conn.now) (state g.S.Store c.records.new.conn) (state g.S.Store c.grouped.new.conn) c.in_ok-parts.parts c.grouped.result (λ (x : Content) (parts : Vec AgentRow Global). parts.items ≡ map agent_part x.rows.agents)
+      finds_after (state g.S.Store c.args.conn.now) (state g.S.Store c.records.new.conn) (state g.S.Store c.grouped.new.conn) c.in_ok-parts.parts c.grouped.result (λ (x : Content) (parts : Vec AgentRow Global). parts.items ≡ map agent_part x.rows.agents)
       (λ (x : Content) (found : Vec AgentRecord Global). c.deref.result.now ≡ map agent_part x.rows.agents → found.items ≡ x.rows.agents) (λ (x : Content) (found : Vec AgentRecord Global). found.items ≡ x.rows.agents) c.in_ok-parts.ensures.found
       (λ x found p q. q (c.deref.ensures.value ∙ p)) c.grouped.ensures.found;
-  blamed =
-      blames_then (λ (x : Content). c.deref.result.now ≡ map agent_part x.rows.agents) (λ (x : Content) (parts : Vec AgentRow Global). parts.items ≡ map agent_part x.rows.agents) (state g.S.Store c.args.conn.now) (state g.S.Store c.records.new.conn) (state g.S.Store c.grouped.new.conn) c.in_ok-parts.parts c.grouped.result
-      (c.in_ok-parts.ensures.blamed agents_answered agents_told) c.in_ok-parts.ensures.found (λ x is. c.deref.ensures.value ∙ is) c.grouped.ensures.found.quiet.clean c.grouped.ensures.blamed;
+  cause =
+      cause_then (λ (x : Content). c.deref.result.now ≡ map agent_part x.rows.agents) (λ (x : Content) (parts : Vec AgentRow Global). parts.items ≡ map agent_part x.rows.agents) (state g.S.Store c.args.conn.now) (state g.S.Store c.records.new.conn) (state g.S.Store c.grouped.new.conn) c.in_ok-parts.parts c.grouped.result
+      (c.in_ok-parts.ensures.cause agents_answered agents_have_values) c.in_ok-parts.ensures.found (λ x is. c.deref.ensures.value ∙ is) c.grouped.ensures.found.quiet.clean c.grouped.ensures.cause;
 }
 
 pub returns-in_err-parts : goal.returns-in_err-parts
 returns-in_err-parts g c = record {
   found = finds_failed c.in_err-parts.ensures.found (search rules);
-  blamed = blames_as (state g.S.Store c.args.conn.now) (state g.S.Store c.records.new.conn) c.in_err-parts.field-0.0 c.from_residual.result (search rules) (c.in_err-parts.ensures.blamed agents_answered agents_told);
+  cause = cause_as (state g.S.Store c.args.conn.now) (state g.S.Store c.records.new.conn) c.in_err-parts.field-0.0 c.from_residual.result (search rules) (c.in_err-parts.ensures.cause agents_answered agents_have_values);
 }

@@ -1,5 +1,5 @@
 use Rattle.std.proofs.Common.{inr, refl}
-use Rattle.acd_sql_statements.proofs.BlamedRows.{at_has}
+use Rattle.acd_sql_statements.proofs.RowCauses.{at_has}
 use Rattle.acd_sql_statements.proofs.plan.joined_agents.Goals as goal
 
 pub returns-in-None-clause-other : goal.returns-in-None-clause-other

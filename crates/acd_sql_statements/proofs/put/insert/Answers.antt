@@ -1,6 +1,6 @@
 use Rattle.std.proofs.Common.{rules}
 use Rattle.sqlite.specs.Held.{state}
-use Rattle.acd_sql_columns.proofs.Filed.{inserted_in}
+use Rattle.acd_sql_columns.proofs.Described.{inserted_in}
 use Rattle.acd_sql_statements.specs.Refusing.{RefusesOn}
 use Rattle.acd_sql_statements.proofs.Refused.{refused_on, by_same, unless_ok}
 use Rattle.acd_sql_statements.proofs.put.insert.Goals as goal
@@ -9,8 +9,8 @@ pub returns : goal.returns
 returns g c = record {
   same = c.run.ensures.same;
   works = c.run.ensures.works;
-  put = λ clean content drafts.
-      inserted_in g.R.Stored.descr g.met.R.Stored.filed c.args.item.now (g.met.R.Stored.reads c.args.item.now) content (state g.S.Store c.args.tx.now.conn.now) (state g.S.Store c.run.new.tx.conn.now) c.in_ok-run.field-0 drafts
+  put = λ clean content uncommitted.
+      inserted_in g.R.Stored.descr g.met.R.Stored.described c.args.item.now (g.met.R.Stored.reads c.args.item.now) content (state g.S.Store c.args.tx.now.conn.now) (state g.S.Store c.run.new.tx.conn.now) c.in_ok-run.field-0 uncommitted
       (rw (c.texts.ensures.insert) at (c.in_ok-run.ensures.ran clean));
   failed = λ clean r d. tt;
 }

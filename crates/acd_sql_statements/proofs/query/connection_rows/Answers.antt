@@ -17,5 +17,5 @@ returns-clause-found g c =
 pub returns-clause-seen : goal.returns-clause-seen
 returns-clause-seen g c d is = sees_all d (state g.S.Store c.args.conn.now) (state g.S.Store c.read.new.conn) c.read.result table.Connections nine SELECT_CONNECTIONS.now connections_listing asks_connections is (c.read.ensures.seen d (plain_of nine SELECT_CONNECTIONS.now connections_listing d.schema is))
 
-pub returns-clause-blamed : goal.returns-clause-blamed
-returns-clause-blamed g c = c.read.ensures.blamed connections_answered
+pub returns-clause-cause : goal.returns-clause-cause
+returns-clause-cause g c = c.read.ensures.cause connections_answered

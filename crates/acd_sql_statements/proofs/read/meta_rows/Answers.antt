@@ -25,8 +25,8 @@ returns-clause-found g c =
 pub returns-clause-seen : goal.returns-clause-seen
 returns-clause-seen g c d is = sees_meta d (state g.S.Store c.args.conn.now) (state g.S.Store c.read.new.conn) c.read.result is (c.read.ensures.seen d (meta_plain d.schema is))
 
-pub returns-clause-blamed : goal.returns-clause-blamed
-returns-clause-blamed g c = c.read.ensures.blamed counters_answered
+pub returns-clause-cause : goal.returns-clause-cause
+returns-clause-cause g c = c.read.ensures.cause counters_answered
 
 pub returns-clause-looked : goal.returns-clause-looked
 returns-clause-looked g c =

@@ -6,9 +6,9 @@ use Rattle.sqlite.specs.Held.{state}
 use Rattle.sqlite.proofs.Callers.{never_commits}
 use Rattle.acd_sql_columns.proofs.Queries.{probe_text, probe_plain, quiet_unchanged, quiet_failed, quiet_stops, row_same, row_fails}
 use Rattle.acd_sql_columns.proofs.Seen.{sees_failed, sees_shown}
-use Rattle.acd_sql_statements.specs.Reading.{Blames}
-use Rattle.acd_sql_statements.specs.Looking.{BlamesLook}
-use Rattle.acd_sql_statements.proofs.Blamed.{blames_none, blames_probe}
+use Rattle.acd_sql_statements.specs.Reading.{HasReadCause}
+use Rattle.acd_sql_statements.specs.Looking.{HasLookCause}
+use Rattle.acd_sql_statements.proofs.ReadCauses.{cause_none, cause_probe}
 use Rattle.acd_sql_statements.proofs.Lookings.{looks_none, looks_probe}
 use Rattle.acd_sql_statements.proofs.read.probe.Goals as goal
 
@@ -38,29 +38,29 @@ pub returns-in_err-query_row-clause-seen : goal.returns-in_err-query_row-clause-
 returns-in_err-query_row-clause-seen g c d =
     let is : c.from_residual.result ≡ Err c.in_err-query_row.field-0.0 = search rules in
     subst (λ r. Sees {A = Unit {0}} d (state g.S.Store c.args.conn.now) (state g.S.Store c.query_row.new.self) r (λ x. ⊤)) (sym is)
-    (sees_failed d (state g.S.Store c.args.conn.now) (state g.S.Store c.query_row.new.self) c.query_row.ensures.survives (λ had db. never_commits probe_text [] (state g.S.Store c.args.conn.now) db (probe_plain _))
+    (sees_failed d (state g.S.Store c.args.conn.now) (state g.S.Store c.query_row.new.self) c.query_row.ensures.survives (λ old_database db. never_commits probe_text [] (state g.S.Store c.args.conn.now) db (probe_plain _))
     c.in_err-query_row.field-0.0 (λ x. ⊤) (λ clean. row_fails probe_text [] (state g.S.Store c.args.conn.now) (state g.S.Store c.query_row.new.self) c.in_err-query_row.field-0.0 (probe_plain _) (c.in_err-query_row.ensures.row clean)))
 
 pub returns-clause-seen : goal.returns-clause-seen
 returns-clause-seen g c d =
     let same : HasCleanDisk (state g.S.Store c.query_row.new.self) → IsUnchanged (state g.S.Store c.args.conn.now) (state g.S.Store c.query_row.new.self) =
     λ clean. row_same probe_text [] (state g.S.Store c.args.conn.now) (state g.S.Store c.query_row.new.self) c.in_ok-query_row.field-0 (probe_plain _) (c.in_ok-query_row.ensures.row clean) in
-    sees_shown d (state g.S.Store c.args.conn.now) (state g.S.Store c.query_row.new.self) c.query_row.ensures.survives (λ had db. never_commits probe_text [] (state g.S.Store c.args.conn.now) db (probe_plain _))
-    tt (λ x. ⊤) (λ clean. ((same clean).0.was_open, (same clean).0.is_open)) (λ clean had. same clean) (λ clean had. tt)
+    sees_shown d (state g.S.Store c.args.conn.now) (state g.S.Store c.query_row.new.self) c.query_row.ensures.survives (λ old_database db. never_commits probe_text [] (state g.S.Store c.args.conn.now) db (probe_plain _))
+    tt (λ x. ⊤) (λ clean. ((same clean).0.was_open, (same clean).0.is_open)) (λ clean old_database. same clean) (λ clean old_database. tt)
 
-pub returns-in_err-query_row-clause-blamed : goal.returns-in_err-query_row-clause-blamed
-returns-in_err-query_row-clause-blamed g c =
+pub returns-in_err-query_row-clause-cause : goal.returns-in_err-query_row-clause-cause
+returns-in_err-query_row-clause-cause g c =
     let is : c.from_residual.result ≡ Err c.in_err-query_row.field-0.0 = search rules in
-    subst (λ r. Blames {A = Unit {0}} (state g.S.Store c.args.conn.now) (state g.S.Store c.query_row.new.self) r) (sym is)
-    (blames_probe (state g.S.Store c.args.conn.now) (state g.S.Store c.query_row.new.self) c.in_err-query_row.field-0.0 c.query_row.ensures.survives c.query_row.ensures.mode c.in_err-query_row.ensures.row)
+    subst (λ r. HasReadCause {A = Unit {0}} (state g.S.Store c.args.conn.now) (state g.S.Store c.query_row.new.self) r) (sym is)
+    (cause_probe (state g.S.Store c.args.conn.now) (state g.S.Store c.query_row.new.self) c.in_err-query_row.field-0.0 c.query_row.ensures.survives c.query_row.ensures.mode c.in_err-query_row.ensures.row)
 
-pub returns-clause-blamed : goal.returns-clause-blamed
-returns-clause-blamed g c = blames_none (state g.S.Store c.args.conn.now) (state g.S.Store c.query_row.new.self) tt c.query_row.ensures.survives c.query_row.ensures.mode
+pub returns-clause-cause : goal.returns-clause-cause
+returns-clause-cause g c = cause_none (state g.S.Store c.args.conn.now) (state g.S.Store c.query_row.new.self) tt c.query_row.ensures.survives c.query_row.ensures.mode
 
 pub returns-in_err-query_row-clause-looked : goal.returns-in_err-query_row-clause-looked
 returns-in_err-query_row-clause-looked g c =
     let is : c.from_residual.result ≡ Err c.in_err-query_row.field-0.0 = search rules in
-    subst (λ r. BlamesLook {A = Unit {0}} (λ d. ⊤) (state g.S.Store c.args.conn.now) (state g.S.Store c.query_row.new.self) r) (sym is)
+    subst (λ r. HasLookCause {A = Unit {0}} (λ d. ⊤) (state g.S.Store c.args.conn.now) (state g.S.Store c.query_row.new.self) r) (sym is)
     (looks_probe (λ d. ⊤) (state g.S.Store c.args.conn.now) (state g.S.Store c.query_row.new.self) c.in_err-query_row.field-0.0 c.query_row.ensures.survives c.query_row.ensures.mode c.in_err-query_row.ensures.row)
 
 pub returns-clause-looked : goal.returns-clause-looked

@@ -3,7 +3,7 @@ use Rattle.sqlite.specs.Values.{bound}
 use Rattle.sqlite.proofs.Callers.{never_commits}
 use Rattle.acd_sql_columns.proofs.Queries.{quiet_query, quiet_stops, query_up, plain_at}
 use Rattle.acd_sql_columns.proofs.Seen.{sees_query}
-use Rattle.acd_sql_statements.proofs.Blamed.{blames_query}
+use Rattle.acd_sql_statements.proofs.ReadCauses.{cause_query}
 use Rattle.acd_sql_statements.proofs.Lookings.{looks_query}
 use Rattle.acd_sql_statements.proofs.read.read.Goals as goal
 
@@ -23,9 +23,9 @@ pub returns-clause-seen : goal.returns-clause-seen
 returns-clause-seen g c d plain =
     sees_query c.args.sql.now (bound c.args.params.now) d (state g.S.Store c.args.conn.now) (state g.S.Store c.query_all.new.self) c.query_all.result plain c.query_all.ensures.survives c.query_all.ensures.ok c.query_all.ensures.err
 
-pub returns-clause-blamed : goal.returns-clause-blamed
-returns-clause-blamed g c asked =
-    blames_query c.args.sql.now (bound c.args.params.now) (state g.S.Store c.args.conn.now) (state g.S.Store c.query_all.new.self) c.query_all.result asked c.query_all.ensures.survives c.query_all.ensures.mode c.query_all.ensures.err
+pub returns-clause-cause : goal.returns-clause-cause
+returns-clause-cause g c asked =
+    cause_query c.args.sql.now (bound c.args.params.now) (state g.S.Store c.args.conn.now) (state g.S.Store c.query_all.new.self) c.query_all.result asked c.query_all.ensures.survives c.query_all.ensures.mode c.query_all.ensures.err
 
 pub returns-clause-looked : goal.returns-clause-looked
 returns-clause-looked g c =

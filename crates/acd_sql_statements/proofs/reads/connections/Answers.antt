@@ -10,8 +10,8 @@ use Rattle.acd_sql_columns.proofs.Records.{connection_exact}
 use Rattle.acd_sql_columns.proofs.Recorded.{found_none, recorded}
 use Rattle.acd_sql_columns.specs.Finding.{Finds}
 use Rattle.acd_sql_columns.specs.declared.tables.Table.TheVariants as table
-use Rattle.acd_sql_statements.proofs.Blamed.{blames_as}
-use Rattle.acd_sql_statements.proofs.BlamedRows.{blames_records}
+use Rattle.acd_sql_statements.proofs.ReadCauses.{cause_as}
+use Rattle.acd_sql_statements.proofs.RowCauses.{cause_records}
 use Rattle.acd_sql_statements.proofs.reads.connections.Goals as goal
 
 pub returns-in_err-rows : goal.returns-in_err-rows
@@ -20,7 +20,7 @@ returns-in_err-rows g c = record {
       let is : c.from_residual.result ≡ Err c.in_err-rows.field-0.0 = search rules in
       subst (λ r. Finds (state g.S.Store c.args.conn.now) (state g.S.Store c.connection_rows.new.conn) r (λ (x : Content) (found : Vec ConnectionRecord Global). found.items ≡ x.rows.connections)) (sym is)
       (found_none (state g.S.Store c.args.conn.now) (state g.S.Store c.connection_rows.new.conn) c.in_err-rows.field-0.0 _ (λ (x : Content) (found : Vec ConnectionRecord Global). found.items ≡ x.rows.connections) c.in_err-rows.ensures.found);
-  blamed = blames_as (state g.S.Store c.args.conn.now) (state g.S.Store c.connection_rows.new.conn) c.in_err-rows.field-0.0 c.from_residual.result (search rules) c.in_err-rows.ensures.blamed;
+  cause = cause_as (state g.S.Store c.args.conn.now) (state g.S.Store c.connection_rows.new.conn) c.in_err-rows.field-0.0 c.from_residual.result (search rules) c.in_err-rows.ensures.cause;
 }
 
 pub returns : goal.returns
@@ -28,7 +28,7 @@ returns g c = record {
   found =
       recorded connection_in connection_values connection_exact (state g.S.Store c.args.conn.now) (state g.S.Store c.connection_rows.new.conn) c.in_ok-rows.rows c.records.result (λ (x : Content). x.rows.connections) c.in_ok-rows.ensures.found
       (rw c.deref.ensures.value at c.records.ensures.records);
-  blamed =
-      blames_records connection_in table.Connections (λ row. refl) (state g.S.Store c.args.conn.now) (state g.S.Store c.connection_rows.new.conn) c.in_ok-rows.rows c.records.result (λ (x : Content). map connection_values x.rows.connections) (λ x row has. has)
-      c.in_ok-rows.ensures.blamed c.in_ok-rows.ensures.found (rw c.deref.ensures.value at c.records.ensures.bad);
+  cause =
+      cause_records connection_in table.Connections (λ row. refl) (state g.S.Store c.args.conn.now) (state g.S.Store c.connection_rows.new.conn) c.in_ok-rows.rows c.records.result (λ (x : Content). map connection_values x.rows.connections) (λ x row has. has)
+      c.in_ok-rows.ensures.cause c.in_ok-rows.ensures.found (rw c.deref.ensures.value at c.records.ensures.bad);
 }

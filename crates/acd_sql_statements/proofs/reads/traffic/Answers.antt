@@ -10,7 +10,7 @@ use Rattle.acd_sql_statements.proofs.Chained.{chained, broken}
 use Rattle.acd_sql_columns.proofs.Recorded.{found_none}
 use Rattle.acd_sql_columns.specs.Finding.{Finds}
 use Rattle.acd_sql_statements.proofs.Answered.{calls_answered, monitors_answered}
-use Rattle.acd_sql_statements.proofs.Blamed.{blames_as, blames_behind, blames_done}
+use Rattle.acd_sql_statements.proofs.ReadCauses.{cause_as, cause_after, cause_done}
 use Rattle.acd_sql_statements.proofs.reads.traffic.Goals as goal
 
 pub returns-in_err-calls : goal.returns-in_err-calls
@@ -19,9 +19,9 @@ returns-in_err-calls g c = record {
       let is : c.from_residual.result ≡ Err c.in_err-calls.field-0.0 = search rules in
       subst (λ r. Finds (state g.S.Store c.args.conn.now) (state g.S.Store c.records.new.conn) r (λ (x : Content) (t : Vec CallRecord Global × Vec ConnectionRecord Global × Vec MonitorRecord Global). (t.0.items ≡ x.rows.calls) × (t.1.items ≡ x.rows.connections) × (t.2.items ≡ x.rows.monitors))) (sym is)
       (found_none (state g.S.Store c.args.conn.now) (state g.S.Store c.records.new.conn) c.in_err-calls.field-0.0 _ (λ (x : Content) (t : Vec CallRecord Global × Vec ConnectionRecord Global × Vec MonitorRecord Global). (t.0.items ≡ x.rows.calls) × (t.1.items ≡ x.rows.connections) × (t.2.items ≡ x.rows.monitors)) c.in_err-calls.ensures.found);
-  blamed =
-      blames_as (state g.S.Store c.args.conn.now) (state g.S.Store c.records.new.conn) c.in_err-calls.field-0.0 c.from_residual.result (search rules)
-      (c.in_err-calls.ensures.blamed calls_answered (λ x. refl));
+  cause =
+      cause_as (state g.S.Store c.args.conn.now) (state g.S.Store c.records.new.conn) c.in_err-calls.field-0.0 c.from_residual.result (search rules)
+      (c.in_err-calls.ensures.cause calls_answered (λ x. refl));
 }
 
 pub returns-in_err-connections : goal.returns-in_err-connections
@@ -30,10 +30,10 @@ returns-in_err-connections g c = record {
       let is : c.from_residual-in_err-connections.result ≡ Err c.in_err-connections.field-0.0 = search rules in
       subst (λ r. Finds (state g.S.Store c.args.conn.now) (state g.S.Store c.connections.new.conn) r (λ (x : Content) (t : Vec CallRecord Global × Vec ConnectionRecord Global × Vec MonitorRecord Global). (t.0.items ≡ x.rows.calls) × (t.1.items ≡ x.rows.connections) × (t.2.items ≡ x.rows.monitors))) (sym is)
       (broken (state g.S.Store c.args.conn.now) (state g.S.Store c.records.new.conn) (state g.S.Store c.connections.new.conn) c.in_ok-calls.calls _ _ c.in_ok-calls.ensures.found c.in_err-connections.field-0.0 (λ (x : Content) (t : Vec CallRecord Global × Vec ConnectionRecord Global × Vec MonitorRecord Global). (t.0.items ≡ x.rows.calls) × (t.1.items ≡ x.rows.connections) × (t.2.items ≡ x.rows.monitors)) c.in_err-connections.ensures.found);
-  blamed =
-      blames_as (state g.S.Store c.args.conn.now) (state g.S.Store c.connections.new.conn) c.in_err-connections.field-0.0 c.from_residual-in_err-connections.result (search rules)
-      (blames_behind (state g.S.Store c.args.conn.now) (state g.S.Store c.records.new.conn) (state g.S.Store c.connections.new.conn) c.in_ok-calls.calls (Err c.in_err-connections.field-0.0) (c.in_ok-calls.ensures.blamed calls_answered (λ x. refl)) c.in_ok-calls.ensures.found.quiet c.in_ok-calls.ensures.found.up c.in_err-connections.ensures.found.quiet.clean
-      c.in_err-connections.ensures.blamed);
+  cause =
+      cause_as (state g.S.Store c.args.conn.now) (state g.S.Store c.connections.new.conn) c.in_err-connections.field-0.0 c.from_residual-in_err-connections.result (search rules)
+      (cause_after (state g.S.Store c.args.conn.now) (state g.S.Store c.records.new.conn) (state g.S.Store c.connections.new.conn) c.in_ok-calls.calls (Err c.in_err-connections.field-0.0) (c.in_ok-calls.ensures.cause calls_answered (λ x. refl)) c.in_ok-calls.ensures.found.quiet c.in_ok-calls.ensures.found.up c.in_err-connections.ensures.found.quiet.clean
+      c.in_err-connections.ensures.cause);
 }
 
 pub returns-in_err-monitors : goal.returns-in_err-monitors
@@ -44,11 +44,11 @@ returns-in_err-monitors g c = record {
       (broken (state g.S.Store c.args.conn.now) (state g.S.Store c.connections.new.conn) (state g.S.Store c.records-2.new.conn) (c.in_ok-calls.calls, c.in_ok-connections.connections) (λ (x : Content) (t : Vec CallRecord Global × Vec ConnectionRecord Global). (t.0.items ≡ x.rows.calls) × (t.1.items ≡ x.rows.connections)) _
       (chained (state g.S.Store c.args.conn.now) (state g.S.Store c.records.new.conn) (state g.S.Store c.connections.new.conn) c.in_ok-calls.calls _ _ c.in_ok-calls.ensures.found c.in_ok-connections.connections (c.in_ok-calls.calls, c.in_ok-connections.connections) (λ (x : Content) (t : Vec CallRecord Global × Vec ConnectionRecord Global). (t.0.items ≡ x.rows.calls) × (t.1.items ≡ x.rows.connections)) (λ x p q. (p, q)) c.in_ok-connections.ensures.found)
       c.in_err-monitors.field-0.0 (λ (x : Content) (t : Vec CallRecord Global × Vec ConnectionRecord Global × Vec MonitorRecord Global). (t.0.items ≡ x.rows.calls) × (t.1.items ≡ x.rows.connections) × (t.2.items ≡ x.rows.monitors)) c.in_err-monitors.ensures.found);
-  blamed =
-      blames_as (state g.S.Store c.args.conn.now) (state g.S.Store c.records-2.new.conn) c.in_err-monitors.field-0.0 c.from_residual-in_err-monitors.result (search rules)
-      (blames_behind (state g.S.Store c.args.conn.now) (state g.S.Store c.records.new.conn) (state g.S.Store c.records-2.new.conn) c.in_ok-calls.calls (Err c.in_err-monitors.field-0.0) (c.in_ok-calls.ensures.blamed calls_answered (λ x. refl)) c.in_ok-calls.ensures.found.quiet c.in_ok-calls.ensures.found.up (λ k. c.in_ok-connections.ensures.found.quiet.clean (c.in_err-monitors.ensures.found.quiet.clean k))
-      (blames_behind (state g.S.Store c.records.new.conn) (state g.S.Store c.connections.new.conn) (state g.S.Store c.records-2.new.conn) c.in_ok-connections.connections (Err c.in_err-monitors.field-0.0) c.in_ok-connections.ensures.blamed c.in_ok-connections.ensures.found.quiet c.in_ok-connections.ensures.found.up c.in_err-monitors.ensures.found.quiet.clean
-      (c.in_err-monitors.ensures.blamed monitors_answered (λ x. refl))));
+  cause =
+      cause_as (state g.S.Store c.args.conn.now) (state g.S.Store c.records-2.new.conn) c.in_err-monitors.field-0.0 c.from_residual-in_err-monitors.result (search rules)
+      (cause_after (state g.S.Store c.args.conn.now) (state g.S.Store c.records.new.conn) (state g.S.Store c.records-2.new.conn) c.in_ok-calls.calls (Err c.in_err-monitors.field-0.0) (c.in_ok-calls.ensures.cause calls_answered (λ x. refl)) c.in_ok-calls.ensures.found.quiet c.in_ok-calls.ensures.found.up (λ k. c.in_ok-connections.ensures.found.quiet.clean (c.in_err-monitors.ensures.found.quiet.clean k))
+      (cause_after (state g.S.Store c.records.new.conn) (state g.S.Store c.connections.new.conn) (state g.S.Store c.records-2.new.conn) c.in_ok-connections.connections (Err c.in_err-monitors.field-0.0) c.in_ok-connections.ensures.cause c.in_ok-connections.ensures.found.quiet c.in_ok-connections.ensures.found.up c.in_err-monitors.ensures.found.quiet.clean
+      (c.in_err-monitors.ensures.cause monitors_answered (λ x. refl))));
 }
 
 pub returns : goal.returns
@@ -57,9 +57,9 @@ returns g c = record {
       chained (state g.S.Store c.args.conn.now) (state g.S.Store c.connections.new.conn) (state g.S.Store c.records-2.new.conn) (c.in_ok-calls.calls, c.in_ok-connections.connections) (λ (x : Content) (t : Vec CallRecord Global × Vec ConnectionRecord Global). (t.0.items ≡ x.rows.calls) × (t.1.items ≡ x.rows.connections)) _
       (chained (state g.S.Store c.args.conn.now) (state g.S.Store c.records.new.conn) (state g.S.Store c.connections.new.conn) c.in_ok-calls.calls _ _ c.in_ok-calls.ensures.found c.in_ok-connections.connections (c.in_ok-calls.calls, c.in_ok-connections.connections) (λ (x : Content) (t : Vec CallRecord Global × Vec ConnectionRecord Global). (t.0.items ≡ x.rows.calls) × (t.1.items ≡ x.rows.connections)) (λ x p q. (p, q)) c.in_ok-connections.ensures.found)
       c.in_ok-monitors.monitors (c.in_ok-calls.calls, c.in_ok-connections.connections, c.in_ok-monitors.monitors) (λ (x : Content) (t : Vec CallRecord Global × Vec ConnectionRecord Global × Vec MonitorRecord Global). (t.0.items ≡ x.rows.calls) × (t.1.items ≡ x.rows.connections) × (t.2.items ≡ x.rows.monitors)) (λ x p q. (p.0, p.1, q)) c.in_ok-monitors.ensures.found;
-  blamed =
-      blames_done (state g.S.Store c.args.conn.now) (state g.S.Store c.records-2.new.conn) c.in_ok-monitors.monitors _
-      (blames_behind (state g.S.Store c.args.conn.now) (state g.S.Store c.records.new.conn) (state g.S.Store c.records-2.new.conn) c.in_ok-calls.calls (Ok c.in_ok-monitors.monitors) (c.in_ok-calls.ensures.blamed calls_answered (λ x. refl)) c.in_ok-calls.ensures.found.quiet c.in_ok-calls.ensures.found.up (λ k. c.in_ok-connections.ensures.found.quiet.clean (c.in_ok-monitors.ensures.found.quiet.clean k))
-      (blames_behind (state g.S.Store c.records.new.conn) (state g.S.Store c.connections.new.conn) (state g.S.Store c.records-2.new.conn) c.in_ok-connections.connections (Ok c.in_ok-monitors.monitors) c.in_ok-connections.ensures.blamed c.in_ok-connections.ensures.found.quiet c.in_ok-connections.ensures.found.up c.in_ok-monitors.ensures.found.quiet.clean
-      (c.in_ok-monitors.ensures.blamed monitors_answered (λ x. refl))));
+  cause =
+      cause_done (state g.S.Store c.args.conn.now) (state g.S.Store c.records-2.new.conn) c.in_ok-monitors.monitors _
+      (cause_after (state g.S.Store c.args.conn.now) (state g.S.Store c.records.new.conn) (state g.S.Store c.records-2.new.conn) c.in_ok-calls.calls (Ok c.in_ok-monitors.monitors) (c.in_ok-calls.ensures.cause calls_answered (λ x. refl)) c.in_ok-calls.ensures.found.quiet c.in_ok-calls.ensures.found.up (λ k. c.in_ok-connections.ensures.found.quiet.clean (c.in_ok-monitors.ensures.found.quiet.clean k))
+      (cause_after (state g.S.Store c.records.new.conn) (state g.S.Store c.connections.new.conn) (state g.S.Store c.records-2.new.conn) c.in_ok-connections.connections (Ok c.in_ok-monitors.monitors) c.in_ok-connections.ensures.cause c.in_ok-connections.ensures.found.quiet c.in_ok-connections.ensures.found.up c.in_ok-monitors.ensures.found.quiet.clean
+      (c.in_ok-monitors.ensures.cause monitors_answered (λ x. refl))));
 }

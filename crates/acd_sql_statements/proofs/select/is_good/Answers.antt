@@ -1,7 +1,7 @@
 use Rattle.std.proofs.Common.{[], Ok, rules}
 use Rattle.sqlite.specs.Held.{state}
-use Rattle.acd_sql_columns.specs.AnyRows.{TellsGood}
-use Rattle.acd_sql_columns.proofs.Selected.{told}
+use Rattle.acd_sql_columns.specs.AnyRows.{FindsGood}
+use Rattle.acd_sql_columns.proofs.Selected.{finds_good_read}
 use Rattle.acd_sql_columns.specs.Schema.{BeginsSchema}
 use Rattle.acd_sql_statements.specs.Looking.{HasGood}
 use Rattle.acd_sql_statements.proofs.Lookings.{looks_done, looks_as, sees_as}
@@ -10,13 +10,13 @@ use Rattle.acd_sql_statements.proofs.select.is_good.Goals as goal
 pub returns-in_err-rows-clause-looks : goal.returns-in_err-rows-clause-looks
 returns-in_err-rows-clause-looks g c = record {
   seen = λ d is.
-      sees_as d (state g.S.Store c.args.conn.now) (state g.S.Store c.rows.new.conn) c.in_err-rows.field-0.0 c.from_residual.result (search rules) _ (λ good. TellsGood g.R.Stored.descr.table d.trees good) (c.in_err-rows.ensures.seen d is);
+      sees_as d (state g.S.Store c.args.conn.now) (state g.S.Store c.rows.new.conn) c.in_err-rows.field-0.0 c.from_residual.result (search rules) _ (λ good. FindsGood g.R.Stored.descr.table d.trees good) (c.in_err-rows.ensures.seen d is);
 }
 
 pub returns-clause-looks : goal.returns-clause-looks
 returns-clause-looks g c = record {
   seen = λ d is.
-      told g.R.Stored.descr g.met.R.Stored.filed d (state g.S.Store c.args.conn.now) (state g.S.Store c.rows.new.conn) c.in_ok-rows.rows (Ok c.are_read.result) (rw c.deref.ensures.value at c.are_read.ensures) (c.in_ok-rows.ensures.seen d is);
+      finds_good_read g.R.Stored.descr g.met.R.Stored.described d (state g.S.Store c.args.conn.now) (state g.S.Store c.rows.new.conn) c.in_ok-rows.rows (Ok c.are_read.result) (rw c.deref.ensures.value at c.are_read.ensures) (c.in_ok-rows.ensures.seen d is);
 }
 
 pub returns-in_err-rows-clause-looked : goal.returns-in_err-rows-clause-looked

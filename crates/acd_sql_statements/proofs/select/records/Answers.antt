@@ -8,10 +8,10 @@ use Rattle.acd_book.specs.Content.{Content}
 use Rattle.acd_sql_columns.specs.Relations.{relations_of}
 use Rattle.acd_sql_columns.proofs.Recorded.{recorded}
 use Rattle.sqlite_rules.specs.Lists.{Has}
-use Rattle.acd_sql_columns.proofs.Filed.{good}
+use Rattle.acd_sql_columns.proofs.Described.{good}
 use Rattle.acd_sql_statements.proofs.Chained.{finds_failed}
-use Rattle.acd_sql_statements.proofs.Blamed.{blames_as}
-use Rattle.acd_sql_statements.proofs.BlamedRows.{blames_records}
+use Rattle.acd_sql_statements.proofs.ReadCauses.{cause_as}
+use Rattle.acd_sql_statements.proofs.RowCauses.{cause_records}
 use Rattle.acd_sql_columns.specs.Schema.{BeginsSchema}
 use Rattle.acd_sql_statements.specs.Looking.{HasGood}
 use Rattle.acd_sql_statements.proofs.Lookings.{looks_decoded, looks_as, sees_as}
@@ -22,7 +22,7 @@ returns-in_err-rows-clause-found g c = finds_failed c.in_err-rows.ensures.found 
 
 pub returns-clause-found : goal.returns-clause-found
 returns-clause-found g c =
-    recorded g.R.Stored.descr.in_row g.R.Stored.descr.values (λ row x y. g.met.R.Stored.filed.exact row x y (g.met.R.Stored.reads y)) (state g.S.Store c.args.conn.now) (state g.S.Store c.rows.new.conn) c.in_ok-rows.rows c.records_of.result (λ (x : Content). g.R.Stored.descr.records (relations_of x)) c.in_ok-rows.ensures.found
+    recorded g.R.Stored.descr.in_row g.R.Stored.descr.values (λ row x y. g.met.R.Stored.described.exact row x y (g.met.R.Stored.reads y)) (state g.S.Store c.args.conn.now) (state g.S.Store c.rows.new.conn) c.in_ok-rows.rows c.records_of.result (λ (x : Content). g.R.Stored.descr.records (relations_of x)) c.in_ok-rows.ensures.found
     (rw c.deref.ensures.value at c.records_of.ensures.records)
 
 pub returns-in_err-rows-clause-seen : goal.returns-in_err-rows-clause-seen
@@ -31,15 +31,15 @@ returns-in_err-rows-clause-seen g c d is =
 
 pub returns-clause-seen : goal.returns-clause-seen
 returns-clause-seen g c d is =
-    seen_records g.R.Stored.descr g.met.R.Stored.filed d (state g.S.Store c.args.conn.now) (state g.S.Store c.rows.new.conn) c.in_ok-rows.rows c.records_of.result (rw c.deref.ensures.value at c.records_of.ensures.records) (c.in_ok-rows.ensures.seen d is)
+    seen_records g.R.Stored.descr g.met.R.Stored.described d (state g.S.Store c.args.conn.now) (state g.S.Store c.rows.new.conn) c.in_ok-rows.rows c.records_of.result (rw c.deref.ensures.value at c.records_of.ensures.records) (c.in_ok-rows.ensures.seen d is)
 
-pub returns-in_err-rows-clause-blamed : goal.returns-in_err-rows-clause-blamed
-returns-in_err-rows-clause-blamed g c answers told = blames_as (state g.S.Store c.args.conn.now) (state g.S.Store c.rows.new.conn) c.in_err-rows.field-0.0 c.from_residual.result (search rules) (c.in_err-rows.ensures.blamed answers)
+pub returns-in_err-rows-clause-cause : goal.returns-in_err-rows-clause-cause
+returns-in_err-rows-clause-cause g c answers has_values = cause_as (state g.S.Store c.args.conn.now) (state g.S.Store c.rows.new.conn) c.in_err-rows.field-0.0 c.from_residual.result (search rules) (c.in_err-rows.ensures.cause answers)
 
-pub returns-clause-blamed : goal.returns-clause-blamed
-returns-clause-blamed g c answers told =
-    blames_records g.R.Stored.descr.in_row g.R.Stored.descr.table (good g.R.Stored.descr g.met.R.Stored.filed) (state g.S.Store c.args.conn.now) (state g.S.Store c.rows.new.conn) c.in_ok-rows.rows c.records_of.result (λ (x : Content). map g.R.Stored.descr.values (g.R.Stored.descr.records (relations_of x)))
-    (λ x row has. subst (λ l. Has l row) (sym (told x)) has) (c.in_ok-rows.ensures.blamed answers) c.in_ok-rows.ensures.found (rw c.deref.ensures.value at c.records_of.ensures.bad)
+pub returns-clause-cause : goal.returns-clause-cause
+returns-clause-cause g c answers has_values =
+    cause_records g.R.Stored.descr.in_row g.R.Stored.descr.table (good g.R.Stored.descr g.met.R.Stored.described) (state g.S.Store c.args.conn.now) (state g.S.Store c.rows.new.conn) c.in_ok-rows.rows c.records_of.result (λ (x : Content). map g.R.Stored.descr.values (g.R.Stored.descr.records (relations_of x)))
+    (λ x row has. subst (λ l. Has l row) (sym (has_values x)) has) (c.in_ok-rows.ensures.cause answers) c.in_ok-rows.ensures.found (rw c.deref.ensures.value at c.records_of.ensures.bad)
 
 pub returns-in_err-rows-clause-looked : goal.returns-in_err-rows-clause-looked
 returns-in_err-rows-clause-looked g c answers =
@@ -47,5 +47,5 @@ returns-in_err-rows-clause-looked g c answers =
 
 pub returns-clause-looked : goal.returns-clause-looked
 returns-clause-looked g c answers =
-    looks_decoded g.R.Stored.descr.in_row g.R.Stored.descr.table (good g.R.Stored.descr g.met.R.Stored.filed) (HasGood (BeginsSchema g.R.Stored.descr.base) (g.R.Stored.descr.table ∷ [])) (HasGood (BeginsSchema g.R.Stored.descr.base) [])
+    looks_decoded g.R.Stored.descr.in_row g.R.Stored.descr.table (good g.R.Stored.descr g.met.R.Stored.described) (HasGood (BeginsSchema g.R.Stored.descr.base) (g.R.Stored.descr.table ∷ [])) (HasGood (BeginsSchema g.R.Stored.descr.base) [])
     (state g.S.Store c.args.conn.now) (state g.S.Store c.rows.new.conn) c.in_ok-rows.rows c.records_of.result (λ d h. h.1.0) (c.in_ok-rows.ensures.looked answers) (λ d h. c.in_ok-rows.ensures.seen d h.0) (rw c.deref.ensures.value at c.records_of.ensures.bad)

@@ -1,5 +1,5 @@
 use Rattle.std.proofs.Common.{rules}
-use Rattle.acd_sql_statements.proofs.BlamedRows.{none_decoded}
+use Rattle.acd_sql_statements.proofs.RowCauses.{none_decoded}
 use Rattle.acd_sql_statements.proofs.select.records_of.Goals as goal
 
 pub returns-in_err-one-clause-bad : goal.returns-in_err-one-clause-bad

@@ -3,7 +3,7 @@ use Rattle.acd_sql_columns.proofs.Selected.{rows_found, rows_seen}
 use Rattle.std.proofs.Common.{[], sym, subst}
 use Rattle.acd_sql_columns.specs.Descriptions.{the_text}
 use Rattle.acd_sql_statements.proofs.TheTexts.{the_said}
-use Rattle.acd_sql_columns.proofs.Filed.{Selects}
+use Rattle.acd_sql_columns.proofs.Described.{Selects}
 use Rattle.acd_sql_columns.specs.Schema.{BeginsSchema}
 use Rattle.acd_sql_statements.specs.Reading.{IsAnswered, RefusesToShow}
 use Rattle.acd_sql_statements.specs.Looking.{HasGood}
@@ -13,14 +13,14 @@ use Rattle.acd_sql_statements.proofs.select.rows.Goals as goal
 pub returns-clause-found : goal.returns-clause-found
 returns-clause-found g c =
     let e = c.read.ensures in
-    rows_found g.R.Stored.descr g.met.R.Stored.filed g.R.Stored.descr.base (the_text g.R.Stored.descr.select) (the_said g.R.Stored.descr.select (Selects g.R.Stored.descr g.R.Stored.descr.base) c.requires.selects g.met.R.Stored.filed.selects) c.select_text.result.now c.select_text.ensures (state g.S.Store c.args.conn.now) (state g.S.Store c.read.new.conn) c.read.result e.up e.quiet e.stops e.shown
+    rows_found g.R.Stored.descr g.met.R.Stored.described g.R.Stored.descr.base (the_text g.R.Stored.descr.select) (the_said g.R.Stored.descr.select (Selects g.R.Stored.descr g.R.Stored.descr.base) c.requires.selects g.met.R.Stored.described.selects) c.select_text.result.now c.select_text.ensures (state g.S.Store c.args.conn.now) (state g.S.Store c.read.new.conn) c.read.result e.up e.quiet e.stops e.shown
 
 pub returns-clause-seen : goal.returns-clause-seen
 returns-clause-seen g c d is =
-    rows_seen g.R.Stored.descr g.met.R.Stored.filed g.R.Stored.descr.base (the_text g.R.Stored.descr.select) (the_said g.R.Stored.descr.select (Selects g.R.Stored.descr g.R.Stored.descr.base) c.requires.selects g.met.R.Stored.filed.selects) c.select_text.result.now c.select_text.ensures (state g.S.Store c.args.conn.now) (state g.S.Store c.read.new.conn) c.read.result d is (c.read.ensures.seen d)
+    rows_seen g.R.Stored.descr g.met.R.Stored.described g.R.Stored.descr.base (the_text g.R.Stored.descr.select) (the_said g.R.Stored.descr.select (Selects g.R.Stored.descr g.R.Stored.descr.base) c.requires.selects g.met.R.Stored.described.selects) c.select_text.result.now c.select_text.ensures (state g.S.Store c.args.conn.now) (state g.S.Store c.read.new.conn) c.read.result d is (c.read.ensures.seen d)
 
-pub returns-clause-blamed : goal.returns-clause-blamed
-returns-clause-blamed g c answers = c.read.ensures.blamed (subst (λ t. IsAnswered t []) (sym c.select_text.ensures) answers)
+pub returns-clause-cause : goal.returns-clause-cause
+returns-clause-cause g c answers = c.read.ensures.cause (subst (λ t. IsAnswered t []) (sym c.select_text.ensures) answers)
 
 pub returns-clause-looked : goal.returns-clause-looked
 returns-clause-looked g c answers =

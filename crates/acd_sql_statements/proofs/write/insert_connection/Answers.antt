@@ -2,7 +2,7 @@ use Rattle.sqlite.specs.Held.{state}
 use Rattle.acd_sql_columns.specs.Rows.{connection_values}
 use Rattle.acd_sql_columns.specs.declared.texts.TheConstants.{INSERT_CONNECTION}
 use Rattle.acd_sql_columns.proofs.Connections.{inserts_connection}
-use Rattle.acd_sql_columns.proofs.Common.{drafts}
+use Rattle.acd_sql_columns.proofs.Common.{changes_uncommitted}
 use Rattle.acd_sql_statements.proofs.Refused.{by_one}
 use Rattle.acd_sql_statements.proofs.write.insert_connection.Goals as goal
 
@@ -14,7 +14,7 @@ returns g c = record {
       let old = state g.S.Store c.args.tx.now.conn.now in
       let new = state g.S.Store c.write.new.tx.conn.now in
       let connection = c.args.connection.now in
-      drafts INSERT_CONNECTION.now (connection_values connection) _ old new c.write.result (λ x count. inserts_connection connection x old new count)
+      changes_uncommitted INSERT_CONNECTION.now (connection_values connection) _ old new c.write.result (λ x count. inserts_connection connection x old new count)
       (rw c.connection_values.ensures at (c.write.ensures.ran clean));
   failed =
       by_one (state g.S.Store c.args.tx.now.conn.now) (state g.S.Store c.write.new.tx.conn.now) INSERT_CONNECTION.now (connection_values c.args.connection.now) c.write.result

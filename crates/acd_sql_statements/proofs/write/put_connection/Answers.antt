@@ -7,7 +7,7 @@ use Rattle.acd_model.specs.Scans.{at_connection}
 use Rattle.acd_sql_columns.specs.declared.tables.Table.TheVariants as table
 use Rattle.acd_sql_columns.specs.Relations.{Relations}
 use Rattle.acd_sql_columns.specs.Content.{with_part}
-use Rattle.acd_sql_columns.proofs.Connections.{sets_connection, behind_none}
+use Rattle.acd_sql_columns.proofs.Connections.{sets_connection, after_none}
 use Rattle.std.proofs.Common.{inl, inr, rules}
 use Rattle.acd_sql_columns.specs.Rows.{connection_values}
 use Rattle.acd_sql_columns.specs.declared.texts.TheConstants.{INSERT_CONNECTION, UPDATE_CONNECTION}
@@ -26,7 +26,7 @@ returns-then-changed-gt0 g c = record {
       sets_connection c.args.connection.now content old new c.in_ok-changed.changed d
       (rw c.connection_values.ensures at (c.in_ok-changed.ensures.ran clean))
       (λ none. omega (arith, none, c.if-changed-gt0.true));
-  failed = λ clean r drafts. tt;
+  failed = λ clean r uncommitted. tt;
 }
 
 pub returns : goal.returns
@@ -41,7 +41,7 @@ returns g c = record {
       let middle : HasCleanDisk mid = omega (arith, clean, c.insert_connection.ensures.works.survives.clean) in
       let none : c.in_ok-changed.changed ≡ 0 = omega (arith, c.if-changed-gt0.false) in
       let first = rw c.connection_values.ensures at (c.in_ok-changed.ensures.ran middle) in
-      behind_none connection (λ (content : Relations). with_part table.Connections (put_by (at_connection connection.call connection.device) content.connections connection) content)
+      after_none connection (λ (content : Relations). with_part table.Connections (put_by (at_connection connection.call connection.device) content.connections connection) content)
       old mid new c.in_ok-changed.changed c.insert_connection.result first none (c.insert_connection.ensures.put clean);
   failed =
       let old = state g.S.Store c.args.tx.now.conn.now in

@@ -3,12 +3,12 @@ use Rattle.sqlite.specs.State.{HasCleanDisk, KeepsCommit}
 use Rattle.sqlite.specs.Held.{state}
 use Rattle.acd_book.specs.Content.{Content}
 use Rattle.acd_sqlbook.specs.Commit.{made_by}
-use Rattle.acd_sql_columns.specs.Draft.{HoldsContent, Drafts, AddsStop}
+use Rattle.acd_sql_columns.specs.Transactions.{HoldsContent, HoldsUncommitted, AddsStop}
 use Rattle.acd_sql_columns.specs.Relations.{relations_of}
 use Rattle.acd_sql_columns.proofs.Endings.{not_committed, begins, made_whole, adds_stop}
 use Rattle.std.proofs.Common.{Err, IfErr, sym, ap, ◌∙◌}
-use Rattle.acd_sql_columns.specs.Draft.{Works}
-use Rattle.acd_sqlbook.specs.Stopping.{HasAbove, StopsInAll, FailsToFile}
+use Rattle.acd_sql_columns.specs.Transactions.{Works}
+use Rattle.acd_sqlbook.specs.Stopping.{HasAbove, StopsInAll, FailsToApply}
 use Rattle.acd_sqlbook.proofs.Stopped.{still_stopped, commit_stopped}
 use Rattle.acd_sqlbook.proofs.commit.commit_all.Goals as goal
 
@@ -25,7 +25,7 @@ returns-clause-done g c clean =
     let begun = c.transaction-tx.ensures.begun in
     let middle : HasCleanDisk mid = omega (arith, c.commit.ensures.survives.clean) in
     let made = made_by c.args.changes.now c.args.events.now c.args.kept.now c.args.meta.now in
-    let put : (x : Content) → HoldsContent old x → Drafts mid (relations_of (made x)) =
+    let put : (x : Content) → HoldsContent old x → HoldsUncommitted mid (relations_of (made x)) =
     λ (x : Content) (h : HoldsContent old x). (rw begun at c.in_ok-write_all.ensures.put) middle x (begins old (state g.S.Store (record c.args.conn.now { in_transaction = true })) x refl refl h) in
     subst (λ h. OnOk c.commit.result ((x : Content) → HoldsContent old x → HoldsContent (state g.S.Store h) (made x))) same
     (made_whole old mid (state g.S.Store end) c.commit.result made put (c.commit.ensures.ok late))
@@ -57,7 +57,7 @@ returns-clause-stops g c clean =
     let begun = c.transaction-tx.ensures.begun in
     let middle : HasCleanDisk mid = omega (arith, c.commit.ensures.survives.clean) in
     let made = made_by c.args.changes.now c.args.events.now c.args.kept.now c.args.meta.now in
-    let put : (x : Content) → HoldsContent old x → Drafts mid (relations_of (made x)) =
+    let put : (x : Content) → HoldsContent old x → HoldsUncommitted mid (relations_of (made x)) =
     λ (x : Content) (h : HoldsContent old x). (rw begun at c.in_ok-write_all.ensures.put) middle x (begins old begun-state x refl refl h) in
     subst (λ h. AddsStop old (state g.S.Store h) made) same
     (adds_stop old begun-state mid (state g.S.Store end) made (λ db left. left) (rw begun at c.write_all.ensures.works).survives c.commit.ensures.survives put middle late)
@@ -74,8 +74,8 @@ returns-in_err-write_all-clause-failed g c clean x held =
     let begin = c.transaction-tx.ensures.begun in
     let is : c.from_residual.result ≡ Err c.in_err-write_all.field-0.0 = search rules in
     let stops : Content → Type 0 = λ (x : Content). StopsInAll (HasAbove c.args.last x) c.args.changes.now c.args.events.now c.args.kept.now c.args.meta.now x in
-    subst (λ h. IfErr c.from_residual.result (FailsToFile stops x old (state g.S.Store h))) same
-    (subst (λ r. IfErr r (FailsToFile stops x old (state g.S.Store end))) (sym is)
+    subst (λ h. IfErr c.from_residual.result (FailsToApply stops x old (state g.S.Store h))) same
+    (subst (λ r. IfErr r (FailsToApply stops x old (state g.S.Store end))) (sym is)
     (still_stopped stops x begun made (state g.S.Store end) c.in_err-write_all.field-0.0 c.drop-tx.ensures.survives.counts
     ((rw begin at c.in_err-write_all.ensures.failed) early x (begins old begun x refl refl held))))
 
@@ -91,6 +91,6 @@ returns-clause-failed g c clean x held =
     let begin = c.transaction-tx.ensures.begun in
     let works : Works begun mid = rw begin at c.write_all.ensures.works in
     let stops : Content → Type 0 = λ (x : Content). StopsInAll (HasAbove c.args.last x) c.args.changes.now c.args.events.now c.args.kept.now c.args.meta.now x in
-    let drafts = (rw begin at c.in_ok-write_all.ensures.put) middle x (begins old begun x refl refl held) in
-    subst (λ h. IfErr c.commit.result (FailsToFile stops x old (state g.S.Store h))) same
-    (commit_stopped stops x begun mid (state g.S.Store end) c.commit.result works middle c.commit.ensures.survives.counts drafts.inside (c.commit.ensures.err late))
+    let uncommitted = (rw begin at c.in_ok-write_all.ensures.put) middle x (begins old begun x refl refl held) in
+    subst (λ h. IfErr c.commit.result (FailsToApply stops x old (state g.S.Store h))) same
+    (commit_stopped stops x begun mid (state g.S.Store end) c.commit.result works middle c.commit.ensures.survives.counts uncommitted.inside (c.commit.ensures.err late))

@@ -1,8 +1,8 @@
 use Rattle.sqlite.specs.Held.{state}
-use Rattle.acd_sqlbook.specs.Commit.{filed}
+use Rattle.acd_sqlbook.specs.Commit.{applied}
 use Rattle.acd_sql_columns.specs.Relations.{with_group_parts}
 use Rattle.acd_model.specs.declared.moves.Change.TheVariants.{PutGroup, PutStation, PutAgent, PutCall, PutConnection, PutMonitor, RemoveCall, RemoveConnection, RemoveMonitor}
-use Rattle.acd_sqlbook.proofs.Filing.{leaving, named, filing, group_filed, station_filed, call_filed, connection_filed, monitor_filed, call_gone, monitor_gone, connection_gone}
+use Rattle.acd_sqlbook.proofs.Applying.{leaving, named, applying, group_applied, station_applied, call_applied, connection_applied, monitor_applied, call_gone, monitor_gone, connection_gone}
 use Rattle.std.proofs.Common.{[], ◌∷◌, inl, inr, IsTrue, rules}
 use Rattle.acd_sql_columns.specs.Rows.{connection_values}
 use Rattle.acd_sql_columns.specs.Tables.{stations, calls, monitors}
@@ -18,47 +18,47 @@ returns-in-PutGroup-clause-put g c clean =
     let new = state g.S.Store c.put_group.new.tx.conn.now in
     let group = c.in-PutGroup.group in
     named old new c.put_group.result c.args.change.now (PutGroup group) c.in-PutGroup.is
-    (leaving old new c.put_group.result (with_group_parts group) (λ x. filed x (PutGroup group)) (group_filed group old) (c.put_group.ensures.put clean))
+    (leaving old new c.put_group.result (with_group_parts group) (λ x. applied x (PutGroup group)) (group_applied group old) (c.put_group.ensures.put clean))
 
 pub returns-in-PutStation-clause-put : goal.returns-in-PutStation-clause-put
 returns-in-PutStation-clause-put g c clean =
-    filing (state g.S.Store c.args.tx.now.conn.now) (state g.S.Store c.insert.new.tx.conn.now) c.insert.result c.args.change.now _ _ c.in-PutStation.is (station_filed c.in-PutStation.station) (c.insert.ensures.put clean)
+    applying (state g.S.Store c.args.tx.now.conn.now) (state g.S.Store c.insert.new.tx.conn.now) c.insert.result c.args.change.now _ _ c.in-PutStation.is (station_applied c.in-PutStation.station) (c.insert.ensures.put clean)
 
 pub returns-in-PutAgent-clause-put : goal.returns-in-PutAgent-clause-put
 returns-in-PutAgent-clause-put g c clean =
-    named (state g.S.Store c.args.tx.now.conn.now) (state g.S.Store c.file_agent.new.tx.conn.now) c.file_agent.result c.args.change.now (PutAgent c.in-PutAgent.agent) c.in-PutAgent.is (c.file_agent.ensures.put clean)
+    named (state g.S.Store c.args.tx.now.conn.now) (state g.S.Store c.write_agent.new.tx.conn.now) c.write_agent.result c.args.change.now (PutAgent c.in-PutAgent.agent) c.in-PutAgent.is (c.write_agent.ensures.put clean)
 
 pub returns-in-PutCall-clause-put : goal.returns-in-PutCall-clause-put
 returns-in-PutCall-clause-put g c clean =
-    filing (state g.S.Store c.args.tx.now.conn.now) (state g.S.Store c.insert-in-PutCall.new.tx.conn.now) c.insert-in-PutCall.result c.args.change.now _ _ c.in-PutCall.is (call_filed c.in-PutCall.call) (c.insert-in-PutCall.ensures.put clean)
+    applying (state g.S.Store c.args.tx.now.conn.now) (state g.S.Store c.insert-in-PutCall.new.tx.conn.now) c.insert-in-PutCall.result c.args.change.now _ _ c.in-PutCall.is (call_applied c.in-PutCall.call) (c.insert-in-PutCall.ensures.put clean)
 
 pub returns-in-PutCall-2-clause-put : goal.returns-in-PutCall-2-clause-put
 returns-in-PutCall-2-clause-put g c clean =
-    filing (state g.S.Store c.args.tx.now.conn.now) (state g.S.Store c.put.new.tx.conn.now) c.put.result c.args.change.now _ _ c.in-PutCall-2.is (call_filed c.in-PutCall-2.call) (c.put.ensures.put clean)
+    applying (state g.S.Store c.args.tx.now.conn.now) (state g.S.Store c.put.new.tx.conn.now) c.put.result c.args.change.now _ _ c.in-PutCall-2.is (call_applied c.in-PutCall-2.call) (c.put.ensures.put clean)
 
 pub returns-in-PutConnection-clause-put : goal.returns-in-PutConnection-clause-put
 returns-in-PutConnection-clause-put g c clean =
-    filing (state g.S.Store c.args.tx.now.conn.now) (state g.S.Store c.insert_connection.new.tx.conn.now) c.insert_connection.result c.args.change.now _ _ c.in-PutConnection.is (connection_filed c.in-PutConnection.connection) (c.insert_connection.ensures.put clean)
+    applying (state g.S.Store c.args.tx.now.conn.now) (state g.S.Store c.insert_connection.new.tx.conn.now) c.insert_connection.result c.args.change.now _ _ c.in-PutConnection.is (connection_applied c.in-PutConnection.connection) (c.insert_connection.ensures.put clean)
 
 pub returns-in-PutConnection-2-clause-put : goal.returns-in-PutConnection-2-clause-put
 returns-in-PutConnection-2-clause-put g c clean =
-    filing (state g.S.Store c.args.tx.now.conn.now) (state g.S.Store c.put_connection.new.tx.conn.now) c.put_connection.result c.args.change.now _ _ c.in-PutConnection-2.is (connection_filed c.in-PutConnection-2.connection) (c.put_connection.ensures.put clean)
+    applying (state g.S.Store c.args.tx.now.conn.now) (state g.S.Store c.put_connection.new.tx.conn.now) c.put_connection.result c.args.change.now _ _ c.in-PutConnection-2.is (connection_applied c.in-PutConnection-2.connection) (c.put_connection.ensures.put clean)
 
 pub returns-in-PutMonitor-clause-put : goal.returns-in-PutMonitor-clause-put
 returns-in-PutMonitor-clause-put g c clean =
-    filing (state g.S.Store c.args.tx.now.conn.now) (state g.S.Store c.put-in-PutMonitor.new.tx.conn.now) c.put-in-PutMonitor.result c.args.change.now _ _ c.in-PutMonitor.is (monitor_filed c.in-PutMonitor.monitor) (c.put-in-PutMonitor.ensures.put clean)
+    applying (state g.S.Store c.args.tx.now.conn.now) (state g.S.Store c.put-in-PutMonitor.new.tx.conn.now) c.put-in-PutMonitor.result c.args.change.now _ _ c.in-PutMonitor.is (monitor_applied c.in-PutMonitor.monitor) (c.put-in-PutMonitor.ensures.put clean)
 
 pub returns-in-RemoveCall-clause-put : goal.returns-in-RemoveCall-clause-put
 returns-in-RemoveCall-clause-put g c clean =
-    filing (state g.S.Store c.args.tx.now.conn.now) (state g.S.Store c.remove.new.tx.conn.now) c.remove.result c.args.change.now _ _ c.in-RemoveCall.is (call_gone c.in-RemoveCall.call) (c.remove.ensures.put clean)
+    applying (state g.S.Store c.args.tx.now.conn.now) (state g.S.Store c.remove.new.tx.conn.now) c.remove.result c.args.change.now _ _ c.in-RemoveCall.is (call_gone c.in-RemoveCall.call) (c.remove.ensures.put clean)
 
 pub returns-in-RemoveMonitor-clause-put : goal.returns-in-RemoveMonitor-clause-put
 returns-in-RemoveMonitor-clause-put g c clean =
-    filing (state g.S.Store c.args.tx.now.conn.now) (state g.S.Store c.remove-in-RemoveMonitor.new.tx.conn.now) c.remove-in-RemoveMonitor.result c.args.change.now _ _ c.in-RemoveMonitor.is (monitor_gone c.in-RemoveMonitor.monitor) (c.remove-in-RemoveMonitor.ensures.put clean)
+    applying (state g.S.Store c.args.tx.now.conn.now) (state g.S.Store c.remove-in-RemoveMonitor.new.tx.conn.now) c.remove-in-RemoveMonitor.result c.args.change.now _ _ c.in-RemoveMonitor.is (monitor_gone c.in-RemoveMonitor.monitor) (c.remove-in-RemoveMonitor.ensures.put clean)
 
 pub returns-in-RemoveConnection-clause-put : goal.returns-in-RemoveConnection-clause-put
 returns-in-RemoveConnection-clause-put g c clean =
-    filing (state g.S.Store c.args.tx.now.conn.now) (state g.S.Store c.drop_connection.new.tx.conn.now) c.drop_connection.result c.args.change.now _ _ c.in-RemoveConnection.is
+    applying (state g.S.Store c.args.tx.now.conn.now) (state g.S.Store c.drop_connection.new.tx.conn.now) c.drop_connection.result c.args.change.now _ _ c.in-RemoveConnection.is
     (connection_gone c.in-RemoveConnection.call c.in-RemoveConnection.device) (c.drop_connection.ensures.put clean)
 
 pub returns-in-PutGroup-clause-failed : goal.returns-in-PutGroup-clause-failed
@@ -71,7 +71,7 @@ returns-in-PutStation-clause-failed g c =
 
 pub returns-in-PutAgent-clause-failed : goal.returns-in-PutAgent-clause-failed
 returns-in-PutAgent-clause-failed g c =
-    by_change (state g.S.Store c.args.tx.now.conn.now) (state g.S.Store c.file_agent.new.tx.conn.now) c.requires.free c.file_agent.result (IsTrue c.args.is_new) c.args.change.now (PutAgent c.in-PutAgent.agent) c.in-PutAgent.is (RefusesAgent c.in-PutAgent.agent) (λ r h. h) c.file_agent.ensures.failed
+    by_change (state g.S.Store c.args.tx.now.conn.now) (state g.S.Store c.write_agent.new.tx.conn.now) c.requires.free c.write_agent.result (IsTrue c.args.is_new) c.args.change.now (PutAgent c.in-PutAgent.agent) c.in-PutAgent.is (RefusesAgent c.in-PutAgent.agent) (λ r h. h) c.write_agent.ensures.failed
 
 pub returns-in-PutCall-clause-failed : goal.returns-in-PutCall-clause-failed
 returns-in-PutCall-clause-failed g c =

@@ -8,7 +8,7 @@ use Rattle.acd_sql_columns.specs.Rows.{kept_values, meta_shown}
 use Rattle.acd_sql_columns.specs.Relations.{relations_of}
 use Rattle.acd_sql_columns.specs.declared.texts.TheConstants.{INSERT_KEPT, UPDATE_META}
 use Rattle.acd_sql_statements.specs.Refusing.{RefusesOn}
-use Rattle.acd_sqlbook.specs.Commit.{all_filed, with_events, with_kept}
+use Rattle.acd_sqlbook.specs.Commit.{all_applied, with_events, with_kept}
 use Rattle.acd_sqlbook.specs.Choosing.{written}
 use Rattle.acd_sqlbook.specs.Stopping.{HasAbove, StopsInChanges, StopsInEvents, StopsInAll}
 use Rattle.acd_sqlbook.proofs.Stopped.{stops_as, stops_more, stops_same, stops_later}
@@ -42,7 +42,7 @@ returns-in_err-write_events-clause-failed g c =
     let changes = c.args.changes.now in
     let all : Content → Type 0 = λ (x : Content). StopsInAll (HasAbove c.args.last x) changes c.args.events.now c.args.kept.now c.args.meta.now x in
     let events = c.args.events.now in
-    let made = λ (x : Content). all_filed x changes in
+    let made = λ (x : Content). all_applied x changes in
     stops_more old two (λ x. StopsInEvents events (made x)) all c.from_residual-in_err-write_events.result (λ x h. inr (inl h))
     (stops_same old two (λ x. StopsInEvents events (made x)) c.in_err-write_events.field-0.0 c.from_residual-in_err-write_events.result (search rules)
     (stops_later old one two made (StopsInEvents events) (Err c.in_err-write_events.field-0.0) c.write_changes.ensures.works c.write_events.ensures.works c.in_ok-write_changes.ensures.put c.in_err-write_events.ensures.failed))
@@ -57,7 +57,7 @@ returns-in_err-insert_kept-clause-failed g c =
     let all : Content → Type 0 = λ (x : Content). StopsInAll (HasAbove c.args.last x) changes c.args.events.now c.args.kept.now c.args.meta.now x in
     let events = c.args.events.now in
     let kept = c.args.kept.now in
-    let made = λ (x : Content). with_events (all_filed x changes) events in
+    let made = λ (x : Content). with_events (all_applied x changes) events in
     let stop : Content → Type 0 = λ (x : Content). RefusesOn INSERT_KEPT.now (kept_values kept) None (relations_of x) in
     let free = c.write_events.ensures.works.survives.limit ∙ c.write_changes.ensures.works.survives.limit ∙ c.requires.free in
     stops_more old three (λ x. stop (made x)) all c.from_residual-in_err-insert_kept.result (λ x h. inr (inr (inl h)))
@@ -77,7 +77,7 @@ returns-in_err-set_meta-clause-failed g c =
     let all : Content → Type 0 = λ (x : Content). StopsInAll (HasAbove c.args.last x) changes c.args.events.now c.args.kept.now c.args.meta.now x in
     let events = c.args.events.now in
     let kept = c.args.kept.now in
-    let made = λ (x : Content). with_kept (with_events (all_filed x changes) events) kept in
+    let made = λ (x : Content). with_kept (with_events (all_applied x changes) events) kept in
     let stop : Content → Type 0 = λ (x : Content). RefusesOn UPDATE_META.now (meta_shown c.args.meta.now) None (relations_of x) in
     let free = c.insert_kept.ensures.works.survives.limit ∙ c.write_events.ensures.works.survives.limit ∙ c.write_changes.ensures.works.survives.limit ∙ c.requires.free in
     stops_more old four (λ x. stop (made x)) all c.from_residual-in_err-set_meta.result (λ x h. inr (inr (inr h)))

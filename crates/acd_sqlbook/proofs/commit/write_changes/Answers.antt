@@ -2,14 +2,14 @@ use Rattle.std.proofs.Common.{◌∙◌, arith}
 use Rattle.sqlite.specs.State.{HasCleanDisk}
 use Rattle.sqlite.specs.Held.{state}
 use Rattle.acd_sql_columns.proofs.Endings.{works_on}
-use Rattle.acd_sqlbook.proofs.Skipping.{next_filed, none_left}
+use Rattle.acd_sqlbook.proofs.Skipping.{next_applied, none_left}
 use Rattle.std.proofs.Common.{inl, inr, rules, subst, sym, IsTrue}
-use Rattle.acd_sqlbook.specs.Commit.{filed}
+use Rattle.acd_sqlbook.specs.Commit.{applied}
 use Rattle.acd_book.specs.Content.{Content}
 use Rattle.acd_sqlbook.specs.Choosing.{written}
 use Rattle.acd_sqlbook.specs.Stopping.{HasAbove, StopsAtChange, StopsInChanges}
 use Rattle.acd_sqlbook.proofs.Unmet.{unmet_next, stops_unseen}
-use Rattle.acd_sqlbook.proofs.Stopped.{stops_behind, stops_same}
+use Rattle.acd_sqlbook.proofs.Stopped.{stops_after, stops_same}
 use Rattle.acd_sqlbook.proofs.commit.write_changes.Goals as goal
 
 pub write_change-requires : goal.write_change-requires
@@ -24,15 +24,15 @@ loop-change-preserved g c =
       works = works_on _ _ _ inv.works e.works;
       put = λ clean x d.
           let before : HasCleanDisk (state g.S.Store c.loop-change.tx.conn.now) = omega (arith, e.works.survives.clean) in
-          next_filed _ _ c.in-Some.change.now c.loop-change.rest.now c.in-Some.behind.now c.args.changes.now x c.in-Some.ensures.some.filing (c.in_ok-write_change.ensures.put clean) (inv.put before x d);
+          next_applied _ _ c.in-Some.change.now c.loop-change.rest.now c.in-Some.remaining.now c.args.changes.now x c.in-Some.ensures.some.applying (c.in_ok-write_change.ensures.put clean) (inv.put before x d);
       stops = λ clean x d.
           let before : HasCleanDisk (state g.S.Store c.loop-change.tx.conn.now) = omega (arith, e.works.survives.clean) in
           let held = inv.stops before x d in
           let next = c.in-Some.ensures.some in (
-            filed held.0 c.in-Some.change.now,
+            applied held.0 c.in-Some.change.now,
             c.in_ok-write_change.ensures.put clean held.0 held.1,
             λ h. held.2 (subst (λ l. StopsInChanges (HasAbove c.args.last x) l held.0) (sym next.first) (inr h)),
-            unmet_next c.loop-change.rest.now c.in-Some.behind.now c.args.changes.now c.in-Some.change.now x held.0 next held.3,
+            unmet_next c.loop-change.rest.now c.in-Some.remaining.now c.args.changes.now c.in-Some.change.now x held.0 next held.3,
           );
     }
 
@@ -52,6 +52,6 @@ returns-in_err-write_change-clause-failed g c =
     let before : HasCleanDisk mid = omega (arith, clean, c.write_change.ensures.works.survives.clean) in
     let held = inv.stops before x d in
     let next = c.in-Some.ensures.some in
-    stops_behind all x (StopsAtChange (IsTrue c.is_new.result) c.in-Some.change.now) held.0 old mid new error inv.works c.write_change.ensures.works before
+    stops_after all x (StopsAtChange (IsTrue c.is_new.result) c.in-Some.change.now) held.0 old mid new error inv.works c.write_change.ensures.works before
     (λ h. held.2 (subst (λ l. StopsInChanges (HasAbove c.args.last x) l held.0) (sym next.first)
-    (inl (stops_unseen c.args.last c.loop-change.rest.now c.in-Some.behind.now c.args.changes.now c.in-Some.change.now x held.0 c.is_new.result c.is_new.ensures next held.3 h)))) (c.in_err-write_change.ensures.failed clean held.0 held.1))
+    (inl (stops_unseen c.args.last c.loop-change.rest.now c.in-Some.remaining.now c.args.changes.now c.in-Some.change.now x held.0 c.is_new.result c.is_new.ensures next held.3 h)))) (c.in_err-write_change.ensures.failed clean held.0 held.1))

@@ -2,12 +2,12 @@ use Rattle.std.proofs.Common.{◌≡◌, inl, inr, rules, subst, ◌∙◌, arit
 use Rattle.sqlite.specs.State.{HasCleanDisk}
 use Rattle.sqlite.specs.Held.{state}
 use Rattle.acd_sql_columns.proofs.Endings.{works_on}
-use Rattle.acd_sql_columns.specs.Draft.{Drafts}
+use Rattle.acd_sql_columns.specs.Transactions.{HoldsUncommitted}
 use Rattle.acd_sql_columns.specs.Relations.{relations_of}
 use Rattle.acd_sqlbook.specs.Commit.{with_events}
 use Rattle.acd_sqlbook.specs.Stopping.{StopsAtEvents, StopsInEvents}
-use Rattle.acd_sqlbook.proofs.Filing.{part_filed}
-use Rattle.acd_sqlbook.proofs.Stopped.{next_stops, stops_behind, stops_same}
+use Rattle.acd_sqlbook.proofs.Applying.{part_applied}
+use Rattle.acd_sqlbook.proofs.Stopped.{next_stops, stops_after, stops_same}
 use Rattle.acd_sqlbook.proofs.commit.write_events.Goals as goal
 
 pub write_some-requires-clause-limit : goal.write_some-requires-clause-limit
@@ -26,15 +26,15 @@ loop-some-preserved g c =
           let next = c.in-Some.ensures.some in (
             with_events held.0 c.in-Some.some.now,
             c.in_ok-write_some.ensures.put clean held.0 held.1,
-            part_filed held.0 (with_events x c.args.events.now) c.loop-some.rest.now c.in-Some.some.now c.in-Some.behind.now next held.2,
-            λ h. held.3 (next_stops StopsAtEvents c.loop-some.rest.now c.in-Some.some.now c.in-Some.behind.now next held.0 (inr h)),
+            part_applied held.0 (with_events x c.args.events.now) c.loop-some.rest.now c.in-Some.some.now c.in-Some.remaining.now next held.2,
+            λ h. held.3 (next_stops StopsAtEvents c.loop-some.rest.now c.in-Some.some.now c.in-Some.remaining.now next held.0 (inr h)),
           );
     }
 
 pub returns-clause-put : goal.returns-clause-put
 returns-clause-put g c clean x d =
     let held = c.loop-some.invariant.put clean x d in
-    subst (λ k. Drafts (state g.S.Store c.loop-some.tx.conn.now) (relations_of k)) (subst (λ l. with_events held.0 l ≡ with_events x c.args.events.now) (c.next_events.ensures.none c.in_default.is) held.2) held.1
+    subst (λ k. HoldsUncommitted (state g.S.Store c.loop-some.tx.conn.now) (relations_of k)) (subst (λ l. with_events held.0 l ≡ with_events x c.args.events.now) (c.next_events.ensures.none c.in_default.is) held.2) held.1
 
 pub returns-in_err-write_some-clause-failed : goal.returns-in_err-write_some-clause-failed
 returns-in_err-write_some-clause-failed g c =
@@ -48,5 +48,5 @@ returns-in_err-write_some-clause-failed g c =
     (λ clean x d.
     let before : HasCleanDisk mid = omega (arith, clean, c.write_some.ensures.works.survives.clean) in
     let held = inv.put before x d in
-    stops_behind all x (StopsAtEvents c.in-Some.some.now) held.0 old mid new error inv.works c.write_some.ensures.works before
-    (λ h. held.3 (next_stops StopsAtEvents c.loop-some.rest.now c.in-Some.some.now c.in-Some.behind.now c.in-Some.ensures.some held.0 (inl h))) (c.in_err-write_some.ensures.failed clean held.0 held.1))
+    stops_after all x (StopsAtEvents c.in-Some.some.now) held.0 old mid new error inv.works c.write_some.ensures.works before
+    (λ h. held.3 (next_stops StopsAtEvents c.loop-some.rest.now c.in-Some.some.now c.in-Some.remaining.now c.in-Some.ensures.some held.0 (inl h))) (c.in_err-write_some.ensures.failed clean held.0 held.1))

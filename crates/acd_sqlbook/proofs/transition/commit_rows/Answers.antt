@@ -33,19 +33,19 @@ returns-in-Ok-clause-commits g c =
     replaces (state g.S.Store c.args.ready.now.conn) (state g.S.Store c.changes_to.new.ready.conn) (state g.S.Store c.commit_all.new.conn) c.commit_all.result c.in-Ok.changes
     c.deref.result.now c.in_ok-meta.meta c.args.rows.now c.args.events.now c.args.kept.now c.deref.ensures.value c.in_ok-meta.ensures.is c.in-Ok.ensures.read e.clean e.up e.was e.done e.undone e.stops
 
-pub returns-in_err-request-clause-blamed : goal.returns-in_err-request-clause-blamed
-returns-in_err-request-clause-blamed g c =
+pub returns-in_err-request-clause-cause : goal.returns-in_err-request-clause-cause
+returns-in_err-request-clause-cause g c =
     no_request (StopsReplace c.args.rows.now c.args.events.now c.args.kept.now) (state g.S.Store c.args.ready.now.conn) (SqliteFailure OutOfMemory) c.from_residual.result (search rules) refl
 
-pub returns-in_err-meta-clause-blamed : goal.returns-in_err-meta-clause-blamed
-returns-in_err-meta-clause-blamed g c =
+pub returns-in_err-meta-clause-cause : goal.returns-in_err-meta-clause-cause
+returns-in_err-meta-clause-cause g c =
     replace_unfit c.args.rows.now c.args.events.now c.args.kept.now (state g.S.Store c.args.ready.now.conn) c.in_err-meta.field-0.0 c.from_residual-in_err-meta.result (search rules) c.in_err-meta.ensures.unfit
 
-pub returns-clause-blamed : goal.returns-clause-blamed
-returns-clause-blamed g c =
-    replace_not_led c.args.rows.now c.args.events.now c.args.kept.now (state g.S.Store c.args.ready.now.conn) (state g.S.Store c.changes_to.new.ready.conn) c.in-Err.error c.in-Err.ensures.blamed
+pub returns-clause-cause : goal.returns-clause-cause
+returns-clause-cause g c =
+    replace_not_led c.args.rows.now c.args.events.now c.args.kept.now (state g.S.Store c.args.ready.now.conn) (state g.S.Store c.changes_to.new.ready.conn) c.in-Err.error c.in-Err.ensures.cause
 
-pub returns-in-Ok-clause-blamed : goal.returns-in-Ok-clause-blamed
-returns-in-Ok-clause-blamed g c =
+pub returns-in-Ok-clause-cause : goal.returns-in-Ok-clause-cause
+returns-in-Ok-clause-cause g c =
     replace_undone c.args.rows.now c.args.events.now c.args.kept.now (state g.S.Store c.args.ready.now.conn) (state g.S.Store c.changes_to.new.ready.conn) (state g.S.Store c.commit_all.new.conn) c.commit_all.result c.in-Ok.changes
-    c.deref.result.now c.in_ok-meta.meta c.deref.ensures.value c.in_ok-meta.ensures.is c.in-Ok.ensures.read c.in-Ok.ensures.blamed c.commit_all.ensures.clean c.commit_all.ensures.failed
+    c.deref.result.now c.in_ok-meta.meta c.deref.ensures.value c.in_ok-meta.ensures.is c.in-Ok.ensures.read c.in-Ok.ensures.cause c.commit_all.ensures.clean c.commit_all.ensures.failed

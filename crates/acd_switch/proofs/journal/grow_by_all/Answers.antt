@@ -33,8 +33,8 @@ loop-event-preserved c =
     let grown : t ≡ changed_by s (growth_by s x) = c.in_ok-grow_by.ensures.rows in
     record {
       rows = ap (λ (r : Rows). with_figures r rest) (grown ∙ one_grown s x order) ∙ figures_more s x rest ∙ ap (with_figures s) (sym parts) ∙ c.loop-event.invariant.rows;
-      noted = ap (λ l. l ++ growth t rest) c.in_ok-grow_by.ensures.changes ∙ append_assoc before (growth_by s x) (growth t rest)
-          ∙ ap (λ (r : Rows). before ++ (growth_by s x ++ growth r rest)) grown ∙ ap (λ (es : List Event). before ++ growth s es) (sym parts) ∙ c.loop-event.invariant.noted;
+      recorded = ap (λ l. l ++ growth t rest) c.in_ok-grow_by.ensures.changes ∙ append_assoc before (growth_by s x) (growth t rest)
+          ∙ ap (λ (r : Rows). before ++ (growth_by s x ++ growth r rest)) grown ∙ ap (λ (es : List Event). before ++ growth s es) (sym parts) ∙ c.loop-event.invariant.recorded;
       order = subst (λ (r : Rows). IsAscending group_order r.groups) (sym grown) (ascending_grown s x order);
       room = others_fit s t x rest order grown (subst (λ (es : List Event). CountingFits s es) parts c.loop-event.invariant.room);
     }

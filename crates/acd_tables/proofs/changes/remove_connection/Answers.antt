@@ -19,7 +19,7 @@ pub returns-clause-indexed : goal.returns-clause-indexed
 returns-clause-indexed c =
     let y = c.enter.new.self in
     rw c.remove_connection.ensures
-    (IsIndexed-removed c.args.records.now c.args.call c.args.device c.args.indexes.now y c.settle.new.self c.unlist.new.lines c.forget.new.noted c.connection_swap-swap.result c.queued_after-queued.result c.rings.result
+    (IsIndexed-removed c.args.records.now c.args.call c.args.device c.args.indexes.now y c.settle.new.self c.unlist.new.lines c.remove_if.new.index c.connection_swap-swap.result c.queued_after-queued.result c.rings.result
     c.requires c.in_ok-enter.ensures.ok
-    (subst (λ t. TakenOut t (record y { lines = c.unlist.new.lines; ringing = c.forget.new.noted }) c.settle.new.self c.connection_swap-swap.result.leaving) c.remove_connection.ensures c.settle.ensures.taken)
-    c.connection_swap-swap.ensures (c.rings.ensures ∙ ap rings c.connection-old.ensures) c.forget.ensures c.unlist.ensures c.queued_after-queued.ensures)
+    (subst (λ t. TakenOut t (record y { lines = c.unlist.new.lines; ringing = c.remove_if.new.index }) c.settle.new.self c.connection_swap-swap.result.leaving) c.remove_connection.ensures c.settle.ensures.taken)
+    c.connection_swap-swap.ensures (c.rings.ensures ∙ ap rings c.connection-old.ensures) c.remove_if.ensures c.unlist.ensures c.queued_after-queued.ensures)

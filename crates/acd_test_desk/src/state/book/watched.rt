@@ -23,7 +23,7 @@ fn monitor(monitor: u64, device: DeviceId, after_event: u64) -> MonitorRecord {
     }
 }
 
-// What is lent of a device above these numbers.
+// The numbers that the book lends of a device, above these.
 fn expect(
     rt: &impl Abort,
     watched: &Watched,
@@ -39,10 +39,10 @@ fn expect(
 // Monitor 1 of a device, from the event 1 on, with four more events, of which one is at another device.
 fn begun(rt: &(impl Abort + AllocGlobal), first: DeviceId, second: DeviceId) -> Watched {
     let mut watched = Watched::new(rt.alloc());
-    watched.note(&held(1, first));
+    watched.add(&held(1, first));
     expect(rt, &watched, first, &[(0, 100, None), (1, 100, None)]);
     watched.change(&[Change::PutMonitor(monitor(1, first, 1))], 1);
-    watched.note_all(&[
+    watched.add_all(&[
         held(2, first),
         held(3, second),
         held(4, first),
@@ -84,12 +84,12 @@ fn numbers_until_the_last_monitor_stops(rt: HostRuntime) {
         ],
         5,
     );
-    watched.note(&held(6, first));
+    watched.add(&held(6, first));
     expect(&rt, &watched, first, &[(1, 100, Some(&[2, 4, 5, 6]))]);
     watched.change(&[Change::RemoveMonitor(2)], 6);
     expect(&rt, &watched, first, &[(1, 100, None), (6, 100, None)]);
     watched.start(&monitor(3, first, 6), 6);
-    watched.note(&held(7, first));
+    watched.add(&held(7, first));
     expect(&rt, &watched, first, &[(5, 9, None), (6, 9, Some(&[7]))]);
 }
 
@@ -99,8 +99,8 @@ fn numbers_of_the_monitors_that_run(rt: HostRuntime) {
     let monitors = [monitor(1, first, 2), monitor(2, second, 9)];
     let mut watched = Watched::of_monitors(rt.alloc(), &monitors, 7);
     for number in 8..=11 {
-        watched.note(&held(number, first));
-        watched.note(&held(number, second));
+        watched.add(&held(number, first));
+        watched.add(&held(number, second));
     }
     expect(
         &rt,

@@ -53,7 +53,7 @@ fn reports_on_the_way(station: DeviceId, to: DeviceId, group: DeviceId) -> [Repo
     ]
 }
 
-// Those behind its answer.
+// Those after its answer.
 fn reports_of_an_answer(station: DeviceId, to: DeviceId, group: DeviceId) -> [Report; 9] {
     let call = 3;
     let seconds = 15;

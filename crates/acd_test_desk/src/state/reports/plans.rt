@@ -78,19 +78,19 @@ fn fault_text(rt: &(impl Abort + AllocGlobal), fault: PlanFault) -> String {
 }
 
 // The requests of the plan, or its fault.
-fn told(rt: &(impl Abort + AllocGlobal), plan: &[u8]) -> String {
+fn text_read(rt: &(impl Abort + AllocGlobal), plan: &[u8]) -> String {
     match plan_requests(rt.alloc(), plan) {
         Ok(requests) => requests_text(rt, &requests),
         Err(fault) => fault_text(rt, fault),
     }
 }
 
-// The plan of this name tells that.
+// The plan of this name gives that.
 fn expect_plan(rt: &(impl Abort + AllocGlobal), name: &str, plan: &[u8], wanted: &str) {
-    same_text(rt, name, told(rt, plan).as_str(), wanted);
+    same_text(rt, name, text_read(rt, plan).as_str(), wanted);
 }
 
-// Plans, and behind the arrow what each tells. The reader of CSV takes off one mark more than the one that a plan may
+// Plans, and after the arrow what each gives. The reader of CSV removes one mark more than the one that a plan may
 // have. Blank lines are no records, and the last row needs no line feed.
 fn plans() -> [&'static str; 10] {
     [
@@ -112,7 +112,7 @@ fn plans() -> [&'static str; 10] {
 }
 
 // Plans, each with its first row that is faulty, and the member there. A line feed between quotes ends no row, so the
-// row behind it is the second.
+// row after it is the second.
 fn faulty_plans() -> [(&'static str, u64, &'static str); 6] {
     [
         (
@@ -157,7 +157,7 @@ station,201,,,
 "#
 }
 
-// Rows, each behind its first member that is faulty, with their line feeds.
+// Rows, each after its first member that is faulty, with their line feeds.
 fn faulty_rows() -> &'static str {
     r#"fields group,100,Billing,20
 fields group,100,Billing,20,30,
@@ -204,7 +204,7 @@ fn no_texts() -> [&'static [u8]; 3] {
 }
 
 #[test]
-fn plans_and_what_they_tell(rt: HostRuntime) {
+fn plans_and_their_requests(rt: HostRuntime) {
     for line in plans() {
         let (plan, wanted) = line.split_once(" => ").expect(&rt, "an arrow");
         expect_plan(&rt, plan, plan.as_bytes(), wanted);
@@ -215,7 +215,7 @@ fn plans_and_what_they_tell(rt: HostRuntime) {
     }
 }
 
-// The plan of two texts, one behind the other, tells that.
+// The plan of two texts, one after the other, gives that.
 fn expect_joined(
     rt: &(impl Abort + AllocGlobal),
     name: &str,
@@ -284,7 +284,7 @@ fn greatest(rt: &(impl Abort + AllocGlobal)) -> String {
 
 #[test]
 fn greatest_plan(rt: HostRuntime) {
-    let text = told(&rt, greatest(&rt).as_str().as_bytes());
+    let text = text_read(&rt, greatest(&rt).as_str().as_bytes());
     let last = text.as_str().lines().last();
     same(&rt, &last, &Some("plan 2064 agent 1000 [Office]"));
 }

@@ -31,7 +31,7 @@ fn groups(rt: &impl Abort) -> [GroupRecord; 4] {
     ]
 }
 
-// What distribution made of a call that had waited in the group.
+// What distribution made of a call that waited in the group.
 fn distributed(
     call: u64,
     group: DeviceId,

@@ -4,12 +4,12 @@ use Rattle.acd_terms.specs.declared.event.Event.{Event}
 use Rattle.acd_book.proofs.Watching.{none_exceeds}
 use Rattle.acd_book.proofs.log.Log.watch.Goals as goal
 
-pub invariant_of-self-clause-told : goal.invariant_of-self-clause-told
-invariant_of-self-clause-told c =
+pub invariant_of-self-clause-listed : goal.invariant_of-self-clause-listed
+invariant_of-self-clause-listed c =
     let s = c.args.self.now in
     let all : 0 + length s.events.items ≡ c.len-last.result = search rules in
     let low = subst (λ (n : ℕ). Every (λ (e : Event). e.number ≤ n) s.events.items) all (none_exceeds 0 s.events.items s.numbered) in
-    c.change.ensures.lists s.events.items low s.told
+    c.change.ensures.lists s.events.items low s.listed
 
 pub invariant_of-self-clause-kept : goal.invariant_of-self-clause-kept
 invariant_of-self-clause-kept c = c.change.ensures.kept c.args.self.now.kept

@@ -2,8 +2,8 @@ use Rattle.std.proofs.Common.{◌++◌, ◌∷◌, [], List, take, sym, subst, a
 use Rattle.std.proofs.lemmas.List.{take_all}
 use Rattle.acd_model.specs.declared.moves.Change.{Change}
 use Rattle.acd_lemmas.proofs.Lists.{take-push}
-use Rattle.acd_book.specs.Watched.{NotesChanges}
-use Rattle.acd_book.proofs.Counting.{noted_on}
+use Rattle.acd_book.specs.Watched.{RecordsChanges}
+use Rattle.acd_book.proofs.Counting.{recorded_on}
 use Rattle.acd_book.proofs.watched.Watched.change.Goals as goal
 
 pub loop-change-preserved : goal.loop-change-preserved
@@ -16,9 +16,9 @@ loop-change-preserved c =
     record {
       lists = λ events low h. c.follow.ensures.lists events low (inv.lists events low h);
       kept = λ kept. c.follow.ensures.kept (inv.kept kept);
-      noted = subst (λ (l : List Change). NotesChanges l c.args.self.now c.follow.new.self) longer (noted_on (take i changes) x c.args.self.now c.loop-change.self c.follow.new.self inv.noted c.follow.ensures.noted);
+      recorded = subst (λ (l : List Change). RecordsChanges l c.args.self.now c.follow.new.self) longer (recorded_on (take i changes) x c.args.self.now c.loop-change.self c.follow.new.self inv.recorded c.follow.ensures.recorded);
     }
 
-pub returns-clause-noted : goal.returns-clause-noted
-returns-clause-noted c =
-    subst (λ (l : List Change). NotesChanges l c.args.self.now c.loop-change.self) (take_all c.loop-change.change-index c.args.changes.now c.loop-change-test.false) c.loop-change.invariant.noted
+pub returns-clause-recorded : goal.returns-clause-recorded
+returns-clause-recorded c =
+    subst (λ (l : List Change). RecordsChanges l c.args.self.now c.loop-change.self) (take_all c.loop-change.change-index c.args.changes.now c.loop-change-test.false) c.loop-change.invariant.recorded

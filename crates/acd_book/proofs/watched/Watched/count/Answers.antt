@@ -2,7 +2,7 @@ use Rattle.std.proofs.Common.{◌≡◌, ◌+◌, ◌≤◌, ◌==◌, ◌∙◌
 use Rattle.std.specs.Prelude.{IfSome, option_map}
 use Rattle.std.specs.Option.{IsSome, option_copied_mut}
 use Rattle.std.specs.Map.{lookup}
-use Rattle.acd_book.specs.Content.{is_told}
+use Rattle.acd_book.specs.Content.{is_at_after}
 use Rattle.acd_book.specs.Memory.{number_of}
 use Rattle.acd_book.specs.Watched.{IsListed, counted}
 use Rattle.acd_book.specs.declared.numbers.Numbers.{Numbers}
@@ -22,7 +22,7 @@ pub returns-clause-lists : goal.returns-clause-lists
 returns-clause-lists c events low h =
     let same = c.get_mut.follows.holds-at-none in
     let new : IsListed events c.args.device c.new.result
-    = c.new.ensures.none ∙ sym (ap (map number_of) (subst (λ (n : ℕ). filter (is_told (Some c.args.device) n) events ≡ []) (sym c.new.ensures.above) (none_above c.args.device c.args.above events low))) in
+    = c.new.ensures.none ∙ sym (ap (map number_of) (subst (λ (n : ℕ). filter (is_at_after (Some c.args.device) n) events ≡ []) (sym c.new.ensures.above) (none_above c.args.device c.args.above events low))) in
     elim (either c.insert.result c.insert.ensures.updates c.insert.ensures.err) [
       | inl u ↦ listed_but events events c.args.self.now.lists.entries c.insert.new.self.entries c.args.device (Some c.new.result) u.1
           (λ q other. u.2 q other ∙ ap (λ m. list_at q m.entries) same) new (λ q l other listed. listed) h

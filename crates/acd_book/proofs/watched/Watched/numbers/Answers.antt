@@ -8,5 +8,5 @@ use Rattle.acd_book.proofs.watched.Watched.numbers.Goals as goal
 pub returns : goal.returns
 returns c events h =
     let list = c.in_ok-list.list.now in
-    let own = subst (λ (o : Option Numbers). IfSome o (IsListed events c.args.device)) (sym c.in_ok-list.ensures.value) (h c.args.device) in
-    c.behind.ensures ∙ page_listed c.args.device c.args.number c.args.limit list events c.if-number-list.false own
+    let here = subst (λ (o : Option Numbers). IfSome o (IsListed events c.args.device)) (sym c.in_ok-list.ensures.value) (h c.args.device) in
+    c.after.ensures ∙ page_listed c.args.device c.args.number c.args.limit list events c.if-number-list.false here

@@ -2,7 +2,7 @@ use Rattle.std.proofs.Common.{◌++◌, ◌∷◌, [], List, take, sym, subst, a
 use Rattle.std.proofs.lemmas.List.{take_all}
 use Rattle.acd_terms.specs.declared.record.MonitorRecord.{MonitorRecord}
 use Rattle.acd_lemmas.proofs.Lists.{take-push}
-use Rattle.acd_book.specs.Watched.{NotesThese}
+use Rattle.acd_book.specs.Watched.{RecordsThese}
 use Rattle.acd_book.proofs.Counting.{started_on}
 use Rattle.acd_book.proofs.watched.Watched.of_monitors.Goals as goal
 
@@ -16,9 +16,9 @@ loop-monitor-preserved c =
     record {
       lists = λ events low. c.start.ensures.lists events low (inv.lists events low);
       kept = c.start.ensures.kept inv.kept;
-      noted = subst (λ (l : List MonitorRecord). NotesThese l c.start.new.self) longer (started_on (take i monitors) x c.loop-monitor.watched c.start.new.self inv.noted c.start.ensures.noted);
+      recorded = subst (λ (l : List MonitorRecord). RecordsThese l c.start.new.self) longer (started_on (take i monitors) x c.loop-monitor.watched c.start.new.self inv.recorded c.start.ensures.recorded);
     }
 
-pub returns-clause-noted : goal.returns-clause-noted
-returns-clause-noted c =
-    subst (λ (l : List MonitorRecord). NotesThese l c.loop-monitor.watched) (take_all c.loop-monitor.monitor-index c.args.monitors.now c.loop-monitor-test.false) c.loop-monitor.invariant.noted
+pub returns-clause-recorded : goal.returns-clause-recorded
+returns-clause-recorded c =
+    subst (λ (l : List MonitorRecord). RecordsThese l c.loop-monitor.watched) (take_all c.loop-monitor.monitor-index c.args.monitors.now c.loop-monitor-test.false) c.loop-monitor.invariant.recorded

@@ -9,8 +9,8 @@ returns-in-Some-clause-kept c kept =
     let mid = record old { devices = c.remove.new.self } in
     less_kept old mid c.discount.new.self refl kept c.in-Some.device (λ d. one_less c.args.monitor c.in-Some.device d old.devices c.remove.new.self c.in-Some.ensures.value c.remove.ensures.entries) c.discount.ensures.counts
 
-pub returns-in-Some-clause-noted : goal.returns-in-Some-clause-noted
-returns-in-Some-clause-noted c =
+pub returns-in-Some-clause-recorded : goal.returns-in-Some-clause-recorded
+returns-in-Some-clause-recorded c =
     let updates = c.remove.ensures.updates in
     let same = c.discount.ensures.counts.devices in
     said_one c.args.monitor None c.args.self.now c.discount.new.self (inl (ap (λ (m : Monitors). get_by (λ (k : ℕ). c.args.monitor == k) m) same ∙ updates.1))

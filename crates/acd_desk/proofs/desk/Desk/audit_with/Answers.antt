@@ -5,13 +5,13 @@ use Rattle.acd_desk.specs.declared.audit.AuditFault.{AuditFault}
 use Rattle.acd_desk.specs.AuditedWith.{desk_part, archive_part, audit_fault}
 use Rattle.acd_desk.specs.Pages.{ReadsIfOpen}
 use Rattle.acd_desk.specs.Standing.{standing}
-use Rattle.acd_desk.specs.Told.{Told}
-use Rattle.acd_desk.proofs.AuditedWith.{told_found, told_neither, archive_neither, audited_both}
+use Rattle.acd_desk.specs.ReadDone.{ReadDone}
+use Rattle.acd_desk.proofs.AuditedWith.{read_found, both_failed, archive_neither, audited_both}
 use Rattle.acd_desk.proofs.StepsWith.{WholeOf}
 use Rattle.acd_desk.proofs.desk.Desk.audit_with.Goals as goal
 
-pub returns-in-Ok-clause-told : goal.returns-in-Ok-clause-told
-returns-in-Ok-clause-told g c = told_found (g.B.Book.state c.args.self.now.book) (g.B.Book.state c.audited_with.new.book) c.args.self.now.working c.in-Ok.audit c.in-Ok.ensures.own (sym c.has_failed.ensures ∙ c.if-has_failed.false)
+pub returns-in-Ok-clause-read : goal.returns-in-Ok-clause-read
+returns-in-Ok-clause-read g c = read_found (g.B.Book.state c.args.self.now.book) (g.B.Book.state c.audited_with.new.book) c.args.self.now.working c.in-Ok.audit c.in-Ok.ensures.current (sym c.has_failed.ensures ∙ c.if-has_failed.false)
 
 pub returns-in-Ok-clause-archive : goal.returns-in-Ok-clause-archive
 returns-in-Ok-clause-archive g c = c.in-Ok.ensures.archive
@@ -20,14 +20,14 @@ pub returns-in-Ok-clause-audited : goal.returns-in-Ok-clause-audited
 returns-in-Ok-clause-audited g c =
     audited_both (g.A.Book.state c.args.archive.now) (g.A.Book.state c.audited_with.new.archive) (g.B.Book.state c.args.self.now.book) (g.B.Book.state c.audited_with.new.book) c.in-Ok.audit c.in-Ok.ensures
 
-pub returns-in-Err-clause-told : goal.returns-in-Err-clause-told
-returns-in-Err-clause-told g c =
-    subst (λ (x : AuditFault). Told {A = Audit} (standing g.B.Book c.args.self.now) (standing g.B.Book c.told_not.new.self) (desk_part (Err x)) (λ (k : Content) (found : Audit). Unit {0})) (sym c.told_not.ensures.fault)
-    (subst (λ (d : _). Told {A = Audit} (standing g.B.Book c.args.self.now) (standing g.B.Book d) (desk_part (Err (audit_fault c.in-Err.fault))) (λ (k : Content) (found : Audit). Unit {0})) (sym c.told_not.ensures.left)
-    (told_neither (g.A.Book.state c.args.archive.now) (g.A.Book.state c.audited_with.new.archive) (g.B.Book.state c.args.self.now.book) (g.B.Book.state c.audited_with.new.book) c.args.self.now.working c.in-Err.fault WholeOf c.in-Err.ensures
+pub returns-in-Err-clause-read : goal.returns-in-Err-clause-read
+returns-in-Err-clause-read g c =
+    subst (λ (x : AuditFault). ReadDone {A = Audit} (standing g.B.Book c.args.self.now) (standing g.B.Book c.pair_failed.new.self) (desk_part (Err x)) (λ (k : Content) (found : Audit). Unit {0})) (sym c.pair_failed.ensures.fault)
+    (subst (λ (d : _). ReadDone {A = Audit} (standing g.B.Book c.args.self.now) (standing g.B.Book d) (desk_part (Err (audit_fault c.in-Err.fault))) (λ (k : Content) (found : Audit). Unit {0})) (sym c.pair_failed.ensures.left)
+    (both_failed (g.A.Book.state c.args.archive.now) (g.A.Book.state c.audited_with.new.archive) (g.B.Book.state c.args.self.now.book) (g.B.Book.state c.audited_with.new.book) c.args.self.now.working c.in-Err.fault WholeOf c.in-Err.ensures
     (sym c.has_failed.ensures ∙ c.if-has_failed.false)))
 
 pub returns-in-Err-clause-archive : goal.returns-in-Err-clause-archive
 returns-in-Err-clause-archive g c =
-    subst (λ (x : AuditFault). ReadsIfOpen {A = Audit} (g.A.Book.state c.args.archive.now) (g.A.Book.state c.audited_with.new.archive) (archive_part (Err x)) (λ (k : Content) (found : Audit). Unit {0})) (sym c.told_not.ensures.fault)
+    subst (λ (x : AuditFault). ReadsIfOpen {A = Audit} (g.A.Book.state c.args.archive.now) (g.A.Book.state c.audited_with.new.archive) (archive_part (Err x)) (λ (k : Content) (found : Audit). Unit {0})) (sym c.pair_failed.ensures.fault)
     (archive_neither (g.A.Book.state c.args.archive.now) (g.A.Book.state c.audited_with.new.archive) (g.B.Book.state c.args.self.now.book) (g.B.Book.state c.audited_with.new.book) c.in-Err.fault WholeOf c.in-Err.ensures)

@@ -2,13 +2,13 @@ use Rattle.std.proofs.Common.{◌≡◌, ℕ, length, ◌∙◌}
 use Rattle.acd_book.specs.Content.{Content}
 use Rattle.acd_desk.specs.Stands.{IsSound}
 use Rattle.acd_desk.specs.Standing.{standing}
-use Rattle.acd_desk.proofs.Telling.{told_follows}
+use Rattle.acd_desk.proofs.ReadsDone.{read_follows}
 use Rattle.acd_desk.proofs.ContentLaws.{sound_count}
 use Rattle.acd_desk.proofs.desk.Desk.executed.Goals as goal
 
 pub returns-clause-kept : goal.returns-clause-kept
 returns-clause-kept g c =
-    told_follows (standing g.B.Book c.args.self.now) (standing g.B.Book c.last_stamp.new.self) c.last_stamp.result
+    read_follows (standing g.B.Book c.args.self.now) (standing g.B.Book c.last_stamp.new.self) c.last_stamp.result
     (λ (held : Content) (last : ℕ). last ≡ held.rows.last_stamp) (λ (held : Content) (count : ℕ). IsSound held → count ≡ length held.kept)
     (λ held last is sound. is ∙ sound_count held sound)
     c.last_stamp.ensures

@@ -1,7 +1,7 @@
 use Rattle.std.proofs.Common.{◌≡◌, ◌∙◌, refl, sym}
 use Rattle.acd_book.specs.Content.{Content}
 use Rattle.acd_desk.specs.Standing.{standing, holding}
-use Rattle.acd_desk.proofs.Telling.{told_rows, told_so}
+use Rattle.acd_desk.proofs.ReadsDone.{read_rows, read_so}
 use Rattle.acd_desk.proofs.desk.Desk.look.Goals as goal
 
 pub returns : goal.returns
@@ -9,6 +9,6 @@ returns g c =
     let rows = c.in_ok-loaded.loaded.switch.value in
     let old = standing g.B.Book c.args.self.now in
     let new = holding (standing g.B.Book c.switch_out.new.self) rows in
-    told_so old new tt c.reading-found.result (λ (k : Content) u. k.rows ≡ rows) _
+    read_so old new tt c.reading-found.result (λ (k : Content) u. k.rows ≡ rows) _
     (λ k p. (c.tables.result, c.reading-found.ensures, c.tables.ensures ∙ c.deref.ensures ∙ sym p))
-    (told_rows old new rows c.in_ok-loaded.ensures.loaded refl refl)
+    (read_rows old new rows c.in_ok-loaded.ensures.loaded refl refl)

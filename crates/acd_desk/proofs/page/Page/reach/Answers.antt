@@ -3,7 +3,7 @@ use Rattle.acd_book.specs.Content.{Content}
 use Rattle.acd_desk.specs.Pages.{Has, IsPageOf, Reaches}
 use Rattle.acd_desk.specs.declared.page.Page.{Page}
 use Rattle.acd_desk.proofs.Ahead.{on_page, on_next_page}
-use Rattle.acd_desk.proofs.ReadsAhead.{known, by_read, told_ok, told_fault}
+use Rattle.acd_desk.proofs.ReadsAhead.{known, by_read, read_ok, read_nothing}
 use Rattle.acd_desk.proofs.page.Page.reach.Goals as goal
 
 pub returns-then-reaches : goal.returns-then-reaches
@@ -16,7 +16,7 @@ returns-then-reaches g c =
 
 pub returns-in_err-self : goal.returns-in_err-self
 returns-in_err-self g c =
-    told_fault (λ (k : Content) (u : Unit {0}). IsPageOf k c.args.self.now → Has k c.args.self.now c.args.number c.args.count) (g.B.Book.state c.args.book.now) (g.B.Book.state c.read_page.new.book) c.in_err-self.field-0.0 c.from_residual.result
+    read_nothing (λ (k : Content) (u : Unit {0}). IsPageOf k c.args.self.now → Has k c.args.self.now c.args.number c.args.count) (g.B.Book.state c.args.book.now) (g.B.Book.state c.read_page.new.book) c.in_err-self.field-0.0 c.from_residual.result
     (by_read _ _ _ _ c.in_err-self.ensures.page (λ k x is. is)) (search rules)
 
 pub returns : goal.returns
@@ -26,6 +26,6 @@ returns g c =
     let count = c.args.count in
     let above : p.above ≡ n = search rules in
     let room : count ≤ p.limit = search rules in
-    told_ok (λ (k : Content) (u : Unit {0}). IsPageOf k c.args.self.now → Has k p n count) (g.B.Book.state c.args.book.now) (g.B.Book.state c.read_page.new.book) p tt
+    read_ok (λ (k : Content) (u : Unit {0}). IsPageOf k c.args.self.now → Has k p n count) (g.B.Book.state c.args.book.now) (g.B.Book.state c.read_page.new.book) p tt
     (by_read (λ (k : Content) (x : Page). IsPageOf k x) (g.B.Book.state c.args.book.now) (g.B.Book.state c.read_page.new.book) (Ok p) c.in_ok-self.ensures.page (λ k x is. is))
     (λ k is old. (is, on_next_page k p n count is above room))

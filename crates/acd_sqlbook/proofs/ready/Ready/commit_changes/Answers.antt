@@ -6,7 +6,7 @@ use Rattle.acd_sql_columns.specs.declared.meta.Meta.{Meta}
 use Rattle.acd_sqlbook.specs.Calls.{HasReplaced}
 use Rattle.acd_sqlbook.specs.Commit.{written_by}
 use Rattle.acd_sqlbook.specs.Counters.{AreCounters, StopsWith}
-use Rattle.acd_sqlbook.specs.Stopping.{IsBlamedOr, StopsCommit}
+use Rattle.acd_sqlbook.specs.Stopping.{IsCausedByReadOr, StopsCommit}
 use Rattle.acd_sqlbook.proofs.Counting.{no_request, commit_uncounted, commit_undone}
 use Rattle.acd_sqlbook.proofs.Standing.{Counts, replaces_none, replaces_unasked, commits_counted, holds_counted}
 use Rattle.acd_sqlbook.proofs.ready.Ready.commit_changes.Goals as goal
@@ -33,26 +33,26 @@ returns-in-Ok-clause-commits g c =
 pub returns-in-Ok-clause-counted : goal.returns-in-Ok-clause-counted
 returns-in-Ok-clause-counted g c clean x holds of =
     let taken : c.take-held.result ≡ c.args.counters.now = search rules in
-    holds_counted c.commit_all-done.result c.args.counters.now c.held_behind.result c.in-Ok.meta c.args.changes.now c.args.events.now c.args.kept.now x c.held_behind.ensures.ok
+    holds_counted c.commit_all-done.result c.args.counters.now c.held_after.result c.in-Ok.meta c.args.changes.now c.args.events.now c.args.kept.now x c.held_after.ensures.ok
     (ap (λ (p : ℕ × Meta). p.1) (c.in-Ok.ensures.read.value (c.commit_all-done.ensures.clean clean) x holds (subst (λ (o : Option Meta). AreCounters o x) (sym taken) of)))
 
-pub returns-in_err-request-clause-blamed : goal.returns-in_err-request-clause-blamed
-returns-in_err-request-clause-blamed g c =
+pub returns-in_err-request-clause-cause : goal.returns-in_err-request-clause-cause
+returns-in_err-request-clause-cause g c =
     no_request (StopsWith c.args.counters.now (StopsCommit c.args.changes.now c.args.events.now c.args.kept.now)) (state g.S.Store c.args.self.now.conn) (SqliteFailure OutOfMemory) c.from_residual.result (search rules) refl
 
-pub returns-clause-blamed : goal.returns-clause-blamed
-returns-clause-blamed g c =
+pub returns-clause-cause : goal.returns-clause-cause
+returns-clause-cause g c =
     let old = state g.S.Store c.args.self.now.conn in
     let new = state g.S.Store c.counters.new.self.conn in
     let taken : c.take-held.result ≡ c.args.counters.now = search rules in
-    subst (λ (o : Option Meta). IsBlamedOr {A = Unit {0}} (StopsWith o (StopsCommit c.args.changes.now c.args.events.now c.args.kept.now)) old new (Err c.in-Err.error)) taken
-    (commit_uncounted c.take-held.result c.args.changes.now c.args.events.now c.args.kept.now old new c.in-Err.error c.in-Err.ensures.blamed)
+    subst (λ (o : Option Meta). IsCausedByReadOr {A = Unit {0}} (StopsWith o (StopsCommit c.args.changes.now c.args.events.now c.args.kept.now)) old new (Err c.in-Err.error)) taken
+    (commit_uncounted c.take-held.result c.args.changes.now c.args.events.now c.args.kept.now old new c.in-Err.error c.in-Err.ensures.cause)
 
-pub returns-in-Ok-clause-blamed : goal.returns-in-Ok-clause-blamed
-returns-in-Ok-clause-blamed g c =
+pub returns-in-Ok-clause-cause : goal.returns-in-Ok-clause-cause
+returns-in-Ok-clause-cause g c =
     let old = state g.S.Store c.args.self.now.conn in
     let new = state g.S.Store c.commit_all-done.new.conn in
     let taken : c.take-held.result ≡ c.args.counters.now = search rules in
-    subst (λ (o : Option Meta). IsBlamedOr (StopsWith o (StopsCommit c.args.changes.now c.args.events.now c.args.kept.now)) old new c.commit_all-done.result) taken
+    subst (λ (o : Option Meta). IsCausedByReadOr (StopsWith o (StopsCommit c.args.changes.now c.args.events.now c.args.kept.now)) old new c.commit_all-done.result) taken
     (commit_undone c.take-held.result c.args.changes.now c.args.events.now c.args.kept.now old (state g.S.Store c.counters.new.self.conn) new c.commit_all-done.result c.in-Ok.last c.in-Ok.meta
-    c.in-Ok.ensures.read c.in-Ok.ensures.blamed c.commit_all-done.ensures.clean c.commit_all-done.ensures.failed)
+    c.in-Ok.ensures.read c.in-Ok.ensures.cause c.commit_all-done.ensures.clean c.commit_all-done.ensures.failed)

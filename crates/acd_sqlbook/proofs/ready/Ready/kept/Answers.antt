@@ -1,20 +1,20 @@
 use Rattle.std.proofs.Common.{◌≡◌, rules}
 use Rattle.sqlite.specs.Held.{state}
 use Rattle.acd_book.specs.Content.{kept_of}
-use Rattle.acd_sqlbook.proofs.Standing.{reads_behind}
-use Rattle.acd_sql_statements.proofs.Blamed.{blames_as, blames_behind}
+use Rattle.acd_sqlbook.proofs.Standing.{reads_after}
+use Rattle.acd_sql_statements.proofs.ReadCauses.{cause_as, cause_after}
 use Rattle.acd_sqlbook.proofs.ready.Ready.kept.Goals as goal
 
 pub returns-clause-read : goal.returns-clause-read
 returns-clause-read g c =
-    reads_behind (state g.S.Store c.args.self.now.conn) (state g.S.Store c.serve.new.self.conn) (state g.S.Store c.kept_under.new.conn) c.kept_under.result (λ x found. found ≡ kept_of x.kept c.args.requester.now c.args.invoke)
-    c.serve.ensures.quiet c.in_ok-serve.ensures.up c.serve.ensures.stops c.kept_under.ensures.found
+    reads_after (state g.S.Store c.args.self.now.conn) (state g.S.Store c.refresh.new.self.conn) (state g.S.Store c.kept_under.new.conn) c.kept_under.result (λ x found. found ≡ kept_of x.kept c.args.requester.now c.args.invoke)
+    c.refresh.ensures.quiet c.in_ok-refresh.ensures.up c.refresh.ensures.stops c.kept_under.ensures.found
 
-pub returns-in_err-serve-clause-blamed : goal.returns-in_err-serve-clause-blamed
-returns-in_err-serve-clause-blamed g c =
-    blames_as (state g.S.Store c.args.self.now.conn) (state g.S.Store c.serve.new.self.conn) c.in_err-serve.field-0.0 c.from_residual.result (search rules) c.in_err-serve.ensures.blamed
+pub returns-in_err-refresh-clause-cause : goal.returns-in_err-refresh-clause-cause
+returns-in_err-refresh-clause-cause g c =
+    cause_as (state g.S.Store c.args.self.now.conn) (state g.S.Store c.refresh.new.self.conn) c.in_err-refresh.field-0.0 c.from_residual.result (search rules) c.in_err-refresh.ensures.cause
 
-pub returns-clause-blamed : goal.returns-clause-blamed
-returns-clause-blamed g c =
-    blames_behind (state g.S.Store c.args.self.now.conn) (state g.S.Store c.serve.new.self.conn) (state g.S.Store c.kept_under.new.conn) tt c.kept_under.result
-    c.in_ok-serve.ensures.blamed c.serve.ensures.quiet c.in_ok-serve.ensures.up c.kept_under.ensures.found.quiet.clean c.kept_under.ensures.blamed
+pub returns-clause-cause : goal.returns-clause-cause
+returns-clause-cause g c =
+    cause_after (state g.S.Store c.args.self.now.conn) (state g.S.Store c.refresh.new.self.conn) (state g.S.Store c.kept_under.new.conn) tt c.kept_under.result
+    c.in_ok-refresh.ensures.cause c.refresh.ensures.quiet c.in_ok-refresh.ensures.up c.kept_under.ensures.found.quiet.clean c.kept_under.ensures.cause

@@ -6,7 +6,7 @@ use Rattle.std.proofs.lemmas.List.Kept.{IsStrictlySortedBy-filter}
 use Rattle.acd_lemmas.proofs.Lists.{among-filter}
 use Rattle.acd_tables.specs.Indexed.{pair_cmp}
 use Rattle.acd_tables.specs.Near.{of_key}
-use Rattle.acd_tables.proofs.NearLemmas.{near-forward, near-own}
+use Rattle.acd_tables.proofs.NearLemmas.{near-forward, near-itself}
 use Rattle.acd_tables.proofs.Picked.{contained, exact_pair}
 use Rattle.acd_tables.proofs.KeyLemmas.{picks-of}
 use Rattle.acd_tables.proofs.connections.Connections.near.Goals as goal
@@ -21,6 +21,6 @@ returns c =
     let bounds = range_contains pair_cmp c.start.result c.end.result in
     ap (filter_map (of_key c.args.self.now c.args.call)) (c.range.ensures.between tt)
     ∙ rw (← c.self.view_is) (picks-of c.self.inside.records c.args.call c.self.invariant.ascending (filter bounds keys.keys)
-    (λ d e. among-filter bounds keys.keys (c.args.call, d) (contained pair_cmp exact_pair keys (c.args.call, d) (c.self.invariant.noted (c.args.call, d) ∙ e))
-    (rw (c.start.ensures, c.end.ensures) (near-own c.args.call c.args.device d)))
+    (λ d e. among-filter bounds keys.keys (c.args.call, d) (contained pair_cmp exact_pair keys (c.args.call, d) (c.self.invariant.index (c.args.call, d) ∙ e))
+    (rw (c.start.ensures, c.end.ensures) (near-itself c.args.call c.args.device d)))
     (IsStrictlySortedBy-filter pair_cmp bounds keys.keys c.range.ensures.ordered))

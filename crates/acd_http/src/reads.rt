@@ -1,0 +1,45 @@
+//! The reply to a read.
+
+ghost use Rattle.std.specs.Prelude.{◌≡◌, Bool};
+ghost use Rattle.acd_desk.specs.Ran.{standing};
+ghost use Rattle.acd_desk.specs.AnswerTexts.{seen};
+ghost use Rattle.acd_http.specs.declared.asked.Asked.{Asked};
+ghost use Rattle.acd_http.specs.Exchanging.{reply_out, kind_found, found_reply, Replies};
+
+use crate::answer::Reply;
+use crate::reply::Kind;
+use acd_book::Book;
+use acd_desk::{AnswerText, Desk, DeskFault, Question};
+
+// The answer is JSON where nothing was found.
+fn kind_found(kind: Kind, found: &Result<Option<String>, DeskFault>) -> Kind
+    ensures { result ≡ kind_found kind (seen found.now) }
+{
+    match found {
+        Ok(Some(_)) => kind,
+        Ok(None) | Err(_) => Kind::Json,
+    }
+}
+
+fn reply_to(kind: Kind, found: Result<Option<String>, DeskFault>) -> Reply
+    ensures { (bodiless : Bool)
+        → reply_out bodiless result ≡ found_reply bodiless kind (seen found) }
+{
+    let kind = kind_found(kind, &found);
+    Reply {
+        answer: AnswerText::found(found),
+        kind,
+        allow: None,
+    }
+}
+
+/// The reply to a read.
+pub(crate) fn found_reply<B: Book>(desk: &mut Desk<B>, moment: u32, question: Question) -> Reply
+    ensures { (bodiless : Bool)
+        → Replies (standing B.Book) moment desk.old (Asked.Look question bodiless)
+        (reply_out bodiless result) desk.new }
+{
+    let kind = Kind::of(&question);
+    let found = desk.read(moment, question);
+    reply_to(kind, found)
+}

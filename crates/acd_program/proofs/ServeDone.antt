@@ -1,0 +1,111 @@
+-- Answering connections over a database: what it leaves, step by step.
+use Rattle.std.proofs.Common.{◌≡◌, inl, inr, ℕ, Bool, true, false, List, [], Option, Result, Ok, Err, OnOk, IsTrue, Some, None, sym, subst, refl, append-nil}
+use Rattle.std.proofs.KnownBytes.{Appends-nil}
+use Rattle.std.specs.Io.KnownBytes.{Appends}
+use Rattle.sqlite.specs.State.{State}
+use Rattle.sqlite.specs.Held.{Held, state}
+use Rattle.sqlite_disk.specs.declared.Disk as disk
+use Rattle.sqlite_trees.specs.Tree.{Trees}
+use Rattle.sqlite_trees.specs.declared.store.Store.{Ghosts}
+use Rattle.acd_sqlbook.specs.View.{BookView, book_of}
+use Rattle.acd_desk.specs.Standing.{Standing, standing}
+use Rattle.acd_io.specs.Sent.{Begins, WasSent}
+use Rattle.acd_io.proofs.Sends.{begins_so}
+use Rattle.acd_lines.specs.Lines.{Streams}
+use Rattle.acd_http.specs.Listening.{AnsweredAll, AnsweredUntilFailed, AnsweredFor, outcome_lines}
+use Rattle.acd_terms.proofs.Results.{ok_err}
+use Rattle.acd_program.specs.Desks.{in_database}
+use Rattle.acd_program.specs.Faults.{open_fault, command_result}
+use Rattle.acd_program.specs.Over.{Unserved}
+use Rattle.acd_program.specs.Seen.{Seen, seen, InDatabase, left_of, SeenIn}
+use Rattle.acd_program.specs.Taking.{IsTaken}
+use Rattle.acd_program.specs.Statuses.{PrintsConnectionFaults}
+use Rattle.acd_program.specs.Serving.{ServeDone, listening_line, ends_failed, ListenEnded, ServeEnded, ServeOver, ServeIn}
+use Rattle.acd_program.specs.declared.fault.Fault.{Fault}
+use Rattle.acd_program.specs.declared.asked.Task.{Task}
+use Rattle.acd_program.specs.declared.asked.Task.TheVariants as task
+use Rattle.acd_program.specs.Tasks.{ServeDoneIn, TaskDone}
+use Rattle.acd_program.proofs.Seen.{view, views, IsKept, serve_seen, seen_in, seen_made, seen_so}
+use Rattle.acd_program.proofs.Taking.{unserved_refused, unserved_makes}
+
+-- a text that was written whole is a beginning of itself
+pub begins_whole : (a b : Option (List ℕ)) (text : List ℕ) → Appends a b text → Begins a b text
+begins_whole a b text h = record { front = text; rest = []; whole = sym (append-nil text); written = h }
+
+-- and so is nothing
+pub begins_none : (a : Option (List ℕ)) (text : List ℕ) → Begins a a text
+begins_none a text = record { front = []; rest = text; whole = refl; written = Appends-nil a }
+
+begun : {E : Type 0} (r : Result (Unit {0}) E) (a b : Option (List ℕ)) (text : List ℕ) → WasSent r a b text → Begins a b text
+begun (Ok u) a b text h = begins_whole a b text h
+begun (Err e) a b text h = begins_so a b text h
+
+pub begins_all : {D E : Type 0} (stands : D → Standing) (many : ℕ) (d e : D) (r : Result (Unit {0}) E) (a b : Option (List ℕ)) → AnsweredAll stands many d e (WasSent r a b) → AnsweredAll stands many d e (Begins a b)
+begins_all stands many d e r a b h = record { outcomes = h.outcomes; count = h.count; answered = h.answered; out = begun r a b (outcome_lines 1 h.outcomes) h.out }
+
+-- and so after an endless service
+pub begins_until : {D E : Type 0} (stands : D → Standing) (d e : D) (r : Result (Unit {0}) E) (a b : Option (List ℕ)) → AnsweredUntilFailed stands d e (WasSent r a b) → AnsweredUntilFailed stands d e (Begins a b)
+begins_until stands d e r a b h = (h.0, record { outcomes = h.1.outcomes; count = h.1.count; answered = h.1.answered; well = h.1.well; out = begun r a b (outcome_lines 1 h.1.outcomes) h.1.out }, h.2)
+
+printed_for : {D : Type 0} (stands : D → Standing) (span : Option ℕ) (d e : D) (a b : Option (List ℕ)) → AnsweredFor stands span d e (Begins a b) → PrintsConnectionFaults a b
+printed_for stands (Some many) d e a b h = (h.outcomes, h.out)
+printed_for stands None d e a b h = (h.1.outcomes, h.1.out)
+
+-- an endless service without a fault is by a desk that hasn't failed
+well_for : (u : Unit {0}) (span : Option ℕ) (failed : Bool) → ◌≡◌ {A = Result (Unit {0}) Fault} (Ok u) (command_result (Ok tt) (ends_failed span failed)) → span ≡ None → failed ≡ false
+well_for u span false outcome is = refl
+well_for u None true outcome is = absurd (ok_err outcome)
+well_for u (Some many) true outcome is = absurd (cc is)
+
+module _ (span : Option ℕ) (a b : Option (List ℕ)) (port : ℕ) (old_output new_output : Option (List ℕ)) where
+  module _ {D : Type 0} (stands : D → Standing) where
+    -- connections are waited for once the whole line is written
+    pub serve_ended : (r : Result (Unit {0}) Fault) (d e : D) → Appends old_output new_output (listening_line port) → ListenEnded span a b stands r d e → ServeEnded span a b port old_output new_output stands r d e
+    serve_ended r d e line (inl none) = inl (none, begins_whole old_output new_output (listening_line port) line)
+    serve_ended r d e line (inr some) = inr (some, line)
+
+    -- without a fault the connections were answered as was asked for
+    serve_done : (u : Unit {0}) (d e : D) → ServeEnded span a b port old_output new_output stands (Ok u) d e → ServeDone stands span a b d e
+    serve_done u d e (inl none) = absurd (ok_err none.0.ended)
+    serve_done u d e (inr some) = record { answered = some.0.answered; well = well_for u span (stands e).failed some.0.ended }
+
+  module _ {S : Type 0} (store : Ghosts S) (s : State) (r : Result (Unit {0}) Fault) (conn : Held S) where
+    -- over the book that was opened in the database
+    pub serve_in : (makes : Bool) (taken last : BookView S) → ((db : Trees) → IsTrue s.is_open → s.may_leave db → db ≡ s.committed.trees) → IsTaken makes s (book_of store taken) → conn ≡ last.conn
+        → ServeOver span a b port old_output new_output (in_database store) (book_of store taken) r last → ServeIn span a b port old_output new_output store makes s r conn
+    serve_in makes taken last settles of back (inl none) = inl (record {
+      why = open_fault none.why;
+      ended = none.ended;
+      unserved = subst (λ (x : Held S). Unserved makes s (state store x)) (sym back)
+          (unserved_refused makes s (state store last.conn) (book_of store taken) last.cache last.failures none.why settles of none.refused);
+      quiet = none.quiet;
+      unsaid = none.unsaid;
+    })
+    serve_in makes taken last settles of back (inr some) =
+        inr (seen_in store (ServeEnded span a b port old_output new_output (standing (in_database store)) r) (λ (stands : Seen (InDatabase S) → Standing). ServeEnded span a b port old_output new_output stands r)
+        (λ began d e k h. serve_seen (standing (in_database store)) (seen (left_of store began)) (view store) (IsKept store began) (views store began) d e k span a b port old_output new_output r h) makes s conn (record { taken = taken; last = last; of_old = of; over = some; back = back }))
+
+    -- where it was known whether a new book may be made
+    pub serve_made : (is_new makes : Bool) → (is_new ≡ true → makes ≡ true) → ServeIn span a b port old_output new_output store is_new s r conn → ServeIn span a b port old_output new_output store makes s r conn
+    serve_made is_new makes may (inl none) =
+        inl (record { why = none.why; ended = none.ended; unserved = unserved_makes is_new makes s (state store conn) may none.unserved; quiet = none.quiet; unsaid = none.unsaid })
+    serve_made is_new makes may (inr some) = inr (seen_made store _ is_new makes s conn may some)
+
+  -- without a fault the connections were answered as was asked for
+  pub serve_done_in : {S : Type 0} (store : Ghosts S) (s : State) (r : Result (Unit {0}) Fault) (conn : Held S) (makes : Bool) → ServeIn span a b port old_output new_output store makes s r conn
+      → OnOk r (SeenIn store (λ (stands : Seen (InDatabase S) → Standing). ServeDone stands span a b) makes s conn)
+  serve_done_in store s (Err e) conn makes h = tt
+  serve_done_in store s (Ok u) conn makes (inl none) = absurd (ok_err none.ended)
+  serve_done_in {S} store s (Ok u) conn makes (inr some) =
+      seen_so store (λ (stands : Seen (InDatabase S) → Standing). ServeEnded span a b port old_output new_output stands (Ok u)) (λ (stands : Seen (InDatabase S) → Standing). ServeDone stands span a b)
+      (λ stands d e h. serve_done stands u d e h) makes s conn some
+
+pub file_prints : {D : Type 0} {g : disk.Ghosts D} (IsFresh : Bool → D → Type 0) (span : Option ℕ) (a b : Option (List ℕ)) → ServeDoneIn g IsFresh span a b → PrintsConnectionFaults a b
+file_prints IsFresh span a b h = elim h.answered [
+  | inl found ↦ printed_for _ span found.first found.final a b found.did.answered
+  | inr made ↦ printed_for _ span made.2.first made.2.final a b made.2.did.answered
+]
+
+pub serve_task : {D : Type 0} (g : disk.Ghosts D) (IsFresh : Bool → D → Type 0) (asked : Task) (io : Streams) (a b : Option (List ℕ)) (file port : _) (connections : Option ℕ) → asked ≡ task.Serve file port connections → ServeDoneIn g IsFresh connections a b
+    → TaskDone g IsFresh asked io a b 0
+serve_task g IsFresh asked io a b file port connections is h = subst (λ (t : Task). TaskDone g IsFresh t io a b 0) (sym is) (h, refl)

@@ -1,0 +1,90 @@
+-- What an audit of a desk with the archive that it goes on from finds, from the desk on to the database.
+use Rattle.std.specs.Prelude.{◌≡◌, Bool, false, Result, Ok, IfOk}
+use Rattle.sqlite.specs.State.{State}
+use Rattle.sqlite_disk.specs.declared.Disk.{Ghosts}
+use Rattle.acd_book.specs.Content.{Content}
+use Rattle.acd_book.specs.Order.{IsOrdered}
+use Rattle.acd_book.specs.State.{BookState, IfHonest}
+use Rattle.acd_desk.specs.declared.audit.AuditFault.{AuditFault}
+use Rattle.acd_desk.specs.AuditWith.{StandsInTime, IsDifferenceWith}
+use Rattle.acd_desk.specs.Standing.{Standing, InStep}
+use Rattle.acd_desk.specs.ReadDone.{ReadDone}
+use Rattle.acd_desk.specs.WithArchive.{IsSoundWith}
+use Rattle.acd_log.specs.declared.ending.Ending.{Ending}
+use Rattle.acd_program.specs.declared.auditing.Finding.{Finding}
+use Rattle.acd_program.specs.declared.auditing.Finding.TheVariants.{Sound, Counted, Differs}
+use Rattle.acd_program.specs.declared.desk.Done.{Done}
+use Rattle.acd_program.specs.declared.desk.Done.TheVariants as left
+use Rattle.acd_program.specs.Found.{HasCount}
+use Rattle.acd_program.specs.InFiles.{InFile}
+use Rattle.acd_program.specs.Over.{OverConnection}
+use Rattle.acd_program.specs.Work.{WasAsked}
+
+-- any finding
+abbrev pub Anything : {A : Type 0} → Content → A → Type 0
+Anything c found = Unit {0}
+
+-- the content continues that of the archive, with so many executed requests in both; or it doesn't, and this is the stamp of a
+-- difference
+abbrev pub IsFindingWith : Content → Content → Finding → Type 0
+IsFindingWith a c Sound = IsSoundWith a c
+IsFindingWith a c (Counted count) = IsSoundWith a c × (count ≡ c.rows.last_stamp)
+IsFindingWith a c (Differs place) = IsDifferenceWith a c place
+
+-- the same of a desk: one that is in step counts its executed requests
+abbrev pub IsDeskFindingWith : Content → Standing → Finding → Type 0
+IsDeskFindingWith a s Sound = IsSoundWith a s.book.content
+IsDeskFindingWith a s (Counted count) = IsSoundWith a s.book.content × (InStep s → count ≡ s.book.content.rows.last_stamp)
+IsDeskFindingWith a s (Differs place) = IsDifferenceWith a s.book.content place
+
+-- of an archive that keeps to time, as each sound one does, this is found
+abbrev pub IsFindingIn : Content → Content → Finding → Type 0
+IsFindingIn a c found = StandsInTime a → IsFindingWith a c found
+
+-- and of a content whose records are in order, as those of tables do
+abbrev pub IsFindingInOrder : Content → Content → Finding → Type 0
+IsFindingInOrder a c found = StandsInTime a → IsOrdered c → IsFindingWith a c found
+
+-- a desk's answer is found so
+abbrev pub IsFoundWithArchive : BookState → BookState → Standing → Standing → Result Finding AuditFault → Type 0
+IsFoundWithArchive old_archive new_archive d e result =
+    IfHonest old_archive new_archive (IfHonest d.book e.book (old_archive.is_open → d.book.is_open
+    → IfOk result (λ (found : Finding). StandsInTime old_archive.content → IsOrdered d.book.content → IsDeskFindingWith old_archive.content d found)))
+
+-- the same, of an archive that was open
+abbrev pub FindsWithArchive : BookState → BookState → Standing → Standing → Finding → Type 0
+FindsWithArchive old_archive new_archive d e found =
+    IfHonest old_archive new_archive (IfHonest d.book e.book (d.book.is_open → StandsInTime old_archive.content → IsOrdered d.book.content → IsDeskFindingWith old_archive.content d found))
+
+-- a book was asked, whatever it holds
+abbrev pub WasRead : BookState → BookState → Type 0
+WasRead old new = WasAsked {A = Unit {0}} old Anything (tt {0}) new
+
+-- two books were asked together: neither has changed, and this is the finding of their contents
+pub record WereAsked (IsAnswer : Content → Content → Finding → Type 0) (old_archive new_archive old new : BookState) (found : Finding) : Type 0 where
+  pub archive : WasRead old_archive new_archive
+  pub current : WasAsked old Anything found new
+  pub answer : IfHonest old_archive new_archive (IfHonest old new (IsAnswer old_archive.content old.content found))
+
+-- `IsFresh is_log file` says that a file is a log, or a database file, that was just opened
+module _ {D : Type 0} (disk : Ghosts D) (IsFresh : Bool → D → Type 0) where
+  -- a desk was asked while an archive was open in files beside it
+  pub record AskedWithArchive (d e : Standing) (found : Finding) : Type 0 where
+    pub desk : ReadDone d e (Ok found) Anything
+    pub archive : InFile disk IsFresh (λ (old new : BookState). WasRead old new × FindsWithArchive old new d e found) false
+
+  -- a book was
+  abbrev pub BookAskedWithArchive : (Content → Content → Finding → Type 0) → BookState → BookState → Finding → Type 0
+  BookAskedWithArchive IsAnswer old new found = InFile disk IsFresh (λ (old_archive new_archive : BookState). WereAsked IsAnswer old_archive new_archive old new found) false
+
+  -- an audit of the book found this, which is left to print with how the log of its file ended before
+  abbrev pub AuditsWithArchive : Bool → Ending → BookState → BookState → Done → Type 0
+  AuditsWithArchive counts ending old new left.Nothing = ⊥
+  AuditsWithArchive counts ending old new (left.Text text) = ⊥
+  AuditsWithArchive counts ending old new (left.Audited found end) = HasCount counts found × BookAskedWithArchive IsFindingInOrder old new found × (end ≡ ending)
+
+  -- and one of the book that a database held
+  abbrev pub AuditedWithArchive : Bool → Ending → State → State → Done → Type 0
+  AuditedWithArchive counts ending s t left.Nothing = ⊥
+  AuditedWithArchive counts ending s t (left.Text text) = ⊥
+  AuditedWithArchive counts ending s t (left.Audited found end) = HasCount counts found × OverConnection (λ (old new : BookState). BookAskedWithArchive IsFindingIn old new found) false s t × (end ≡ ending)

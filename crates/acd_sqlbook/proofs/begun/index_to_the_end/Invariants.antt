@@ -1,0 +1,14 @@
+use Rattle.std.proofs.Common.{◌≡◌, false, Ok}
+use Rattle.sqlite.specs.Held.{state}
+use Rattle.sqlite.specs.declared.error.Error.{Error}
+use Rattle.acd_sql_columns.specs.Finding.{Finds}
+use Rattle.acd_sql_statements.specs.Picking.{IsOpenIfClean}
+use Rattle.acd_sql_statements.specs.Reading.{HasReadCause}
+use Rattle.acd_sqlbook.proofs.Beginning.{HasPassed}
+use Rattle.acd_sqlbook.proofs.begun.index_to_the_end.Given as goal
+
+abbrev pub invariant-loop : goal.invariant-loop
+invariant-loop g l = record {
+  found : IsOpenIfClean (state g.S.Store l.fn.conn) → Finds {E = Error} (state g.S.Store l.fn.conn) (state g.S.Store l.conn) (Ok l.index) (HasPassed l.fn.begun);
+  cause : IsOpenIfClean (state g.S.Store l.fn.conn) → HasReadCause (state g.S.Store l.fn.conn) (state g.S.Store l.conn) (Ok l.index);
+}
