@@ -6,21 +6,21 @@ moments to 4294967295; requests until the file has 100,000 rows. PROGRAM answers
 writes has to be that of the switch, also in the tables; then over a file that stock SQLite makes of the foreseen rows, where each
 request is sent again, in lines and over HTTP, each read is read over HTTP, and alterations far behind are looked for by the audit.
 A file is made where tempfile makes it: on a disk each request waits for it."""
+import argparse
 import bisect
 import csv
 import io
 import json
 import random
 import shutil
-import socket
-import subprocess
-import tempfile
-import time
+import sys
 from collections import Counter, defaultdict
 from pathlib import Path
 
-import tables
-from switch import Desk, Switch, compact, error
+sys.path.append(str(Path(__file__).resolve().parents[1] / "tools"))
+import tables  # noqa: E402
+import trial  # noqa: E402
+from switch import Desk, Switch, compact, error  # noqa: E402
 
 LAST = 4294967295
 ROWS = 100000
@@ -340,38 +340,25 @@ def faulty(course):
 
 # what the program does
 
-class Trial:
-    def __init__(self, program, folder):
-        self.program, self.folder, self.count, self.wrong, self.began = program, Path(folder), 0, 0, time.monotonic()
+class OfLines(trial.Trial):
+    """Trials whose checks are lines and rows, each by itself."""
 
-    def see(self, what, found, wanted):
-        self.count += 1
-        if found != wanted:
-            self.wrong += 1
-            if self.wrong <= 20:
-                print(f"WRONG {what}: {str(found)[:300]} in place of {str(wanted)[:300]}", flush=True)
+    def answers(self, what, words, wanted, given=(), status=0):
+        done = self.acd(*words, given="".join(line + "\n" for line in given), seconds=None)
+        self.expect(f"status of {what}", (done.status, done.faults), (status, ""))
+        self.expect_each(what, done.output.splitlines(), wanted)
 
-    def see_each(self, what, found, wanted):
-        self.see(f"how many {what}", len(found), len(wanted))
-        for place, (one, other) in enumerate(zip(found, wanted)):
-            self.see(f"{what} {place}", one, other)
-
-    def acd(self, *words, given=()):
-        done = subprocess.run([self.program, *map(str, words)], input="".join(line + "\n" for line in given), capture_output=True, text=True)
-        return done.returncode, done.stdout, done.stderr
-
-    def gives(self, what, words, wanted, given=(), status=0):
-        found = self.acd(*words, given=given)
-        self.see(f"status of {what}", (found[0], found[2]), (status, ""))
-        self.see_each(what, found[1].splitlines(), wanted)
-
-    def done(self, what):
-        print(f"{time.monotonic() - self.began:6.1f} s  {what}", flush=True)
-
-    def see_tables(self, what, file, wanted):
+    def expect_tables(self, what, file, wanted):
         found = tables.held(file)
         for table, rows in wanted.items():
-            self.see_each(f"{what}: rows of {table}", found[table], rows)
+            self.expect_each(f"{what}: rows of {table}", found[table], rows)
+
+    def serve(self, what, file, exchanges):
+        with trial.Desk(self.program, file, connections=len(exchanges)) as desk:
+            self.expect(f"{what}: listening", desk.first_line, f"listening on 127.0.0.1:{desk.port}\n")
+            for request, reply in exchanges:
+                self.expect(f"{what}: {request[:60]!r}", trial.bytes_back(desk.port, request.encode()).decode(), reply)
+            self.expect(f"{what}: its end", desk.ends(), (0, "", ""))
 
 
 def write_plan(course, path):
@@ -390,34 +377,6 @@ def export(course):
     writer.writeheader()
     writer.writerows(course.switch.events)
     return text.getvalue().splitlines()
-
-
-def printed(trial, course, what, file):
-    """What the commands print of the file."""
-    switch = course.switch
-    trial.gives(f"report of {what}", ["report", "--file", file], tables.report(switch).splitlines())
-    trial.gives(f"export of {what}", ["export", "--file", file], export(course))
-    trial.gives(f"audit of {what}", ["audit", "--file", file, "--count"], ["sound", f"executed {switch.stamp}"])
-
-
-def over_memory(trial, course):
-    extra = faulty(course)
-    given = course.lines() + [line for line, _ in extra] + course.lines(moment=LAST)
-    trial.gives("lines over memory, and again", ["lines"], course.wanted + [reply for _, reply in extra] + course.wanted, given)
-    trial.done("answered over memory, and again")
-
-
-def over_a_file(trial, course, wanted):
-    file, plan = trial.folder / "desk.db", trial.folder / "plan.csv"
-    write_plan(course, plan)
-    trial.gives("import", ["import", "--file", file, "--plan", plan], course.wanted[:course.planned])
-    trial.gives("lines over a file", ["lines", "--file", file], course.wanted[course.planned:], course.lines(course.planned))
-    trial.see_tables("the program's file", file, wanted)
-    printed(trial, course, "the program's file", file)
-    trial.gives("import again", ["import", "--file", file, "--plan", plan], course.wanted[:course.planned])
-    trial.gives("lines over a file again", ["lines", "--file", file], course.wanted, course.lines(moment=LAST))
-    trial.see_tables("behind repeats", file, wanted)
-    trial.done(f"answered over a file of {file.stat().st_size} bytes, told and again")
 
 
 # over HTTP
@@ -458,83 +417,6 @@ def posts(course, first=0):
     return found
 
 
-def exchanged(port, request):
-    with socket.create_connection(("127.0.0.1", port)) as client:
-        client.sendall(request.encode())
-        parts = []
-        while part := client.recv(65536):
-            parts.append(part)
-    return b"".join(parts).decode()
-
-
-def free_port():
-    with socket.create_server(("127.0.0.1", 0)) as listener:
-        return listener.getsockname()[1]
-
-
-def serve(trial, what, file, exchanges):
-    port = free_port()
-    desk = subprocess.Popen([trial.program, "serve", "--file", file, "--port", str(port), "--connections", str(len(exchanges))],
-                            stdout=subprocess.PIPE, stderr=subprocess.PIPE, text=True)
-    trial.see(f"{what}: listening", desk.stdout.readline(), f"listening on 127.0.0.1:{port}\n")
-    for request, reply in exchanges:
-        trial.see(f"{what}: {request[:60]!r}", exchanged(port, request), reply)
-    told = desk.communicate()
-    trial.see(f"{what}: its end", (desk.returncode, *told), (0, "", ""))
-
-
-def over_http(trial, course, file):
-    """Over a file that ends at the greatest moment, which the clock doesn't reach."""
-    serve(trial, "reads", file, reads(course.switch))
-    trial.done("each read over HTTP")
-    serve(trial, "again", file, posts(course))
-    trial.done("each request again over HTTP")
-    first = len(course.asked)
-    course.work()
-    serve(trial, "new", file, posts(course, first))
-    trial.see_tables("behind HTTP", file, tables.rows(course.desk))
-    printed(trial, course, "what HTTP left", file)
-    trial.done(f"{len(course.asked) - first} new requests over HTTP, at the moment {LAST}")
-
-
-def over_what_sql_made(trial, course, wanted):
-    file, kept = trial.folder / "laid.db", trial.folder / "kept.db"
-    tables.lay(file, wanted)
-    trial.done("a file made by SQL")
-    shutil.copy(file, kept)
-    printed(trial, course, "what SQL made", file)
-    trial.gives("lines over what SQL made", ["lines", "--file", file], course.wanted, course.lines(moment=LAST))
-    trial.see_tables("what SQL made", file, wanted)
-    trial.done("told, and each request again")
-    alter(trial, course, kept)
-    over_http(trial, course, file)
-
-
-def alter(trial, course, file):
-    """One alteration each, far behind in the file: the audit tells its place, and the file stays as it was."""
-    switch, desk = course.switch, course.desk
-    event = len(switch.events) * 9 // 10
-    place, last_place = (bisect.bisect_left(desk.last_events, number) + 1 for number in [event, len(switch.events)])
-    stamp, call = switch.stamp - 50, max(switch.calls)
-    altered = [
-        (place, f"UPDATE events SET moment = moment - 1 WHERE number = {event}"),
-        (place, f"UPDATE events SET call = coalesce(call, 0) + 1, agent = agent + 1 WHERE number = {event}"),
-        (stamp, f"UPDATE kept SET body = replace(body, 'requester', 'Requester') WHERE stamp = {stamp}"),
-        (switch.stamp + 1, f"UPDATE calls SET since = since - 1 WHERE call = {call}"),
-        (switch.stamp + 1, "UPDATE agents SET since = since - 1 WHERE agent = 1999999999"),
-        (last_place, f"DELETE FROM events WHERE number = {len(switch.events)}"),
-        (switch.stamp, f"DELETE FROM kept WHERE stamp = {switch.stamp}"),
-    ]
-    copy = trial.folder / "altered.db"
-    for place, sql in altered:
-        shutil.copy(file, copy)
-        trial.see(sql, tables.change(copy, sql), 1)
-        before = copy.read_bytes()
-        trial.gives(sql, ["audit", "--file", copy], [f"differs at request {place}"], status=3)
-        trial.see(f"{sql}: the file as it was", copy.read_bytes() == before, True)
-    trial.done(f"{len(altered)} alterations, from event {event} on")
-
-
 def check_quick(office):
     """The quick switch answers the day of the other office as the plain one does."""
     quick = Noting()
@@ -554,20 +436,95 @@ def check(course):
         raise SystemExit(f"too seldom: {rare}")
 
 
-def main(program, office):
-    with tempfile.TemporaryDirectory() as folder:
-        trial = Trial(program, folder)
-        course = Course().day()
-        check_quick(office)
+class Limits(OfLines):
+    @classmethod
+    def setUpClass(cls):
+        super().setUpClass()
+        cls.course = course = Course().day()
+        check_quick(cls.options.office)
         check(course)
-        wanted = tables.rows(course.desk)
-        longest = max(len(row[4]) for row in wanted["kept"])
-        trial.done(f"foreseen: {len(course.asked)} requests, {len(course.switch.events)} event reports, {sum(map(len, wanted.values()))} rows, "
-                   f"a kept request of {longest} bytes, an export of {sum(len(line) + 1 for line in export(course))}")
+        cls.wanted = tables.rows(course.desk)
+        longest = max(len(row[4]) for row in cls.wanted["kept"])
+        cls.tell(f"foreseen: {len(course.asked)} requests, {len(course.switch.events)} event reports, {sum(map(len, cls.wanted.values()))} rows, "
+                 f"a kept request of {longest} bytes, an export of {sum(len(line) + 1 for line in export(course))}")
         for what in WANTED:
             print(f"{course.seen[what]:10} {what}")
-        over_memory(trial, course)
-        over_a_file(trial, course, wanted)
-        over_what_sql_made(trial, course, wanted)
-        print(f"{trial.count} tried, {trial.wrong} wrong")
-        return trial.wrong > 0
+
+    def printed(self, what, file):
+        """What the commands print of the file."""
+        switch = self.course.switch
+        self.answers(f"report of {what}", ["report", "--file", file], tables.report(switch).splitlines())
+        self.answers(f"export of {what}", ["export", "--file", file], export(self.course))
+        self.answers(f"audit of {what}", ["audit", "--file", file, "--count"], ["sound", f"executed {switch.stamp}"])
+
+    def try_memory(self):
+        course, extra = self.course, faulty(self.course)
+        given = course.lines() + [line for line, _ in extra] + course.lines(moment=LAST)
+        self.answers("lines over memory, and again", ["lines"], course.wanted + [reply for _, reply in extra] + course.wanted, given)
+        self.tell("answered over memory, and again")
+
+    def try_a_file(self):
+        course, file, plan = self.course, self.folder / "desk.db", self.folder / "plan.csv"
+        write_plan(course, plan)
+        self.answers("import", ["import", "--file", file, "--plan", plan], course.wanted[:course.planned])
+        self.answers("lines over a file", ["lines", "--file", file], course.wanted[course.planned:], course.lines(course.planned))
+        self.expect_tables("the program's file", file, self.wanted)
+        self.printed("the program's file", file)
+        self.answers("import again", ["import", "--file", file, "--plan", plan], course.wanted[:course.planned])
+        self.answers("lines over a file again", ["lines", "--file", file], course.wanted, course.lines(moment=LAST))
+        self.expect_tables("after repeats", file, self.wanted)
+        self.tell(f"answered over a file of {file.stat().st_size} bytes, told and again")
+
+    def try_what_sql_made(self):
+        course, file, kept = self.course, self.folder / "laid.db", self.folder / "kept.db"
+        tables.lay(file, self.wanted)
+        self.tell("a file made by SQL")
+        shutil.copy(file, kept)
+        self.printed("what SQL made", file)
+        self.answers("lines over what SQL made", ["lines", "--file", file], course.wanted, course.lines(moment=LAST))
+        self.expect_tables("what SQL made", file, self.wanted)
+        self.tell("told, and each request again")
+        self.alter(kept)
+        self.over_http(file)
+
+    def over_http(self, file):
+        """Over a file that ends at the greatest moment, which the clock doesn't reach."""
+        course = self.course
+        self.serve("reads", file, reads(course.switch))
+        self.tell("each read over HTTP")
+        self.serve("again", file, posts(course))
+        self.tell("each request again over HTTP")
+        first = len(course.asked)
+        course.work()
+        self.serve("new", file, posts(course, first))
+        self.expect_tables("after HTTP", file, tables.rows(course.desk))
+        self.printed("what HTTP left", file)
+        self.tell(f"{len(course.asked) - first} new requests over HTTP, at the moment {LAST}")
+
+    def alter(self, file):
+        """One alteration each, late in the file: the audit tells its place, and the file stays as it was."""
+        switch, desk = self.course.switch, self.course.desk
+        event = len(switch.events) * 9 // 10
+        place, last_place = (bisect.bisect_left(desk.last_events, number) + 1 for number in [event, len(switch.events)])
+        stamp, call = switch.stamp - 50, max(switch.calls)
+        altered = [
+            (place, f"UPDATE events SET moment = moment - 1 WHERE number = {event}"),
+            (place, f"UPDATE events SET call = coalesce(call, 0) + 1, agent = agent + 1 WHERE number = {event}"),
+            (stamp, f"UPDATE kept SET body = replace(body, 'requester', 'Requester') WHERE stamp = {stamp}"),
+            (switch.stamp + 1, f"UPDATE calls SET since = since - 1 WHERE call = {call}"),
+            (switch.stamp + 1, "UPDATE agents SET since = since - 1 WHERE agent = 1999999999"),
+            (last_place, f"DELETE FROM events WHERE number = {len(switch.events)}"),
+            (switch.stamp, f"DELETE FROM kept WHERE stamp = {switch.stamp}"),
+        ]
+        copy = self.folder / "altered.db"
+        for place, sql in altered:
+            shutil.copy(file, copy)
+            self.expect(sql, tables.change(copy, sql), 1)
+            before = copy.read_bytes()
+            self.answers(sql, ["audit", "--file", copy], [f"differs at request {place}"], status=3)
+            self.see(f"{sql}: the file as it was", copy.read_bytes() == before)
+        self.tell(f"{len(altered)} alterations, from event {event} on")
+
+
+def try_limits(program, office):
+    trial.main([Limits], argparse.Namespace(program=Path(program), office=office), most=20)

@@ -500,7 +500,7 @@ def main():
     elif what == ["seen"]:
         print(*(f"{count:6} {what}" for what, count in sorted(office.seen.items())), sep="\n")
     elif what == ["limits"]:
-        return limits.main(*(rest or [RELEASE]), office)
+        limits.try_limits(*(rest or [RELEASE]), office)
     elif what == ["try"]:
         count = tried(office, *(rest or [RELEASE]))
         print(f"{len(office.given)} requests, {len(office.switch.events)} event reports, {count} lines wrong")

@@ -38,14 +38,14 @@ def by_mojo(description, desk, folder):
     file.write_text(description.text.replace("http://127.0.0.1:8080", f"http://127.0.0.1:{desk.port}"))
     body = {"requester": "mojo", "invoke": 1, "service": "setAgentState", "agent": "7", "requested": "ready"}
     told, status = mojo(file, "sendRequest", "-c", json.dumps(body))
-    again = desk.ask("POST", "/csta", json.dumps(body).encode())
-    if (status, json.loads(told or "null")) != (str(again.status), json.loads(again.reply)):
+    again = desk.post(body)
+    if (status, json.loads(told or "null")) != (str(again.status), again.value):
         yield f"sendRequest: {status} {told}"
     for operation, parameters, target in READS:
         told, status = mojo(file, operation, *(word for parameter in parameters for word in ("-p", parameter)))
         plain = desk.ask("GET", target)
         # it prints no text, so of the report its status alone is compared
-        same = operation == "getQueueReport" or plain.status == 404 or json.loads(told or "null") == json.loads(plain.reply)
+        same = operation == "getQueueReport" or plain.status == 404 or json.loads(told or "null") == plain.value
         if status != str(plain.status) or not same:
             yield f"{operation}: {status} {told[:200]}"
     for operation, words in WRONG:

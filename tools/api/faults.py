@@ -50,10 +50,3 @@ FAULTS = [
     ("a long page of 999", "events: {type: array, maxItems: 1000,", "events: {type: array, maxItems: 999,"),
     ("a page of 999 requests", "requests: {type: array, maxItems: 1000,", "requests: {type: array, maxItems: 999,"),
 ]
-
-
-def planted(text, old, new):
-    """The description with the fault, which changes one place of it."""
-    if text.count(old) != 1:
-        raise SystemExit(f"try-api: a fault is planted at {text.count(old)} places, and not at one: {old!r}")
-    return text.replace(old, new)

@@ -4,16 +4,13 @@ import http.client
 import json
 import random
 import sqlite3
-import subprocess
 import sys
 import tempfile
-from pathlib import Path
 
-from exchange import Desk
 from bodies import edges, mutated
+from exchange import Desk
+from trial import TOP, Requests, compact, growths_in, ran, refusing
 
-TOOLS = Path(__file__).resolve().parents[1]
-OFFICE = TOOLS.parent / "tests/office.py"
 READS = ("/agents/7", "/calls/1", "/devices/100", "/queues/100", "/events", "/monitors/1/events", "/reports/queues", "/snapshot", "/history", "/requests")
 METHODS = ("GET", "HEAD", "POST", "PUT", "DELETE", "OPTIONS", "PATCH")
 BAD = ["/events?after=x", "/events?after=1&after=2", "/events?after=1234567890123456", "/events?after=", "/events?after=-1", "/events?after=007&other=x",
@@ -22,8 +19,8 @@ BAD = ["/events?after=x", "/events?after=1&after=2", "/events?after=123456789012
        "/csta", "/csta?x=1", "/reports/queues?x=1", "/reports", "/monitors/0/events", "/monitors/x/events", "/snapshot?after=x", "/snapshot/", "/Events"]
 
 
-def day_lines():
-    return subprocess.run([sys.executable, OFFICE, "given"], stdout=subprocess.PIPE, text=True, check=True).stdout
+def posted(desk, request):
+    return desk.ask("POST", "/csta", compact(request).encode())
 
 
 class Things:
@@ -91,12 +88,11 @@ def ask_all_pages(desk, route, size):
 
 def fill(desk):
     """A desk whose limits are reached: of calls, of each kind of a plan, and of requests; what was executed before still gets its reply."""
-    requests = [{"service": "arriveCall", "caller": "0309", "called": "100"}, {"service": "addGroup", "device": "190", "name": "G", "ring": 1, "wrap": 1},
-                {"service": "addStation", "device": "290"}, {"service": "addAgent", "agent": "90", "name": "A"}, {"service": "monitorStart", "device": "100"},
-                {"service": "tick"}, {"service": "tick"}]
-    bodies = [json.dumps({"requester": "full", "invoke": invoke, **request}).encode() for invoke, request in enumerate(requests, 1)]
-    for body in [*bodies, bodies[0]]:
-        yield desk.ask("POST", "/csta", body)
+    request = Requests()
+    requests = [request("arriveCall", "full", caller="0309", called="100"), request("addGroup", "full", device="190", name="G", ring=1, wrap=1), request("addStation", "full", device="290"),
+                request("addAgent", "full", agent="90", name="A"), request("monitorStart", "full", device="100"), request("tick", "full"), request("tick", "full")]
+    for one in [*requests, requests[0]]:
+        yield posted(desk, one)
 
 
 def narrow(file):
@@ -107,9 +103,12 @@ def narrow(file):
         book.execute("UPDATE meta SET max_requests = last_stamp + 6, " + ", ".join(f"max_{name} = {count}" for name, count in counts.items()))
 
 
+TICK = Requests()("tick", "none")
+
+
 def ask_failing(desk):
-    """A desk whose store has no room: the first request that it has to keep is answered storeFault, and all behind it."""
-    yield desk.ask("POST", "/csta", json.dumps({"requester": "none", "invoke": 1, "service": "tick"}).encode())
+    """A desk whose store has no room: the first request that it has to keep is answered storeFault, and all from then on."""
+    yield posted(desk, TICK)
     for target in READS:
         yield desk.ask("GET", target)
         yield desk.ask("HEAD", target)
@@ -117,19 +116,17 @@ def ask_failing(desk):
 
 def ask_without_memory(program, folder):
     """A request that memory was refused to: of a desk's growths the last one that is answered by noMemory."""
-    library = f"{folder}/refuse.so"
-    subprocess.run(["gcc", "-shared", "-fPIC", "-o", library, TOOLS / "refuse.c", "-ldl"], check=True)
-    body = json.dumps({"requester": "none", "invoke": 1, "service": "tick"}).encode()
+    variables = refusing(folder)
 
     def serve(name, refused):
-        return Desk(program, f"{folder}/{name}.db", connections=1, preloaded={"LD_PRELOAD": library, "REFUSE": str(refused)})
+        return Desk(program, f"{folder}/{name}.db", connections=1, variables=variables(refused))
 
     with serve("counted", 0) as desk:
-        desk.ask("POST", "/csta", body)
-        growths = int(desk.server.communicate()[1].split()[-1])
+        posted(desk, TICK)
+        growths = growths_in(desk.ends().faults)
     for refused in range(growths, max(growths - 100, 0), -1):
         with contextlib.suppress(http.client.HTTPException), serve(f"refused-{refused}", refused) as desk:
-            asked = desk.ask("POST", "/csta", body)
+            asked = posted(desk, TICK)
             if asked.status == 503:
                 yield asked
                 return
@@ -137,19 +134,19 @@ def ask_without_memory(program, folder):
 
 def exchanges(program, description, faults):
     """All of it, in parts: a name, and its exchanges."""
-    lines = day_lines()
+    lines = ran(sys.executable, TOP / "tests/office.py", "given").output
     bodies = [line.partition(" ")[2].encode() for line in lines.splitlines()]
     things = Things()
     with tempfile.TemporaryDirectory() as folder:
         with Desk(program, f"{folder}/new.db") as desk:
-            yield "examples", (desk.ask("POST", "/csta", json.dumps(it["value"]).encode(), example=name) for name, it in description.examples().items())
+            yield "examples", (desk.ask("POST", "/csta", compact(it["value"]).encode(), example=name) for name, it in description.examples().items())
             yield "a day over HTTP, with reads", ask_day(desk, bodies, things)
             yield "members at their edges", (desk.ask("POST", "/csta", body) for body in edges(description))
             yield "mutated requests", (desk.ask("POST", "/csta", body) for body in mutated(bodies, faults))
             yield "bad paths, methods and heads", ask_heads(desk)
             yield "all requests of these", ask_all_pages(desk, "/requests", 1000)
         # over HTTP the moment is the clock's, so that no tick finds anything overdue
-        subprocess.run([program, "lines", "--file", f"{folder}/day.db"], input=lines, text=True, stdout=subprocess.DEVNULL, check=True)
+        ran(program, "lines", "--file", f"{folder}/day.db", given=lines)
         with Desk(program, f"{folder}/day.db", room=4096, connections=1000) as desk:
             yield "a store without room", ask_failing(desk)
         with Desk(program, f"{folder}/day.db") as desk:

@@ -11,7 +11,6 @@ import os
 import shutil
 import signal
 import sqlite3
-import subprocess
 import sys
 import tempfile
 import threading
@@ -20,11 +19,12 @@ import types
 import zoneinfo
 from pathlib import Path
 
-TOP = Path(__file__).resolve().parents[2]
+from trial import TOP, Desk, Plan, Requests, ran
+
 sys.path.insert(0, str(TOP / "tests"))
 import office  # noqa: E402
 import story  # noqa: E402
-from exchange import Desk  # noqa: E402
+from ground import Records  # noqa: E402
 from reckoning import LIMIT, Reckoning, stretched  # noqa: E402
 
 TABLES = {"calls": ([], story.CALLS, "call_lines"), "legs": (["--legs"], story.LEGS, "leg_lines"), "agents": (["--agents"], story.AGENTS, "day_lines"),
@@ -46,101 +46,62 @@ class Random(office.Office):
         """Of so short a day nothing has to come up."""
 
 
-class Calls:
-    """The trial; `trial` has the program, the scripts, a folder, and what expects; `ran` runs."""
+# the files of the days are made once, also where faults are planted
+HOME = tempfile.TemporaryDirectory()
 
-    def __init__(self, trial, ran):
-        self.trial, self.ran, self.expect, self.expect_lines, self.folder = trial, ran, trial.expect, trial.expect_lines, trial.folder
-        self.days, self.quarters, self.nothing = [], 0, self.folder / "nothing.json"
-        self.nothing.write_text("{}")
+
+class Calls(Records):
+    days, quarters, story = [], 0, Path(HOME.name) / "story.db"
+
+    @classmethod
+    def setUpClass(cls):
+        super().setUpClass()
+        cls.nothing = cls.folder / "nothing.json"
+        cls.nothing.write_text("{}")
+        if not cls.days:
+            cls.make()
 
     def script(self, *words, zone="UTC"):
         """What it prints; of this machine's office it knows nothing."""
-        return self.ran([self.trial.calls, *words, *(() if "--office" in words else ("--office", self.nothing))], zone=zone)
+        return self.ran([self.scripts["acd-calls"], *words, *(() if "--office" in words else ("--office", self.nothing))], zone=zone)
 
-    # what is looked at
-
-    def make(self):
-        """The files, once: of the story, and of each day with what has to come of it."""
-        self.story = self.folder / "story.db"
-        self.ran([self.trial.program, "lines", "--file", self.story], story.LINES)
+    @classmethod
+    def make(cls):
+        """The files of the story, and of each day with what has to come of it."""
+        cls.feed(cls.story, story.LINES)
         whole = office.Office(office.DAY).day().given
         for begin, factor, zone in WHOLE:
-            self.make_day(whole, begin, factor, zone)
+            cls.make_day(whole, begin, factor, zone)
         for seed, zone in enumerate(ZONES):
-            self.make_day(Random(SMALL._replace(seed=seed)).day().given, 1792785000 + 86400 * 37 * seed + 5000 * seed, 30 + 25 * seed, zone)
+            cls.make_day(Random(SMALL._replace(seed=seed)).day().given, 1792785000 + 86400 * 37 * seed + 5000 * seed, 30 + 25 * seed, zone)
         os.environ["TZ"] = "UTC"
         time.tzset()
 
-    def make_day(self, given, begin, factor, zone):
+    @classmethod
+    def make_day(cls, given, begin, factor, zone):
         os.environ["TZ"] = zone
         time.tzset()
-        file, lines = self.folder / f"day{len(self.days)}.db", list(stretched(given, begin, factor))
+        file, lines = Path(HOME.name) / f"day{len(cls.days)}.db", list(stretched(given, begin, factor))
         reckoned = Reckoning(lines)
-        answers = self.ran([self.trial.program, "lines", "--file", file], "".join(f"{line}\n" for line in lines))[1]
-        self.expect_lines(f"answers of {file.name}", answers.splitlines(), reckoned.answers)
-        self.days.append((file, zone, {name: list(getattr(reckoned, lines_of)()) for name, (_, _, lines_of) in TABLES.items()}, reckoned.switch.moment))
+        cls.expect_lines(f"answers of {file.name}", cls.feed(file, "".join(f"{line}\n" for line in lines)), reckoned.answers)
+        cls.days.append((file, zone, {name: list(getattr(reckoned, lines_of)()) for name, (_, _, lines_of) in TABLES.items()}, reckoned.switch.moment))
 
     def longest(self):
         """What has the most days."""
         return max(self.days, key=lambda day: len({line[:10] for line in day[2]["agents"]}))
+
+    def rows(self, file, zone, *words):
+        return list(csv.DictReader(io.StringIO(self.script("--file", file, *words, zone=zone)[1])))
+
+    @staticmethod
+    def moment(text):
+        return int(datetime.datetime.strptime(f"{text} +0000", "%Y-%m-%d %H:%M:%S %z").timestamp())
 
     # the tables
 
     def try_story(self):
         for name, (words, wanted, _) in TABLES.items():
             self.expect(f"the story's {name}", self.script("--file", self.story, *words), (0, wanted, ""))
-
-    def try_days(self):
-        for file, zone, tables, _ in self.days:
-            for name, (words, _, _) in TABLES.items():
-                status, said, fault = self.script("--file", file, *words, zone=zone)
-                self.expect(f"status of {file.name}'s {name}", (status, fault), (0, ""))
-                self.expect_lines(f"{file.name}'s {name}", said.splitlines(), tables[name])
-
-    def try_sums(self):
-        """The legs of who called from outside make the call; the quarters make the desk's own report."""
-        for file, zone, tables, _ in self.days:
-            calls, legs, groups = (self.rows(file, zone, *TABLES[name][0]) for name in ("calls", "legs", "groups"))
-            self.expect_sums(f"{file.name}: the groups' waits", calls, legs, "waited", lambda leg: int(leg["waited"]) + int(leg["rang"]) if leg["group"] else 0)
-            for column in ("talked", "held", "wrapped_up"):
-                outside = [call for call in calls if len(call["caller"]) == 9]
-                self.expect_sums(f"{file.name}: {column}", outside, legs, column, lambda leg: int(leg[column]))
-            report = [line.split() for line in self.ran([self.trial.program, "report", "--file", file])[1].splitlines()[1:]]
-            has = {group: [0] * 4 for group, *_ in report}
-            for row in groups:
-                has[row["group"]] = [one + int(row[name]) for one, name in zip(has[row["group"]], ("entered", "answered", "abandoned", "moved"))]
-            self.expect(f"{file.name}: the report", has, {group: list(map(int, figures[2:6])) for group, *figures in report})
-
-    def expect_sums(self, what, calls, legs, column, part):
-        sums = {}
-        for leg in legs:
-            sums[leg["call"]] = sums.get(leg["call"], 0) + part(leg)
-        self.expect(what, [(call["number"], sums[call["number"]]) for call in calls], [(call["number"], int(call[column])) for call in calls])
-
-    def rows(self, file, zone, *words):
-        return list(csv.DictReader(io.StringIO(self.script("--file", file, *words, zone=zone)[1])))
-
-    def try_page(self):
-        """The quarters are those of the board's page of the day, over each day: 0 differ."""
-        for file, zone, _, moment in self.days:
-            events = csv.DictReader(io.StringIO(self.ran([self.trial.program, "export", "--file", file])[1]))
-            reports = "".join(json.dumps({name: int(value) if name in EVENTS else value for name, value in event.items() if value}) + "\n" for event in events)
-            status, said, fault = self.ran(["node", TOP / "tools/records/page.mjs", moment, LIMIT], reports)
-            self.expect(f"the page over {file.name}", (status, fault), (0, ""))
-            steps = list(map(json.loads, said.splitlines()))
-            # a page that knows of no handling doesn't tell it
-            told = [name for name in PAGE if name in steps[0]]
-            page = {(step["begin"], step["group"]): {name: step[name] for name in told} for step in steps}
-            has = {(self.moment(row["begin"]), row["group"]): {name: int(row[column]) if row[column] else None for name, column in PAGE.items() if name in told}
-                   for row in self.rows(file, "UTC", "--groups")}
-            differ = {key: (has.get(key), page.get(key)) for key in has.keys() | page.keys() if has.get(key, {}) != page.get(key) and any({**has.get(key, {}), **page.get(key, {})}.values())}
-            self.expect(f"{file.name}: quarters that differ from the page's", differ, {})
-            self.quarters += len(page)
-
-    @staticmethod
-    def moment(text):
-        return int(datetime.datetime.strptime(f"{text} +0000", "%Y-%m-%d %H:%M:%S %z").timestamp())
 
     # what is chosen, and how it is written
 
@@ -172,8 +133,8 @@ class Calls:
         self.expect("the desk's own", self.script("--file", self.story, "--names", "--legs")[1].splitlines()[2].endswith(",by caller,,Ana,Billing"), True)
         quarters = self.script(*words, "--groups")[1].splitlines()
         self.expect("the group's limit", [line.split(",")[6:10] for line in quarters[1:]], [["60", "1", "0", "100"], ["60", "1", "0", "100"]])
-        told = subprocess.run([self.trial.calls, *words, "--agents"], capture_output=True, text=True, env={name: value for name, value in os.environ.items() if name != "TZ"})
-        self.expect("the office's zone", told.stdout.splitlines()[1].split(",")[:4], ["1970-01-01", "7", "Ana", "270"])
+        told = ran(self.scripts["acd-calls"], *words, "--agents", env={name: value for name, value in os.environ.items() if name != "TZ"}).output
+        self.expect("the office's zone", told.splitlines()[1].split(",")[:4], ["1970-01-01", "7", "Ana", "270"])
         for text, said in (("[]", "is no JSON object"), ("{", "is no JSON object"), ('{"zone":"Mars/Crater"}', "there is no zone Mars/Crater"), ('{"zone":"../../etc"}', "there is no zone")):
             status, has, fault = self.script("--file", self.story, "--office", self.written(text))
             self.expect(f"an office that says {text}", (status, has, said in fault, fault.count("\n")), (0, story.CALLS, True, 1))
@@ -186,7 +147,7 @@ class Calls:
             file = self.written(json.dumps({"limits": {"limit": limit}}))
             lines = self.script("--file", self.story, "--office", file, "--groups")[1].splitlines()[1:]
             self.expect(f"the limit {limit}", [list(map(int, line.split(",")[7:10])) for line in lines], [first, second])
-        quarter = self.module(self.trial.calls.with_name("acd_quarters.py")).Quarter
+        quarter = self.module(self.scripts["acd-calls"].with_name("acd_quarters.py")).Quarter
         # the fourth as the page's Math.round has it, of the same number
         for in_time, answered, late, level in ((2, 3, 0, 67), (1, 8, 0, 13), (1, 3, 0, 33), (57, 150, 50, 28), (0, 0, 4, 0), (0, 0, 0, None)):
             self.expect(f"{in_time} of {answered} and {late}", quarter(answered=answered, in_time=in_time, late=late).level, level)
@@ -205,12 +166,10 @@ class Calls:
 
     def try_excel(self):
         """' stands before what a spreadsheet would change, and before nothing else; taken off, all is as without."""
-        requests = [{"service": "addGroup", "device": device, "name": name, "ring": 20, "wrap": 30} for device, name in (("0100", "=1+1"), ("100", "'quoted"), ("7", "1/2"))]
-        requests += [{"service": "addStation", "device": "201"}, {"service": "addAgent", "agent": "007", "name": "-Ana"}, {"service": "addAgent", "agent": "8", "name": "Ben 8"}]
-        requests += [{"service": "setAgentState", "agent": "007", "requested": "loggedOn", "device": "201", "groups": ["7", "0100"]}]
-        requests += [{"service": "arriveCall", "caller": caller, "called": called} for caller, called in (("037676944", "0100"), ("491701234567", "100"), ("49170123456", "7"), ("0", "201"))]
-        file = self.folder / "excel.db"
-        self.ran([self.trial.program, "lines", "--file", file], "".join(f"5 {json.dumps({'requester': 'here', 'invoke': invoke, **request})}\n" for invoke, request in enumerate(requests, 1)))
+        request, file = Requests(), self.folder / "excel.db"
+        plan = Plan([("0100", "=1+1"), ("100", "'quoted"), ("7", "1/2")], ["201"], [("007", "-Ana"), ("8", "Ben 8")])
+        called = (("037676944", "0100"), ("491701234567", "100"), ("49170123456", "7"), ("0", "201"))
+        self.feed(file, [*request.plan(plan), request.log_on("007", "201", "7", "0100"), *(request.arrive(*each) for each in called)])
         safe = {name: self.script("--file", file, "--names", "--excel", *words)[1] for name, (words, _, _) in TABLES.items()}
         self.expect("callers, called and names", [[row[column] for column in ("caller", "called", "groups", "group_names")] for row in csv.DictReader(io.StringIO(safe["calls"][1:]))],
                     [["'037676944", "'0100", "'0100", "'=1+1"], ["'491701234567", "100", "100", "''quoted"], ["49170123456", "7", "7", "'1/2"], ["0", "201", "", ""]])
@@ -271,9 +230,9 @@ class Calls:
             self.expect_lines(f"{name}", has.get(name, "").splitlines(), wanted[name].splitlines())
         self.expect("who reads them", {oct(file.stat().st_mode & 0o777) for file in folder.rglob("*.csv")}, {"0o640"})
         self.expect("again", self.write(folder, copies, zone)[:2], (0, "0 files written\n"))
-        self.try_again(folder, copies, zone, has, moment)
+        self.again(folder, copies, zone, has, moment)
 
-    def try_again(self, folder, copies, zone, has, moment):
+    def again(self, folder, copies, zone, has, moment):
         """A file of the last days is mended, and one of before isn't; what a run that was killed left is gone."""
         first = sorted(name for name in has if name.startswith("records/"))[0]
         (folder / first).write_text("number\n")
@@ -297,13 +256,13 @@ class Calls:
         for old in self.folder.glob("live.db*"):
             old.unlink()
         shutil.rmtree(folder, ignore_errors=True)
-        self.ran([self.trial.program, "lines", "--file", file], "".join(f"{line}\n" for line in lines))
+        self.feed(file, "".join(f"{line}\n" for line in lines))
         self.write(folder, self.copy_of(file, 86400 + 3600), "UTC")
         has = self.files(folder)
         self.expect("live", [row.split(",")[12] for row in has["records/1970-01-01.csv"].splitlines()[1:]], ["live", "live"])
         self.expect("the day is counted to its end", has["agents/1970-01-01.csv"].splitlines()[1].split(",")[:6], ["1970-01-01", "7", "Ana", "90", "15", "75"])
         more = [line for line in story.LINES.splitlines() if 86350 < int(line.split()[0]) <= 86360]
-        self.ran([self.trial.program, "lines", "--file", file], "".join(f"{line}\n" for line in more))
+        self.feed(file, "".join(f"{line}\n" for line in more))
         self.write(folder, self.copy_of(file, 86400 + 7200), "UTC")
         self.expect("over", [row.split(",")[12] for row in self.files(folder)["records/1970-01-01.csv"].splitlines()[1:]], ["by caller", "live"])
 
@@ -330,6 +289,114 @@ class Calls:
                 own = [row for row in whole if {"100", "0100"} & set(row[column].removeprefix("'").split())]
                 self.expect(f"a lead's {kind} of {date}", list(csv.DictReader(io.StringIO(told.decode("utf-8-sig")))) == own, True)
 
+    # files that are no copies
+
+    def try_copies(self):
+        """A file that is open is refused; a copy of it with its log is read, and stays as it is."""
+        file, copy = self.folder / "open.db", self.folder / "copy"
+        for old in (file, Path(f"{file}-wal")):
+            old.unlink(missing_ok=True)
+        shutil.rmtree(copy, ignore_errors=True)
+        shutil.copy(self.story, file)
+        copy.mkdir()
+        with Desk(self.program, file) as desk:
+            request = Requests()
+            for number in range(1, 4):
+                desk.post(request("arriveCall", "late", caller=f"099{number}", called="202"))
+            self.expect("a file that is open", self.script("--file", file), (1, "", f"acd-calls: {file} is open elsewhere: take a copy of it, by acd-copy, or add --live\n"))
+            desk.process.send_signal(signal.SIGSTOP)
+            for part in (file, Path(f"{file}-wal")):
+                shutil.copy(part, copy)
+        before = {path.name: path.read_bytes() for path in copy.iterdir()}
+        status, said, fault = self.script("--file", copy / "open.db")
+        self.expect("the callers of a copy with its log", (status, [line.split(",")[1] for line in said.splitlines()[9:]], fault), (0, ["0991", "0992", "0993"], ""))
+        self.expect("a copy stays as it is", {path.name: path.read_bytes() for path in copy.iterdir()} == before, True)
+
+    @contextlib.contextmanager
+    def serving(self):
+        """A desk that goes on over the story: its file, and what has it take so many calls more."""
+        file = self.folder / "serving.db"
+        for old in self.folder.glob("serving.db*"):
+            old.unlink()
+        shutil.copy(self.story, file)
+        with Desk(self.program, file) as desk:
+            numbers, request = itertools.count(1), Requests()
+
+            def call(times):
+                for number in itertools.islice(numbers, times):
+                    caller = f"08{number}"
+                    desk.post(request("arriveCall", "live", caller=caller, called="202"))
+                    desk.post(request("clearConnection", "end", call=8 + number, device=caller))
+                return number
+
+            yield file, call
+
+    def try_live(self):
+        """Of a desk that goes on: all that was answered before, in its order, each time."""
+        with self.serving() as (file, call):
+            sent, ends = [0], threading.Event()
+
+            def go_on():
+                while not ends.is_set():
+                    sent[0] = call(10)
+
+            caller = threading.Thread(target=go_on)
+            caller.start()
+            try:
+                for _ in range(10):
+                    least = sent[0]
+                    status, said, fault = self.script("--file", file, "--live")
+                    has = [line.split(",")[1] for line in said.splitlines()[9:]]
+                    self.expect("a live look", (status, fault, has == [f"08{invoke}" for invoke in range(1, len(has) + 1)], len(has) >= least), (0, "", True, True))
+            finally:
+                ends.set()
+                caller.join()
+        self.expect("of a file that nobody has open", self.script("--file", self.story, "--live"), (0, story.CALLS, ""))
+
+    def try_live_anew(self):
+        """Where the log begins anew while file and log are copied, they are copied again; where it does so each time, that is a fault, and no mixture."""
+        book = self.module(self.scripts["acd-calls"].with_name("acd_book.py"))
+        copyfile, times = shutil.copyfile, []
+
+        def slow(part, to):
+            copyfile(part, to)
+            if part == file and (len(times) < most):
+                times.append(call(160))
+
+        book.shutil, book.TRIES = types.SimpleNamespace(copyfile=slow), 3
+        with self.serving() as (file, call):
+            call(20)
+            for most, wanted in ((1, "sound"), (9, "faster than it can be copied")):
+                folder = Path(tempfile.mkdtemp(dir=self.folder))
+                try:
+                    told = self.ran([self.program, "audit", "--file", book.copied_live(file, Path(f"{file}-wal"), folder)])
+                except book.Fault as fault:
+                    told = str(fault)
+                self.expect(f"a log that begins anew {most} times", wanted in str(told), True)
+
+    def try_faulty_files(self):
+        self.expect("no file", self.script("--file", self.folder / "none"), (1, "", f"acd-calls: there is no file {self.folder / 'none'}\n"))
+        text, other = self.folder / "text", self.folder / "other.db"
+        text.write_text("no desk\n" * 100)
+        shutil.copy(self.story, other)
+        with contextlib.closing(sqlite3.connect(other)) as book, book:
+            book.execute("UPDATE meta SET version = 7")
+        self.expect("a text", self.script("--file", text), (1, "", "acd-calls: file is not a database\n"))
+        self.expect("another version", self.script("--file", other), (1, "", "acd-calls: wrong version 7\n"))
+        with contextlib.closing(sqlite3.connect(other)) as book, book:
+            book.execute("UPDATE meta SET version = 2")
+            book.execute("DELETE FROM kept WHERE request LIKE '%arriveCall%'")
+        self.expect("a file without its beginning", self.script("--file", other), (1, f"{story.CALLS.splitlines()[0]}\n", "acd-calls: no kept request tells of call 1: the beginning of this file lies elsewhere\n"))
+
+    # the days
+
+    def try_days(self):
+        for file, zone, tables, _ in self.days:
+            for name, (words, _, _) in TABLES.items():
+                status, said, fault = self.script("--file", file, *words, zone=zone)
+                self.expect(f"status of {file.name}'s {name}", (status, fault), (0, ""))
+                self.expect_lines(f"{file.name}'s {name}", said.splitlines(), tables[name])
+
     # a file that was carried over
 
     def carried(self, file):
@@ -342,7 +409,7 @@ class Calls:
         ends = [cuts[1] + 30, cuts[2] + 30, len(kept)]
         for number, (cut, end) in enumerate(zip(cuts, ends)):
             made.append(folder / f"part{number}.db")
-            self.ran([self.trial.program, "lines", "--file", made[-1]], "".join(f"{moment} {request}\n" for moment, request in kept[:end]))
+            self.feed(made[-1], "".join(f"{moment} {request}\n" for moment, request in kept[:end]))
             with contextlib.closing(sqlite3.connect(made[-1])) as book:
                 book.execute("DELETE FROM kept WHERE stamp <= ?", (cut,))
                 book.execute("DELETE FROM events WHERE moment < ?", (kept[cut][0] if cut else 0,))
@@ -357,11 +424,11 @@ class Calls:
             for name, (more, _, _) in TABLES.items():
                 status, said, fault = self.script(*words, *more, zone=zone)
                 self.expect_lines(f"{file.name} and its archives: {name} {status} {fault}", said.splitlines(), tables[name])
-            self.try_alone(file.name, last, zone, tables, begin)
+            self.alone(file.name, last, zone, tables, begin)
         self.expect("in another order", self.script("--file", last, "--archive", archives[1], "--archive", archives[0])[::2][0], 1)
         self.expect("one is missing", self.script("--file", last, "--archive", archives[0])[::2][0], 1)
 
-    def try_alone(self, what, file, zone, tables, begin):
+    def alone(self, what, file, zone, tables, begin):
         with contextlib.closing(sqlite3.connect(file)) as book:
             first = min(json.loads(body)["result"]["call"] for request, body in book.execute("SELECT request, body FROM kept WHERE status = 200")
                         if json.loads(request)["service"] in ("arriveCall", "makeCall"))
@@ -403,120 +470,41 @@ class Calls:
         words = [word for archive in archives for word in ("--archive", archive)]
         self.expect("with the archives", (self.script("--copies", copies, "--days", folder, *words, zone=zone)[0], self.files(folder) == whole), (0, True))
 
-    # files that are no copies
+    # the page, and the report
 
-    def try_copies(self):
-        """A file that is open is refused; a copy of it with its log is read, and stays as it is."""
-        file, copy = self.folder / "open.db", self.folder / "copy"
-        for old in (file, Path(f"{file}-wal")):
-            old.unlink(missing_ok=True)
-        shutil.rmtree(copy, ignore_errors=True)
-        shutil.copy(self.story, file)
-        copy.mkdir()
-        with Desk(self.trial.program, file) as desk:
-            for invoke in range(1, 4):
-                desk.ask("POST", "/csta", json.dumps({"requester": "late", "invoke": invoke, "service": "arriveCall", "caller": f"099{invoke}", "called": "202"}).encode())
-            self.expect("a file that is open", self.script("--file", file), (1, "", f"acd-calls: {file} is open elsewhere: take a copy of it, by acd-copy, or add --live\n"))
-            desk.server.send_signal(signal.SIGSTOP)
-            for part in (file, Path(f"{file}-wal")):
-                shutil.copy(part, copy)
-        before = {path.name: path.read_bytes() for path in copy.iterdir()}
-        status, said, fault = self.script("--file", copy / "open.db")
-        self.expect("the callers of a copy with its log", (status, [line.split(",")[1] for line in said.splitlines()[9:]], fault), (0, ["0991", "0992", "0993"], ""))
-        self.expect("a copy stays as it is", {path.name: path.read_bytes() for path in copy.iterdir()} == before, True)
+    def try_page(self):
+        """The quarters are those of the board's page of the day, over each day: 0 differ."""
+        for file, zone, _, moment in self.days:
+            events = csv.DictReader(io.StringIO(self.ran([self.program, "export", "--file", file])[1]))
+            reports = "".join(json.dumps({name: int(value) if name in EVENTS else value for name, value in event.items() if value}) + "\n" for event in events)
+            status, said, fault = self.ran(["node", TOP / "tools/records/page.mjs", moment, LIMIT], reports)
+            self.expect(f"the page over {file.name}", (status, fault), (0, ""))
+            steps = list(map(json.loads, said.splitlines()))
+            # a page that knows of no handling doesn't tell it
+            told = [name for name in PAGE if name in steps[0]]
+            page = {(step["begin"], step["group"]): {name: step[name] for name in told} for step in steps}
+            has = {(self.moment(row["begin"]), row["group"]): {name: int(row[column]) if row[column] else None for name, column in PAGE.items() if name in told}
+                   for row in self.rows(file, "UTC", "--groups")}
+            differ = {key: (has.get(key), page.get(key)) for key in has.keys() | page.keys() if has.get(key, {}) != page.get(key) and any({**has.get(key, {}), **page.get(key, {})}.values())}
+            self.expect(f"{file.name}: quarters that differ from the page's", differ, {})
+            Calls.quarters += len(page)
 
-    @contextlib.contextmanager
-    def serving(self):
-        """A desk that goes on over the story: its file, and what has it take so many calls more."""
-        file = self.folder / "serving.db"
-        for old in self.folder.glob("serving.db*"):
-            old.unlink()
-        shutil.copy(self.story, file)
-        with Desk(self.trial.program, file) as desk:
-            invokes = itertools.count(1)
+    def try_sums(self):
+        """The legs of who called from outside make the call; the quarters make the desk's own report."""
+        for file, zone, tables, _ in self.days:
+            calls, legs, groups = (self.rows(file, zone, *TABLES[name][0]) for name in ("calls", "legs", "groups"))
+            self.expect_sums(f"{file.name}: the groups' waits", calls, legs, "waited", lambda leg: int(leg["waited"]) + int(leg["rang"]) if leg["group"] else 0)
+            for column in ("talked", "held", "wrapped_up"):
+                outside = [call for call in calls if len(call["caller"]) == 9]
+                self.expect_sums(f"{file.name}: {column}", outside, legs, column, lambda leg: int(leg[column]))
+            report = [line.split() for line in self.ran([self.program, "report", "--file", file])[1].splitlines()[1:]]
+            has = {group: [0] * 4 for group, *_ in report}
+            for row in groups:
+                has[row["group"]] = [one + int(row[name]) for one, name in zip(has[row["group"]], ("entered", "answered", "abandoned", "moved"))]
+            self.expect(f"{file.name}: the report", has, {group: list(map(int, figures[2:6])) for group, *figures in report})
 
-            def call(times):
-                for invoke in itertools.islice(invokes, times):
-                    caller = f"08{invoke}"
-                    for requester, members in (("live", {"service": "arriveCall", "caller": caller, "called": "202"}), ("end", {"service": "clearConnection", "call": 8 + invoke, "device": caller})):
-                        desk.ask("POST", "/csta", json.dumps({"requester": requester, "invoke": invoke, **members}).encode())
-                return invoke
-
-            yield file, call
-
-    def try_live(self):
-        """Of a desk that goes on: all that was answered before, in its order, each time."""
-        with self.serving() as (file, call):
-            sent, ends = [0], threading.Event()
-
-            def go_on():
-                while not ends.is_set():
-                    sent[0] = call(10)
-
-            caller = threading.Thread(target=go_on)
-            caller.start()
-            try:
-                for _ in range(10):
-                    least = sent[0]
-                    status, said, fault = self.script("--file", file, "--live")
-                    has = [line.split(",")[1] for line in said.splitlines()[9:]]
-                    self.expect("a live look", (status, fault, has == [f"08{invoke}" for invoke in range(1, len(has) + 1)], len(has) >= least), (0, "", True, True))
-            finally:
-                ends.set()
-                caller.join()
-        self.expect("of a file that nobody has open", self.script("--file", self.story, "--live"), (0, story.CALLS, ""))
-
-    def try_live_anew(self):
-        """Where the log begins anew while file and log are copied, they are copied again; where it does so each time, that is a fault, and no mixture."""
-        book = self.module(self.trial.calls.with_name("acd_book.py"))
-        copyfile, times = shutil.copyfile, []
-
-        def slow(part, to):
-            copyfile(part, to)
-            if part == file and (len(times) < most):
-                times.append(call(160))
-
-        book.shutil, book.TRIES = types.SimpleNamespace(copyfile=slow), 3
-        with self.serving() as (file, call):
-            call(20)
-            for most, wanted in ((1, "sound"), (9, "faster than it can be copied")):
-                folder = Path(tempfile.mkdtemp(dir=self.folder))
-                try:
-                    told = self.ran([self.trial.program, "audit", "--file", book.copied_live(file, Path(f"{file}-wal"), folder)])
-                except book.Fault as fault:
-                    told = str(fault)
-                self.expect(f"a log that begins anew {most} times", wanted in str(told), True)
-
-    def try_faulty_files(self):
-        self.expect("no file", self.script("--file", self.folder / "none"), (1, "", f"acd-calls: there is no file {self.folder / 'none'}\n"))
-        text, other = self.folder / "text", self.folder / "other.db"
-        text.write_text("no desk\n" * 100)
-        shutil.copy(self.story, other)
-        with contextlib.closing(sqlite3.connect(other)) as book, book:
-            book.execute("UPDATE meta SET version = 7")
-        self.expect("a text", self.script("--file", text), (1, "", "acd-calls: file is not a database\n"))
-        self.expect("another version", self.script("--file", other), (1, "", "acd-calls: wrong version 7\n"))
-        with contextlib.closing(sqlite3.connect(other)) as book, book:
-            book.execute("UPDATE meta SET version = 2")
-            book.execute("DELETE FROM kept WHERE request LIKE '%arriveCall%'")
-        self.expect("a file without its beginning", self.script("--file", other), (1, f"{story.CALLS.splitlines()[0]}\n", "acd-calls: no kept request tells of call 1: the beginning of this file lies elsewhere\n"))
-
-    def all(self):
-        self.try_story()
-        self.try_choice()
-        self.try_names()
-        self.try_limits()
-        self.try_excel()
-        self.try_files()
-        self.try_live_day()
-        self.try_copies_folder()
-        self.try_gate()
-        self.try_copies()
-        self.try_live()
-        self.try_live_anew()
-        self.try_faulty_files()
-        self.try_days()
-        self.try_archives()
-        self.try_days_of_a_part()
-        self.try_page()
-        self.try_sums()
+    def expect_sums(self, what, calls, legs, column, part):
+        sums = {}
+        for leg in legs:
+            sums[leg["call"]] = sums.get(leg["call"], 0) + part(leg)
+        self.expect(what, [(call["number"], sums[call["number"]]) for call in calls], [(call["number"], int(call[column])) for call in calls])

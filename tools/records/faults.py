@@ -123,9 +123,3 @@ REACH = [
 # of which script, in which file
 ALL = [("calls", "acd-calls", CALLS), ("calls", "acd_book.py", BOOK), ("calls", "acd_records.py", RECORDS), ("calls", "acd_quarters.py", QUARTERS), ("calls", "acd_record_days.py", DAYS),
        ("calls", "acd_sheets.py", SHEETS), ("calls", "acd_office.py", OFFICE), ("plan", "acd-plan", PLAN), ("plan", "acd_reach.py", REACH)]
-
-
-def planted(text, old, new):
-    if text.count(old) != 1:
-        raise SystemExit(f"try-records: a fault is planted at {text.count(old)} places, and not at one: {old!r}")
-    return text.replace(old, new)

@@ -2,12 +2,12 @@
 import json
 import os
 import shutil
-import subprocess
 import threading
 from http.server import BaseHTTPRequestHandler, ThreadingHTTPServer
 from pathlib import Path
 
-TOP = Path(__file__).resolve().parents[2]
+from trial import TOP, Trial, ran
+
 CLOCK = "clock-abcdefghijkl"
 HOUR, STEP, BEGIN = 3600, 600, 1800000000
 # in the place of the module that looks for what was moved: it says what stands in a file, and writes down when it is asked, and for what
@@ -50,12 +50,8 @@ def words_of_all():
     return found
 
 
-class Found(Exception):
-    """What goes otherwise, where a fault is planted."""
-
-
-class Desk(ThreadingHTTPServer):
-    """Answers each read with the same snapshot and status, and each tick by a function of it and of the place that it came at."""
+class Played(ThreadingHTTPServer):
+    """A desk that is played: it answers each read with the same snapshot and status, and each tick by a function of it and of the place that it came at."""
 
     def __init__(self, answer=lambda request, _: granted(request), snapshot=RINGS, status=200):
         super().__init__(("127.0.0.1", 0), Handler)
@@ -95,26 +91,18 @@ class Handler(BaseHTTPRequestHandler):
         self.reply(*self.server.take(json.loads(self.rfile.read(int(self.headers["Content-Length"])))))
 
 
-class Ground:
-    """A copy of acd-tick, with what it stands on beside it."""
+class Ground(Trial):
+    """A copy of acd-tick, with what it stands on beside it. `sources` are the two, of which one may have a fault."""
 
-    def __init__(self, program, folder):
-        self.folder, self.tried, self.wrong, self.is_planted = Path(folder), 0, 0, False
-        self.program = self.folder / "acd-tick"
-        self.lay(program, TOP / "clients/python/acd_due.py")
-        (self.folder / "acd_held.py").write_text(HELD)
+    sources = TOP / "tools/operating/acd-tick", TOP / "clients/python/acd_due.py"
 
-    def lay(self, program, rule):
-        shutil.copy(program, self.program)
-        shutil.copy(rule, self.folder / "acd_due.py")
-
-    def expect(self, what, has, wanted=True):
-        self.tried += 1
-        if has != wanted:
-            if self.is_planted:
-                raise Found(f"{what}: {has!r}")
-            self.wrong += 1
-            print(f"WRONG {what}: {has!r} and not {wanted!r}", flush=True)
+    @classmethod
+    def setUpClass(cls):
+        super().setUpClass()
+        cls.ticks = cls.folder / "acd-tick"
+        for source, name in zip(cls.sources, ("acd-tick", "acd_due.py")):
+            shutil.copy(source, cls.folder / name)
+        (cls.folder / "acd_held.py").write_text(HELD)
 
     def by_its_own_clock(self, desk, hours, clock=CLOCK, begin=BEGIN, moved="", words=(), step=STEP, jumps=()):
         """What it tells in so many hours, which pass as fast as the desk is asked."""
@@ -124,5 +112,5 @@ class Ground:
         looks.write_text("")
         environment = {**os.environ, "PYTHONPATH": str(Path(__file__).parent / "clock"), "PYTHONDONTWRITEBYTECODE": "1", "ACD_CLOCK": clock, "HELD": str(held), "LOOKS": str(looks),
                        "MOMENT": str(moment), "LASTS": str(round(hours * HOUR)), "JUMPS": " ".join(f"{at}:{seconds}" for at, seconds in jumps)}
-        words = [self.program, "--port", str(desk.server_port), "--step", str(step), *words]
-        return subprocess.run(words, env=environment, stdout=subprocess.PIPE, stderr=subprocess.STDOUT, text=True, timeout=3600).stdout
+        done = ran(self.ticks, "--port", desk.server_port, "--step", step, *words, env=environment, seconds=3600)
+        return done.output + done.faults

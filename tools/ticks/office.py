@@ -2,10 +2,10 @@
 import heapq
 import json
 import random
-import subprocess
 import sys
 
-from ground import BEGIN, CLOCK, HOUR, TOP, Desk, Ground
+from ground import BEGIN, CLOCK, HOUR, Ground, Played
+from trial import TOP, Lines, Plan, Requests, compact
 
 sys.path.insert(0, str(TOP / "tests"))
 import switch  # noqa: E402
@@ -13,6 +13,9 @@ import switch  # noqa: E402
 DAY = 24 * HOUR
 # the morning begins, callers come until the evening; a talk lasts so long on average
 OPENS, CLOSES, TALK = BEGIN + 8 * HOUR, BEGIN + 18 * HOUR, 180
+
+# rings and wraps of 0 among others; 01 is the least of these groups
+ODD = [("01", 0, 45), ("900", 20, 0), ("9", 0, 0), ("1000", 7, 13), ("99", 25, 30)]
 
 
 class Judge:
@@ -31,20 +34,17 @@ class Judge:
         return new
 
 
-class Lines:
-    """A program that answers lines, each with its moment."""
+class Answered(Lines):
+    """The program, which answers lines, each with its moment."""
 
-    def __init__(self, program):
-        self.desk, self.seen = subprocess.Popen([program, "lines", "--reads"], stdin=subprocess.PIPE, stdout=subprocess.PIPE), 0
+    seen = 0
 
     def line(self, moment, text):
-        self.desk.stdin.write(f"{moment} {text}\n".encode())
-        self.desk.stdin.flush()
-        status, body = self.desk.stdout.readline().decode().rstrip("\n").split(" ", 1)
+        status, body = self.say(f"{moment} {text}").rstrip("\n").split(" ", 1)
         return int(status), body
 
     def ask(self, moment, request):
-        status, body = self.line(moment, json.dumps(request))
+        status, body = self.line(moment, compact(request))
         return status, json.loads(body)
 
     def events(self):
@@ -56,25 +56,18 @@ class Lines:
             if self.seen >= page["last"]:
                 return found
 
-    def close(self):
-        self.desk.stdin.close()
-        self.desk.stdout.close()
-        self.desk.wait()
-
 
 class Office:
     """Callers and agents, who do what the events let them do. Two that see the same events do the same."""
 
     def __init__(self, desk, plan, calls, seed=1, jumps=(), days=1):
         self.desk, self.jumps, self.random = desk, jumps, random.Random(seed)
-        self.heap, self.put, self.invokes, self.rings, self.history, self.executed = [], 0, {}, {}, [], 0
+        self.heap, self.put, self.request, self.rings, self.history, self.executed = [], 0, Requests(), {}, [], 0
         self.groups = [device for device, _, _ in plan]
         agents = max(3, int(calls / (CLOSES - OPENS) * (TALK + 31) / 0.75) + 1)
-        for device, ring, wrap in plan:
-            self.ask(BEGIN, "plan", "addGroup", device=device, name="G", ring=ring, wrap=wrap)
+        for request in self.request.plan(Plan([(device, "G", ring, wrap) for device, ring, wrap in plan], [str(2000 + number) for number in range(agents)], [str(number + 1) for number in range(agents)])):
+            self.send(BEGIN, request)
         for number in range(agents):
-            self.ask(BEGIN, "plan", "addStation", device=str(2000 + number))
-            self.ask(BEGIN, "plan", "addAgent", agent=str(number + 1), name="A")
             self.at(OPENS - 60, "log on", number)
         for number in range(calls * days):
             self.at(self.random.uniform(OPENS, CLOSES) + number // calls * DAY, "arrive", number)
@@ -86,10 +79,6 @@ class Office:
     def shown(self, time):
         """What the clock shows at a time."""
         return int(time + next((seconds for begin, seconds in reversed(self.jumps) if begin <= time), 0))
-
-    def ask(self, time, requester, service, **members):
-        self.invokes[requester] = self.invokes.get(requester, 0) + 1
-        return self.send(time, {"requester": requester, "invoke": self.invokes[requester], "service": service, **members})
 
     def send(self, time, request):
         self.executed += 1
@@ -120,30 +109,29 @@ class Office:
 
     def log_on(self, time, number):
         agent, chosen = str(number + 1), self.random.sample(self.groups, 1 + number % min(3, len(self.groups)))
-        where = {"group": chosen[0]} if len(chosen) == 1 else {"groups": chosen}
-        self.ask(time, "desk", "setAgentState", agent=agent, requested="loggedOn", device=str(2000 + number), **where)
+        self.send(time, self.request.log_on(agent, str(2000 + number), *chosen))
         self.ready(time, agent)
 
     def arrive(self, time, number):
         caller = f"0301{number:05}"
-        status, body = self.ask(time, "pbx", "arriveCall", caller=caller, called=self.random.choice(self.groups))
+        status, body = self.send(time, self.request.arrive(caller, self.random.choice(self.groups)))
         if status == 200 and self.random.random() < 0.05:
             self.at(time + self.random.uniform(5, 60), "clear", body["result"]["call"], caller)
 
     def answer(self, time, device, call):
         if self.rings.get(device) == call:
             self.rings.pop(device)
-            if self.ask(time, "desk", "answerCall", call=call, device=device)[0] == 200:
+            if self.send(time, self.request.at("answerCall", call, device))[0] == 200:
                 self.at(time + self.random.expovariate(1 / TALK), "clear", call, device)
 
     def clear(self, time, call, device):
-        self.ask(time, "pbx", "clearConnection", call=call, device=device)
+        self.send(time, self.request.at("clearConnection", call, device))
 
     def ready(self, time, agent):
-        self.ask(time, "desk", "setAgentState", agent=agent, requested="ready")
+        self.send(time, self.request.state(agent))
 
 
-class Ticked(Desk):
+class Ticked(Played):
     """The desk that acd-tick finds: before it shows itself all that people do until then is done."""
 
     def __init__(self, office, moment, has_snapshot):
@@ -180,35 +168,33 @@ def judged(office, parts):
     return steps, ended
 
 
-def try_days(ground, program, what, plan, calls, parts=((BEGIN, BEGIN + DAY, 10),), jumps=(), has_snapshot=True, days=1):
-    """A part has a beginning, an end and a step; from each jump's time on the clock is so many seconds ahead."""
-    wanted, lines = Office(Judge(), plan, calls, jumps=jumps, days=days), Lines(program)
-    office = Office(lines, plan, calls, jumps=jumps, days=days)
-    steps, ended = judged(wanted, parts)
-    with Ticked(office, ground.folder / "moment", has_snapshot) as desk:
-        told = [ground.by_its_own_clock(desk, (end - begin) / HOUR, begin=begin, step=step, jumps=jumps) for begin, end, step in parts]
-    lines.close()
-    differs = next((pair for pair in zip(office.history, wanted.history) if pair[0] != pair[1]), None)
-    ground.expect(f"{what}: the events, the first that differs", (len(office.history), differs), (len(wanted.history), None))
-    ground.expect(f"{what}: ticks in the steps that end something", desk.ticks, ended if has_snapshot else steps)
-    ground.expect(f"{what}: refused ticks", desk.refused, 0)
-    print(f"{what}: {office.executed} executed, of them {desk.ticks} ticks ({desk.ticks / office.executed:.0%}) in {steps} steps, {len(office.history)} events", flush=True)
-    return "".join(told)
+class Days(Ground):
+    def day(self, what, plan, calls, parts=((BEGIN, BEGIN + DAY, 10),), jumps=(), has_snapshot=True, days=1):
+        """A part has a beginning, an end and a step; from each jump's time on the clock is so many seconds ahead. What is told."""
+        wanted = Office(Judge(), plan, calls, jumps=jumps, days=days)
+        with Answered(self.program, words=["--reads"]) as lines:
+            office = Office(lines, plan, calls, jumps=jumps, days=days)
+            steps, ended = judged(wanted, parts)
+            with Ticked(office, self.folder / "moment", has_snapshot) as desk:
+                told = [self.by_its_own_clock(desk, (end - begin) / HOUR, begin=begin, step=step, jumps=jumps) for begin, end, step in parts]
+            lines.ends()
+        differs = next((pair for pair in zip(office.history, wanted.history) if pair[0] != pair[1]), None)
+        self.expect(f"{what}: the events, the first that differs", (len(office.history), differs), (len(wanted.history), None))
+        self.expect(f"{what}: ticks in the steps that end something", desk.ticks, ended if has_snapshot else steps)
+        self.expect(f"{what}: refused ticks", desk.refused, 0)
+        print(f"{what}: {office.executed} executed, of them {desk.ticks} ticks ({desk.ticks / office.executed:.0%}) in {steps} steps, {len(office.history)} events", flush=True)
+        return "".join(told)
 
+    def try_days(self):
+        plan = [("900", 20, 30), ("901", 20, 30)]
+        # not at a whole step of both
+        first, second = OPENS + 2 * HOUR + 7, OPENS + 4 * HOUR + 13
+        parts = ((OPENS - HOUR, first, 5), (first, second, 10), (second, OPENS + 6 * HOUR, 5))
+        told = [self.day("an office of 300 calls", plan, 300), self.day("an office of 2,000 calls", plan, 2000), self.day("rings and wraps of 0", ODD, 600),
+                self.day("a step of 5 that becomes 10, and 5 again", ODD, 600, parts), self.day("a desk without a snapshot", ODD, 300, ((BEGIN, BEGIN + DAY, 30),), has_snapshot=False)]
+        self.expect("nothing is told", "".join(told), "")
 
-def try_all(ground, program):
-    plan = [("900", 20, 30), ("901", 20, 30)]
-    told = try_days(ground, program, "an office of 300 calls", plan, 300)
-    told += try_days(ground, program, "an office of 2,000 calls", plan, 2000)
-    # 01 is the least of these
-    odd = [("01", 0, 45), ("900", 20, 0), ("9", 0, 0), ("1000", 7, 13), ("99", 25, 30)]
-    told += try_days(ground, program, "rings and wraps of 0", odd, 600)
-    # not at a whole step of both
-    first, second = OPENS + 2 * HOUR + 7, OPENS + 4 * HOUR + 13
-    parts = ((OPENS - HOUR, first, 5), (first, second, 10), (second, OPENS + 6 * HOUR, 5))
-    told += try_days(ground, program, "a step of 5 that becomes 10, and 5 again", odd, 600, parts)
-    told += try_days(ground, program, "a desk without a snapshot", odd, 300, ((BEGIN, BEGIN + DAY, 30),), has_snapshot=False)
-    ground.expect("nothing is told", told, "")
-    jumps = ((OPENS + HOUR + 3, DAY + 4), (OPENS + 2 * HOUR + 1, 0))
-    told = try_days(ground, program, "a clock a day ahead for an hour", odd, 300, ((BEGIN, BEGIN + 2 * DAY, 30),), jumps, days=2)
-    ground.expect("that is told each hour of a day", told.count("the desk's time is over a minute ahead"), 24)
+    def try_a_clock_ahead(self):
+        jumps = ((OPENS + HOUR + 3, DAY + 4), (OPENS + 2 * HOUR + 1, 0))
+        told = self.day("a clock a day ahead for an hour", ODD, 300, ((BEGIN, BEGIN + 2 * DAY, 30),), jumps, days=2)
+        self.expect("that is told each hour of a day", told.count("the desk's time is over a minute ahead"), 24)

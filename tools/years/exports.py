@@ -15,7 +15,7 @@ sys.path += [str(TOP / "tools/api"), str(TOP / "clients/python"), str(TOP / "boa
 import acd_client  # noqa: E402
 import acd_days as days  # noqa: E402
 import acd_following as following  # noqa: E402
-import exchange  # noqa: E402
+import trial  # noqa: E402
 
 
 def module(ground):
@@ -136,7 +136,7 @@ class Exports:
         """One whose last event is in the file goes on without a word; one whose last event was left behind sees another history, or, where it asks by the number alone, that it missed some."""
         moments = [int(line.split(",")[1]) for line in self.text.splitlines()[1:]]
         first = firsts(self.file)[1]
-        with (self.ground.scratch() as scratch, exchange.Desk(self.ground.program, copied(self.file, scratch)) as desk,
+        with (self.ground.scratch() as scratch, trial.Desk(self.ground.program, copied(self.file, scratch)) as desk,
               acd_client.Client(f"http://127.0.0.1:{desk.port}") as client):
             known, = client.page(first - 1)["events"][:1]
             self.ground.expect("the first event that is there", (known["number"], known["moment"]), (first, moments[first - 1]))
@@ -155,7 +155,7 @@ class Exports:
             file, new = scratch / "desk.db", scratch / "new.db"
             self.ground.feed(file, [*PLAN, *calls(1, 400), '90000 {"requester":"clock","invoke":1,"service":"tick"}'])
             self.ground.carry("--from", file, "--to", new, "--keep", 1)
-            with exchange.Desk(self.ground.program, new) as desk:
+            with trial.Desk(self.ground.program, new) as desk:
                 address = f"http://127.0.0.1:{desk.port}"
                 gate = following.Following(lambda method, path: asked(address, method, path))
                 gate.catch_up()
