@@ -1,9 +1,9 @@
-// What a lead asks for, of the own groups alone, each behind a question; gate and desk say whether it may be.
+// A lead's requests for the lead's groups, each after a question; gate and desk judge them.
 import {byId, make, put, withNumber} from './draw.js';
 import {post, requesterOf, sleep} from './net.js';
 import {named, refusal, word} from './words.js';
 
-const AGAIN = 1000, TRIES = 6, TOLD = 8000;
+const AGAIN = 1000, TRIES = 6, SHOWN = 8000;
 
 /** @type {LeadOf} */
 export const lead = {
@@ -17,7 +17,7 @@ export const lead = {
 
   leads({state, groups}) { return state !== 'null' && groups.some(group => this.groups.has(group)); },
 
-  // A call is moved where it waits, and ended where an agent has it.
+  // A lead moves a call that waits, and ends one that an agent has.
   may({group, state}) { return group !== null && this.groups.has(group) && ['queued', 'alerting', 'connected', 'hold'].includes(state); },
 
   async ofAgent(state, agent) {
@@ -45,24 +45,24 @@ export const lead = {
   // The same bytes until there is an answer, so that it acts once.
   async send(service, members, what, who, to = '') {
     const body = JSON.stringify({requester: this.requester, invoke: ++this.invoke, service, ...members});
-    tell('…');
+    show('…');
     for (let tried = 0; tried < TRIES; tried++) {
       const reply = await post(body);
-      if (reply) return tell(reply.status === 200 ? `✓ ${word(to ? 'agent.moved' : 'agent.button', {what, who, to})}` : `■ ${refusal(reply.status, reply.text)}`);
+      if (reply) return show(reply.status === 200 ? `✓ ${word(to ? 'agent.moved' : 'agent.button', {what, who, to})}` : `■ ${refusal(reply.status, reply.text)}`);
       await sleep(AGAIN);
     }
-    tell(`■ ${word('act.unknown')}`);
+    show(`■ ${word('act.unknown')}`);
   },
 };
 
 let clearing = 0;
-function tell(text = '') {
+function show(text = '') {
   put('act-told', text);
   clearTimeout(clearing);
-  clearing = setTimeout(put, TOLD, 'act-told');
+  clearing = setTimeout(put, SHOWN, 'act-told');
 }
 
-// Asks whether it is meant, and which; null where it isn't.
+// Asks for a yes, and a choice; null for no.
 /** @type {Asks} */
 const ask = (question, choices = [], chosen = choices[0]?.[0]) => {
   const dialog = byId('act'), options = choices.map(([value, text]) => make('option', {value}, text));

@@ -1,7 +1,7 @@
 // A table as a file for a spreadsheet.
 import {language} from './words.js';
 
-// where a number has a comma, a spreadsheet parts its fields by semicolons
+// if a number has a comma, a spreadsheet parts its fields by semicolons
 const comma = new Intl.NumberFormat(language).format(0.5).includes(','), BETWEEN = comma ? ';' : ',', LIVES = 10000;
 
 // What a spreadsheet would take for a formula, or for a number without its first 0, gets a quote.

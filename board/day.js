@@ -15,17 +15,17 @@ export class Day {
   /** @type {Map<string, Agents>} */ agents = new Map();
   // since when calls wait
   /** @type {Map<number, number>} */ queued = new Map();
-  // stations whose agent's next event is behind an answered call of a group, or an offer that wasn't taken
+  // stations whose agent's next event follows an answered call of a group, or an offer without an answer
   /** @type {Map<string, string>} */ answers = new Map();
   /** @type {Set<string>} */ missed = new Set();
   // where the call that is being cleared had connections
   /** @type {Set<string>} */ cleared = new Set();
 
-  // A call is answered in time within the `limit` of its group; the own groups are counted together.
-  constructor(begin = 0, limit = (group = '') => 20, own = (group = '') => true) {
+  // A call is answered in time within its group's `limit`; `all` counts the chosen groups.
+  constructor(begin = 0, limit = (group = '') => 20, chosen = (group = '') => true) {
     this.begin = begin;
     this.limit = limit;
-    this.own = own;
+    this.chosen = chosen;
   }
 
   line(group = '') { return kept(this.groups, group, newLine); }
@@ -71,7 +71,7 @@ export class Day {
   changeAgent({agent: id, device, event, moment}) {
     const agent = kept(this.agents, id, () => ({calls: 0, missed: 0, spent: {}, doing: '', since: moment, groups: new Set(), group: '', handled: 0}));
     agent.spent[agent.doing] = (agent.spent[agent.doing] ?? 0) + moment - agent.since;
-    // after-call work right behind a call belongs to it
+    // after-call work right after a call belongs to it
     if (agent.group && !(agent.doing === 'agentBusy' && event === 'agentWorkingAfterCall')) {
       this.count(agent.group, moment, {handled: 1, handling: moment - agent.handled});
       agent.group = '';
@@ -95,9 +95,9 @@ export class Day {
   }
 
   /** @param {Agent} agent */
-  servedBy({id, groups}) { return groups.length ? groups : [...this.agents.get(id)?.groups ?? []]; }
+  groupsOf({id, groups}) { return groups.length ? groups : [...this.agents.get(id)?.groups ?? []]; }
 
-  lines(group = '') { return this.own(group) ? [this.line(group), this.all] : [this.line(group)]; }
+  lines(group = '') { return this.chosen(group) ? [this.line(group), this.all] : [this.line(group)]; }
 
   /** @param {Partial<Sums>} figures */
   count(group = '', moment = 0, figures) {

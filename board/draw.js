@@ -6,20 +6,20 @@ const GREY = 10000, SVG = 'http://www.w3.org/2000/svg', ISOLATED = new RegExp(`(
 
 // What is in an element stays as it is.
 export const AS_IT_IS = Symbol('as it is');
-// what an element was given and what it says, since it is quicker to remember than to ask for
+// an element's attributes and its text, since to remember is quicker than to ask
 const GIVEN = Symbol('given'), SAYS = Symbol('says');
 
 /** @param {any} place @returns {any} */
 export const byId = place => typeof place === 'string' ? document.getElementById(place) : place;
 
-// An element as it should be: tag and class, attributes, if any, and parts. A `data-key` tells it from its neighbours.
+// An element as it should be: tag and class, attributes, if any, and parts. It is known by its `data-key`.
 /** @param {Attributes|Part} [one] @param {Part[]} more @returns {Made} */
 export function make(kind = '', one, ...more) {
   const first = /** @type {any} */ (one), given = typeof first === 'object' && !first.tag, attributes = given ? first : {}, parts = given ? more : [first, ...more], dot = kind.indexOf('.');
   return dot < 0 ? {tag: kind, attributes, parts} : {tag: kind.slice(0, dot), attributes: {class: kind.slice(dot + 1), ...attributes}, parts};
 }
 
-// Gives attributes, and takes away what is false or nothing. A function is what is done at an event.
+// Gives attributes, and removes those that are false or nothing. A function handles an event.
 /** @type {Sets} */
 export const set = (place, attributes) => {
   const element = byId(place), given = element[GIVEN] ??= {};
@@ -39,12 +39,12 @@ export const put = (place, ...parts) => {
   if (one === AS_IT_IS || (one !== undefined && one === element[SAYS])) return;
   element[SAYS] = one;
   const wanted = parts.flatMap(part => typeof part === 'number' ? number(part) : typeof part === 'string' ? texts(part, element) : part ? /** @type {Made} */ (part) : []);
-  const keys = new Set(wanted.flatMap(part => typeof part === 'string' ? [] : part.attributes['data-key'] ?? [])), had = new Map();
-  if (keys.size) for (const one of [...element.children]) if (keys.has(one.dataset.key)) had.set(one.dataset.key, one); else one.remove();
+  const keys = new Set(wanted.flatMap(part => typeof part === 'string' ? [] : part.attributes['data-key'] ?? [])), old = new Map();
+  if (keys.size) for (const one of [...element.children]) if (keys.has(one.dataset.key)) old.set(one.dataset.key, one); else one.remove();
   let there = element.firstChild;
   for (const part of wanted) {
     const isText = typeof part === 'string', fits = isText ? there instanceof Text : !keys.size && there?.localName === part.tag;
-    const node = !isText && had.get(part.attributes['data-key']) || (fits ? there : isText ? new Text() : document.createElementNS(part.tag === 'svg' ? SVG : element.namespaceURI, part.tag));
+    const node = !isText && old.get(part.attributes['data-key']) || (fits ? there : isText ? new Text() : document.createElementNS(part.tag === 'svg' ? SVG : element.namespaceURI, part.tag));
     if (node === there) there = there.nextSibling; else element.insertBefore(node, there);
     if (!isText) {
       set(node, part.attributes);
@@ -59,15 +59,15 @@ export const put = (place, ...parts) => {
 const texts = (text = '', within) => !text.includes(OPENS) || within.localName === 'option' ? text || [] :
   text.split(ISOLATED).filter(Boolean).map(part => part.startsWith(OPENS) ? make('bdi', plain(part)) : part);
 
-// How old what is seen is: `known` at which millisecond. What changes each second is beside what a screen reader is told.
+// The state's age: `known` is its millisecond. A text that changes each second is outside the role that a screen reader reads.
 export function drawStatus(kind = '', known = 0, why = '', moment = 0, reading = '') {
-  const age = Date.now() - known, isLive = kind === 'live', means = isLive ? 'calm' : kind === 'lost' ? 'bad' : 'long', told = kind === 'lost' ? word(known ? 'status.old' : 'status.none', {why}) : word(`status.${isLive && reading ? 'counting' : kind}`);
+  const age = Date.now() - known, isLive = kind === 'live', means = isLive ? 'calm' : kind === 'lost' ? 'bad' : 'long', text = kind === 'lost' ? word(known ? 'status.old' : 'status.none', {why}) : word(`status.${isLive && reading ? 'counting' : kind}`);
   const more = known && ['late', 'lost'].includes(kind) ? word('status.age', {clock: clock(age / 1000)}) : isLive && reading;
   set('status', {'data-kind': kind, 'data-severity': means});
-  put('status', make('span', {'aria-hidden': 'true'}, `${SIGN[means]} `), make('span', {id: 'status-text', role: 'status'}, told), ' ', make('span', {id: 'status-age'}, more));
+  put('status', make('span', {'aria-hidden': 'true'}, `${SIGN[means]} `), make('span', {id: 'status-text', role: 'status'}, text), ' ', make('span', {id: 'status-age'}, more));
   set(document.body, {'data-old': known > 0 && !isLive && age > GREY});
   put('clock', timeOfDay(moment, 'long'));
-  return `${told} ${more || ''}`;
+  return `${text} ${more || ''}`;
 }
 
 export const withNumber = ({id = '', name = ''}) => name && name !== id ? `${named(name)} (${id})` : id;
@@ -82,19 +82,19 @@ const textOf = ({text, seconds, share, severity, day}, line) => {
   return (is === 'long' || is === 'bad' ? `${SIGN[is]} ` : '') + (seconds ? clock : percent)(figure(line));
 };
 
-// What a file has in its place: there seconds are whole, and a share has four digits.
+// The same in a file: seconds are whole, a share has four digits.
 /** @type {CellOf} */
-const filed = (column, line) => {
+const fileCell = (column, line) => {
   const {file, seconds, share} = column, parts = share ? 1e4 : 1, figure = seconds ?? share;
   const value = file ? file(line) : !figure ? textOf(column, line) : line.counted ? figure(line) : null;
   return typeof value !== 'number' ? plain(value ?? '') : figure ? Math.round(parts * value) / parts : value;
 };
 
 // A table with a row for each line; main.js does what its buttons are pressed for.
-/** @param {(Column|string)[]} told */
-export function table(id = '', told) {
+/** @param {(Column|string)[]} given */
+export function table(id = '', given) {
   /** @type {any[]} */ let lines = [];
-  const columns = told.map(/** @returns {Column} */ one => {
+  const columns = given.map(/** @returns {Column} */ one => {
     const column = typeof one === 'string' ? {head: one} : one, [head, ...kinds] = column.head.split(' '), of = (/** @type {any} */ line) => line[head];
     return {text: of, ...column, head, kind: kinds.join(' '), day: kinds.includes('day'), ...kinds.includes('seconds') && {seconds: of}};
   }), inFile = columns.filter(({kind}) => !kind?.includes('lead'));
@@ -106,6 +106,6 @@ export function table(id = '', told) {
         return make(place ? 'td' : 'th', {scope: !place && 'row', class: kind, 'data-severity': severity?.(line)}, press && text ? make('button', {'data-press': press}, text) : text);
       })))));
     },
-    file: () => [inFile.map(({head}) => word(`head.${head}`)), ...lines.map(line => inFile.map(column => filed(column, line)))],
+    file: () => [inFile.map(({head}) => word(`head.${head}`)), ...lines.map(line => inFile.map(column => fileCell(column, line)))],
   };
 }

@@ -1,8 +1,8 @@
-// Follows a desk: a snapshot, then each second the events behind it; goes on after a loss, and begins anew over another file.
+// Follows a desk: a snapshot, then each second the events after it; continues after a loss, and begins anew over another file.
 import {pause} from './net.js';
 import {ask} from './session.js';
 
-// milliseconds: a snapshot is RENEWed for what no event tells
+// milliseconds: a snapshot is RENEWed for members that no event has
 const EVERY = 1000, RENEW = 30000, FULL = 1000, SEVERAL = 6;
 
 export class Feed {
@@ -23,11 +23,11 @@ export class Feed {
       const more = this.begun && await this.poll();
       if (this.begun) {
         this.losses = 0;
-        this.owner.tell({kind: 'live'});
+        this.owner.show({kind: 'live'});
       }
       if (!more) await this.wait(this.begun ? EVERY : 0);
     } catch ({status, message}) {
-      this.owner.tell({kind: 'lost', status, why: message});
+      this.owner.show({kind: 'lost', status, why: message});
       await this.wait(pause(this.losses++));
     }
   }
@@ -45,11 +45,11 @@ export class Feed {
     this.begun = false;
     this.last = 0;
     this.seen = '';
-    this.owner.tell({kind: 'anew'});
+    this.owner.show({kind: 'anew'});
     return true;
   }
 
-  // The last event again, and those behind it; says whether there may be more.
+  // The last event again, and those after it; says whether there may be more.
   async poll() {
     const {events, last} = await ask(`/history?after=${Math.max(0, this.last - 1)}`);
     if (this.last > 0) {
@@ -92,14 +92,14 @@ export async function lastBefore(last = 0, moment = 0) {
   return {last: low, isWhole: true};
 }
 
-// All events behind one, a page at a time; several pages are asked for at once.
+// All events after one, a page at a time; it asks for several pages at once.
 /** @param {(events:Report[]) => boolean} take says whether to go on */
 export async function history(after = 0, last = 0, take) {
   /** @type {Promise<Page>[]} */ const asked = [];
   const more = () => {
     if (after >= last) return;
     const page = ask(`/history?after=${after}`);
-    page.catch(() => {});   // told where it is awaited
+    page.catch(() => {});   // thrown at the await
     asked.push(page);
     after += FULL;
   };

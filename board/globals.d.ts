@@ -7,7 +7,7 @@ declare global {
   type Alarm = types.Alarm;
   type Known = types.Known;
   type Values = types.Values;
-  type Served = types.Served;
+  type InGroups = types.InGroups;
   type DoingAt = types.DoingAt;
   type Attributes = types.Attributes;
   type Call = types.Call;

@@ -7,7 +7,7 @@ import {Feed, history, lastBefore} from './feed.js';
 import {ahead} from './net.js';
 import {callLines, groupLines, totals} from './reckon.js';
 import {ask, logIn, logOut, openSession} from './session.js';
-import {dayBegin, FIELDS, FILTERS, greatestLimit, ownOf, searchOf, settings, settingsOf, valueOf} from './settings.js';
+import {chosenOf, dayBegin, FIELDS, FILTERS, greatestLimit, searchOf, settings, settingsOf, valueOf} from './settings.js';
 import {soundWhere} from './sound.js';
 import {State} from './state.js';
 import {fault, office, translate, word} from './words.js';
@@ -28,12 +28,12 @@ let view = 'wall', state = new State(), counting = new Day(), counted = false, r
 /** @type {Drawn|undefined} */ let drawn;
 // when the desk last answered, in milliseconds; how much of the day has been read
 let answered = 0, unseen = 0, share = 0, due = false;
-/** @type {Course} */ let told = {kind: 'begins'};
+/** @type {Course} */ let course = {kind: 'begins'};
 
 const serverClock = () => (Date.now() + ahead) / 1000;
 
-// The desk's clock; it stands still where the connection is lost: no wait goes on that may have ended.
-const now = () => Math.max(state.moment, told.kind === 'lost' && answered ? Math.min(serverClock(), (answered + OLD + ahead) / 1000) : serverClock());
+// The desk's clock; it stops if the connection is lost: no wait grows that may have ended.
+const now = () => Math.max(state.moment, course.kind === 'lost' && answered ? Math.min(serverClock(), (answered + OLD + ahead) / 1000) : serverClock());
 
 const feed = new Feed({
   begin(snapshot) {
@@ -56,22 +56,22 @@ const feed = new Feed({
     for (const agent of state.unknown) ask(`/agents/${agent}`).then(text => state.learn(text), () => {});
     schedule();
   },
-  tell(what) {
+  show(what) {
     if (what.kind === 'anew') state = new State();
     if (what.kind === 'live') {
       answered = Date.now();
-      if (told.kind !== 'live') performance.mark('live');
+      if (course.kind !== 'live') performance.mark('live');
     }
     if ('status' in what && what.status === 401) logIn();   // a session that has ended
-    told = what;
+    course = what;
     drawTop();
     schedule();
   },
 });
 
-const newDay = (back = 0) => new Day(dayBegin(now(), back), group => settings[`limit.${group}`] ?? settings.limit, ownOf());
+const newDay = (back = 0) => new Day(dayBegin(now(), back), group => settings[`limit.${group}`] ?? settings.limit, chosenOf());
 
-// Some events before a day tell since when calls wait.
+// Some events before a day show since when calls wait.
 const before = (begin = 0) => lastBefore(feed.last, begin - greatestLimit() - 1);
 
 // Counts what is of a day, a page at a time.
@@ -82,7 +82,7 @@ const read = (day, goesOn, end = Infinity) => history(day.last, feed.last, repor
   return goesOn(found) && found.length === reports.length;
 });
 
-// Counts up to where the feed is, which goes on from there.
+// Counts up to the feed, which continues from there.
 async function count() {
   const mine = counting = newDay();
   /** @type {Report[]} */ let found = [];
@@ -105,7 +105,7 @@ async function count() {
   } catch { if (mine === counting) setTimeout(count, OLD); }
 }
 
-// Another day, so many days before; one is read behind the other.
+// Another day, so many days before; it reads one after the other.
 function past(back = 0) {
   if (!others.has(back) && !reading && counted && settings.since.includes(':')) readPast(back);
   return others.get(back);
@@ -117,7 +117,7 @@ async function readPast(back = 0) {
   try {
     const {last, isWhole} = await before(day.begin);
     day.last = last;
-    // a day whose beginning lies in an archive isn't shown beside this one
+    // a day whose beginning is in an archive isn't shown beside this one
     if (isWhole) await read(day, () => mine === others, dayBegin(now(), back - 1));
     mine.set(back, isWhole ? day : undefined);
     reading = false;
@@ -125,12 +125,12 @@ async function readPast(back = 0) {
   } catch { setTimeout(() => { reading = false; }, OLD); }
 }
 
-// Who calls is told by no event, but by the call.
+// No event has the caller, but the call has.
 /** @param {number[]} numbers */
 async function learn(numbers) {
   const wanted = numbers.flatMap(number => state.calls.get(number) ?? []).filter(call => !call.asked).slice(0, ASKING);
   for (const call of wanted) call.asked = true;
-  for (const call of wanted) try { call.caller = (await ask(`/calls/${call.number}`)).caller; } catch { /* it has ended, or the next snapshot tells */ }
+  for (const call of wanted) try { call.caller = (await ask(`/calls/${call.number}`)).caller; } catch { /* it ended, or the next snapshot shows */ }
 }
 
 function schedule() {
@@ -143,24 +143,24 @@ const empty = (text = '') => put('empty', text), redraw = () => draw(true);
 
 // Draws the view; `anew` where all may have changed.
 function draw(anew = false) {
-  if (!state.last && !state.groups.size) return told.kind === 'live' ? empty(word('empty.plan')) : undefined;
+  if (!state.last && !state.groups.size) return course.kind === 'live' ? empty(word('empty.plan')) : undefined;
   const looked = {state, day: counting, now: now()}, lines = groupLines(looked), choice = field('group');
-  if (lines.length && !lines.some(line => line.id === settings.group)) settings.group = '';   // none of the own ones any more
+  if (lines.length && !lines.some(line => line.id === settings.group)) settings.group = '';   // none of the chosen ones any more
   drawn = {...looked, settings, counted, recent, lines, all: totals(looked, lines), past, learn, empty, lead, filter, redraw};
   empty(lines.length ? '' : word(state.groups.size ? 'empty.groups' : 'empty.plan'));
   put(choice, make('option', {value: ''}, word('set.group.')), ...lines.map(line => make('option', {value: line.id}, withNumber(line))));
   if (choice.value !== settings.group) choice.value = settings.group;
-  if (told.kind === 'live') unseen = alarms.draw(drawn, serverClock(), view === 'wall');
+  if (course.kind === 'live') unseen = alarms.draw(drawn, serverClock(), view === 'wall');
   drawTotals(drawn);
   VIEWS[view].draw(drawn, anew);
-  if (counted && dayBegin(now()) !== counting.begin && told.kind === 'live') count();   // another day
+  if (counted && dayBegin(now()) !== counting.begin && course.kind === 'live') count();   // another day
 }
 
 const title = () => settings.title || office.title || word('title.usual');
 
 function drawTop() {
-  const lost = told.kind === 'lost', late = told.kind === 'live' && Date.now() - answered > OLD;
-  const said = drawStatus(late ? 'late' : told.kind, answered, 'why' in told ? told.why : '', serverClock(), counted ? '' : `${Math.floor(100 * share)} %`);
+  const lost = course.kind === 'lost', late = course.kind === 'live' && Date.now() - answered > OLD;
+  const said = drawStatus(late ? 'late' : course.kind, answered, 'why' in course ? course.why : '', serverClock(), counted ? '' : `${Math.floor(100 * share)} %`);
   put('band', lost && `■ ${said}`);
   document.title = `${lost ? `■ ${word('title.lost')} – ` : unseen ? `■ ${word('title.alarms', {n: unseen})} – ` : ''}${title()}: ${word(`view.${view}`)}`;
 }

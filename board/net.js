@@ -6,10 +6,10 @@ export const base = location.origin;
 
 export const sleep = (milliseconds = 0) => new Promise(done => setTimeout(done, milliseconds));
 
-// How long to wait behind so many losses: not all pages alike.
+// How long to wait after so many losses: not all pages alike.
 export const pause = (losses = 0) => Math.min(LONGEST, 1000 * 2 ** losses) * (0.75 + Math.random() / 2);
 
-// the server's clock less this one's, in milliseconds: it tells whole seconds, between question and reply
+// the server's clock less this one's, in milliseconds: it has whole seconds, between question and reply
 export let ahead = 0;
 
 // A reply; an error `silent` where none came in time, `server` where nobody is there.

@@ -1,7 +1,7 @@
 // Who does what, and how each group does.
 import {order, turn} from './state.js';
 import {abandonment, level, occupancy} from './day.js';
-import {limitsOf, ownOf, settings} from './settings.js';
+import {chosenOf, limitsOf, settings} from './settings.js';
 
 // so many percent below its goal a service level is bad
 const FAR = 15, RANK = {queued: 0, alerting: 1, hold: 2, fail: 3, connected: 4, initiated: 5};
@@ -21,7 +21,7 @@ function shares(sum, {goal, lost: most} = limitsOf()) {
 
 /** @param {Looked} looked @returns {GroupLine[]} */
 export function groupLines({state, day, now}) {
-  const own = ownOf(), groups = [...state.groups.values()].filter(({id}) => own(id)).sort((one, other) => order(one.id, other.id));
+  const chosen = chosenOf(), groups = [...state.groups.values()].filter(({id}) => chosen(id)).sort((one, other) => order(one.id, other.id));
   const staff = new Map(groups.map(group => [group.id, {group, counts: noCounts(), next: /** @type {Agent|null} */ (null)}]));
   for (const agent of state.agents.values()) {
     const does = agent.does = state.doing(agent).doing, eligible = does === 'ready' && state.isEligible(agent);
@@ -42,17 +42,17 @@ export function groupLines({state, day, now}) {
   });
 }
 
-// Who serves one of the own groups, or did so today; all where none was chosen.
+// The agents of a chosen group, now or today; all if none was chosen.
 /** @param {Looked} looked */
-export function ownAgents({state, day}) {
-  const own = ownOf();
-  return [...state.agents.values()].filter(agent => !settings.groups || day.servedBy(agent).some(group => own(group)));
+export function chosenAgents({state, day}) {
+  const chosen = chosenOf();
+  return [...state.agents.values()].filter(agent => !settings.groups || day.groupsOf(agent).some(group => chosen(group)));
 }
 
 // An agent of several groups counts once.
 /** @param {Looked} looked @param {GroupLine[]} lines */
 export function totals(looked, lines) {
-  const {day, now} = looked, counts = noCounts(), agents = ownAgents(looked), {sum} = day.all;
+  const {day, now} = looked, counts = noCounts(), agents = chosenAgents(looked), {sum} = day.all;
   for (const {does} of agents) counts[does]++;
   const waits = lines.flatMap(({wait}) => wait ?? []);
   const worst = /** @type {Severity[]} */ (['bad', 'long', 'calm']).find(one => lines.some(line => line.severity === one));
@@ -65,7 +65,7 @@ export function totals(looked, lines) {
 // The live calls: those that wait first, the longest first.
 /** @param {Looked} looked */
 export function callLines({state}) {
-  const own = ownOf(), found = [...state.calls.values()].map(({number, since, caller, queued, connections}) => {
+  const chosen = chosenOf(), found = [...state.calls.values()].map(({number, since, caller, queued, connections}) => {
     /** @type {CallLine} */ let line = {number, state: 'none', since, group: null, device: '', caller, begun: since, rank: 9};
     for (const {device, state: is, group, since} of connections.values()) {
       const rank = RANK[is];
@@ -73,7 +73,7 @@ export function callLines({state}) {
     }
     return line;
   });
-  return found.filter(line => !settings.groups || own(line.group ?? '')).sort((one, other) => one.rank - other.rank || one.since - other.since || one.number - other.number);
+  return found.filter(line => !settings.groups || chosen(line.group ?? '')).sort((one, other) => one.rank - other.rank || one.since - other.since || one.number - other.number);
 }
 
 // The line whose number is looked for, the first of its texts, or else all that have it in their texts.

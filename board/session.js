@@ -1,4 +1,4 @@
-// What desk and gate answer to who is logged in, and the session of a browser.
+// The answers of desk and gate to a login, and the session of a browser.
 import {set} from './draw.js';
 import * as net from './net.js';
 import {refusal, word} from './words.js';
@@ -12,7 +12,7 @@ export async function ask(path = '') {
   return JSON.parse(text);
 }
 
-// It comes back to where one was; what is refused while a session ends doesn't lead there.
+// It comes back to the page that was open; a refusal while a session ends doesn't lead there.
 export const logIn = () => ends || location.assign(`${net.base}/board/login/?next=${location.pathname}${location.search}${location.hash}`);
 
 export async function logOut() {

@@ -1,8 +1,8 @@
-// The settings of a board stand in its address, so that it is a bookmark; what isn't there is as the office says, or as here.
+// A board's settings are in its address, so that it is a bookmark; others are as the office says, or as here.
 import {office} from './words.js';
 
 export const USUAL = {
-  // these may be a group's own: `long.100`
+  // a group may have its own: `long.100`
   limit: 20, goal: 80, lost: 5, long: 60, bad: 120,
   // seconds from which on it is long that an agent does this
   ringing: 15, busy: 900, hold: 120, own: 600, workingAfterCall: 180, notReady: 900,
@@ -56,10 +56,10 @@ export function limitsOf(group = '') {
 
 export const greatestLimit = () => Math.max(...Object.entries(settings).flatMap(([name, value]) => /^limit\b/.test(name) ? Number(value) : []));
 
-// All groups are own ones where none was chosen.
-export function ownOf(groups = settings.groups) {
-  const own = new Set(groups.split(',').filter(Boolean));
-  return (group = '') => !own.size || own.has(group);
+// All groups count as chosen if none was.
+export function chosenOf(groups = settings.groups) {
+  const chosen = new Set(groups.split(',').filter(Boolean));
+  return (group = '') => !chosen.size || chosen.has(group);
 }
 
 // Swedes write a moment as 2026-11-28 16:05:30.

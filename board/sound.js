@@ -1,4 +1,4 @@
-// What is noticed behind other windows: two tones, and a notification.
+// Signs for a page behind other windows: two tones, and a notification.
 
 // seconds and hertz
 const TONES = [[0, 660], [0.3, 880]], LASTS = 0.22, LOUD = 0.3;

@@ -1,4 +1,4 @@
-// What the desk's switch holds: begun by a snapshot, or by nothing, and carried on by events. No document, no network: node runs it too.
+// The state of the desk's switch: from a snapshot, or empty, kept up to date by events. No document, no network: node runs it too.
 
 // a snapshot ranks by stamps, of at most 1000000000: less this they come before events' numbers, which rank what follows
 const EARLIER = 2000000000;
@@ -19,16 +19,16 @@ export const turn = (one, other) => one.rank - other.rank || order(one.id, other
 
 /** @type {DoingAt} */
 export const doingAt = ({state, since}, here) => {
-  const given = here.find(({group}) => group), own = state === 'ready' && here.find(one => one.state !== 'fail'), group = given?.group ?? null;
+  const given = here.find(({group}) => group), direct = state === 'ready' && here.find(one => one.state !== 'fail'), group = given?.group ?? null;
   if (given) return given.state === 'alerting' ? {doing: 'ringing', since: given.since, group} : given.state === 'hold' ? {doing: 'hold', since: given.since, group} : {doing: 'busy', since, group};
-  return own ? {doing: 'own', since: own.since, group} : {doing: state, since, group};
+  return direct ? {doing: 'own', since: direct.since, group} : {doing: state, since, group};
 };
 
 // What a map has for a key, or gets.
 /** @type {Keeps} */
 export const kept = (map, key, made) => {
-  const had = map.get(key), one = had ?? made();
-  if (had === undefined) map.set(key, one);
+  const old = map.get(key), one = old ?? made();
+  if (old === undefined) map.set(key, one);
   return one;
 };
 
@@ -39,11 +39,11 @@ export class State {
   /** @type {Map<string, Agent>} */ agents = new Map();
   /** @type {Map<number, Call>} */ calls = new Map();
   /** @type {Map<string, Station>} */ stations = new Map();
-  // agents of several groups, which no event told; who leave a call that is being cleared, with the rank that they get
+  // agents whose several groups no event has; those who leave a call that is being cleared, with the rank that they get
   /** @type {Set<string>} */ unknown = new Set();
   /** @type {Map<string, number>} */ leaving = new Map();
 
-  // What was known before tells since when connections are as they are: no snapshot does.
+  // The state before has since when connections are as they are: no snapshot has it.
   /** @param {Snapshot} [snapshot] @param {State} [before] */
   constructor(snapshot, before) {
     if (!snapshot) return;
@@ -51,16 +51,16 @@ export class State {
     Object.assign(this, {last, moment});
     for (const {device, name, ring, wrap, priority = 0} of groups) Object.assign(this.group(device), {name, ring, wrap, priority});
     for (const {device, agent} of stations) this.station(device).agent = agent ?? null;
-    for (const {agent, name, state, since, stamp, device = null, pending = null, ...served} of agents) {
-      Object.assign(this.agent(agent), {name, state, since, rank: stamp - EARLIER, station: device, groups: groupsOf(served), pending});
+    for (const {agent, name, state, since, stamp, device = null, pending = null, ...inGroups} of agents) {
+      Object.assign(this.agent(agent), {name, state, since, rank: stamp - EARLIER, station: device, groups: groupsOf(inGroups), pending});
     }
     for (const {call: number, since, caller, connections} of calls) {
       const call = Object.assign(this.call(number, since), {caller}), known = before?.calls.get(number);
       for (const {device, state, group = null, place, queued, offered} of connections) {
         if (place !== undefined) call.rank = place - EARLIER;
         if (queued !== undefined) call.queued = queued;
-        const had = known?.connections.get(device);
-        this.put(call, device, state, state === 'queued' ? device : group, offered ?? (had?.state === state ? had.since : this.agentAt(device)?.since ?? queued ?? since));
+        const old = known?.connections.get(device);
+        this.put(call, device, state, state === 'queued' ? device : group, offered ?? (old?.state === state ? old.since : this.agentAt(device)?.since ?? queued ?? since));
       }
     }
   }
@@ -129,7 +129,7 @@ export class State {
     if (state === 'alerting' && group) this.group(group).ringing.add(call);
   }
 
-  // The side of an external caller stands at no planned device.
+  // The side of an external caller has no planned device.
   isOutside({caller = ''}, device = '') { return device === caller && !this.stations.has(device); }
 
   /** @param {Call} call @param {ConnectionState} state */
@@ -156,10 +156,10 @@ export class State {
   }
 
   /** @param {AgentText} text what /agents/{id} answers */
-  learn({agent: id, device, ...served}) {
+  learn({agent: id, device, ...inGroups}) {
     const agent = this.agent(id);
     this.unknown.delete(id);
-    if (agent.station && agent.station === device) agent.groups = groupsOf(served);
+    if (agent.station && agent.station === device) agent.groups = groupsOf(inGroups);
   }
 
   /** @param {Agent} agent */
@@ -175,5 +175,5 @@ export class State {
   }
 }
 
-/** @param {Served} told */
+/** @param {InGroups} text */
 const groupsOf = ({group, groups = group ? [group] : []}) => groups;

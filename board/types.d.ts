@@ -1,4 +1,4 @@
-// The forms of what the desk tells and of what the pages make of it, for the checker of types. No browser loads this file.
+// The forms of the desk's answers and of the pages' objects, for the checker of types. No browser loads this file.
 
 export type ConnectionState = 'initiated' | 'alerting' | 'connected' | 'hold' | 'queued' | 'fail';
 export type AgentState = 'null' | 'notReady' | 'ready' | 'busy' | 'workingAfterCall';
@@ -8,8 +8,8 @@ export type Figures = {entered: number, answered: number, abandoned: number, mov
 
 export type Snapshot = {agents: AgentText[], calls: CallText[], groups: GroupText[], last: number, moment: number, stations: StationText[]};
 /** one group, or several */
-export type Served = {group?: string, groups?: string[]};
-export type AgentText = Served & {agent: string, device?: string, name: string, pending?: string, since: number, stamp: number, state: AgentState};
+export type InGroups = {group?: string, groups?: string[]};
+export type AgentText = InGroups & {agent: string, device?: string, name: string, pending?: string, since: number, stamp: number, state: AgentState};
 type ConnectionText = {device: string, group?: string, state: ConnectionState, offered?: number, place?: number, queued?: number};
 type CallText = {call: number, called: string, caller: string, connections: ConnectionText[], since: number};
 type GroupText = Figures & {device: string, kind: 'group', name: string, priority?: number, ring: number, wrap: number};
@@ -56,7 +56,7 @@ export type Share = {level: number | null, levelSeverity: Severity, lost: number
 /** wait: of the call that waits longest, since `queued`; next: the agent who gets the next call; level: the share answered in time; lost: the share that gave up */
 export type GroupLine = Sums & Share & {id: string, name: string, priority: number, waiting: number, ringing: number, queued: number, wait: number | null, severity: Severity,
   counts: Record<Doing, number>, loggedOn: number, next: Agent | null, limits: Limits};
-/** since: where the figures tell it, or 0 */
+/** since: if the figures show it, else 0 */
 export type Alarm = {key: string, kind: string, since: number, values: () => Values};
 /** since: when it began, as far as is known; last: when it was there for the last time, in milliseconds; seen: whether somebody said so in this browser */
 export type Known = {since: number, last: number, seen: boolean};
@@ -67,19 +67,19 @@ export type CallLine = {number: number, state: ConnectionState | 'none', since: 
 /** of a line */
 export type Cell = (line: any) => string | number;
 export type Figure = (line: any) => number | null;
-/** head: the word at the top, and behind it classes: wide and least are left out on a small screen, and day is known once the day has been counted; text: what stands in a line's cell, else the line's member of that name, or a figure of seconds or a share; file: what a file has in its place; press: what the button is called that it is */
+/** head: the word at the top, and after it classes: wide and least are left out on a small screen, and day is known once the day has been counted; text: a line's cell, else the line's member of that name, or a figure of seconds or a share; file: the cell in a file; press: the name of the button that it is */
 export type Column = {head: string, kind?: string, day?: boolean, text?: Cell, seconds?: Figure, share?: Figure, file?: (line: any) => string | number | null, severity?: (line: any) => string, press?: string};
-/** look: first, second or third, by which the style tells them apart, with colour and without; a bar, or a line */
+/** look: first, second or third, by which the style distinguishes them, with colour and without; a bar, or a line */
 export type Series = {name: string, look: string, value: Figure, isLine?: boolean};
 
-// who follows a desk: how it goes, a snapshot to begin with, what happens then, and the agents that have to be asked for
+// a follower of a desk: the course of the feed, a snapshot to begin with, and then the reports
 
 export type Course = {kind: 'begins' | 'live' | 'anew'} | {kind: 'lost', why: string, status: number};
-export type Follower = {tell: (course: Course) => void, begin: (snapshot: Snapshot) => void, take: (events: Report[]) => void};
+export type Follower = {show: (course: Course) => void, begin: (snapshot: Snapshot) => void, take: (events: Report[]) => void};
 
 // what a page is made of
 
-/** what an element is given: true is an attribute without a value, false or nothing takes it away, and a function is done at an event */
+/** an element's attributes: true is one without a value, false or nothing removes it, and a function handles an event */
 export type Attributes = Record<string, string | number | boolean | undefined | ((event: any) => void)>;
 export type Made = {tag: string, attributes: Attributes, parts: Part[]};
 /** what is in an element; of an element as it is, a symbol */
@@ -94,7 +94,7 @@ export type Sentence = {moment: number, number: string, words: string};
 // functions
 
 export type Order<T> = (one: T, other: T) => number;
-export type Concerns = (state: import('./state.js').State, report: any, own: (group: string) => boolean) => boolean | undefined;
+export type Concerns = (state: import('./state.js').State, report: any, chosen: (group: string) => boolean) => boolean | undefined;
 export type Signed = (area: string, signs: Record<string, string>) => Record<string, {sign: string, words: string}>;
 
 /** what a map has for a key, or gets */
@@ -121,7 +121,7 @@ export type Charts = (steps: Quarter[], then: string | undefined, settings: Sett
 /** times: what is shown of a value; top: the greatest value; goal: a line across */
 export type Chart = (steps: Quarter[], title: string, series: Series[], times?: number, top?: number, goal?: number) => Part;
 export type SettingsOf = (said: Iterable<[string, string]>, before?: Settings) => Settings;
-/** goesOn: whether more is wanted behind what was counted; end: of the day */
+/** goesOn: whether to read on after these; end: of the day */
 export type Reads = (day: import('./day.js').Day, goesOn: (counted: Report[]) => boolean, end?: number) => Promise<void>;
 export type Labelled = (setting: string[], attributes?: Attributes) => Part;
 export type Asks = (question: string, choices?: string[][], chosen?: string) => Promise<string | null>;
@@ -134,7 +134,7 @@ export type LeadOf = {groups: Set<string>, requester: string, invoke: number, be
 // what a view draws
 /** what all is reckoned from */
 export type Looked = {state: import('./state.js').State, day: import('./day.js').Day, now: number};
-/** counted: whether the day's events have been read; all: the own groups together; lines: one for each; past: another day, so many days before; learn: reads who calls; empty: says why nothing is shown; filter: sets filters, and shows a view; redraw: draws all anew */
+/** counted: whether the day's events have been read; all: the chosen groups together; lines: one for each; past: another day, so many days before; learn: reads who calls; empty: says why nothing is shown; filter: sets filters, and shows a view; redraw: draws all anew */
 export type Drawn = Looked & {settings: Settings, counted: boolean, recent: Report[], lines: GroupLine[],
   all: ReturnType<typeof import('./reckon.js').totals>, past: (back: number) => import('./day.js').Day | undefined, learn: (calls: number[]) => void, empty: (text: string) => void, lead: LeadOf,
   filter: (wanted: Record<string, string>, view?: string) => void, redraw: () => void};

@@ -1,5 +1,5 @@
 // What is said in words, in English. Other languages have an object of the same areas and keys in words/, de.js say; what that lacks is in English.
-//   word('alarms.rest', {n: 3})   "and 3 more alarms": of a word with forms `n` chooses one. {n} stands for a value: a number is written by Intl
+//   word('alarms.rest', {n: 3})   "and 3 more alarms": of a word with forms `n` chooses one. {n} is a value: Intl writes a number
 //   <b data-word="view.wall"></b> translate() writes it; data-label is for an aria-label
 import {ask} from './net.js';
 
@@ -345,7 +345,7 @@ function keyed(text = '') {
 /** @returns {string[][]} */
 const flat = (said = {}, area = '') => Object.entries(said).flatMap(([name, one]) => typeof one === 'string' ? [[area + name, one]] : flat(one, `${area}${name}.`));
 
-// What the office says of its pages: /etc/acd/board.json. What is left out, or can't be used, is as desk and address say; `fault` tells what can't: the file, or a member.
+// The office's settings of its pages: /etc/acd/board.json. Others, and those that can't be used, are as desk and address say; `fault` names the file or a member that can't.
 const PATIENCE = 3000, LONGEST = 80;
 
 /** @returns {Record<string, string>} */
@@ -355,20 +355,20 @@ function officeOf(text = '') {
   let said, fault = '';
   try { said = JSON.parse(text); } catch { /* a fault, as any other that is no object */ }
   if (said?.constructor !== Object) [said, fault] = [{}, 'board.json'];
-  const own = texts(said), {names, limits} = said, drop = (name = '') => { delete own[name]; fault = name; };
-  if (!/^[a-z]{2,3}$/.test(own.language ?? 'en')) drop('language');
-  try { new Intl.DateTimeFormat('en', {timeZone: own.zone}); } catch { drop('zone'); }
-  return {office: {title: own.title, language: own.language, zone: own.zone, limits: texts(limits), names: {groups: texts(names?.groups), agents: texts(names?.agents), stations: texts(names?.stations)}}, fault};
+  const given = texts(said), {names, limits} = said, drop = (name = '') => { delete given[name]; fault = name; };
+  if (!/^[a-z]{2,3}$/.test(given.language ?? 'en')) drop('language');
+  try { new Intl.DateTimeFormat('en', {timeZone: given.zone}); } catch { drop('zone'); }
+  return {office: {title: given.title, language: given.language, zone: given.zone, limits: texts(limits), names: {groups: texts(names?.groups), agents: texts(names?.agents), stations: texts(names?.stations)}}, fault};
 }
 
-const told = await ask('/board/board.json', {cache: 'no-cache'}, PATIENCE).catch(() => null);
-export const {office, fault} = officeOf(told?.status === 200 ? told.text : '{}');
+const reply = await ask('/board/board.json', {cache: 'no-cache'}, PATIENCE).catch(() => null);
+export const {office, fault} = officeOf(reply?.status === 200 ? reply.text : '{}');
 
 export const query = new URLSearchParams(location.search);
 const asked = query.get('lang') ?? '';
 export let language = /^[a-z]{2,3}$/.test(asked) ? asked : office.language ?? 'en';
-let own = ENGLISH;
-if (language !== 'en') try { own = Object.fromEntries(flat((await import(`./words/${language}.js`)).default)); } catch { language = 'en'; }
+let chosen = ENGLISH;
+if (language !== 'en') try { chosen = Object.fromEntries(flat((await import(`./words/${language}.js`)).default)); } catch { language = 'en'; }
 document.documentElement.lang = language;
 // Britain's English has 24 hours
 const locale = language === 'en' ? 'en-GB' : language, dates = (how = {}) => new Intl.DateTimeFormat(locale, {timeZone: office.zone, ...how});
@@ -376,11 +376,11 @@ const plural = new Intl.PluralRules(locale), figures = new Intl.NumberFormat(loc
 const times = {short: dates({timeStyle: 'short'}), medium: dates({timeStyle: 'medium'}), long: dates({timeStyle: 'long'})}, days = dates({weekday: 'short', day: 'numeric', month: 'short'});
 
 /** @param {string|number} [n] */
-const saidIn = (table = own, key = '', n) => table[key] ?? table[`${key}.${plural.select(Number(n))}`] ?? table[`${key}.other`];
+const saidIn = (table = chosen, key = '', n) => table[key] ?? table[`${key}.${plural.select(Number(n))}`] ?? table[`${key}.other`];
 
 /** @param {Values} [values] */
 export function word(key = '', values = {}) {
-  const text = saidIn(own, key, values.n) ?? saidIn(ENGLISH, key, values.n) ?? key;
+  const text = saidIn(chosen, key, values.n) ?? saidIn(ENGLISH, key, values.n) ?? key;
   return text.replace(/\{(\w+)\}/g, (all, name) => { const value = values[name] ?? all; return typeof value === 'number' ? number(value) : value; });
 }
 

@@ -1,4 +1,4 @@
-// An agent's own page.
+// An agent's page.
 import {byId, drawStatus, make, put, set, table, withNumber} from '../draw.js';
 import {logIn, logOut, openSession} from '../session.js';
 import {isHeard, soundWhere, tone} from '../sound.js';
@@ -8,10 +8,10 @@ import {beat, drawCalls, joined, ring, say} from './calls.js';
 import {doing, isFree, isOverdue, meant, placesOf, sideOf, STATES, states, wrapLeft} from './mine.js';
 import {Requests} from './requests.js';
 
-// milliseconds until what is seen is late, what was done or refused goes, a click is no second one
+// milliseconds until the page is late, a text fades, a refusal fades, a click is no second one
 const OLD = 6000, FLEETING = 5000, REFUSED = 30000, SECOND = 400, MOST_GROUPS = 8, form = byId('log-on');
 
-let id = query.get('agent') ?? '', acts = false, leaves = false, begun = false, isFilled = false, free = [''], served = [''];
+let id = query.get('agent') ?? '', acts = false, leaves = false, begun = false, isFilled = false, free = [''], offered = [''];
 /** @type {Mine} */ let mine;
 /** @type {Lost|null} */ let lost = null;
 /** @type {Names} */ let names;
@@ -23,7 +23,7 @@ let ahead = 0, known = 0, clicked = 0, fades = 0;
 
 const age = () => Date.now() - known;
 const isLive = () => mine?.live && !lost && age() < OLD;
-// the desk's clock; it stands still where nobody knows what goes on
+// the desk's clock; it stops while the desk is unknown
 const now = () => (Math.min(Date.now(), known + OLD) + ahead) / 1000;
 
 const groupName = (device = '') => named(office.names.groups[device] ?? names.groups.find(group => group.device === device)?.name ?? device);
@@ -32,7 +32,7 @@ const callerName = (device = '') => placeName(places.places.find(({to}) => to ==
 
 /** @type {Map<string, Made>} */ const notices = new Map();
 
-// It stands until it is clicked away, or isn't so any more.
+// It stays until it is clicked away, or is over.
 /** @type {Notice} */
 const notice = (key, words, buttons = [], more) => {
   notices.set(key, make('p.notice', {'data-key': key}, make('span', words), make('span', ...buttons.map(([label, act]) => make('button', {onclick: () => { drop(key); act?.(); }}, label)), more)));
@@ -41,16 +41,16 @@ const notice = (key, words, buttons = [], more) => {
 
 const drop = (key = '') => { if (notices.delete(key)) put('notices', ...notices.values()); };
 
-const refuse = (words = '') => tell({kind: 'refused', words});
+const refuse = (words = '') => show({kind: 'refused', words});
 
-/** @param {Told} told */
-function tell({kind, words, key, result}) {
+/** @param {Outcome} outcome */
+function show({kind, words, key, result}) {
   if (kind === 'dropped') return notice(`dropped ${words}`, say('dropped', {what: words}), [[say('read')]]);
   set('told', {'data-severity': kind === 'waits' ? 'long' : kind === 'refused' && 'bad'});
   put('told', `${{sent: '…', waits: '▲', done: '✓', refused: '■'}[kind]} ${words}`);
   clearTimeout(fades);
   if (kind !== 'waits') fades = setTimeout(put, kind === 'refused' ? REFUSED : FLEETING, 'told');
-  if (result?.pending && mine) mine.agent.pending = result.pending;   // which no event tells
+  if (result?.pending && mine) mine.agent.pending = result.pending;   // which no event has
   if (kind === 'refused' && key === 'loggedOff') leaves = false;
   draw();
 }
@@ -71,13 +71,13 @@ const ask = (requested = '', more) => send('setAgentState', {agent: id, requeste
 /** @type {Act} */
 const act = (service, {call, key}, who, field) => {
   const what = say(service), asked = `${service} ${call}`, members = {call, device: mine?.agent.device};
-  // who says no to an offer knows why the state is another one
+  // an agent who says no to an offer knows why the state changed
   if (service === 'rejectCall') localStorage[`acd-missed-${id}`] = key;
   if (!/Transfer|deflect/.test(service)) return send(service, members, say('button', {what, who}), asked);
   choose(field, what, true, place => send(service, {...members, to: place.to}, say('moved', {what, who, to: placeName(place)}), asked));
 };
 
-// Takes what was typed; asks where it isn't one place, or nobody is logged on.
+// Takes the typed text; asks if it isn't one place, or nobody is logged on.
 /** @type {Choose} */
 const choose = (field, what, asks, take) => {
   const typed = field.value.trim(), found = meant(typed, places, mine?.agent.device), one = found?.length === 1 && found[0], isEmpty = asks && one && one.isEmpty;
@@ -120,15 +120,15 @@ function hear(heard) {
 }
 
 // Offers the stations where nobody is, and the groups, or those of the login.
-/** @param {Names} told */
-function takeNames(told) {
-  names = told;
+/** @param {Names} given */
+function takeNames(given) {
+  names = given;
   places = placesOf(names, office.names);
   free = (who.stations ?? names.stations).filter(station => !names.agents.some(({device}) => device === station)).sort(order);
-  served = names.groups.map(({device}) => device).filter(device => who.groups?.includes(device) ?? true);
+  offered = names.groups.map(({device}) => device).filter(device => who.groups?.includes(device) ?? true);
   put('destinations', ...places.places.map(({to, name}) => make('option', {value: to}, name || say('station'))));
   put('stations', ...free.map(device => make('option', {value: device}, office.names.stations[device])));
-  put('groups', ...served.map(device => make('label', {'data-key': device}, make('input', {type: 'checkbox', value: device}), make('span', `${groupName(device)} (${device})`))));
+  put('groups', ...offered.map(device => make('label', {'data-key': device}, make('input', {type: 'checkbox', value: device}), make('span', `${groupName(device)} (${device})`))));
   if (isFilled) return;
   isFilled = true;
   form.elements.station.value = query.get('station') ?? lastLogOn()?.device ?? '';
@@ -141,10 +141,10 @@ function lastLogOn() { try { return JSON.parse(localStorage[`acd-log-on-${id}`])
 /** @param {Partial<LastLogOn>} wanted */
 const logOn = ({device, groups = []}) => ask('loggedOn', {device, ...(groups.length === 1 ? {group: groups[0]} : {groups})});
 
-/** @param {Own} own */
+/** @param {MyState} state */
 function drawLogOn({device, groups}, may = false) {
   if (device && groups) localStorage[`acd-log-on-${id}`] = JSON.stringify({device, groups});
-  const last = lastLogOn(), fits = last && free.includes(last.device) && last.groups.every(group => served.includes(group));
+  const last = lastLogOn(), fits = last && free.includes(last.device) && last.groups.every(group => offered.includes(group));
   set('log-on-button', {disabled: !may});
   set('again', {disabled: !may, hidden: !fits, onclick: () => logOn(last ?? {})});
   if (fits) put('again', say('again.logOn', {station: last.device, groups: last.groups.map(groupName).join(', ')}));
@@ -170,7 +170,7 @@ function draw() {
   drawCalls({mine, now: moment, acts: acts && isLiving, off: requests.out, who: callerName, group: groupName, act});
   queues.draw(groups.map(group => ({...group, key: group.device, wait: group.calls.length ? moment - Math.min(...group.calls.map(({queued = moment}) => queued)) : null})));
   drawDay(moment);
-  tellOf(moment);
+  showMissed(moment);
   if (leaves && isLiving && !device) end();
 }
 
@@ -206,7 +206,7 @@ function drawDay(moment = 0) {
   lastCalls.draw(calls.map(call => ({...call, key: `${call.call} ${call.moment}`})).reverse());
 }
 
-function tellOf(moment = 0) {
+function showMissed(moment = 0) {
   const {agent, missed} = mine, place = `acd-missed-${id}`, isOff = agent.state === 'notReady', key = `${missed?.call} ${missed?.since}`;
   if (missed && acts && localStorage[place] !== key) {
     const read = () => { localStorage[place] = key; };
@@ -248,7 +248,7 @@ function listen() {
   offerNotices();
 }
 
-// Who is logged on is logged off first; a second wish ends the session at once.
+// An agent is logged off first; a second click ends the session at once.
 function leave() {
   if (!acts || !mine?.agent.device || leaves) return end();
   ask('loggedOff');
@@ -256,11 +256,11 @@ function leave() {
   draw();
 }
 
-// A login that is no agent's only looks at another's.
+// The login of no agent only looks at the page.
 async function begin() {
   translate();
   listen();
-  who = await openSession(leave, why => tell({kind: 'waits', words: say('who', {why})}));
+  who = await openSession(leave, why => show({kind: 'waits', words: say('who', {why})}));
   id ||= who.agent ?? '';
   acts = who.agent === id || who.role === 'exchange';
   const login = named(who.login);
@@ -269,7 +269,7 @@ async function begin() {
   if (who.why) return refuse(`${login}: ${who.why}`);
   if (!id) return notice('nobody', say('noNumber', {login}), [], make('a', {href: '../'}, say('board')));
   if (!acts) notice('looks', say('looks', {login, number: id}));
-  requests = new Requests(id, who.login, {isLive, logOn: () => mine?.agent.logOn ?? null, tell, ask: askAbout});
+  requests = new Requests(id, who.login, {isLive, logOn: () => mine?.agent.logOn ?? null, show, ask: askAbout});
   const worker = new Worker(new URL('listening.js', import.meta.url), {type: 'module'});
   worker.onmessage = ({data}) => hear(data);
   worker.postMessage(`/mine?agent=${id}`);

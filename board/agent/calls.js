@@ -1,12 +1,12 @@
-// The calls at the own station: who calls, what can be done now, and how an offer is noticed.
+// The calls at the agent's station: who calls, the services now, and the signs of an offer.
 import {byId, make, put} from '../draw.js';
 import {isHeard, notify, tone} from '../sound.js';
 import {clock, CONNECTION, word} from '../words.js';
 import {ringLeft, services, sideOf} from './mine.js';
 
-// as they stand, with their keys: before the sixth the place to which a call goes, the last one apart
+// in their order, with their keys: before the sixth the field for a place, the last one apart
 const SERVICES = {answerCall: 'F2', rejectCall: 'F8', phoneOffHook: '', holdCall: '', retrieveCall: '', singleStepTransfer: '', deflectCall: '', clearConnection: ''};
-/** @type {Notification|undefined} */ let told;
+/** @type {Notification|undefined} */ let shown;
 let rings = '', beats = 0;
 
 /** @type {Say} */
@@ -16,30 +16,30 @@ export const joined = (...parts) => parts.filter(Boolean).join(' · ');
 
 /** @param {DrawnCalls} drawn */
 export function drawCalls(drawn) {
-  const list = byId('calls'), had = list.contains(document.activeElement);
+  const list = byId('calls'), focused = list.contains(document.activeElement);
   put(list, ...drawn.mine.calls.map(call => card(drawn, call)));
-  // a button that goes leaves the focus here
-  if (had && !/** @type {any} */ (document.activeElement)?.offsetParent) (list.querySelector('li') ?? list).focus();
+  // a button that vanishes leaves the focus here
+  if (focused && !/** @type {any} */ (document.activeElement)?.offsetParent) (list.querySelector('li') ?? list).focus();
 }
 
 /** @type {Card} */
 const card = ({mine, now, acts, off, who: nameOf, group, act}, call) => {
   const here = sideOf(mine, call), number = `${call.call}`;
   if (!here) return false;
-  const may = acts ? services(mine, call) : new Set(), own = call.caller === here.device, other = own ? call.called : call.caller, who = other ?? number, left = ringLeft(mine, here, now) ?? 0, {sign, words} = CONNECTION[here.state];
+  const may = acts ? services(mine, call) : new Set(), dials = call.caller === here.device, other = dials ? call.called : call.caller, who = other ?? number, left = ringLeft(mine, here, now) ?? 0, {sign, words} = CONNECTION[here.state];
   const buttons = Object.entries(SERVICES).map(([service, key]) => {
     const what = say(service);
     return make('button', {class: service === 'answerCall' && 'main', 'data-service': service, 'aria-keyshortcuts': key || false, hidden: !may.has(service), disabled: off.has(`${service} ${number}`), 'aria-label': say('button', {what, who}),
       onclick: ({currentTarget}) => act(service, {call: call.call, key: `${number} ${here.since}`}, who, currentTarget.parentElement.querySelector('input'))},
     what, key && ' ', key && make('kbd', key));
   });
-  const to = make('input', {list: 'destinations', 'aria-label': say('to'), placeholder: say('to'), autocomplete: 'off', spellcheck: 'false', hidden: !may.has('singleStepTransfer') && !may.has('deflectCall'),
+  const place = make('input', {list: 'destinations', 'aria-label': say('to'), placeholder: say('to'), autocomplete: 'off', spellcheck: 'false', hidden: !may.has('singleStepTransfer') && !may.has('deflectCall'),
     onkeydown: ({key, target}) => { if (key === 'Enter') target.parentElement.querySelector('input ~ button:not([hidden], [data-service=clearConnection])')?.click(); }});
   return make('li', {'data-key': number, tabindex: -1, 'data-state': here.state},
-    make('p.line', `${sign} ${words} ${clock(now - here.since)} · ${here.group ? group(here.group) : say(own ? 'byYou' : 'direct')}`),
+    make('p.line', `${sign} ${words} ${clock(now - here.since)} · ${here.group ? group(here.group) : say(dials ? 'byYou' : 'direct')}`),
     make('p.number', other ? nameOf(other) : '…'),
     make('p.soft', joined(call.queued && here.state === 'alerting' && say('hasWaited', {clock: clock(now - call.queued)}), left > 0 && say('ringsFor', {clock: clock(left)}), word('agents.call', {call: number}))),
-    make('div.buttons', ...buttons.slice(0, 5), to, ...buttons.slice(5)));
+    make('div.buttons', ...buttons.slice(0, 5), place, ...buttons.slice(5)));
 };
 
 addEventListener('keydown', event => {
@@ -48,18 +48,18 @@ addEventListener('keydown', event => {
   if (!event.repeat) byId('calls').querySelector(`[aria-keyshortcuts=${event.key}]:not([hidden])`)?.click();
 });
 
-// Of two seconds it sounds in one.
+// It sounds in every second second.
 export function beat() { if (rings && beats++ % 2 === 0 && byId('tone').checked && isHeard()) tone(); }
 
 /** @param {Offer} offer what rings now */
 export function ring({key, title, words} = {key: '', title: '', words: ''}) {
   if (rings === key) return;
   rings = key;
-  told?.close();
+  shown?.close();
   put('ring', key && say('rings', {what: title}));
   beats = 0;
   beat();
   if (!key || document.hasFocus()) return;
-  const notice = told = notify(`◆ ${title}`, {body: words, tag: 'acd-ring', requireInteraction: true});
+  const notice = shown = notify(`◆ ${title}`, {body: words, tag: 'acd-ring', requireInteraction: true});
   if (notice) notice.onclick = () => { focus(); notice.close(); };
 }

@@ -1,4 +1,4 @@
-// Asks the gate what is new of an agent's own. A worker, since a browser slows down the clock of a page that isn't seen.
+// Asks the gate for an agent's news. A worker, since a browser slows down the clock of a hidden page.
 import {ahead, ask, pause, sleep} from '../net.js';
 
 // seconds: for which the gate holds a question, so that a loss is seen soon; without an answer; between two beats, unless the machine slept
@@ -6,7 +6,7 @@ const HOLD = 4, PATIENCE = 9, SLEPT = 5;
 let after = 0, names = 0, losses = 0, beaten = Date.now(), giving = new AbortController();
 
 /** @param {Heard} heard */
-const tell = heard => postMessage(heard);
+const send = heard => postMessage(heard);
 
 async function listen(path = '') {
   giving = new AbortController();
@@ -17,19 +17,19 @@ async function listen(path = '') {
     after = mine.number;
     names = mine.names?.number ?? names;
     losses = 0;
-    tell({kind: 'told', mine, ahead, received: Date.now()});
+    send({kind: 'told', mine, ahead, received: Date.now()});
   } catch ({message}) { return lose(0, message); }
 }
 
 function lose(status = 0, text = '') {
-  tell({kind: 'lost', status, text});
+  send({kind: 'lost', status, text});
   return sleep(pause(losses++));
 }
 
 setInterval(() => {
   if (Date.now() - beaten > 1000 * SLEPT) giving.abort();
   beaten = Date.now();
-  tell({kind: 'beat'});
+  send({kind: 'beat'});
 }, 1000);
 
 onmessage = async ({data}) => { for (;;) await listen(data); };

@@ -1,4 +1,4 @@
-// What an agent may do, and where calls can go. No document, no network.
+// An agent's services, and the places for calls. No document, no network.
 import {doingAt, GRACE} from '../state.js';
 
 const MOST = 8;
@@ -11,7 +11,7 @@ export const {sideOf, sides, isFree, states, services, doing, ringLeft, wrapLeft
 
   sides: mine => mine.calls.flatMap(call => sideOf(mine, call) ?? []),
 
-  // Whether nothing but what is held, or busy, goes on at the own station.
+  // Whether all calls at the agent's station are held, or found it busy.
   isFree: mine => !sides(mine).some(({state}) => ['initiated', 'alerting', 'connected'].includes(state)),
 
   // each that isn't there or pending already
@@ -24,10 +24,10 @@ export const {sideOf, sides, isFree, states, services, doing, ringLeft, wrapLeft
   services(mine, call) {
     const here = sideOf(mine, call);
     if (!here) return new Set();
-    // an external caller's side, which no event tells, is connected
+    // an external caller's side, which no event has, is connected
     const moves = call.connections.every(({state}) => ['connected', 'hold'].includes(state)) ? ['singleStepTransfer'] : [], back = isFree(mine) ? ['retrieveCall'] : [];
-    const own = {alerting: ['answerCall', 'deflectCall'], initiated: ['phoneOffHook'], connected: ['holdCall', ...moves], hold: back, fail: [], queued: []}[here.state];
-    return new Set([...own, here.state === 'alerting' && here.group ? 'rejectCall' : 'clearConnection']);
+    const given = {alerting: ['answerCall', 'deflectCall'], initiated: ['phoneOffHook'], connected: ['holdCall', ...moves], hold: back, fail: [], queued: []}[here.state];
+    return new Set([...given, here.state === 'alerting' && here.group ? 'rejectCall' : 'clearConnection']);
   },
 
   doing: mine => doingAt({state: 'null', since: 0, ...mine.agent}, sides(mine)),
@@ -38,7 +38,7 @@ export const {sideOf, sides, isFree, states, services, doing, ringLeft, wrapLeft
     return ring && state === 'alerting' ? since + ring - now : null;
   },
 
-  // The same of after-call work; of several groups the one of the least number counts: it is told first.
+  // The same of after-call work; of several groups the least one counts: it comes first.
   wrapLeft({agent: {state, since = 0}, groups}, now) {
     const wrap = state === 'workingAfterCall' && groups[0]?.wrap;
     return wrap ? since + wrap - now : null;
@@ -54,9 +54,9 @@ export const {sideOf, sides, isFree, states, services, doing, ringLeft, wrapLeft
     };
   },
 
-  // What a typed text means: a number, a name, or all that have it in their names. Null for somebody who isn't logged on.
-  meant(typed, {places, away}, own) {
-    const text = plain(typed), has = (name = '') => plain(name).includes(text), found = places.filter(({to, name}) => name && to !== own && has(name));
+  // The places of a typed text: a number, a name, or all with it in their names. Null for somebody who isn't logged on.
+  meant(typed, {places, away}, station) {
+    const text = plain(typed), has = (name = '') => plain(name).includes(text), found = places.filter(({to, name}) => name && to !== station && has(name));
     if (!text) return [];
     if (/^\d{1,15}$/.test(text)) return [places.find(({to}) => to === text) ?? {to: text, name: ''}];
     const whole = found.filter(({name}) => plain(name) === text);

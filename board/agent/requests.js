@@ -1,10 +1,10 @@
 // Sends requests one after the other. One without an answer is kept in the browser and sent again, the same bytes, so that it acts once: for a minute, in the same log-on;
-// behind that it is asked about.
+// after that the page asks about it.
 import {pause, post, requesterOf, sleep} from '../net.js';
 import {refusal, word} from '../words.js';
 
-// milliseconds of all tries, by which a clock may go back, until what was done is seen
-const FRESH = 60000, BACK = 5000, SETTLES = 1000;
+// milliseconds of all tries, by which a clock may be set back, until a result is seen
+const RECENT = 60000, BACK = 5000, SETTLES = 1000;
 
 export class Requests {
   invoke = 0;
@@ -46,21 +46,21 @@ export class Requests {
   };
 
   /** @param {Kept} one */
-  isFresh({at = 0, logOn}) { return Date.now() - at < FRESH && at - Date.now() < BACK && logOn === this.page.logOn(); }
+  isRecent({at = 0, logOn}) { return Date.now() - at < RECENT && at - Date.now() < BACK && logOn === this.page.logOn(); }
 
   /** @param {Kept} one */
   async deliver(place = '', one) {
-    for (let times = 0; this.isFresh(one); times++) {
-      if (!times) this.page.tell({kind: 'sent', words: one.words});
+    for (let times = 0; this.isRecent(one); times++) {
+      if (!times) this.page.show({kind: 'sent', words: one.words});
       const reply = await post(one.body);
       if (reply) {
         localStorage.removeItem(place);
         return this.answered(one, reply.status, reply.text);
       }
-      this.page.tell({kind: 'waits', words: word('agent.again', {what: one.words})});
+      this.page.show({kind: 'waits', words: word('agent.again', {what: one.words})});
       await sleep(pause(times));
       // which log-on it is, is known where the desk answers
-      while (!this.page.isLive() && this.isFresh(one)) await sleep(SETTLES);
+      while (!this.page.isLive() && this.isRecent(one)) await sleep(SETTLES);
     }
     this.page.ask(one, sends => {
       localStorage.removeItem(place);
@@ -70,8 +70,8 @@ export class Requests {
 
   /** @param {Kept} one */
   answered({body, words, key}, status = 0, text = '') {
-    // a gate takes a login's own requesters alone
-    if (status === 403 && !body.includes(this.requester)) return this.page.tell({kind: 'dropped', words});
-    this.page.tell(status === 200 ? {kind: 'done', words, key, result: JSON.parse(text).result} : {kind: 'refused', key, words: `${words}: ${refusal(status, text)}`});
+    // a gate takes a login's requesters only
+    if (status === 403 && !body.includes(this.requester)) return this.page.show({kind: 'dropped', words});
+    this.page.show(status === 200 ? {kind: 'done', words, key, result: JSON.parse(text).result} : {kind: 'refused', key, words: `${words}: ${refusal(status, text)}`});
   }
 }

@@ -1,37 +1,37 @@
-// What the gate tells of an agent's own, and what the agent's page makes of it, for the checker of types. No browser loads this file.
+// The gate's answers about an agent, and the types of the agent's page, for the checker of types. No browser loads this file.
 import type {AgentState, ConnectionState} from '../types';
 
 declare global {
   // what GET /mine answers
 
   type Side = {device: string, group?: string, since: number, state: ConnectionState};
-  type OwnCall = {call: number, called?: string, caller?: string, connections: Side[], queued?: number, since: number};
-  type OwnQueue = {calls: {call: number, caller?: string, queued?: number}[], device: string, loggedOn: number, name: string, ready: number, ring: number, wrap: number};
-  /** logOn tells one log-on from another */
-  type Own = {agent: string, device?: string, groups?: string[], logOn?: number, name?: string, pending?: string, since?: number, state?: AgentState};
-  /** the last offer that was taken back */
+  type MyCall = {call: number, called?: string, caller?: string, connections: Side[], queued?: number, since: number};
+  type MyQueue = {calls: {call: number, caller?: string, queued?: number}[], device: string, loggedOn: number, name: string, ready: number, ring: number, wrap: number};
+  /** logOn identifies a log-on */
+  type MyState = {agent: string, device?: string, groups?: string[], logOn?: number, name?: string, pending?: string, since?: number, state?: AgentState};
+  /** the last offer that the desk withdrew */
   type Missed = {call: number, caller?: string, group?: string, moment: number, since: number};
   type DayCall = {call: number, caller?: string, group?: string, moment: number, talked: number};
-  type OwnDay = {answered: number, begins: number, calls: DayCall[], missed: number, talking: number};
+  type MyDay = {answered: number, begins: number, calls: DayCall[], missed: number, talking: number};
   type Names = {agents: {agent: string, device?: string, name: string}[], groups: {device: string, name: string}[], number: number, stations: string[]};
-  type Mine = {agent: Own, calls: OwnCall[], day?: OwnDay, groups: OwnQueue[], live: boolean, missed?: Missed, moment: number, names?: Names, number: number};
+  type Mine = {agent: MyState, calls: MyCall[], day?: MyDay, groups: MyQueue[], live: boolean, missed?: Missed, moment: number, names?: Names, number: number};
   /** what GET /session answers */
   type Who = {agent?: string, begun?: number, ends?: number, groups?: string[], login?: string, reads?: string, role?: string, stations?: string[], why?: string};
 
-  // what the worker tells: an answer, with the server's and this browser's time of it, or why there was none; and a beat each second
+  // messages of the worker: an answer, with the server's and this browser's time of it, or why there was none; and a beat each second
 
   type Lost = {kind: 'lost', status: number, text: string};
   type Heard = {kind: 'told', mine: Mine, ahead: number, received: number} | Lost | {kind: 'beat'};
 
   // what is asked for
 
-  /** A request that has no answer yet: what it asks for in words, when it was asked for, and in which log-on; `key` tells what was clicked. */
+  /** A request that has no answer yet: what it asks for in words, when it was asked for, and in which log-on; `key` names what was clicked. */
   type Kept = {body: string, words: string, at?: number, logOn?: number | null, key?: string};
-  type Told = {kind: 'sent' | 'waits' | 'done' | 'refused' | 'dropped', words: string, key?: string, result?: {pending?: string}};
-  /** What the requests have to know of the page. */
-  type Asking = {isLive: () => boolean | undefined, logOn: () => number | null, tell: (told: Told) => void, ask: (kept: Kept, answer: (sends: boolean) => void) => void};
+  type Outcome = {kind: 'sent' | 'waits' | 'done' | 'refused' | 'dropped', words: string, key?: string, result?: {pending?: string}};
+  /** The page, as the requests need it. */
+  type Asking = {isLive: () => boolean | undefined, logOn: () => number | null, show: (outcome: Outcome) => void, ask: (kept: Kept, answer: (sends: boolean) => void) => void};
 
-  /** A place to which a call can go; isEmpty: a station at which nobody is logged on. */
+  /** A place for a call; isEmpty: a station at which nobody is logged on. */
   type Goal = {to: string, name: string, isEmpty?: boolean};
   /** away: the names of agents who aren't logged on */
   type Places = {places: Goal[], away: string[]};
@@ -41,9 +41,9 @@ declare global {
   type OfficeNames = typeof import('../words.js').office.names;
   type Namer = (device?: string) => string;
   type Rules = {
-    sideOf(mine: Mine, call: OwnCall): Side | undefined, sides(mine: Mine): Side[], isFree(mine: Mine): boolean, states(mine: Mine): Set<string>, services(mine: Mine, call: OwnCall): Set<string>,
+    sideOf(mine: Mine, call: MyCall): Side | undefined, sides(mine: Mine): Side[], isFree(mine: Mine): boolean, states(mine: Mine): Set<string>, services(mine: Mine, call: MyCall): Set<string>,
     doing(mine: Mine): ReturnType<DoingAt>, ringLeft(mine: Mine, side: Side, now: number): number | null, wrapLeft(mine: Mine, now: number): number | null, isOverdue(mine: Mine, now: number): boolean,
-    placesOf(names: Names, office: OfficeNames): Places, meant(typed: string, known: Places, own?: string): Goal[] | null,
+    placesOf(names: Names, office: OfficeNames): Places, meant(typed: string, known: Places, station?: string): Goal[] | null,
   };
   type Say = (key: string, values?: Record<string, string | number>) => string;
   type Send = (service: string, members: Record<string, unknown>, words: string, key: string) => void;
@@ -55,7 +55,7 @@ declare global {
   type Offer = {key: string, title: string, words: string};
   /** off: what was clicked and isn't answered */
   type DrawnCalls = {mine: Mine, now: number, acts: boolean, off: Set<string>, who: Namer, group: Namer, act: Act};
-  type Card = (drawn: DrawnCalls, call: OwnCall) => Part;
-  /** what it is called, and what it does beside taking the notice away */
+  type Card = (drawn: DrawnCalls, call: MyCall) => Part;
+  /** its label, and its act besides removing the notice */
   type Button = [string, (() => void)?];
 }

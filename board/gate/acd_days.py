@@ -1,19 +1,19 @@
-"""Each agent's day, as the desk's event reports tell it: calls, talks, offers that were taken back. Unproved.
+"""Each agent's day, by the desk's event reports: calls, talks, offers that the desk withdrew. Unproved.
 
-A day begins at midnight of this machine's zone, as acd-calls has it. The reports of today are read once, some at a time, and carried on."""
+A day begins at midnight of this machine's zone, as in acd-calls. The gate reads the reports of today once, a page at a time, and continues with each new one."""
 import datetime
 from collections import deque
 from dataclasses import dataclass, field
 
 # reports of before midnight say who is logged on where, and who talks
 EARLIER = 4 * 3600
-# the calls that a day names
+# how many of the last calls a day names
 LAST = 5
 
 
 @dataclass
-class Own:
-    """`busy` is since when the agent talks; `missed_offer` the last offer that was taken back, until the agent logs on or off."""
+class AgentDay:
+    """`busy` is since when the agent talks; `missed_offer` the last offer that the desk withdrew, until the agent logs on or off."""
     answered: int = 0
     talking: int = 0
     missed: int = 0
@@ -26,32 +26,32 @@ def midnight_before(moment):
     return int(datetime.datetime.combine(datetime.date.fromtimestamp(moment), datetime.time()).timestamp())
 
 
-def midnight_behind(moment):
+def midnight_after(moment):
     return int(datetime.datetime.combine(datetime.date.fromtimestamp(moment) + datetime.timedelta(days=1), datetime.time()).timestamp())
 
 
 class Days:
-    """`last` is the last report that was taken, None before the first; `whole` whether today's were all taken once."""
+    """`last` is the number of the last report that it took, None before the first; `whole` whether it has taken all of today's once."""
 
     def __init__(self, moment):
         self.last, self.whole = None, False
         self.agents, self.at, self.offers, self.talks = {}, {}, {}, {}
-        self.begins, self.ends = midnight_before(moment), midnight_behind(moment)
+        self.begins, self.ends = midnight_before(moment), midnight_after(moment)
 
     def roll(self, moment):
-        """Whether another day has begun; then nothing of the one before counts any more."""
+        """Whether another day has begun; then it clears the figures of the day before."""
         if moment < self.ends:
             return False
-        self.begins, self.ends = midnight_before(moment), midnight_behind(moment)
-        for own in self.agents.values():
-            own.answered = own.talking = own.missed = 0
-            own.calls.clear()
+        self.begins, self.ends = midnight_before(moment), midnight_after(moment)
+        for day in self.agents.values():
+            day.answered = day.talking = day.missed = 0
+            day.calls.clear()
         return True
 
-    def own(self, agent):
+    def day_of(self, agent):
         found = self.agents.get(agent)
         if found is None:
-            found = self.agents[agent] = Own()
+            found = self.agents[agent] = AgentDay()
         return found
 
     def take(self, report, state):
@@ -64,14 +64,14 @@ class Days:
             self.take_call(report, report["moment"], state)
 
     def take_agent(self, report, moment):
-        own, event = self.own(report["agent"]), report["event"]
+        day, event = self.day_of(report["agent"]), report["event"]
         self.at[report["device"]] = report["agent"] if event != "agentLoggedOff" else None
-        if own.busy is not None:
-            own.talking += max(0, moment - max(own.busy, self.begins))
-        own.busy = moment if event == "agentBusy" else None
-        own.answered += event == "agentBusy" and moment >= self.begins
+        if day.busy is not None:
+            day.talking += max(0, moment - max(day.busy, self.begins))
+        day.busy = moment if event == "agentBusy" else None
+        day.answered += event == "agentBusy" and moment >= self.begins
         if event in ("agentLoggedOn", "agentLoggedOff"):
-            own.missed_offer = None
+            day.missed_offer = None
 
     def take_call(self, report, moment, state):
         event, number, device = report["event"], report["call"], report.get("device")
@@ -90,29 +90,29 @@ class Days:
         caller = call.caller if call else None
         offered, since = self.offers.get(device, (None, 0))
         if report.get("cause") == "noAnswer" and agent and offered == number:
-            own = self.own(agent)
-            own.missed += moment >= self.begins
-            own.missed_offer = {"call": number, "caller": caller, "group": report.get("group"), "moment": moment, "since": since}
+            day = self.day_of(agent)
+            day.missed += moment >= self.begins
+            day.missed_offer = {"call": number, "caller": caller, "group": report.get("group"), "moment": moment, "since": since}
         began, group = self.talks.get(number, {}).pop(device, (None, None))
         if began is not None and agent and moment >= self.begins:
-            self.own(agent).calls.append({"call": number, "caller": caller, "group": group, "moment": began, "talked": moment - began})
+            self.day_of(agent).calls.append({"call": number, "caller": caller, "group": group, "moment": began, "talked": moment - began})
 
     def text(self, agent):
-        """What an agent's page shows of the day; None before all of it is known."""
+        """The day as an agent's page shows it; None until all of it is known."""
         if not self.whole:
             return None
-        own = self.agents.get(agent) or Own()
-        calls = [{name: value for name, value in call.items() if value is not None} for call in own.calls]
-        return {"answered": own.answered, "begins": self.begins, "calls": calls, "missed": own.missed, "talking": own.talking}
+        day = self.agents.get(agent) or AgentDay()
+        calls = [{name: value for name, value in call.items() if value is not None} for call in day.calls]
+        return {"answered": day.answered, "begins": self.begins, "calls": calls, "missed": day.missed, "talking": day.talking}
 
     def missed_offer(self, agent):
-        own = self.agents.get(agent)
-        return own and own.missed_offer and {name: value for name, value in own.missed_offer.items() if value is not None}
+        day = self.agents.get(agent)
+        return day and day.missed_offer and {name: value for name, value in day.missed_offer.items() if value is not None}
 
 
 def first_of(ask, last, moment):
-    """The number of the last event before a moment, found by halving; where the file hasn't those before it, that before the first one there. ask gives the
-    events behind a number."""
+    """The number of the last event before a moment, by bisection; if the file begins later, the number before its first event. ask returns the
+    events after a number."""
     low, high = 0, last
     while low < high:
         middle = (low + high) // 2

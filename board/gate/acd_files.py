@@ -1,4 +1,4 @@
-"""Files of records, a day each, for who may read them: an office whole, a lead the lines of its own groups. Unproved."""
+"""Files of records, a day each, for those who may read them: an office reads a whole file, a lead the lines of its groups. Unproved."""
 import csv
 import io
 import re
@@ -14,26 +14,26 @@ def days(folder):
 
 
 def content(folder, name, groups):
-    """A file's bytes; with groups the lines that have one of them in the column `group` or `groups`. None where there is no such file, and
-    False where a lead reads none of it, since it doesn't say which groups its lines are of."""
+    """A file's bytes; with groups the lines that have one of them in the column `group` or `groups`. None if there is no such file, and
+    False if a lead may read nothing of it, since it has no such column."""
     if not re.fullmatch(NAME, name):
         return None
     try:
-        told = Path(folder, name).read_bytes()
+        data = Path(folder, name).read_bytes()
     except OSError:
         return None
-    return told if groups is None else of_groups(told, groups)
+    return data if groups is None else of_groups(data, groups)
 
 
-def of_groups(told, groups):
-    lines = csv.reader(io.StringIO(told.decode("utf-8", "replace"), newline=""))
+def of_groups(data, groups):
+    lines = csv.reader(io.StringIO(data.decode("utf-8", "replace"), newline=""))
     head = next(lines, [])
     # files for a spreadsheet have a mark before all, and a quote before what it would change
     columns = [place for place, name in enumerate(head) if name.removeprefix("\ufeff") in ("group", "groups")]
     if not columns:
         return False
     out = io.StringIO()
-    into = csv.writer(out, lineterminator="\r\n" if b"\r\n" in told else "\n")
+    into = csv.writer(out, lineterminator="\r\n" if b"\r\n" in data else "\n")
     into.writerow(head)
     into.writerows(line for line in lines if any(not groups.isdisjoint(line[column].removeprefix("'").split()) for column in columns if column < len(line)))
     return out.getvalue().encode()

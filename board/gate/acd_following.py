@@ -1,7 +1,7 @@
-"""What the gate knows of a desk: a snapshot, carried on by the desk's event reports. Unproved.
+"""The gate's picture of a desk: a snapshot, kept up to date by the desk's event reports. Unproved.
 
-State holds agents, groups, stations and calls, and marks whom a report touches. Following asks the desk, once for all who want to know, and
-holds those who ask for what is new."""
+State holds agents, groups, stations and calls, and marks those that a report concerns. Following asks the desk once for all readers, and
+holds each reader's question until there is news for it."""
 import contextlib
 import json
 import sys
@@ -12,27 +12,27 @@ from dataclasses import dataclass, field
 
 from acd_days import EARLIER as EARLIER_OF_DAY, Days, first_of
 
-# a snapshot ranks by stamps, of at most 1000000000; less this they come before all numbers of events, which rank what follows
+# a snapshot ranks by stamps, of at most 1000000000; less EARLIER they come before all numbers of events, which rank later things
 EARLIER = 2_000_000_000
 STATE_AFTER = {"agentLoggedOn": "notReady", "agentLoggedOff": "null", "agentNotReady": "notReady", "agentReady": "ready", "agentBusy": "busy",
                "agentWorkingAfterCall": "workingAfterCall"}
 BECOMES = {"originated": "connected", "established": "connected", "held": "hold", "retrieved": "connected"}
 LEAVES = {"diverted", "transferred", "connectionCleared"}
 
-# seconds: between two questions to the desk, two snapshots, two tries of a desk that is away; until it is told that the desk is away, until
-# a question is answered without news, and for how long the desk is followed behind the last question
+# seconds: between two questions to the desk, two snapshots, two tries of a desk that is away; until pages learn that the desk is away, until
+# the gate answers a question without news, and for how long it follows the desk after the last question
 EVERY, RENEW, AGAIN = 0.2, 30, 1
-# all pages are told names anew, which are long, once in this time at most
+# the gate sends the names, which are long, to all pages once in this time at most
 NAMES_EVERY = 10
 AWAY, HELD, WANTED = 2, 20, 60
-# whoever waits for a queue's news is answered in every tenth turn alone, so that not all pages ask again at once
+# a page that waits for a queue's news gets its answer in every tenth turn only, so that not all pages ask again at once
 TURNS = 10
 MOST_CALLERS = 50
 
 
 @dataclass
 class Agent:
-    """`log_on` tells one log-on from another: the number of its event, or of the last one before it was first seen."""
+    """`log_on` identifies a log-on: the number of its event, or of the last event before the gate first saw it."""
     id: str
     name: str = ""
     state: str = "null"
@@ -92,8 +92,8 @@ def made(kind, table, number, *more):
 
 
 class State:
-    """The desk as the reports tell it. `touched` are the agents whose own state or calls changed, `dirty` the groups whose queue or agents did,
-    `renamed` whether a name or a station's agent did; `unknown` are agents of whom no report tells the groups."""
+    """The desk by its reports. `touched` are the agents whose state or calls changed, `dirty` the groups whose queue or agents did,
+    `renamed` says whether a name or a station's agent did; `unknown` are agents whose groups no report names."""
 
     def __init__(self, snapshot=None, before=None):
         self.last = 0
@@ -104,46 +104,46 @@ class State:
 
     def begin(self, snapshot, before):
         self.last = snapshot["last"]
-        for told in snapshot["groups"]:
-            group = made(Group, self.groups, told["device"])
-            group.name, group.ring, group.wrap = told["name"], told["ring"], told["wrap"]
-        for told in snapshot["stations"]:
-            made(Station, self.stations, told["device"]).agent = told.get("agent")
-        for told in snapshot["agents"]:
-            agent = made(Agent, self.agents, told["agent"])
-            agent.name, agent.state, agent.since, agent.station, agent.pending = told["name"], told["state"], told["since"], told.get("device"), told.get("pending")
+        for text in snapshot["groups"]:
+            group = made(Group, self.groups, text["device"])
+            group.name, group.ring, group.wrap = text["name"], text["ring"], text["wrap"]
+        for text in snapshot["stations"]:
+            made(Station, self.stations, text["device"]).agent = text.get("agent")
+        for text in snapshot["agents"]:
+            agent = made(Agent, self.agents, text["agent"])
+            agent.name, agent.state, agent.since, agent.station, agent.pending = text["name"], text["state"], text["since"], text.get("device"), text.get("pending")
             agent.log_on = self.log_on_of(agent, before)
-            self.serve(agent, told)
-        for told in snapshot["calls"]:
-            self.begin_call(told, before)
+            self.assign_groups(agent, text)
+        for text in snapshot["calls"]:
+            self.begin_call(text, before)
         self.touched, self.dirty = set(), set()
 
     def log_on_of(self, agent, before):
-        """That of before, where nothing happened to the agent that no report told."""
+        """The log-on of before, if the agent's station, state and time of change are the same."""
         was = before and before.agents.get(agent.id)
         if agent.station and was and (was.station, was.state, was.since) == (agent.station, agent.state, agent.since):
             return was.log_on
         return self.last if agent.station else None
 
-    def begin_call(self, told, before):
-        call = made(Call, self.calls, told["call"], told["since"])
-        call.caller, call.called = told["caller"], told["called"]
+    def begin_call(self, text, before):
+        call = made(Call, self.calls, text["call"], text["since"])
+        call.caller, call.called = text["caller"], text["called"]
         known = before.calls.get(call.number) if before else None
         if known is not None:
             call.queued = known.queued
-        for one in told["connections"]:
+        for one in text["connections"]:
             device, state = one["device"], one["state"]
             call.rank = one["place"] - EARLIER if "place" in one else call.rank
             call.queued = one.get("queued", call.queued)
-            had = known.connections.get(device) if known else None
+            old = known.connections.get(device) if known else None
             agent = self.agent_at(device)
-            since = one.get("offered") or (had.since if had and had.state == state else agent.since if agent else call.queued or call.since)
+            since = one.get("offered") or (old.since if old and old.state == state else agent.since if agent else call.queued or call.since)
             self.put(call, device, state, device if state == "queued" else one.get("group"), since)
 
-    def serve(self, agent, told):
-        """The agent serves the groups that a text of the agent tells."""
+    def assign_groups(self, agent, text):
+        """Puts the agent into the groups that the desk's text of the agent names."""
         self.leave(agent)
-        agent.groups = told.get("groups") or ([told["group"]] if "group" in told else [])
+        agent.groups = text.get("groups") or ([text["group"]] if "group" in text else [])
         for group in agent.groups:
             made(Group, self.groups, group).agents.add(agent.id)
         self.dirty.update(agent.groups)
@@ -172,7 +172,7 @@ class State:
         if event == "agentLoggedOn":
             agent.station, agent.log_on = report["device"], report["number"]
             made(Station, self.stations, report["device"]).agent = agent.id
-            self.serve(agent, report)
+            self.assign_groups(agent, report)
             if "group" not in report:
                 self.unknown.add(agent.id)
         elif event == "agentLoggedOff":
@@ -248,17 +248,17 @@ class State:
         if connection and connection.group and agent:
             agent.pending = None  # it holds now
 
-    def learn(self, told):
-        """A text of an agent, read since no report tells which groups the agent serves."""
-        agent = made(Agent, self.agents, told["agent"])
+    def learn(self, text):
+        """Takes the desk's text of an agent, which the gate reads since no report names the agent's groups."""
+        agent = made(Agent, self.agents, text["agent"])
         self.unknown.discard(agent.id)
-        if agent.station and agent.station == told.get("device"):
-            agent.pending = told.get("pending")
-            self.serve(agent, told)
+        if agent.station and agent.station == text.get("device"):
+            agent.pending = text.get("pending")
+            self.assign_groups(agent, text)
             self.touched.add(agent.id)
 
     def callers_unknown(self):
-        """The calls of which no report told who calls."""
+        """The calls whose caller no report named."""
         return [call.number for call in self.calls.values() if call.caller is None or call.called is None]
 
     def is_eligible(self, number):
@@ -268,7 +268,7 @@ class State:
         return agent.state == "ready" and all(call.connections[agent.station].state == "fail" for call in calls if agent.station in call.connections)
 
     def differs(self, other):
-        """Marks what no report tells, where it isn't as in an earlier state of the same moment."""
+        """Marks differences from an earlier state of the same moment in members that no report names."""
         for number, agent in self.agents.items():
             was = other.agents.get(number)
             if was is None or (was.name, was.pending, was.groups) != (agent.name, agent.pending, agent.groups):
@@ -287,7 +287,7 @@ def without_nothing(**members):
 
 
 def call_text(call):
-    """A call of one's own, whole."""
+    """A call of the agent, with all members."""
     connections = [without_nothing(device=one.device, group=one.group if one.state != "queued" else None, since=one.since, state=one.state)
                    for one in sorted(call.connections.values(), key=lambda one: (len(one.device), one.device))]
     return without_nothing(call=call.number, called=call.called, caller=call.caller, connections=connections, queued=call.queued, since=call.since)
@@ -300,16 +300,16 @@ def queue_text(state, group):
     return {"calls": calls, "device": group.id, "loggedOn": len(group.agents), "name": group.name, "ready": ready, "ring": group.ring, "wrap": group.wrap}
 
 
-def own_text(state, number, groups):
-    """What an agent's page shows of the agent: state, calls, queues. `groups` are those of an agent who is logged off."""
+def agent_text(state, number, groups):
+    """An agent as the agent's page shows it: state, calls, queues. `groups` are those of an agent who is logged off."""
     agent = state.agents.get(number)
     if agent is None:
         return {"agent": {"agent": number}, "calls": [], "groups": []}
-    own = without_nothing(agent=agent.id, device=agent.station, groups=agent.groups or None, logOn=agent.log_on, name=agent.name, pending=agent.pending,
-                          since=agent.since, state=agent.state)
+    state_text = without_nothing(agent=agent.id, device=agent.station, groups=agent.groups or None, logOn=agent.log_on, name=agent.name, pending=agent.pending,
+                                 since=agent.since, state=agent.state)
     station = state.stations.get(agent.station)
     calls = [call_text(state.calls[call]) for call in sorted(station.calls) if call in state.calls] if station else []
-    return {"agent": own, "calls": calls, "groups": [queue_text(state, state.groups[group]) for group in groups_of(state, number, groups) if group in state.groups]}
+    return {"agent": state_text, "calls": calls, "groups": [queue_text(state, state.groups[group]) for group in groups_of(state, number, groups) if group in state.groups]}
 
 
 def groups_of(state, number, groups):
@@ -350,10 +350,10 @@ class Following:
     def __init__(self, ask, clock=time.time):
         self.ask, self.clock = ask, clock
         self.asking, self.lock = threading.Lock(), threading.RLock()
-        # `answered` by the clock, `renewed` and `heard` by one that never goes back
+        # `answered` is by the clock, `renewed` and `heard` are by one that is never set back
         self.state, self.seen, self.answered, self.renewed, self.heard, self.live = None, None, 0.0, 0.0, 0.0, False
         self.days = Days(clock())
-        # numbers that no earlier gate gave, unless the clock went back
+        # numbers that no earlier gate gave, unless the clock was set back
         self.number = int(clock() * 1000)
         self.all_changed = self.names_changed = self.number
         self.changed, self.groups_changed = {}, {}
@@ -364,13 +364,13 @@ class Following:
     # asking the desk
 
     def read(self, path):
-        status, _, told = self.ask("GET", path)
+        status, _, body = self.ask("GET", path)
         if status != 200:
             if status == 404:
                 return None
             raise Away
         try:
-            return json.loads(told)
+            return json.loads(body)
         except ValueError:
             raise Away from None
 
@@ -416,7 +416,7 @@ class Following:
                 self.state.differs(before)
 
     def take_page(self):
-        """A page of events behind the last one, and that one again. True where there may be more."""
+        """Reads a page of events after the last one, and that one again. True if there may be more."""
         last = self.state.last
         page = self.read(f"/history?after={max(0, last - 1)}")
         if page is None:
@@ -438,20 +438,20 @@ class Following:
         return page["last"] > self.state.last
 
     def ask_for_more(self):
-        """What no report tells: an agent's groups, who calls."""
+        """Asks for members that no report names: an agent's groups, a call's caller."""
         for number in list(self.state.unknown):
-            told = self.read(f"/agents/{number}")
+            text = self.read(f"/agents/{number}")
             with self.lock:
-                if told is None:
+                if text is None:
                     self.state.unknown.discard(number)
                 else:
-                    self.state.learn(told)
+                    self.state.learn(text)
         for number in self.state.callers_unknown()[-MOST_CALLERS:]:
-            told = self.read(f"/calls/{number}")
+            text = self.read(f"/calls/{number}")
             with self.lock:
                 call = self.state.calls.get(number)
-                if told is not None and call is not None:
-                    call.caller, call.called = told["caller"], told["called"]
+                if text is not None and call is not None:
+                    call.caller, call.called = text["caller"], text["called"]
                     self.state.mark(call)
 
     def read_day(self):
@@ -476,10 +476,10 @@ class Following:
             self.state, self.seen, self.days = None, None, Days(self.clock())
             self.change_all()
 
-    # telling those who wait
+    # answers to those who wait
 
     def change_all(self, names=True):
-        """Everybody is told all anew; names, which are long, only where they may be others."""
+        """Every page gets everything anew; names, which are long, only if they may have changed."""
         self.number += 1
         self.all_changed = self.number
         self.names_changed = self.number if names else self.names_changed
@@ -501,14 +501,14 @@ class Following:
                 if state.renamed and time.monotonic() - self.named >= NAMES_EVERY:
                     self.names_changed, self.named, state.renamed = self.number, time.monotonic(), False
             for waiter in self.waiters:
-                if self.has_own_news(waiter):
+                if self.has_agent_news(waiter):
                     waiter.woken.set()
 
-    def has_own_news(self, waiter):
+    def has_agent_news(self, waiter):
         return max(self.changed.get(waiter.agent, 0), self.all_changed) > waiter.after or waiter.after > self.number
 
     def has_news(self, waiter):
-        """Besides one's own state and calls: queues, and names."""
+        """Whether queues or names have news."""
         groups = groups_of(self.state, waiter.agent, waiter.groups) if self.state else ()
         return self.names_changed > waiter.names or any(self.groups_changed.get(group, 0) > waiter.after for group in groups)
 
@@ -521,7 +521,7 @@ class Following:
                     waiter.woken.set()
 
     def want(self):
-        """Somebody wants to know: the desk is followed from now on."""
+        """Somebody asks: the gate follows the desk from now on."""
         with self.lock:
             self.wanted = time.monotonic()
             if self.thread is None:
@@ -529,7 +529,7 @@ class Following:
                 self.thread.start()
 
     def nudge(self, body, reply):
-        """The desk has answered somebody's request: what is pending, which no event tells, stands in the reply."""
+        """The desk has answered somebody's request: the reply has the pending state, which no event names."""
         if self.thread is None:
             return
         if b'"pending"' in reply:
@@ -563,11 +563,11 @@ class Following:
                 self.nudged.clear()
 
     def mine(self, agent, groups, after, names, hold=HELD):
-        """What an agent's page shows, as JSON, as soon as there is something newer; None where the desk was never reached."""
+        """An agent's page as JSON, as soon as it has news; None if the gate never reached the desk."""
         waiter = Waiter(agent, frozenset(groups or ()), after, names)
         with self.lock:
             self.want()
-            holds = self.state is None or (after and not self.has_own_news(waiter))
+            holds = self.state is None or (after and not self.has_agent_news(waiter))
             patience = AWAY if self.state is None else min(hold, HELD)
             if holds:
                 self.waiters.add(waiter)
@@ -578,18 +578,18 @@ class Following:
         with self.lock:
             if self.state is None:
                 return None
-            told = self.text_of(waiter)
-            told_names = self.names_now() if self.names_changed > names or names > self.number else b""
-        body = json.dumps(told, separators=(",", ":"), sort_keys=True).encode()
-        return body if not told_names else body[:-1] + b',"names":' + told_names + b"}"
+            text = self.text_of(waiter)
+            names_json = self.names_now() if self.names_changed > names or names > self.number else b""
+        body = json.dumps(text, separators=(",", ":"), sort_keys=True).encode()
+        return body if not names_json else body[:-1] + b',"names":' + names_json + b"}"
 
     def is_live(self):
         """Also where a question is out to a desk that hangs."""
         return self.live and time.monotonic() - self.heard < AWAY
 
     def text_of(self, waiter):
-        told = own_text(self.state, waiter.agent, waiter.groups) | {"live": self.is_live(), "moment": int(self.answered), "number": self.number}
-        return told | without_nothing(day=self.days.text(waiter.agent), missed=self.days.missed_offer(waiter.agent))
+        text = agent_text(self.state, waiter.agent, waiter.groups) | {"live": self.is_live(), "moment": int(self.answered), "number": self.number}
+        return text | without_nothing(day=self.days.text(waiter.agent), missed=self.days.missed_offer(waiter.agent))
 
     def names_now(self):
         """The names as JSON, made once for all pages."""

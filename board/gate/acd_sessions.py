@@ -12,9 +12,9 @@ from pathlib import Path
 
 COOKIE = "__Host-acd"
 UNUSED, LONGEST = 12 * 3600, 24 * 3600
-# a click is written down once in this time
+# the gate writes a click into the file once in this time
 USED_AGAIN = 60
-# of one login; beyond that its own oldest one ends, and nobody else's
+# sessions of one login; one more ends the oldest of this login, and nobody else's
 MOST = 100
 TOKEN = r"[A-Za-z0-9_-]{43}"
 
@@ -50,14 +50,14 @@ def cookie_field(token):
 
 
 class Sessions:
-    """`users` tells the hash of each login's password. Without a file sessions end with the gate."""
+    """`users` has the hash of each login's password. Without a file sessions end with the gate."""
 
     def __init__(self, file, users, clock=time.time):
         self.file, self.users, self.clock, self.lock = file and Path(file), users, clock, threading.Lock()
         self.found = self.kept()
 
     def kept(self):
-        """What the file says; a line that can't be read is nobody's session."""
+        """The sessions of the file; it reports a line that can't be read, and passes over it."""
         found = {}
         try:
             lines = self.file.read_text().splitlines() if self.file else []
@@ -65,8 +65,8 @@ class Sessions:
             lines = []
         for line in lines:
             try:
-                told = json.loads(line)
-                found[told["digest"]] = Session(str(told["login"]), str(told["bound"]), int(told["begun"]), int(told["used"]))
+                members = json.loads(line)
+                found[members["digest"]] = Session(str(members["login"]), str(members["bound"]), int(members["begun"]), int(members["used"]))
             except (ValueError, KeyError, TypeError):
                 print(f"acd-gate: {self.file} has a line that is no session", file=sys.stderr, flush=True)
         return found
@@ -99,8 +99,8 @@ class Sessions:
         token, now = secrets.token_urlsafe(32), int(self.clock())
         with self.lock:
             self.found = {name: session for name, session in self.found.items() if self.is_good(session)}
-            own = sorted((session.used, name) for name, session in self.found.items() if session.login == login)
-            for _, name in own[:max(0, len(own) + 1 - MOST)]:
+            oldest_first = sorted((session.used, name) for name, session in self.found.items() if session.login == login)
+            for _, name in oldest_first[:max(0, len(oldest_first) + 1 - MOST)]:
                 del self.found[name]
             self.found[digest(token)] = Session(login, self.bound(login) or "", now, now)
             self.keep()

@@ -1,5 +1,5 @@
 #!/usr/bin/python3
-"""Tests of the gate, over a stand-in for the desk that keeps what comes to it.   usage: board/gate/test_gate.py
+"""Tests of the gate, over a stand-in for the desk that keeps the requests it gets.   usage: board/gate/test_gate.py
 
 Needs htpasswd of apache2-utils, python3-passlib and python3-bcrypt (Debian packages)."""
 import contextlib
@@ -55,17 +55,17 @@ PAGE = b'{"last":0,  "requests":[]}'
 
 
 def lines(content):
-    """A file's lines as the gate has them, and what it told of them."""
-    with tempfile.TemporaryDirectory() as folder, contextlib.redirect_stderr(io.StringIO()) as told:
+    """A file's lines as the gate reads them, and its lines on standard error."""
+    with tempfile.TemporaryDirectory() as folder, contextlib.redirect_stderr(io.StringIO()) as printed:
         file = Path(folder) / "file"
         file.write_bytes(content)
         said = [gate.Watched(file, read).now() for read in (gate.roles_of, gate.hashes_of)]
-    return said, told.getvalue().replace(f"{folder}/", "")
+    return said, printed.getvalue().replace(f"{folder}/", "")
 
 
 def roles(content):
-    with contextlib.redirect_stderr(io.StringIO()) as told:
-        return gate.roles_of("roles", content.split("\n")), told.getvalue()
+    with contextlib.redirect_stderr(io.StringIO()) as printed:
+        return gate.roles_of("roles", content.split("\n")), printed.getvalue()
 
 
 class StandIn(BaseHTTPRequestHandler):
@@ -118,20 +118,20 @@ class GateTest(unittest.TestCase):
         connection = http.client.HTTPConnection("127.0.0.1", self.gate.server_port, timeout=5)
         connection.request(method, path, body, fields)
         reply = connection.getresponse()
-        told = reply.status, reply.headers, reply.read()
+        answer = reply.status, reply.headers, reply.read()
         connection.close()
-        return told
+        return answer
 
     def ask(self, login, body, method="POST", path="/csta", **fields):
         named = {"X-Login": login.encode(), "X-Site": "https://desk:8443", **{name.replace("_", "-"): value for name, value in fields.items()}}
-        status, _, told = self.exchange(method, path, body if isinstance(body, (bytes, type(None))) else json.dumps(body), named)
-        return status, told
+        status, _, answer = self.exchange(method, path, body if isinstance(body, (bytes, type(None))) else json.dumps(body), named)
+        return status, answer
 
     def passes(self, login, body, **fields):
         before = len(self.desk.got)
-        told = self.ask(login, body, **fields)
+        answer = self.ask(login, body, **fields)
         came = len(self.desk.got) - before
-        self.assertIn((told, came), [((409, REPLY), 1), (FORBIDDEN, 0)])
+        self.assertIn((answer, came), [((409, REPLY), 1), (FORBIDDEN, 0)])
         return came == 1
 
     def allowed(self, login, services, **members):
@@ -190,22 +190,22 @@ class RoleTest(GateTest):
                       "agent 7 stations=", "agent 7 stations=201,", "agent 7 stations=201, 202", "agent 7 stations=201 stations=202", "agent 7 groups=all", "agent 7 room=1", "agent x",
                       "agent 7 Stations=201", "lead", "lead agent=7 groups=100", "lead groups=100 stations=201", "lead groups=", "lead groups=100 reads=own", "supervisor reads=own", "office reads=some",
                       "follow reads=all", "follow reads=none", "follow groups=100", "follow office", "agent 7 reads=", "agent 7 reads=own reads=own", "reads=all", "agent 7 office", "agent=1234567890 agent", "agent 7 stations=1234567890123456", "agent ٧", "agent agent=٧", "agent agent= 7"):
-            found, told = roles(f"pbx exchange\n\nana {words}\r")
+            found, printed = roles(f"pbx exchange\n\nana {words}\r")
             self.assertEqual(found, {"pbx": gate.Role("exchange"), "ana": gate.NOTHING}, words)
-            self.assertRegex(told, r"\Aacd-gate: roles, line 3: ana .*\n\Z")
+            self.assertRegex(printed, r"\Aacd-gate: roles, line 3: ana .*\n\Z")
 
     def test_what_a_line_reads(self):
         for words, wanted in (("supervisor", "all"), ("office reads=none", "none"), ("agent 7", "own"), ("reads=all agent 7", "all"), ("agent reads=none agent=7", "none"), ("lead groups=1", "all"),
                               ("exchange reads=all", "all"), ("follow", "none")):
-            found, told = roles(f"ana {words}")
-            self.assertEqual((found["ana"].reading, told), (wanted, ""), words)
+            found, printed = roles(f"ana {words}")
+            self.assertEqual((found["ana"].reading, printed), (wanted, ""), words)
         self.assertEqual(gate.READS.reading, "all")
 
     def test_who_reads_requests(self):
         for login in ("planner", "Copy.2"):
             self.assertEqual(self.ask(login, None, "GET", "/requests?after=7"), (200, PAGE))
-            status, fields, told = self.exchange("HEAD", "/requests", None, {"X-Login": login})
-            self.assertEqual((status, fields["Content-Length"], told), (200, str(len(PAGE)), b""))
+            status, fields, answer = self.exchange("HEAD", "/requests", None, {"X-Login": login})
+            self.assertEqual((status, fields["Content-Length"], answer), (200, str(len(PAGE)), b""))
         self.assertEqual(self.desk.got, ["/requests?after=7", "/requests?"] * 2)
         for login in ("pbx", "sup", "ana", "ben", "lea", "blind", "nobody", "Jürgen", ""):
             self.assertEqual(self.ask(login, None, "GET", "/requests?after=7"), FORBIDDEN, login)
@@ -219,16 +219,16 @@ class RoleTest(GateTest):
             self.assertEqual(self.desk.got.pop(), f"/requests?{sent}")
 
     def test_two_lines_of_a_login(self):
-        found, told = roles("ana agent 7\nben office\nana agent 8")
+        found, printed = roles("ana agent 7\nben office\nana agent 8")
         self.assertEqual(found, {"ana": gate.NOTHING, "ben": gate.Role("office")})
-        self.assertRegex(told, r"\Aacd-gate: roles, line 3: ana .*\n\Z")
+        self.assertRegex(printed, r"\Aacd-gate: roles, line 3: ana .*\n\Z")
         self.assertEqual(roles("ana agent 7\nana agent 8\nana agent 7")[0], {"ana": gate.NOTHING})
         self.assertEqual(roles("pbx exchange\npbx exchange"), ({"pbx": gate.Role("exchange")}, ""))
 
     def test_byte_order_mark_and_carriage_returns(self):
-        (found, _), told = lines(b"\xef\xbb\xbfana agent 7\r\nben office\r\n\r\n# caf\xe9\r\n")
+        (found, _), printed = lines(b"\xef\xbb\xbfana agent 7\r\nben office\r\n\r\n# caf\xe9\r\n")
         self.assertEqual(found, {"ana": gate.Role("agent", "7"), "ben": gate.Role("office")})
-        self.assertNotIn("gets nothing", told)
+        self.assertNotIn("gets nothing", printed)
         (_, hashes), _ = lines(f"\ufeffana:{SECRET}\r\nben:{SECRET}:a note\r\n".encode())
         self.assertEqual(hashes, {"ana": SECRET, "ben": SECRET})
 
@@ -236,20 +236,20 @@ class RoleTest(GateTest):
         tick, state = {"requester": "eve", "service": "tick"}, {"requester": "ana", "service": "setAgentState", "agent": "7"}
         self.assertFalse(self.passes("eve", tick))
         self.assertTrue(self.passes("ana", state))
-        with contextlib.redirect_stderr(io.StringIO()) as told:
+        with contextlib.redirect_stderr(io.StringIO()) as printed:
             self.roles.write_text(ROLES + "eve exchange\nana supervisor\n")
             self.assertTrue(self.passes("eve", tick))
             self.assertFalse(self.passes("ana", state))
             self.roles.unlink()
             self.assertFalse(self.passes("eve", tick))
-        self.assertRegex(told.getvalue(), rf"\Aacd-gate: {self.roles}, line 14: ana .*\nacd-gate: {self.roles} can't be read: No such file or directory\n\Z")
+        self.assertRegex(printed.getvalue(), rf"\Aacd-gate: {self.roles}, line 14: ana .*\nacd-gate: {self.roles} can't be read: No such file or directory\n\Z")
 
 
 class KeyTest(GateTest):
     def asks(self, login, requester, **members):
         return self.passes(login, {"requester": requester, "invoke": 1, "service": "setAgentState", "agent": "7", "requested": "ready", **members})
 
-    def test_own_requesters(self):
+    def test_requesters_of_a_login(self):
         for requester in ("ana", "ana-x", "ana-", "ana-a-b", "ana-bb", "ana-0123456789abcdefghijklmnop"):
             self.assertTrue(self.asks("ana", requester), requester)
         for requester in ("clock", "clock-abcdefghijkl", "plan", "plan-1", "pbx", "pbx-1", "an", "anab", "ANA", "Ana-x", "", "-ana", "anna-x", "ben-ana"):
@@ -272,12 +272,12 @@ class KeyTest(GateTest):
     def test_unfit_logins_only_read(self):
         unfit = ("Ana", "ana.b", "abcdefghijklmnop", "a_b", "Jürgen", "clock", "plan-x")
         self.roles.write_text("".join(f"{login} exchange\n" for login in unfit) + "ana Ana\nabcdefghijklmno exchange\n")
-        with contextlib.redirect_stderr(io.StringIO()) as told:
+        with contextlib.redirect_stderr(io.StringIO()) as printed:
             for login in unfit:
                 self.assertFalse(self.passes(login, {"requester": login, "service": "tick"}), login)
                 status, text = self.ask(login, None, "GET", "/who")
                 self.assertEqual((status, json.loads(text)), (200, {"login": login, "why": gate.NO_KEYS}))
-        self.assertEqual([login for login in unfit if f" {login}: it only reads" not in told.getvalue()], [])
+        self.assertEqual([login for login in unfit if f" {login}: it only reads" not in printed.getvalue()], [])
         self.assertTrue(self.passes("abcdefghijklmno", {"requester": "abcdefghijklmno", "service": "tick"}))
 
     def test_what_is_no_object_with_a_requester(self):
@@ -293,10 +293,10 @@ class KeyTest(GateTest):
             self.assertFalse(self.passes("pbx", body), body)
 
     def test_bodies_that_can_be_read_in_two_ways(self):
-        own = b'"requester":"ana","service":"setAgentState","agent":"7","requested":"ready"'
-        self.assertTrue(self.passes("ana", b"{" + own + b"}"))
-        for body in (b'{"service":"addGroup",' + own + b"}", b"{" + own + b',"agent":"8"}', b"{" + own + b',"\\u0061gent":"8"}', b"\xef\xbb\xbf{" + own + b"}", b"{" + own + b'} {"a":1}',
-                     b"{" + own + b',"x":"\xff"}', b'{"requester":"ana","service":["setAgentState"],"agent":"7"}'):
+        rights = b'"requester":"ana","service":"setAgentState","agent":"7","requested":"ready"'
+        self.assertTrue(self.passes("ana", b"{" + rights + b"}"))
+        for body in (b'{"service":"addGroup",' + rights + b"}", b"{" + rights + b',"agent":"8"}', b"{" + rights + b',"\\u0061gent":"8"}', b"\xef\xbb\xbf{" + rights + b"}", b"{" + rights + b'} {"a":1}',
+                     b"{" + rights + b',"x":"\xff"}', b'{"requester":"ana","service":["setAgentState"],"agent":"7"}'):
             self.assertFalse(self.passes("ana", body), body)
 
     def test_no_byte_is_changed(self):
@@ -343,13 +343,13 @@ class RequestTest(GateTest):
         self.assertEqual(self.ask("ana", {"requester": "ana", "service": "holdCall", "device": "201"}), FORBIDDEN)
 
     def test_many_at_once(self):
-        told = []
-        threads = [threading.Thread(target=lambda: told.append(self.ask("pbx", {"requester": "pbx", "service": "tick"})[0])) for _ in range(40)]
+        answers = []
+        threads = [threading.Thread(target=lambda: answers.append(self.ask("pbx", {"requester": "pbx", "service": "tick"})[0])) for _ in range(40)]
         for thread in threads:
             thread.start()
         for thread in threads:
             thread.join()
-        self.assertEqual((told, len(self.desk.got)), ([409] * 40, 40))
+        self.assertEqual((answers, len(self.desk.got)), ([409] * 40, 40))
 
 
 def desk_state():
@@ -414,16 +414,16 @@ class FollowTest(unittest.TestCase):
         state.apply({"number": state.last + 1, "moment": 60, **report})
         return state.touched, state.dirty, state.renamed
 
-    def test_own(self):
+    def test_agent_text(self):
         state = desk_state()
-        told = following.own_text(state, "8", frozenset())
-        self.assertEqual(told["agent"], {"agent": "8", "device": "202", "groups": ["110", "120"], "logOn": 10, "name": "Ben", "pending": "notReady", "since": 30, "state": "ready"})
-        self.assertEqual(told["calls"], [{"call": 2, "called": "120", "caller": "0302222", "queued": 21, "since": 21, "connections": [
+        text = following.agent_text(state, "8", frozenset())
+        self.assertEqual(text["agent"], {"agent": "8", "device": "202", "groups": ["110", "120"], "logOn": 10, "name": "Ben", "pending": "notReady", "since": 30, "state": "ready"})
+        self.assertEqual(text["calls"], [{"call": 2, "called": "120", "caller": "0302222", "queued": 21, "since": 21, "connections": [
             {"device": "202", "group": "120", "since": 25, "state": "alerting"}, {"device": "0302222", "since": 21, "state": "connected"}]}])
-        self.assertEqual(told["groups"], [{"calls": [], "device": "110", "loggedOn": 1, "name": "G110", "ready": 0, "ring": 20, "wrap": 30},
+        self.assertEqual(text["groups"], [{"calls": [], "device": "110", "loggedOn": 1, "name": "G110", "ready": 0, "ring": 20, "wrap": 30},
                                           {"calls": [{"call": 4, "caller": "...444", "queued": 23}], "device": "120", "loggedOn": 1, "name": "G120", "ready": 0, "ring": 20, "wrap": 30}])
-        self.assertEqual([group["device"] for group in following.own_text(state, "9", frozenset({"120", "100", "7"}))["groups"]], ["100", "120"])
-        self.assertEqual(following.own_text(state, "77", frozenset()), {"agent": {"agent": "77"}, "calls": [], "groups": []})
+        self.assertEqual([group["device"] for group in following.agent_text(state, "9", frozenset({"120", "100", "7"}))["groups"]], ["100", "120"])
+        self.assertEqual(following.agent_text(state, "77", frozenset()), {"agent": {"agent": "77"}, "calls": [], "groups": []})
 
     def test_whom_a_report_touches(self):
         state = desk_state()
@@ -451,14 +451,14 @@ class FollowTest(unittest.TestCase):
             self.changes(state, **report)
         self.assertEqual([(one["call"], one["queued"]) for one in following.queue_text(state, state.groups["120"])["calls"]], [(2, 21), (4, 23), (6, 60)])
 
-    def test_groups_that_no_report_tells(self):
+    def test_groups_that_no_report_names(self):
         state = desk_state()
         self.changes(state, event="agentLoggedOn", agent="9", device="203")
         self.assertEqual(state.unknown, {"9"})
         state.learn({"agent": "9", "device": "203", "groups": ["100", "120"]})
         self.assertEqual((state.unknown, state.agents["9"].groups), (set(), ["100", "120"]))
 
-    def test_what_a_new_snapshot_alone_tells(self):
+    def test_what_a_new_snapshot_alone_shows(self):
         before, state = desk_state(), desk_state()
         state.differs(before)
         self.assertEqual((state.touched, state.dirty, state.renamed), (set(), set(), False))
@@ -559,14 +559,14 @@ class SessionTest(unittest.TestCase):
                 tokens.append(self.sessions.begin("ana"))
             self.assertEqual([self.sessions.of(token) is not None for token in (other, *tokens)], [True, False, False, True, True, True])
         self.file.write_text('no session\n{"digest":"x"}\n[]\n')
-        with contextlib.redirect_stderr(io.StringIO()) as told:
+        with contextlib.redirect_stderr(io.StringIO()) as printed:
             self.assertEqual(self.opened().found, {})
-        self.assertEqual(told.getvalue().count("has a line that is no session"), 3)
+        self.assertEqual(printed.getvalue().count("has a line that is no session"), 3)
         self.file = Path("/proc/none/sessions")
-        with contextlib.redirect_stderr(io.StringIO()) as told:
+        with contextlib.redirect_stderr(io.StringIO()) as printed:
             unkept = self.opened()
             self.assertIsNotNone(unkept.of(unkept.begin("ana")))
-        self.assertIn("can't be written", told.getvalue())
+        self.assertIn("can't be written", printed.getvalue())
 
 
 def basic(login, password="secret"):
@@ -582,8 +582,8 @@ class PasswordTest(GateTest):
     def auth(self, authorization, address="192.0.2.1", **fields):
         """Status, login and why."""
         named = {"X-Address": address, **({} if authorization is None else {"Authorization": authorization}), **fields}
-        status, told, _ = self.exchange("GET", "/auth", None, named)
-        return status, told.get("X-Login"), told.get("X-Why")
+        status, reply_fields, _ = self.exchange("GET", "/auth", None, named)
+        return status, reply_fields.get("X-Login"), reply_fields.get("X-Why")
 
     def looks(self):
         """Counts the passwords that are looked at."""
@@ -598,8 +598,8 @@ class PasswordTest(GateTest):
         self.assertEqual(self.auth(b"bAsIc  " + basic("ana")[6:]), self.RIGHT)
         for login, password in (("ana", "Secret"), ("ana", ""), ("ana", SECRET), ("ben", "secret"), ("", "secret"), ("Ana", "secret"), ("ana ", "secret"), (" ana", "secret")):
             self.assertEqual(self.auth(basic(login, password)), self.WRONG, (login, password))
-        status, told, body = self.exchange("GET", "/auth", None, {})
-        self.assertEqual((status, told["WWW-Authenticate"], body), (401, 'Basic realm="desk", charset="UTF-8"', b'{"error":{"code":42,"name":"unauthorized"}}'))
+        status, reply_fields, body = self.exchange("GET", "/auth", None, {})
+        self.assertEqual((status, reply_fields["WWW-Authenticate"], body), (401, 'Basic realm="desk", charset="UTF-8"', b'{"error":{"code":42,"name":"unauthorized"}}'))
 
     def test_odd_fields(self):
         right = basic("ana")[6:]
@@ -648,20 +648,20 @@ class PasswordTest(GateTest):
             self.assertEqual(self.auth(basic("eve", "guess")), self.WRONG)
         self.assertEqual((self.auth(basic("eve", "guess")), len(looked)), (self.TOO_MANY, 10))
 
-    def test_address_and_login_are_told_apart(self):
+    def test_address_and_login_are_distinguished(self):
         for _ in range(10):
             self.auth(basic("1ana", "guess"), address="192.0.2.")
         self.assertEqual(self.auth(basic("ana"), address="192.0.2.1"), self.RIGHT)
 
     def test_a_hundred_guesses_at_once(self):
-        looked, told, fits = self.looks(), [], self.gate.passwords.fits
+        looked, answers, fits = self.looks(), [], self.gate.passwords.fits
         self.gate.passwords.fits = lambda hashes, attempt: time.sleep(0.02) or fits(hashes, attempt)
-        guesses = [threading.Thread(target=lambda number=number: told.append(self.auth(basic("ana", f"guess{number}")))) for number in range(100)]
+        guesses = [threading.Thread(target=lambda number=number: answers.append(self.auth(basic("ana", f"guess{number}")))) for number in range(100)]
         for guess in guesses:
             guess.start()
         for guess in guesses:
             guess.join()
-        self.assertEqual((len(looked), told.count(self.WRONG), told.count(self.TOO_MANY)), (10, 10, 90))
+        self.assertEqual((len(looked), answers.count(self.WRONG), answers.count(self.TOO_MANY)), (10, 10, 90))
 
     def test_a_right_one_is_remembered_for_a_minute(self):
         looked = self.looks()
@@ -686,12 +686,12 @@ class PasswordTest(GateTest):
 
     def test_a_users_file_that_disappears(self):
         self.assertEqual(self.auth(basic("ana")), self.RIGHT)
-        with contextlib.redirect_stderr(io.StringIO()) as told:
+        with contextlib.redirect_stderr(io.StringIO()) as printed:
             self.users.unlink()
             self.assertEqual([self.auth(basic("ana")) for _ in range(3)], [self.WRONG] * 3)
             self.users.write_text(USERS)
             self.assertEqual(self.auth(basic("ana")), self.RIGHT)
-        self.assertEqual(told.getvalue(), f"acd-gate: {self.users} can't be read: No such file or directory\n")
+        self.assertEqual(printed.getvalue(), f"acd-gate: {self.users} can't be read: No such file or directory\n")
 
     def test_forms(self):
         for option in ("-B", "-m", "-s", "-2", "-5"):
@@ -703,22 +703,22 @@ class PasswordTest(GateTest):
 
     def test_faulty_users(self):
         for line in ("ana", "ana:", "ana:secret", "ana:{PLAIN}secret", "ana:*", "ana:!", f"an\x01a:{SECRET}", f"a b:{SECRET}", f":{SECRET}", SECRET):
-            with contextlib.redirect_stderr(io.StringIO()) as told:
+            with contextlib.redirect_stderr(io.StringIO()) as printed:
                 self.assertEqual(gate.hashes_of("users", [f"ben:{SECRET}", line]), {"ben": SECRET}, line)
-            self.assertRegex(told.getvalue(), r"\Aacd-gate: users, line 2: .*\n\Z")
-            self.assertNotIn("secret", told.getvalue())
+            self.assertRegex(printed.getvalue(), r"\Aacd-gate: users, line 2: .*\n\Z")
+            self.assertNotIn("secret", printed.getvalue())
         with contextlib.redirect_stderr(io.StringIO()):
             self.users.write_text("ana:$2y$05$cut off\n")
             self.assertEqual([self.auth(basic("ana", password)) for password in ("secret", "", "$2y$05$cut off")], [self.WRONG] * 3)
 
     def test_a_line_that_does_not_parse_reads_neither(self):
-        with contextlib.redirect_stderr(io.StringIO()) as told:
+        with contextlib.redirect_stderr(io.StringIO()) as printed:
             self.roles.write_text(ROLES.replace("ana agent 7 ", "ana agnet 7 "))
             self.assertEqual((self.auth(basic("ana")), self.auth(basic("ana", "wrong"))), ((403, None, None), self.WRONG))
             self.assertEqual(self.ask("ana", None, "GET", "/who"), FORBIDDEN)
             self.assertFalse(self.passes("ana", {"requester": "ana", "service": "setAgentState", "agent": "7"}))
             self.assertEqual((self.auth(basic("pbx")), self.auth(basic("nobody"))), ((204, "pbx", None), (204, "nobody", None)))
-        self.assertEqual(told.getvalue().count(f"{self.roles}, line 5: ana gets nothing"), 1)
+        self.assertEqual(printed.getvalue().count(f"{self.roles}, line 5: ana gets nothing"), 1)
 
     def test_forged_fields(self):
         self.assertEqual(self.auth(basic("ana"), **{"X-Login": "pbx", "X-Why": "429"}), self.RIGHT)

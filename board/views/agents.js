@@ -1,6 +1,6 @@
 // Agents as tiles, of which only those on the screen are written; and what each did today, as a table.
 import {AS_IT_IS, byId, make, put, set, table, withNumber} from '../draw.js';
-import {noCounts, ownAgents, search} from '../reckon.js';
+import {chosenAgents, noCounts, search} from '../reckon.js';
 import {order} from '../state.js';
 import {clock, DOING, named, word} from '../words.js';
 
@@ -27,7 +27,7 @@ const days = table('agents-table', [
 /** @param {Drawn} drawn */
 export function draw(drawn) {
   const {state, day, settings: {states, group, find, sort}, filter} = drawn, wanted = new Set(states.split(',').filter(Boolean)), counts = noCounts();
-  const among = search(people(drawn).filter(({id}) => !group || day.servedBy(state.agent(id)).includes(group)), find, ({id, name}) => [id, name, state.agent(id).station ?? '']);
+  const among = search(people(drawn).filter(({id}) => !group || day.groupsOf(state.agent(id)).includes(group)), find, ({id, name}) => [id, name, state.agent(id).station ?? '']);
   for (const one of among) counts[one.doing]++;
   const shown = arranged(among.filter(one => wanted.size ? wanted.has(one.doing) : one.doing !== 'null'), sort);
   redraw = drawn.redraw;
@@ -40,7 +40,7 @@ export function draw(drawn) {
 }
 
 /** @param {Drawn} drawn */
-const people = drawn => ownAgents(drawn).map(agent => ({id: agent.id, name: agent.name, ...drawn.state.doing(agent)}));
+const people = drawn => chosenAgents(drawn).map(agent => ({id: agent.id, name: agent.name, ...drawn.state.doing(agent)}));
 
 /** @param {Drawn} drawn */
 const drawDays = (drawn, shown = people(drawn)) => days.draw(shown.map(one => ({...one, ...drawn.day.agent(one.id, drawn.now), counted: drawn.counted, key: one.id})));

@@ -1,4 +1,4 @@
-// What a supervisor has to know at once, as a list, and how it makes itself noticed.
+// Facts that a supervisor has to know at once, as a list, and its signs.
 import {byId, make, put, set} from '../draw.js';
 import {isHeard, notify, tone} from '../sound.js';
 import {GRACE} from '../state.js';
@@ -7,7 +7,7 @@ import {clock, isWord, named, percent, plain, timeOfDay, word} from '../words.js
 // seconds that clocks may be apart; of fewer calls a share says nothing
 const APART = 60, LEAST = 10;
 
-// What should have ended by a tick.
+// An offer or after-call work that a tick should have ended.
 /** @param {State} state */
 function overdue(state, now = 0) {
   const late = (who = '', since = 0, given = 0) => given > 0 && now - since > given + GRACE && {who: named(who), clock: clock(now - since), given: clock(given), since: since + given};
@@ -21,7 +21,7 @@ function overdue(state, now = 0) {
   }
 }
 
-// The desk's time may be ahead of the server's clock: it stands still until that has come there.
+// The desk's time may be ahead of the server's clock: it stops until that has caught up.
 /** @param {Drawn} drawn */
 function alarms({state, lines, counted, now}, serverClock = 0) {
   const ahead = state.moment - serverClock, over = ahead > APART ? undefined : overdue(state, now);
@@ -53,10 +53,10 @@ const wordsOf = ({kind, values}) => word(`alarm.${kind}`, values());
 // Says how many nobody has seen. What has no room on the screen is printed.
 /** @param {Drawn} drawn */
 export function draw(drawn, serverClock = 0, onWall = false) {
-  const {settings, now, redraw} = drawn, found = alarms(drawn, serverClock), moment = Date.now(), fresh = found.filter(alarm => isFresh(alarm, now, moment)), unseen = found.filter(({key}) => !known[key].seen);
+  const {settings, now, redraw} = drawn, found = alarms(drawn, serverClock), moment = Date.now(), unknown = found.filter(alarm => isNew(alarm, now, moment)), unseen = found.filter(({key}) => !known[key].seen);
   for (const key of Object.keys(known)) if (looked - known[key].last > FORGOTTEN) delete known[key];
   looked = moment;
-  if (fresh.length || moment - kept > KEPT_EVERY) try { kept = moment; localStorage[PLACE] = JSON.stringify(known); } catch { /* known until the page is left */ }
+  if (unknown.length || moment - kept > KEPT_EVERY) try { kept = moment; localStorage[PLACE] = JSON.stringify(known); } catch { /* known until the page is left */ }
   const few = onWall || innerWidth < NARROW ? 1 : 2, see = (/** @type {Known[]} */ those) => () => { for (const one of those) one.seen = true; kept = 0; redraw(); };
   const sorted = [...found].sort((one, other) => Number(known[one.key].seen) - Number(known[other.key].seen) || KINDS.indexOf(one.kind) - KINDS.indexOf(other.kind));
   paper.onchange = redraw;
@@ -71,9 +71,9 @@ export function draw(drawn, serverClock = 0, onWall = false) {
   set('alarms-seen', {hidden: unseen.length < 2, onclick: see(Object.values(known))});
   set('alarms-mute', {hidden: !settings.tone || isHeard()});
   set('alarms', {hidden: !found.length});
-  if (fresh.length) put('alarm-told', fresh.map(wordsOf).join('. '));
-  if (settings.notify) for (const alarm of fresh) notify(byId('title').textContent, {body: plain(wordsOf(alarm)), tag: alarm.key});
-  if (settings.tone && unseen.length && (fresh.length || moment - sounded > AGAIN)) {
+  if (unknown.length) put('alarm-told', unknown.map(wordsOf).join('. '));
+  if (settings.notify) for (const alarm of unknown) notify(byId('title').textContent, {body: plain(wordsOf(alarm)), tag: alarm.key});
+  if (settings.tone && unseen.length && (unknown.length || moment - sounded > AGAIN)) {
     sounded = moment;
     tone();
   }
@@ -81,8 +81,8 @@ export function draw(drawn, serverClock = 0, onWall = false) {
 }
 
 /** @param {Alarm} alarm */
-function isFresh({key, since}, now = 0, moment = 0) {
-  const had = known[key], fresh = !had || looked - had.last > FORGOTTEN;
-  known[key] = fresh ? {since: since || now, last: moment, seen: false} : {...had, since: since || had.since, last: moment};
-  return fresh;
+function isNew({key, since}, now = 0, moment = 0) {
+  const old = known[key], unknown = !old || looked - old.last > FORGOTTEN;
+  known[key] = unknown ? {since: since || now, last: moment, seen: false} : {...old, since: since || old.since, last: moment};
+  return unknown;
 }

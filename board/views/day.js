@@ -28,7 +28,7 @@ export function draw({day, counted, settings, now, past, lines}, anew = false) {
   answered = settings.level === 'answered';
   const {group} = settings, lineOf = (/** @type {Day} */ of) => group ? of.line(group) : of.all, firstOf = (begin = 0) => Math.floor(begin / STEP) * STEP;
   const waiting = lines.reduce((sum, line) => !group || line.id === group ? sum + line.waiting : sum, 0), found = day.steps(lineOf(day), waiting, now), first = firstOf(day.begin);
-  // steps of other days, by seconds behind their begin
+  // steps of other days, by seconds after their begin
   const others = [1, 7].flatMap(back => {
     const of = past(back);
     return of ? {back: `${back}`, sum: lineOf(of).sum, name: dayOf(of.begin), steps: new Map([...lineOf(of).steps].map(([number, step]) => [number * STEP - firstOf(of.begin), step]))} : [];
@@ -60,7 +60,7 @@ const charts = (steps, then, settings) => {
   ];
 };
 
-// Bars that stand on each other, and lines; shown is so many times a value.
+// Bars, one on the other, and lines; shown is so many times a value.
 /** @type {Chart} */
 const chart = (steps, title, series, times = 1, top, goal) => {
   /** @type {Shows} */

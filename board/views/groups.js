@@ -1,4 +1,4 @@
-// The own groups: together as a few large numbers, all that is known of each, and the wall.
+// The chosen groups: together as a few large numbers, all of each, and the wall.
 import {byId, make, put, set, table, withNumber} from '../draw.js';
 import {clock, named, percent, SIGN, waits, word} from '../words.js';
 import {averageHandling, averageWait} from '../day.js';

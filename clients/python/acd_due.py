@@ -10,7 +10,7 @@ def due_at(snapshot: dict[str, Any]) -> int | None:
     groups = {group["device"]: group for group in snapshot["groups"]}
     ends = [(connection["offered"], groups[connection["group"]]["ring"])
             for call in snapshot["calls"] for connection in call["connections"] if "offered" in connection]
-    # several groups stand in ascending number
+    # several groups are in ascending order
     ends += [(agent["since"], groups[agent["groups"][0] if "groups" in agent else agent["group"]]["wrap"])
              for agent in snapshot["agents"] if agent["state"] == "workingAfterCall"]
     return min((begin + seconds for begin, seconds in ends if seconds), default=None)

@@ -1,4 +1,4 @@
-"""Calls: what the desk decided, told by its events and replies, becomes of legs."""
+"""Calls: turns the decisions of the desk, which its events and replies report, into legs."""
 from collections.abc import Callable
 from typing import Any
 
@@ -14,9 +14,9 @@ REFUSED = {"unknownDevice": 404, "stationBusy": 486, "sameDevice": 486, "destina
 class Calls:
     def __init__(self, steps: Steps, dialogs: Dialogs):
         self.steps, self.rows, self.dialogs = steps, steps.rows, dialogs
-        # at a new file over a desk that has a history, nothing of it is done again
+        # with a new file over a desk that has a history, the exchange does nothing of that again
         self.learning = False
-        # who takes the reply to a request
+        # the function for the reply to a request, by its name
         self.takers: dict[str, Callable[[Request, Leg | None, Answer], None]] = {
             "arrived": self.arrived, "went_off_hook": self.went_off_hook, "answered": self.answered, "deflected": self.deflected,
             "rejected": self.rejected, "ticked": self.ticked}
@@ -39,7 +39,7 @@ class Calls:
     def arrived(self, row: Request, leg: Leg | None, answer: Answer) -> None:
         caller, called = row.body.get("caller") or row.body["device"], row.body["called"]
         if answer.status == 200 and (leg is None or leg.state != "in"):
-            # hung up while the desk was asked
+            # the caller hung up before the desk answered
             self.steps.ask("clearConnection", call=answer.result["call"], device=caller)
         elif answer.status == 200 and leg is not None:
             call = self.rows.calls.add(Call(str(answer.result["call"]), caller, called, {caller: leg.key}))
@@ -47,7 +47,7 @@ class Calls:
             if leg.station:
                 self.steps.ask("phoneOffHook", "went_off_hook", leg, call=int(call.key), device=caller)
         elif leg is not None and answer.error == "callerPlanned":
-            # a stranger who shows one of the desk's own numbers
+            # a stranger who shows a number of the desk's plan
             self.arrive(leg, "0" + caller[:14], called)
         elif leg is not None:
             self.dialogs.end(leg, REFUSED.get(answer.error, 503))
@@ -68,13 +68,13 @@ class Calls:
             self.dialogs.end(leg)
 
     def deflected(self, row: Request, leg: Leg | None, answer: Answer) -> None:
-        """A phone moved to where the desk can't follow: as if it were busy."""
+        """A phone moved to a place that the desk doesn't know: as if it were busy."""
         call = self.rows.calls.get(str(row.body["call"]))
         if answer.status != 200 and call is not None:
             self.dialogs.decline(call, row.body["device"], 486)
 
     def rejected(self, row: Request, leg: Leg | None, answer: Answer) -> None:
-        """By 409 a tick, the caller or somebody else was first. A desk that is older than the service answers 400."""
+        """409: a tick, the caller or somebody else was first. A desk that is older than the service answers 400."""
         if answer.status not in (200, 409):
             self.steps.say_hourly(f"a rejectCall is answered {answer.status} {answer.error}".rstrip() + ": the offer waits for the end of its ring")
 
@@ -103,7 +103,7 @@ class Calls:
         elif kind == "agentLoggedOff":
             self.rows.agents.remove(device)
         elif kind == "serviceInitiated" and not self.learning:
-            # a makeCall that no phone asked for, by a click on a screen: its own phone rings first
+            # a makeCall by a click on a screen, not by a phone: the phone at that station rings first
             self.dialogs.invite(self.rows.calls.add(Call(key, device, "")), device, device, self.dialogs.music.offer(""))
         elif kind == "callCleared":
             self.rows.strangers.remove(key)

@@ -26,13 +26,13 @@ class DeskLine:
 
     async def watch(self) -> None:
         """Says that the desk is slow, and closes the exchange for new callers while it is silent."""
-        told = 0
+        known = 0
         while True:
             await asyncio.sleep(0.25)
             since = time.monotonic() - self.heard - self.x.settings.poll
             late = (since > SLOW) + (since > SILENT)
-            if late != told:
-                told, self.x.phones.desk_is_silent = late, late == 2
+            if late != known:
+                known, self.x.phones.desk_is_silent = late, late == 2
                 self.x.steps.say(f"the desk {('answers again', 'is slow', 'is silent: new callers get 503')[late]}")
 
     async def run(self) -> None:
@@ -51,7 +51,7 @@ class DeskLine:
                 await asyncio.sleep(0.2)
 
     async def start(self) -> None:
-        """Behind all replies and events that were missing: calls that no phone has a part in are found, and cleared."""
+        """Takes all missing replies and events first. Then it finds the calls in which no phone has a part, and clears them."""
         self.x.calls.learning = not self.x.steps.place.known and not self.x.steps.place.invoke
         while self.x.rows.requests:
             await self.send()
@@ -72,7 +72,7 @@ class DeskLine:
         print(f"following the desk from event {self.x.steps.place.known.get('number', 0)}", flush=True)
 
     async def begin(self) -> None:
-        """Over a file that was carried over the snapshot tells who is logged on, and the events behind its last one are followed."""
+        """If the desk's file was carried over, the snapshot shows who is logged on, and the exchange follows the events after its last one."""
         shown = await self.call(self.client.attempt, "GET", "/snapshot")
         if shown.status != 200:
             raise Unanswered("no snapshot is shown")

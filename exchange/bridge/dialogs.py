@@ -12,9 +12,9 @@ from .steps import Steps
 from .transactions import ALLOW, Transactions
 
 LEAST_SESSION = 90
-# what tells of the phone, and not of this very call; the edge says 408 for one that is silent, 477 for one whose connection is gone
+# answers that concern the phone, and not this very call; the edge says 408 for a silent phone, 477 for one whose connection is gone
 UNAVAILABLE = (404, 408, 477, 480, 486, 603)
-# seconds: between two 182, since proxies give up behind three minutes; for an answer to a CANCEL; before a new offer
+# seconds: between two 182, since proxies give up after three minutes; for an answer to a CANCEL; before a new offer
 REMIND, AFTER_CANCEL, AGAIN = 45.0, 4.0, 1.0
 
 
@@ -25,7 +25,7 @@ class Dialogs:
         self.contact = transactions.contact
         transactions.listener = self
         steps.rings |= {"Leg": self.leg_due, "Call": self.settle}
-        # who takes the last answer to a request of a leg
+        # the function for the last answer to a request of a leg, by its name
         self.takers: dict[str, Callable[[Leg, Message | None, str], None]] = {
             "invited": self.invited, "moved": self.moved, "passed": self.passed}
 
@@ -34,7 +34,7 @@ class Dialogs:
         return [self.rows.legs[key] for key in call.legs.values() if key in self.rows.legs]
 
     def call_of(self, leg: Leg) -> Call | None:
-        """The call that it has a part in."""
+        """The call in which it has a part."""
         call = self.rows.calls.get(leg.call)
         return call if call is not None and call.legs.get(leg.device) == leg.key else None
 
@@ -48,7 +48,7 @@ class Dialogs:
         return leg
 
     def hang_up(self, leg: Leg) -> None:
-        """This side of the call is over: the desk is to end it. A caller's end takes back what wasn't asked yet."""
+        """This side of the call is over: asks the desk to end it. If the caller ends, it drops answerCall requests that it hasn't sent yet."""
         call = self.call_of(leg)
         if call is not None:
             self.detach(call, leg.device)
@@ -72,8 +72,8 @@ class Dialogs:
         else:
             self.refused(leg, None)
 
-    def own(self, leg: Leg, body: str) -> str:
-        """A body as this leg gets it, with an origin of its own that grows; without one that of before."""
+    def local_body(self, leg: Leg, body: str) -> str:
+        """The body as this leg gets it, with this leg's origin, whose version grows; without a body, the last one."""
         if body:
             leg.version += 1
             origin = f"o=acd {int(leg.key[:8], 16)} {leg.version} IN IP4 {self.settings.host}"
@@ -89,7 +89,7 @@ class Dialogs:
             self.transactions.answer(self.rows.served[other.transaction], 180, other.key, [self.contact])
 
     def confirm(self, leg: Leg, message: Message, first: bool) -> None:
-        """The dialog as a 2xx to an INVITE makes it, or leaves it."""
+        """Takes over what a 2xx to an INVITE says of the dialog."""
         if first:
             leg.theirs, leg.routes = message.get("to"), message.all("record-route")[::-1]
         leg.target = message.uri_of("contact").text or leg.target
@@ -126,7 +126,7 @@ class Dialogs:
                 self.decline(call, leg.device, status)
 
     def decline(self, call: Call, device: str, status: int) -> None:
-        """A private call ends; one that a group offered goes back to its place at once, or waits for the end of its ring."""
+        """Ends a private call. An offer of a group returns to its place at once, or waits for the end of its ring."""
         if not call.offers.get(device):
             call.failure = status if status in (404, 480, 486, 603) else 480
             self.steps.ask("clearConnection", call=int(call.key), device=device)
@@ -138,7 +138,7 @@ class Dialogs:
         leg.session = leg.session or self.settings.session
         rows = [("supported", "timer"), ("min-se", str(LEAST_SESSION)), ("content-type", "application/sdp"),
                 ("session-expires", f"{leg.session};refresher={'uac' if leg.refreshes else 'uas'}")]
-        self.transactions.request(leg, "INVITE", self.own(leg, body), [*fields, *rows], then=then, served=served)
+        self.transactions.request(leg, "INVITE", self.local_body(leg, body), [*fields, *rows], then=then, served=served)
 
     def watch(self, leg: Leg) -> None:
         leg.due = self.now() + (leg.session / 2 if leg.refreshes else leg.session - min(32, leg.session / 3))
@@ -166,10 +166,10 @@ class Dialogs:
             leg.session, leg.refreshes = max(LEAST_SESSION, min(request.session, leg.session)), refresher == "uas"
             fields += [("require", "timer"), ("session-expires", f"{leg.session};refresher={refresher}")]
         self.watch(leg)
-        self.transactions.answer(row, 200, leg.key, fields, self.own(leg, body))
+        self.transactions.answer(row, 200, leg.key, fields, self.local_body(leg, body))
 
     def entertain(self, leg: Leg) -> None:
-        """A leg that has nobody to talk to yet: Queued to a caller who isn't answered, else music."""
+        """A leg that has nobody to talk to yet: 182 Queued for a caller without an answer, else music."""
         music = self.music.offer(leg.sdp)
         if leg.state == "in" and self.settings.waiting == "music" and music and self.music.place(leg):
             leg.music = True
@@ -182,7 +182,7 @@ class Dialogs:
 
     # a leg ends
     def finish(self, row: Asked, leg: Leg, message: Message | None) -> None:
-        """The last answer to a request, None where none came. Who is silent or doesn't know the dialog is gone."""
+        """The last answer to a request, or None if none came. A peer that is silent or doesn't know the dialog is gone."""
         ends = leg.state == "closing"
         if row.then:
             self.takers[row.then](leg, message, row.served)
@@ -191,7 +191,7 @@ class Dialogs:
             self.rows.legs.remove(leg.key)
 
     def end(self, leg: Leg, status: int = 480) -> None:
-        """Whatever this leg is in, it comes to its end, and its part in a call too."""
+        """Ends this leg in whichever state it is, and its part in a call."""
         self.hang_up(leg)
         leg.music = False
         if leg.state == "in":
@@ -211,9 +211,9 @@ class Dialogs:
         self.transactions.transmit(self.transactions.of_same(row, "CANCEL"), row.to)
         row.ends = row.due = self.now() + AFTER_CANCEL
 
-    # media moved: to music, to the other phone, or as the other side asked
+    # media change: to music, to the other phone, or as the other side asked
     def settle(self, call: Call) -> None:
-        """Each leg that is up gets somebody to hear: the other one, once the desk connected them, else music."""
+        """Each leg that is up hears somebody: the other leg, once the desk connected them, else music."""
         legs = sorted(self.of(call), key=lambda leg: leg.device != call.caller)
         if not call.connected or len(legs) != 2:
             for leg in legs:
@@ -229,7 +229,7 @@ class Dialogs:
                 self.offer(legs[0], legs[1].sdp, "moved")
 
     def moved(self, leg: Leg, message: Message | None, served: str) -> None:
-        """Its media go to the music or to the other phone, as was offered; where it refuses, that is tried again."""
+        """The peer's answer to an offer of music or of the other phone's media. If the peer refuses, the exchange offers again later."""
         call, other, offered = self.call_of(leg), self.other(leg), sdp.media(leg.own)
         is_music = offered is not None and offered[:2] == (self.settings.host, self.settings.music_port)
         if call is not None and (message is None or message.status >= 300 or not (is_music or call.connected)):
@@ -244,7 +244,7 @@ class Dialogs:
                     self.offer(other, leg.sdp)
 
     def passed(self, leg: Leg, message: Message | None, served: str) -> None:
-        """The other side's answer to an offer that was passed on."""
+        """The other side's answer to an offer that the exchange passed on."""
         row = self.rows.served[served]
         asker = self.rows.legs.get(row.leg)
         if asker is not None and message is not None and message.status < 300:

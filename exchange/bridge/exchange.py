@@ -1,4 +1,4 @@
-"""The exchange: its parts, each over the ones that it is given, what comes to them, and its start."""
+"""The exchange: its parts, each over those that it gets, the messages that come to them, and its start."""
 import time
 from collections.abc import Callable
 
@@ -14,7 +14,7 @@ from .steps import Steps
 from .store import Store
 from .transactions import ACK_WAIT, LONGEST_WAIT, ROUND_TRIP, Transactions
 
-# seconds: until what came to nobody has come again; for an answer to a probe
+# seconds: until peers have sent again what came to nobody; for an answer to a probe
 GRACE, PROBE_WAIT = 3 * ROUND_TRIP, 2.0
 
 
@@ -31,7 +31,7 @@ class Exchange:
         self.phones = Phones(self.steps, self.transactions, self.dialogs, self.calls)
 
     def receive(self, data: bytes, source: str) -> None:
-        """A datagram. Only the edge is heard, or without one whoever reaches the address."""
+        """A datagram. With an edge the exchange hears the edge alone, without one everybody who reaches the address."""
         text = data.decode("latin-1")
         self.steps.trace("<", source, text)
         if self.settings.edge not in ("", source):
@@ -47,7 +47,7 @@ class Exchange:
             if len(message.values("via")) == 1:
                 self.steps.step(self.transactions.take_response, message)
         elif not self.steps.step(self.take_request, message, source) and message.method != "ACK":
-            self.steps.step(lambda: self.transactions.answer(self.transactions.serve(message, source), 500))
+            self.steps.step(lambda: self.transactions.answer(self.transactions.add_served(message, source), 500))
 
     def take_request(self, message: Message, source: str) -> None:
         new = self.transactions.take_request(message, source)
@@ -55,7 +55,7 @@ class Exchange:
             self.phones.take(message, *new)
 
     def resume(self) -> None:
-        """What came to nobody while it was down may come again now; what isn't heard soon is asked for."""
+        """Messages that came to nobody while the exchange was down may come again now. It asks for those that don't come soon."""
         now = self.now()
         for asked in self.rows.asked.values():
             leg = self.rows.legs.get(asked.leg)
@@ -77,8 +77,8 @@ class Exchange:
                 self.transactions.request(leg, "OPTIONS", patience=PROBE_WAIT)
 
     def compare(self, key: str, answer: Answer) -> None:
-        """Holds the desk's connections of a call against its legs: what lacks the other ends, and so does a call that
-        no phone has a part in. What the file lost by a power cut is made up for."""
+        """Compares the desk's connections of a call with its legs: it ends a leg without a connection, a connection without a leg, and a call
+        in which no phone has a part. So it makes up for steps that the file lost by a power cut."""
         shown = answer.body["connections"] if answer.status == 200 else []
         states = {each["device"]: each["state"] for each in shown}
         call, asked = self.rows.calls.get(key), {row.leg for row in self.rows.requests.values() if row.then == "answered"}
@@ -101,5 +101,5 @@ class Exchange:
                 if each["state"] == "alerting" and each["device"] not in legs:
                     self.calls.delivered(call, each["device"], each.get("group", ""))
             call.connected = len(states) == 2 and set(states.values()) <= {"connected", "hold"}
-            # by then a re-INVITE of before has come to its end
+            # by then an earlier re-INVITE has ended
             call.due = self.now() + GRACE

@@ -1,10 +1,10 @@
-"""The grammar of SIP's fields (RFC 3261, 25.1): the one reader by which everything is read that is read of a field.
+"""The grammar of SIP's fields (RFC 3261, 25.1): the only reader of fields in the exchange.
 
-A value is gone through once, from left to right. Each piece is matched where the reader stands, by a pattern that never goes back (`++`, `(?>`), and
-what fits nothing makes the message malformed: the time for a field grows with its length, whatever it holds. White space may stand where the
-grammar has it, folded lines are white space by then, and none of the fields that are read here may have a comment.
+It reads a value once, from left to right. It matches each piece at its position, by a pattern that never backtracks (`++`, `(?>`), and text that
+fits no piece makes the message malformed: the time for a field grows with its length, whatever it holds. White space is allowed where the
+grammar has it, folded lines are white space by then, and none of the fields that it reads may have a comment.
 
-Of groups `(?>(?:..)+)` is used and never `(?:..)++`: in Python 3.11 that goes on behind a part that failed halfway."""
+For groups it uses `(?>(?:..)+)` and never `(?:..)++`: in Python 3.11 the latter goes on after a part that failed halfway."""
 import re
 from collections.abc import Callable
 from functools import lru_cache
@@ -36,7 +36,7 @@ PLAIN_VALUE = re.compile(rf"[{TOKEN_SIGNS}]++|\[[0-9A-Fa-f:.]++\]")
 VIA_VALUE = re.compile(rf"[{TOKEN_SIGNS}:]++|\[[0-9A-Fa-f:.]++\]")
 SENT_BY = re.compile(HOST)
 PORT, NUMBER = re.compile("[0-9]{1,5}+(?![0-9])"), re.compile("[0-9]{1,10}+(?![0-9])")
-# a Call-ID is compared as it stands, so signs that it may not have do no harm
+# a Call-ID is compared as text, so signs that it may not have do no harm
 VISIBLE = re.compile("[!-~]++")
 
 PARAMETER = rf"(?>(?:[{UNRESERVED}\[\]/:&+$]|{ESCAPED})+)"
@@ -89,13 +89,13 @@ class Lapse(NamedTuple):
 
 
 class Reader:
-    """Stands somewhere in a value, and goes forwards alone."""
+    """A position in a value, which only moves forwards."""
 
     def __init__(self, text: str):
         self.text, self.at = text, 0
 
     def take(self, piece: re.Pattern[str]) -> str | None:
-        """What stands here, if it is such a piece."""
+        """Reads the text at this position, if it is such a piece."""
         found = piece.match(self.text, self.at)
         if found is None:
             return None
@@ -267,5 +267,5 @@ LISTS = {"via", "route", "record-route"}
 
 @lru_cache(4096)
 def read_field(name: str, value: str) -> tuple[Any, ...]:
-    """What a field says; the fields of a dialog come again with each of its messages."""
+    """The content of a field; the fields of a dialog come again with each of its messages."""
     return tuple(GRAMMAR[name](value))

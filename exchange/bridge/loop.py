@@ -25,10 +25,10 @@ class Wire:
         self.socket.setblocking(False)
         self.socket.bind((host, port))
 
-    def send(self, data: bytes, to: str) -> None:
-        # what can't be sent is as if it were lost on its way, and sent again
+    def send(self, data: bytes, address: str) -> None:
+        # a datagram that can't be sent counts as lost on its way, and is sent again
         with suppress(OSError):
-            self.socket.sendto(data, (to.partition(":")[0], int(to.partition(":")[2])))
+            self.socket.sendto(data, (address.partition(":")[0], int(address.partition(":")[2])))
 
     def hear(self, exchange: Exchange) -> None:
         for _ in range(1000):
@@ -39,7 +39,7 @@ class Wire:
             exchange.receive(data, f"{source[0]}:{source[1]}")
 
     async def run(self, exchange: Exchange) -> None:
-        """What has come is heard before any alarm rings, so that a late process doesn't find its peers gone."""
+        """Reads all datagrams before any alarm rings, so that a late process doesn't find its peers gone."""
         asyncio.get_running_loop().add_reader(self.socket, self.hear, exchange)
         while True:
             self.hear(exchange)

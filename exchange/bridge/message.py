@@ -1,4 +1,4 @@
-"""Messages of SIP (RFC 3261), as far as a user agent over UDP needs them; what their fields say is read by the grammar."""
+"""Messages of SIP (RFC 3261), as far as a user agent over UDP needs them; the grammar reads their fields."""
 import re
 from collections.abc import Iterable
 from http import HTTPStatus
@@ -91,7 +91,7 @@ class Message:
         self.fields += [(name, each.text) for each in values] if name in LISTS else [(name, value)]
 
     def can_be_refused(self) -> bool:
-        """Whether it is a request, and tells to whom an answer goes and what that belongs to. An ACK has no answer."""
+        """Whether it is a request that says to whom to answer, and to which request the answer belongs. An ACK has no answer."""
         method = self.first.partition(" ")[0]
         return self.is_request and TOKEN.fullmatch(method) is not None and method != "ACK" and bool(self.get("via") and self.get("cseq"))
 
@@ -99,7 +99,7 @@ class Message:
         rows = [f"{SHOWN.get(name, name.title())}: {value}" for name, value in self.fields if name != "content-length"]
         return "\r\n".join([self.first, *rows, f"Content-Length: {len(self.body)}", "", self.body])
 
-    # what stands in its fields
+    # the content of its fields
 
     def get(self, name: str, default: str = "") -> str:
         return next((value for field, value in self.fields if field == name), default)
@@ -148,7 +148,7 @@ class Message:
 
     @property
     def transaction(self) -> str:
-        """What tells it from others: its branch, who shows it, its method; an ACK is told as its INVITE."""
+        """The key of its transaction: its branch, its sender, its method; an ACK has the key of its INVITE."""
         via: Via = self.values("via")[0]
         branch = via.parameters.get("branch", "")
         if not branch.startswith(COOKIE) or branch == COOKIE:
@@ -168,12 +168,12 @@ class Message:
 
     def answer(self, status: int, tag: str, fields: Fields, body: str) -> "Message":
         kept = self.some("via", "from", "call-id", "cseq", *(["record-route"] if 100 < status < 300 else []))
-        to = self.get("to") + (f";tag={tag}" if tag and not self.tag("to") else "")
+        to_field = self.get("to") + (f";tag={tag}" if tag and not self.tag("to") else "")
         kind = [("content-type", "application/sdp")] if body else []
-        return Message(f"SIP/2.0 {status} {PHRASES.get(status, '')}", [*kept, ("to", to), *fields, *kind], body)
+        return Message(f"SIP/2.0 {status} {PHRASES.get(status, '')}", [*kept, ("to", to_field), *fields, *kind], body)
 
     def refusal(self, status: int, tag: str) -> "Message":
-        """The answer to what can't be read: its fields go back as they came."""
+        """The answer to a message that can't be read, with its fields as they came."""
         rows = self.some("via", "from", "to", "call-id", "cseq")
         try:
             is_open = not self.tag("to")

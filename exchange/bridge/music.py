@@ -1,4 +1,4 @@
-"""Music for whoever waits: where it may go, and 20 ms of G.711 in each packet of RTP."""
+"""Music for everybody who waits: the addresses that it may be sent to, and 20 ms of G.711 in each packet of RTP."""
 import asyncio
 import audioop
 import errno
@@ -48,7 +48,7 @@ class Music:
         return sdp.music(self.settings.host, self.settings.music_port, asked)
 
     def place(self, leg: Leg) -> tuple[str, int] | None:
-        """Where it goes for a leg; None, and a line, where its peer asks for it at a place that isn't allowed."""
+        """The address to which it is sent for a leg; None, and a line, if the peer asks for it at an address that isn't allowed."""
         asked = sdp.media(leg.sdp)
         if asked is None or not asked[1]:
             return None
@@ -68,16 +68,16 @@ class Music:
         return self.allowed[key]
 
     def judge(self, host: IPv4Address, way: str, sender: str) -> bool:
-        """The sender's own address, a network that was allowed, or any where the sender gave a password; this machine's only where it is his own."""
+        """Allowed are the sender's address, the networks of the settings, and any address if the sender gave a password; an address of this machine only if it is the sender's."""
         if any(host in network for network in NO_MACHINE):
             return False
-        own = str(host) == sender
+        is_sender = str(host) == sender
         if host in LOOPBACK or str(host) in (self.settings.host, self.settings.edge.partition(":")[0]) or is_here(str(host)):
-            return own
-        return own or way in ("trunk-password", "phone") or any(host in network for network in self.networks)
+            return is_sender
+        return is_sender or way in ("trunk-password", "phone") or any(host in network for network in self.networks)
 
     def listeners(self) -> Iterator[tuple[Leg, tuple[str, int], int]]:
-        """Who hears a packet now: the leg, where, and in which form."""
+        """Those who hear a packet now: the leg, its address, and the form."""
         for leg in self.rows.legs.values():
             kind = sdp.music_type(leg.sdp) if leg.music and leg.sdp and not self.transactions.owes_ack(leg) else None
             place = self.place(leg) if kind is not None else None
@@ -97,12 +97,12 @@ def sounds(file: str) -> dict[int, bytes]:
 
 
 async def play(music: Music, sound: dict[int, bytes], send: Callable[[bytes, tuple[str, int]], None]) -> None:
-    """A packet to each that waits, again and again; all hear the same place of the music."""
+    """Sends a packet to everybody who waits, again and again; all hear the same place of the music."""
     due = time.monotonic()
     for count in itertools.count():
         at = count * PACKET % (len(sound[8]) - PACKET)
-        for leg, to, kind in music.listeners():
+        for leg, address, kind in music.listeners():
             place = count & 0xffff, count * PACKET & 0xffffffff, int(leg.key[:8], 16)
-            send(struct.pack("!BBHII", 0x80, kind, *place) + sound[kind][at:at + PACKET], to)
+            send(struct.pack("!BBHII", 0x80, kind, *place) + sound[kind][at:at + PACKET], address)
         due = max(due + 0.02, time.monotonic() - 1)
         await asyncio.sleep(max(0.0, due - time.monotonic()))

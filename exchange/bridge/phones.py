@@ -1,4 +1,4 @@
-"""What phones and callers ask: calls, hang-ups, hold, transfer, and the feature codes by which agents log on."""
+"""Requests of phones and callers: calls, hang-ups, hold, transfer, and the feature codes by which agents log on."""
 import re
 import secrets
 from collections.abc import Callable
@@ -21,7 +21,7 @@ DESK_WAIT = 5.0
 
 
 class Sender(NamedTuple):
-    """Who a request is of: the way by which he is known, his address, and the number of his phone where he has one."""
+    """The sender of a request: how the exchange knows him, his address, and the number of his phone if he has one."""
     way: str
     address: str
     phone: str
@@ -36,7 +36,7 @@ class Phones:
         calls.takers |= {"held": self.held, "transferred": self.transferred, "featured": self.featured}
 
     def take(self, message: Message, row: Served, leg: Leg | None) -> None:
-        """A new request. Outside of a dialog only those are served whom the edge vouches for; it makes a CANCEL itself, and vouches for none."""
+        """A new request. Outside of a dialog the exchange takes only requests for which the edge vouches. The edge makes a CANCEL itself, and vouches for none."""
         refusal = self.refusal(message, leg)
         if leg is None and message.method != "CANCEL" and self.sender(message, row.back) is None:
             self.steps.say_hourly("403 to a request for which the edge doesn't vouch: is its kamailio.cfg of this version?")
@@ -56,11 +56,11 @@ class Phones:
             later[message.method](message, row, leg)
 
     def refusal(self, message: Message, leg: Leg | None) -> tuple[int, Fields] | None:
-        """What makes a request none that can be served, in the order of RFC 3261, 8.2."""
-        served = ("INVITE", "MESSAGE", "OPTIONS") if leg is None else ("INVITE", "BYE", "REFER", "OPTIONS")
+        """The refusal of a request that the exchange can't carry out, in the order of RFC 3261, 8.2; None if it can."""
+        methods = ("INVITE", "MESSAGE", "OPTIONS") if leg is None else ("INVITE", "BYE", "REFER", "OPTIONS")
         required = [name for name in message.values("require") if name.lower() != "timer"]
         body, wanted = message.first_of("content-type"), message.values("accept")
-        if message.method not in served:
+        if message.method not in methods:
             return 501, [ALLOW]
         if message.uri.scheme not in ("sip", "sips", "tel"):
             return 416, []
@@ -73,7 +73,7 @@ class Phones:
         return None
 
     def sender(self, message: Message, source: str) -> Sender | None:
-        """As the edge says, or without one by the list of phones and the address of the datagram; None where nobody says."""
+        """The sender by the edge's word, or without an edge by the list of phones and the address of the datagram; None if neither says."""
         if not self.settings.edge:
             shown = message.uri_of("from").number
             is_phone = shown in self.settings.phones
@@ -110,7 +110,7 @@ class Phones:
             self.dialogs.end(leg, 404)
 
     def device(self, message: Message, sender: Sender) -> str:
-        """The phone, or the number that a caller shows."""
+        """The number of the phone, or the number that a caller shows."""
         return sender.phone or re.sub(r"[^0-9]", "", message.uri_of("from").number)[-15:] or "0"
 
     def cancel_call(self, message: Message, row: Served) -> None:
@@ -143,14 +143,14 @@ class Phones:
             self.pass_on(leg, row, message.body)
 
     def held(self, row: Request, leg: Leg | None, answer: Answer) -> None:
-        served = self.rows.served[row.served]
+        invite = self.rows.served[row.served]
         if leg is None or answer.status != 200:
-            return self.answer(served, 488)
+            return self.answer(invite, 488)
         leg.held = row.body["service"] == "holdCall"
-        self.pass_on(leg, served, Message.read(served.request).body)
+        self.pass_on(leg, invite, Message.read(invite.request).body)
 
     def pass_on(self, leg: Leg, row: Served, body: str) -> None:
-        """An offer that changes something goes to the other side, whose answer is the answer."""
+        """Passes an offer that changes something on to the other side, whose answer becomes the answer."""
         call, other = self.dialogs.call_of(leg), self.dialogs.other(leg)
         same = not body or (sdp.media(body), sdp.is_held(body)) == (sdp.media(leg.sdp), sdp.is_held(leg.sdp))
         leg.sdp = body or leg.sdp
@@ -163,12 +163,12 @@ class Phones:
 
     # a blind transfer; one in two steps has no service at the desk
     def refer(self, message: Message, row: Served, leg: Leg) -> None:
-        to, call = message.uri_of("refer-to"), self.dialogs.call_of(leg)
-        if not leg.station or call is None or "replaces=" in to.headers.lower() or not re.fullmatch(r"[0-9]{1,15}", to.number):
+        target, call = message.uri_of("refer-to"), self.dialogs.call_of(leg)
+        if not leg.station or call is None or "replaces=" in target.headers.lower() or not re.fullmatch(r"[0-9]{1,15}", target.number):
             return self.answer(row, 603)
         self.answer(row, 202, fields=[self.contact])
         self.notify(leg, 100, message.cseq)
-        self.steps.ask("singleStepTransfer", "transferred", leg, row.key, call=int(call.key), device=leg.device, to=to.number)
+        self.steps.ask("singleStepTransfer", "transferred", leg, row.key, call=int(call.key), device=leg.device, to=target.number)
 
     def transferred(self, row: Request, leg: Leg | None, answer: Answer) -> None:
         refer = self.rows.served.get(row.served)
@@ -191,17 +191,17 @@ class Phones:
         logged_on = self.rows.agents.get(station)
         agent = found and found[2] or (logged_on.agent if logged_on else "")
         if not found or not agent or not station or (found[1] == "22") != bool(found[3]):
-            return self.tell(row, leg, 404)
+            return self.answer_code(row, leg, 404)
         more = {"device": station, "groups": found[3][1:].split("*")} if found[3] else {}
         self.steps.ask("setAgentState", "featured", leg, row.key, agent=agent, requested=STATES[found[1]], **more)
 
     def featured(self, row: Request, leg: Leg | None, answer: Answer) -> None:
         if answer.status == 200 and "device" in row.body:
-            # known before its event is read, since *24 may follow at once
+            # the exchange knows it before it reads the event, since *24 may follow at once
             self.rows.agents.add(Agent(row.body["device"], row.body["agent"]))
-        self.tell(self.rows.served.get(row.served), leg, 200 if answer.status == 200 else 403)
+        self.answer_code(self.rows.served.get(row.served), leg, 200 if answer.status == 200 else 403)
 
-    def tell(self, row: Served | None, leg: Leg | None, status: int) -> None:
+    def answer_code(self, row: Served | None, leg: Leg | None, status: int) -> None:
         if leg is not None and leg.state == "in" and status == 200:
             leg.hangs_up = True
             self.dialogs.accept(leg, self.rows.served[leg.transaction], self.dialogs.music.offer(leg.sdp) or leg.sdp)

@@ -1,4 +1,4 @@
-"""The rows of the file: legs, calls, transactions at both sides, and what waits to be asked of the desk."""
+"""The rows of the file: legs, calls, transactions at both sides, and requests that the desk hasn't answered yet."""
 from dataclasses import dataclass, field
 from typing import Any
 
@@ -7,16 +7,16 @@ from .store import Row, Store, Table
 
 @dataclass
 class Place(Row):
-    """The last event that was taken, and the last invoke that was used."""
+    """The last event that the exchange read, and the last invoke that it used."""
     invoke: int = 0
     known: dict[str, Any] = field(default_factory=dict)
 
 
 @dataclass
 class Leg(Row):
-    """A dialog with a phone or a caller; its key is the exchange's own tag. state: `in` (a caller who isn't answered),
-    `out` (a phone that is asked), `rings`, `up`, `closing`. `ours` and `theirs` are addresses with tags, `own` and
-    `sdp` the last descriptions of media, `transaction` is that of the last INVITE."""
+    """A dialog with a phone or a caller; its key is the tag of the exchange. state: `in` (a caller without an answer),
+    `out` (a phone that has the INVITE), `rings`, `up`, `closing`. `ours` and `theirs` are addresses with tags. `own` is the
+    last description of media that the exchange sent, `sdp` the last one of the peer; `transaction` is that of the last INVITE."""
     device: str
     station: bool
     state: str
@@ -45,8 +45,8 @@ class Leg(Row):
 
 @dataclass
 class Call(Row):
-    """A call of the desk: its legs by device, and the groups that the offers of ringing devices are of.
-    `connected` says that the desk connected both sides, `joined` that their media were."""
+    """A call of the desk: its legs by device, and by ringing device the group whose offer it is.
+    `connected` says that the desk connected both sides, `joined` that their media are."""
     caller: str
     called: str
     legs: dict[str, str] = field(default_factory=dict)
@@ -58,7 +58,7 @@ class Call(Row):
 
 @dataclass
 class Stranger(Row):
-    """A live call of the desk that the exchange has no leg of."""
+    """A live call of the desk of which the exchange has no leg."""
 
 
 @dataclass
@@ -69,7 +69,7 @@ class Agent(Row):
 
 @dataclass
 class Request(Row):
-    """A request to the desk that has no reply yet; its key is its invoke. `then` names who takes the reply."""
+    """A request to the desk that has no reply yet; its key is its invoke. `then` names the function for the reply."""
     body: dict[str, Any]
     then: str
     leg: str
@@ -78,7 +78,8 @@ class Request(Row):
 
 @dataclass
 class Served(Row):
-    """A peer's request and the last reply to it; with an interval the reply is sent again until its ACK comes."""
+    """A peer's request and the last reply to it (a server transaction of RFC 3261, 17.2); with an interval the exchange sends the reply again until its ACK comes.
+    The names `Served`, `served`, `to` and `own` are in the file, so they stay."""
     back: str
     request: str
     leg: str = ""
@@ -89,8 +90,8 @@ class Served(Row):
 
 @dataclass
 class Asked(Row):
-    """A request to a peer; with an interval it is sent again until a reply comes. `then` names who takes the last one,
-    and `ack` is what that gets, each time that it comes."""
+    """A request to a peer (a client transaction of RFC 3261, 17.1), and the address `to` which it is sent; with an interval the exchange sends it again until a reply
+    comes. `then` names the function for the last reply, and `ack` is the ACK of that reply, each time that it comes."""
     to: str
     text: str
     leg: str

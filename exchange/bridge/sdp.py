@@ -9,13 +9,13 @@ NAMES = {0: "PCMU", 8: "PCMA"}
 
 @lru_cache(4096)
 def media(body: str) -> tuple[str, int, tuple[int, ...]] | None:
-    """Where a body asks for its audio, and in which forms; None where it doesn't, or by no address of IPv4."""
+    """The address at which a body asks for audio, and the forms; None if it asks for none, or at no address of IPv4."""
     line = re.search(r"^m=audio ([0-9]{1,5}) [!-~]+((?: [0-9]{1,3})+)", body, re.MULTILINE)
     if not line or int(line[1]) > 65535:
         return None
-    # the audio's own address counts, else that of all media, which stands before the first of them
-    own, all_media = re.split("^m=", body[line.end():], 1, re.MULTILINE)[0], re.split("^m=", body, 1, re.MULTILINE)[0]
-    host = next(filter(None, (re.search(f"^c=IN IP4 ({IPV4})", part, re.MULTILINE) for part in (own, all_media))), None)
+    # the address of the audio counts, else that of all media, which comes before the first of them
+    description, all_media = re.split("^m=", body[line.end():], 1, re.MULTILINE)[0], re.split("^m=", body, 1, re.MULTILINE)[0]
+    host = next(filter(None, (re.search(f"^c=IN IP4 ({IPV4})", part, re.MULTILINE) for part in (description, all_media))), None)
     if not host:
         return None
     return host[1], int(line[1]), tuple(map(int, line[2].split()))

@@ -1,4 +1,4 @@
-"""What the command line says, each option once."""
+"""The options of the command line, each at most once."""
 import json
 import os
 from argparse import ArgumentDefaultsHelpFormatter, ArgumentParser, FileType
@@ -56,7 +56,7 @@ class Settings:
         return read
 
     def fault(self) -> str:
-        """What makes it no setting to run with."""
+        """Why the exchange can't run with these settings."""
         if bool(self.edge) == (self.phones is not None):
             return "it needs either --edge or --phones"
         if not all(map(is_place, (self.listen, self.edge or self.listen))) or self.session < 90:

@@ -1,4 +1,4 @@
-"""Steps: an input changes rows and puts aside what is to be sent; that is kept and then sent, or undone whole."""
+"""Steps: an input changes rows and puts datagrams aside. The exchange keeps the rows and then sends the datagrams, or undoes all of it."""
 import heapq
 import secrets
 import sqlite3
@@ -13,8 +13,8 @@ from .records import Leg, Place, Request, Rows
 from .settings import Settings
 from .store import Store
 
-# seconds until what was told is told again, and how much of it is known
-TOLD_AGAIN, MOST_TOLD = 3600.0, 1000
+# seconds until the same text is said again, and how many texts are remembered
+SAID_AGAIN, MOST_SAID = 3600.0, 1000
 
 
 class Steps:
@@ -22,16 +22,16 @@ class Steps:
                  clock: Callable[[], float] = time.time):
         self.settings, self.store, self.send, self.now = settings, store, send, clock
         self.rows = Rows(store)
-        # each start is a requester of its own, so that no key is used twice, whatever a power cut has taken
+        # each start has another requester, so that no key is used twice, whatever a power cut has undone
         login = unquote(urlsplit(settings.desk).username or "exchange")
         self.requester = f"{login}-{secrets.token_hex(4)}"
         self.out: list[tuple[bytes, str]] = []
         self.alarms: list[tuple[float, str, str]] = []
-        # who takes the alarms of a kind of row
+        # the function for the alarms of a kind of row
         self.rings: dict[str, Callable[[Any], None]] = {}
         self.steps = self.faults = 0
-        self.told: dict[str, float] = {}
-        # is told where there are requests for the desk
+        self.said_at: dict[str, float] = {}
+        # is called if there are requests for the desk
         self.wake: Callable[[], None] = lambda: None
 
     @property
@@ -39,7 +39,7 @@ class Steps:
         return self.rows.places.get("1") or self.rows.places.add(Place("1"))
 
     def step(self, work: Callable[..., None], *rest: Any) -> bool:
-        """One input: kept and then sent, or undone whole."""
+        """One input: keeps the rows and then sends, or undoes all of it."""
         self.steps += 1
         try:
             work(*rest)
@@ -55,9 +55,9 @@ class Steps:
             self.say(f"acd-exchange: the file can't be written: {fault}")
             raise SystemExit(1) from fault
         out, self.out = self.out, []
-        for data, to in out:
-            self.trace(">", to, data.decode("latin-1"))
-            self.send(data, to)
+        for data, address in out:
+            self.trace(">", address, data.decode("latin-1"))
+            self.send(data, address)
         for row in kept:
             if row.due:
                 heapq.heappush(self.alarms, (row.due, type(row).__name__, row.key))
@@ -65,10 +65,10 @@ class Steps:
             self.wake()
         return True
 
-    def put(self, text: str, to: str) -> None:
+    def put(self, text: str, address: str) -> None:
         """Puts a datagram aside."""
         if text:
-            self.out.append((text.encode("latin-1"), to))
+            self.out.append((text.encode("latin-1"), address))
 
     def ask(self, service: str, then: str = "", leg: Leg | None = None, served: str = "", **members: Any) -> None:
         """Puts a request to the desk aside."""
@@ -77,13 +77,13 @@ class Steps:
         self.rows.requests.add(Request(str(self.place.invoke), body, then, leg.key if leg else "", served))
 
     def ring_alarms(self) -> float:
-        """Takes some of what is due, and returns how many seconds lie before the next."""
+        """Rings some of the alarms that are due, and returns the seconds until the next one."""
         for _ in range(20):
             if not self.alarms or self.alarms[0][0] > self.now():
                 break
             due, kind, key = heapq.heappop(self.alarms)
             row = self.store.tables[kind].get(key)
-            # an alarm that was put off has another entry; one that fails doesn't ring again
+            # an alarm that was put off has another entry; one whose step fails doesn't ring again
             if row is not None and row.due == due:
                 row.due = 0.0
                 if not self.step(self.rings[kind], row):
@@ -94,13 +94,13 @@ class Steps:
         print(text, file=sys.stderr, flush=True)
 
     def say_hourly(self, text: str) -> None:
-        """The same text once an hour at most."""
+        """Says the same text once an hour at most."""
         now = self.now()
-        if now - self.told.get(text, -TOLD_AGAIN) >= TOLD_AGAIN:
-            self.told.pop(text, None)
-            self.told[text] = now
-            if len(self.told) > MOST_TOLD:
-                del self.told[next(iter(self.told))]
+        if now - self.said_at.get(text, -SAID_AGAIN) >= SAID_AGAIN:
+            self.said_at.pop(text, None)
+            self.said_at[text] = now
+            if len(self.said_at) > MOST_SAID:
+                del self.said_at[next(iter(self.said_at))]
             self.say(text)
 
     def trace(self, mark: str, where: str, text: str) -> None:

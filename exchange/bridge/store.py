@@ -1,4 +1,4 @@
-"""The file: rows that tell of their changes, so that a step is kept or undone whole."""
+"""The file: rows that record their changes, so that a step is kept or undone as a whole."""
 import json
 import sqlite3
 from dataclasses import dataclass, field
@@ -7,7 +7,8 @@ from typing import Any, Generic, TypeVar
 
 @dataclass
 class Row:
-    """A record of the file. Its members are set, and never changed in place; `due` is when its alarm rings, if ever."""
+    """A record of the file. Code sets its members, and never changes them in place; `due` is when its alarm rings, if ever.
+    The file has the class's name and its members by their names."""
     key: str
     due: float = field(default=0.0, kw_only=True)
 
@@ -33,14 +34,14 @@ class Store:
                                 "CREATE TABLE IF NOT EXISTS rows(kind, key, row, PRIMARY KEY(kind, key))")
 
     def undo(self) -> None:
-        """What was changed is as the file has it. It counts as changed again, so that its alarms are set."""
+        """Reads the changed rows from the file again. They count as changed, so that their alarms are set."""
         changed, self.changed = self.changed, set()
         for kind, key in changed:
             self.tables[kind].pop(key, None)
             self.tables[kind].read("kind = ? AND key = ?", kind, key)
 
     def commit(self) -> list[Any]:
-        """Keeps what was changed, and returns the rows of it that are there. Where it fails the program has to end."""
+        """Writes the changed rows into the file, and returns those that are there. If it fails, the program has to end."""
         rows = [self.tables[kind][key] for kind, key in self.changed if key in self.tables[kind]]
         with self.base:
             self.base.executemany("DELETE FROM rows WHERE kind = ? AND key = ?", self.changed)
@@ -51,7 +52,7 @@ class Store:
 
 
 class Table(dict[str, R], Generic[R]):
-    """The rows of one kind, by key, as the file has them at first."""
+    """The rows of one kind, by key; at first those of the file."""
 
     def __init__(self, store: Store, row: type[R]):
         super().__init__()

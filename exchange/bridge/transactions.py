@@ -1,4 +1,4 @@
-"""Transactions (RFC 3261, 17): what peers asked and were told, and were asked; it is sent again until it has come."""
+"""Transactions (RFC 3261, 17): requests of peers and their answers, and requests to peers; the exchange sends each again until it has come."""
 import hashlib
 import secrets
 from typing import Any, Protocol
@@ -9,12 +9,12 @@ from .records import Asked, Leg, Served
 from .steps import Steps
 
 ALLOW = ("allow", "INVITE, ACK, BYE, CANCEL, REFER, OPTIONS, MESSAGE")
-# seconds: between repeats, at first and at most; how long they go on; how long an answered caller may owe its ACK
+# seconds: between repeats, at first and at most; until they end; until an answered caller has to send its ACK
 ROUND_TRIP, LONGEST_WAIT, LIFE, ACK_WAIT = 0.5, 4.0, 32.0, 2.5
 
 
 class Listener(Protocol):
-    """What a leg does where its transactions go on."""
+    """What a leg does at the steps of its transactions."""
 
     def progressed(self, leg: Leg, message: Message) -> None: ...
     def confirm(self, leg: Leg, message: Message, first: bool) -> None: ...
@@ -31,9 +31,9 @@ class Transactions:
         self.secret = secrets.token_hex(16)
         steps.rings |= {"Served": self.served_due, "Asked": self.asked_due}
 
-    # what peers ask
+    # requests of peers
     def take_request(self, message: Message, source: str) -> tuple[Served, Leg | None] | None:
-        """A request that is new, with its leg where it is in a dialog; None where nothing is left to do."""
+        """A new request, with its leg if it is in a dialog; None if nothing is left to do."""
         row, leg = self.rows.served.get(message.transaction), self.rows.legs.get(message.tag("to"))
         if leg is not None and leg.call_id != message.get("call-id"):
             leg = None
@@ -42,16 +42,16 @@ class Transactions:
         elif row is not None:
             self.steps.put(row.reply, source)
         elif not message.tag("to") or message.method == "CANCEL":
-            return self.serve(message, source), None
+            return self.add_served(message, source), None
         elif leg is None or message.method != "INVITE" and message.cseq < leg.heard:
-            self.answer(self.serve(message, source), 481 if leg is None else 500)
+            self.answer(self.add_served(message, source), 481 if leg is None else 500)
         else:
             leg.heard = message.cseq
-            return self.serve(message, source), leg
+            return self.add_served(message, source), leg
         return None
 
     def acknowledge(self, message: Message, row: Served | None, leg: Leg | None) -> None:
-        """Ends the repeats of an answer. That of a 2xx has the tag of it, which nobody has who didn't hear it."""
+        """Ends the repeats of an answer. The ACK of a 2xx has the tag of that answer, which only its receiver knows."""
         row = row or self.rows.served.get(leg.transaction if leg else "")
         if row is None or not row.interval:
             return
@@ -61,7 +61,7 @@ class Transactions:
             if leg is not None and leg.hangs_up:
                 self.listener.end(leg)
 
-    def serve(self, message: Message, source: str) -> Served:
+    def add_served(self, message: Message, source: str) -> Served:
         return self.rows.served.add(Served(message.transaction, source, message.text()))
 
     def answer(self, row: Served, status: int, tag: str = "", fields: Fields = (), body: str = "") -> None:
@@ -75,7 +75,7 @@ class Transactions:
             row.due = now + LIFE
 
     def refuse(self, message: Message, status: int, source: str) -> None:
-        """Answers what can't be read, and keeps nothing of it: the same tag each time (RFC 3261, 8.2.7)."""
+        """Answers a message that can't be read, and keeps nothing of it: the same tag each time (RFC 3261, 8.2.7)."""
         tag = hashlib.sha256((self.secret + message.get("via") + message.get("cseq")).encode()).hexdigest()[:16]
         self.steps.put(message.refusal(status, tag).text(), source)
 
@@ -95,20 +95,20 @@ class Transactions:
         row.interval = min(2 * row.interval, most)
         row.due = min(self.now() + row.interval, row.ends)
 
-    # what peers are asked
+    # requests to peers
     def request(self, leg: Leg, method: str, body: str = "", fields: Fields = (), **how: Any) -> None:
         message = self.in_dialog(leg, method, body, fields)
         if method == "INVITE":
             leg.transaction = message.transaction
         self.transmit(message, leg.hop, leg.key, **how)
 
-    def transmit(self, message: Message, to: str, leg: str = "", then: str = "", served: str = "",
+    def transmit(self, message: Message, address: str, leg: str = "", then: str = "", served: str = "",
                  patience: float = LIFE) -> None:
-        """Asks a peer; `then` gets the last answer, for a leg."""
+        """Sends a request to a peer; the function `then` gets the last answer, for a leg."""
         now, text = self.now(), message.text()
         due, ends = now + min(ROUND_TRIP, patience), now + patience
-        self.rows.asked.add(Asked(message.transaction, to, text, leg, then, served, ROUND_TRIP, ends, due=due))
-        self.steps.put(text, to)
+        self.rows.asked.add(Asked(message.transaction, address, text, leg, then, served, ROUND_TRIP, ends, due=due))
+        self.steps.put(text, address)
 
     def in_dialog(self, leg: Leg, method: str, body: str = "", fields: Fields = (), cseq: int = 0) -> Message:
         leg.asked += not cseq
@@ -117,14 +117,14 @@ class Transactions:
                 ("to", leg.theirs), ("call-id", leg.call_id), ("cseq", f"{cseq or leg.asked} {method}"), self.contact]
         return Message(f"{method} {leg.target} SIP/2.0", [*rows, ALLOW, *fields], body)
 
-    def of_same(self, row: Asked, method: str, to: str = "") -> Message:
-        """What belongs to the transaction of an INVITE: its CANCEL, or the ACK of a refusal."""
+    def of_same(self, row: Asked, method: str, to_field: str = "") -> Message:
+        """A request in the transaction of an INVITE: its CANCEL, or the ACK of a refusal."""
         invite = Message.read(row.text)
-        rows = [*invite.some("via", "from", "call-id", "max-forwards", "route"), ("to", to or invite.get("to"))]
+        rows = [*invite.some("via", "from", "call-id", "max-forwards", "route"), ("to", to_field or invite.get("to"))]
         return Message(invite.first.replace("INVITE", method, 1), [*rows, ("cseq", f"{invite.cseq} {method}")])
 
     def hop(self, leg: Leg) -> str:
-        """Where its requests go: to the edge, its first route or its contact, or to where its messages come from."""
+        """The address for its requests: the edge, its first route or its contact, or the address from which its messages come."""
         first = read_field("route", leg.routes[0])[0].uri if leg.routes else read_uri(leg.target)
         return self.settings.edge or first.place or leg.hop
 
@@ -146,14 +146,14 @@ class Transactions:
         elif message.status >= 200:
             self.take_last(row, leg, message)
         elif message.method == "INVITE":
-            # it isn't sent again; a phone may ring for as long as the desk lets it
+            # the exchange doesn't send it again; a phone may ring for as long as the desk lets it
             row.interval, row.due = 0.0, row.ends
             if leg is not None and row.then == "invited":
                 row.due = row.ends if leg.cancelled else 0.0
                 self.listener.progressed(leg, message)
 
     def take_repeat(self, row: Asked | None, leg: Leg | None, message: Message) -> None:
-        """An answer that came before, or one that nobody asked for."""
+        """An answer that came before, or one without a request."""
         known = leg is not None and read_field("to", leg.theirs)[0].parameters.get("tag") == message.tag("to")
         if message.method == "INVITE" and 200 <= message.status < 300 and not known:
             self.turn_away(message)
@@ -174,7 +174,7 @@ class Transactions:
             self.listener.finish(row, leg, message)
 
     def turn_away(self, message: Message) -> None:
-        """A phone answers whom nobody waits for any more, or a second one by a fork: it is told so, each time."""
+        """A phone answers though nobody waits for it any more, or a second phone answers by a fork: the exchange ends its dialog, each time."""
         contact = message.uri_of("contact")
         leg = Leg("", "", True, "closing", message.get("call-id"), message.get("from"), message.get("to"),
                   contact.text, routes=message.all("record-route")[::-1], asked=message.cseq)
@@ -183,7 +183,7 @@ class Transactions:
             self.steps.put(self.in_dialog(leg, method, cseq=cseq).text(), hop)
 
     def owes_ack(self, leg: Leg) -> bool:
-        """Whether its peer hasn't acknowledged the last answer yet."""
+        """Whether its peer still owes the ACK of the last answer."""
         served = self.rows.served.get(leg.transaction)
         return served is not None and served.interval > 0
 

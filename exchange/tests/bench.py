@@ -26,7 +26,7 @@ def body(port: int, more: str = "") -> str:
 
 
 class Bench:
-    """It asserts behind each input that memory is as the file."""
+    """It asserts after each input that memory is as the file."""
 
     def __init__(self, **settings: Any):
         self.folder = tempfile.TemporaryDirectory()
@@ -47,7 +47,7 @@ class Bench:
         self.open()
 
     def lose(self, kept: list[str]) -> None:
-        """The file is as it was before, as behind a power cut."""
+        """The file is as it was before, as after a power cut."""
         self.x.steps.store.base.execute("DROP TABLE rows")
         self.x.steps.store.base.executescript("\n".join(kept))
 
@@ -55,11 +55,11 @@ class Bench:
         self.x.steps.store.base.close()
         self.folder.cleanup()
 
-    def keep(self, data: bytes, to: str) -> None:
+    def keep(self, data: bytes, address: str) -> None:
         text = data.decode("latin-1")
-        # what can't be read goes back as it came, so such an answer can't be read either
+        # the exchange sends an unreadable message's fields back as they came, so such an answer can't be read either
         refusals = ("SIP/2.0 400 ", "SIP/2.0 505 ")
-        self.sent.append((to, Message(text.partition("\r\n")[0], []) if text.startswith(refusals) else Message.read(text)))
+        self.sent.append((address, Message(text.partition("\r\n")[0], []) if text.startswith(refusals) else Message.read(text)))
 
     def differences(self) -> list[tuple[str, str]]:
         """The rows that aren't in memory as they are in the file: none between two steps."""
@@ -82,7 +82,7 @@ class Bench:
     # SIP
 
     def take(self) -> list[tuple[str, Message]]:
-        """What was sent since it was last asked."""
+        """The messages that were sent since the last call."""
         sent, self.sent = self.sent, []
         return sent
 
@@ -132,7 +132,7 @@ class Bench:
         assert self.x.steps.step(self.x.calls.take_reply, self.first_request(), answer)
         self.check()
 
-    def tell(self, *events: str, call: int = 1) -> None:
+    def report(self, *events: str, call: int = 1) -> None:
         """Events as NAME@DEVICE; a delivery with /GROUP is by distribution."""
         page: list[Event] = []
         for word in events:
@@ -157,13 +157,13 @@ class Bench:
     def waiting(self) -> None:
         self.invite()
         self.answer(call=1)
-        self.tell("queued@100")
+        self.report("queued@100")
 
     def ringing(self) -> Message:
         """A caller waits, and the phone 201 is rung: the INVITE that it got."""
         self.waiting()
-        self.tell("diverted@100/100", "delivered@201/100")
-        invite = next(message for to, message in self.take() if message.is_request and message.method == "INVITE" and to == PHONE)
+        self.report("diverted@100/100", "delivered@201/100")
+        invite = next(message for address, message in self.take() if message.is_request and message.method == "INVITE" and address == PHONE)
         self.reply(invite, 180)
         return invite
 
@@ -171,5 +171,5 @@ class Bench:
         invite = self.ringing()
         self.reply(invite, 200, body(7201))
         self.answer()
-        self.tell("established@201/100")
+        self.report("established@201/100")
         return invite

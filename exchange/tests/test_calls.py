@@ -21,28 +21,28 @@ class Queued(OnABench):
         b.invite()
         self.assertEqual((b.firsts(), b.asked()), (["SIP/2.0 100"], [("arriveCall", {"caller": "0301", "called": "100"})]))
         b.answer(call=1)
-        b.tell("queued@100")
+        b.report("queued@100")
         self.assertEqual(b.firsts(), ["SIP/2.0 182"])
-        b.tell("diverted@100/100", "delivered@201/100")
-        [(to, invite)] = b.take()
-        self.assertEqual((to, invite.method, invite.get("x-acd-call"), "m=audio 7000" in invite.body), (PHONE, "INVITE", "1", True))
+        b.report("diverted@100/100", "delivered@201/100")
+        [(address, invite)] = b.take()
+        self.assertEqual((address, invite.method, invite.get("x-acd-call"), "m=audio 7000" in invite.body), (PHONE, "INVITE", "1", True))
         b.reply(invite, 180)
         self.assertEqual(b.firsts(), ["SIP/2.0 180"])
         b.reply(invite, 200, body(7201))
         self.assertEqual((b.firsts(), b.asked()), (["ACK"], [("answerCall", {"call": 1, "device": "201"})]))
         b.answer()
-        [(to, told)] = b.take()
-        self.assertEqual((to, told.status, "m=audio 7201" in told.body), (CALLER, 200, True))
-        tag = told.get("to")
+        [(address, answer)] = b.take()
+        self.assertEqual((address, answer.status, "m=audio 7201" in answer.body), (CALLER, 200, True))
+        tag = answer.get("to")
         b.request("ACK", "sip:acd@x", to=tag)
         b.pass_time(5)
         self.assertEqual(b.firsts(), [])
         b.request("BYE", "sip:acd@x", to=tag, cseq=2)
         self.assertEqual((b.firsts(), b.asked()), (["SIP/2.0 200"], [("clearConnection", {"call": 1, "device": "0301"})]))
         b.answer()
-        b.tell("connectionCleared@0301", "connectionCleared@201", "callCleared")
-        [(to, bye)] = b.take()
-        self.assertEqual((to, bye.method, bye.tag("to")), (PHONE, "BYE", "p"))
+        b.report("connectionCleared@0301", "connectionCleared@201", "callCleared")
+        [(address, bye)] = b.take()
+        self.assertEqual((address, bye.method, bye.tag("to")), (PHONE, "BYE", "p"))
         b.reply(bye, 200)
         b.pass_time(70)
         self.assertEqual((len(b.x.rows.legs), len(b.x.rows.calls), len(b.x.rows.asked), len(b.x.rows.served), b.firsts()), (0, 0, 0, 0, []))
@@ -54,9 +54,9 @@ class Queued(OnABench):
         b.request("CANCEL", "sip:100@x", branch="z9hG4bKc1")
         self.assertEqual((b.firsts(), b.asked()), (["SIP/2.0 200", "SIP/2.0 487"], [("clearConnection", {"call": 1, "device": "0301"})]))
         b.answer()
-        b.tell("connectionCleared@0301", "connectionCleared@201", "callCleared")
-        [(to, cancel)] = b.take()
-        self.assertEqual((to, cancel.method, cancel.get("via")), (PHONE, "CANCEL", invite.get("via")))
+        b.report("connectionCleared@0301", "connectionCleared@201", "callCleared")
+        [(address, cancel)] = b.take()
+        self.assertEqual((address, cancel.method, cancel.get("via")), (PHONE, "CANCEL", invite.get("via")))
         b.reply(cancel, 200)
         b.reply(invite, 487)
         # the 487 that the caller hasn't acknowledged yet is sent again
@@ -87,7 +87,7 @@ class Queued(OnABench):
     def test_an_answer_that_crosses_the_cancel(self) -> None:
         b = self.bench
         invite = b.ringing()
-        b.tell("diverted@201/100", "queued@100")
+        b.report("diverted@201/100", "queued@100")
         b.take()
         b.reply(invite, 200, body(7201))
         self.assertEqual((b.firsts(), b.asked()), (["ACK", "BYE"], []))
@@ -97,11 +97,11 @@ class Queued(OnABench):
         b.reply(b.ringing(), 200, body(7201))
         b.take()
         b.answer("wrongConnectionState")
-        b.tell("diverted@201/100", "queued@100")
+        b.report("diverted@201/100", "queued@100")
         self.assertEqual(b.firsts(), ["BYE", "SIP/2.0 182"])
 
     def test_an_answer_to_nobody(self) -> None:
-        """A phone answers long after its leg was given up, and a second one answers a fork: both are told that it is over."""
+        """A phone answers long after its leg was given up, and a second phone answers a fork: the exchange ends both dialogs."""
         b = self.bench
         invite = b.ringing()
         b.reply(invite, 200, body(7201))
@@ -117,7 +117,7 @@ class Queued(OnABench):
         b.invite()
         self.assertEqual((b.firsts(), len(b.asked())), (["SIP/2.0 100"] * 2, 1))
         b.answer(call=1)
-        b.tell("queued@100")
+        b.report("queued@100")
         b.restart()
         b.take()
         b.invite()
@@ -165,18 +165,18 @@ class Queued(OnABench):
     def test_hold_is_asked_and_passed_on(self) -> None:
         b = self.bench
         invite = b.talking()
-        told = next(message for to, message in b.take() if to == CALLER)
-        b.request("ACK", "sip:acd@x", to=told.get("to"))
+        answer = next(message for address, message in b.take() if address == CALLER)
+        b.request("ACK", "sip:acd@x", to=answer.get("to"))
         ours = invite.get("from")
         b.request("INVITE", "sip:acd@x", PHONE, "201", invite.get("call-id"), ours, 2, text=body(7201, "a=sendonly\r\n"))
         self.assertEqual((b.firsts(), b.asked()), (["SIP/2.0 100"], [("holdCall", {"call": 1, "device": "201"})]))
         b.answer()
-        [(to, offer)] = b.take()
-        self.assertEqual((to, offer.method, "a=sendonly" in offer.body), (CALLER, "INVITE", True))
-        # an origin of the leg's own, the second one that the caller gets
+        [(address, offer)] = b.take()
+        self.assertEqual((address, offer.method, "a=sendonly" in offer.body), (CALLER, "INVITE", True))
+        # the leg's origin, the second one that the caller gets
         self.assertRegex(offer.body, r"(?m)^o=acd [0-9]+ 2 IN IP4 127\.0\.0\.1\r$")
         b.reply(offer, 200, body(7000, "a=recvonly\r\n"), source=CALLER)
-        self.assertEqual([(to, message.first.split(" ")[1], "a=recvonly" in message.body) for to, message in b.take()],
+        self.assertEqual([(address, message.first.split(" ")[1], "a=recvonly" in message.body) for address, message in b.take()],
                          [(CALLER, "sip:p@127.0.0.1:6001", False), (PHONE, "200", True)])
 
     def test_private_busy_and_clicks(self) -> None:
@@ -187,14 +187,14 @@ class Queued(OnABench):
         self.assertEqual(b.asked(), [("phoneOffHook", {"call": 1, "device": "201"})])
         b.answer()
         b.take()
-        b.tell("originated@201", "failed@202")
+        b.report("originated@201", "failed@202")
         self.assertEqual(b.asked(), [("clearConnection", {"call": 1, "device": "201"})])
         b.answer()
-        b.tell("connectionCleared@201", "connectionCleared@202", "callCleared")
+        b.report("connectionCleared@201", "connectionCleared@202", "callCleared")
         self.assertEqual(b.firsts(), ["SIP/2.0 486"])
-        b.tell("serviceInitiated@201", call=2)
-        [(to, invite)] = b.take()
-        self.assertEqual((to, invite.method, f":{b.settings.music_port}" in invite.body or str(b.settings.music_port) in invite.body), (PHONE, "INVITE", True))
+        b.report("serviceInitiated@201", call=2)
+        [(address, invite)] = b.take()
+        self.assertEqual((address, invite.method, f":{b.settings.music_port}" in invite.body or str(b.settings.music_port) in invite.body), (PHONE, "INVITE", True))
 
 
     def test_a_private_call_to_a_busy_phone(self) -> None:
@@ -202,18 +202,18 @@ class Queued(OnABench):
         b.invite("202", "201")
         b.answer(call=1)
         b.answer()
-        b.tell("originated@201", "delivered@202")
-        to, invite = b.take()[-1]
-        self.assertEqual((to, invite.method), (OTHER, "INVITE"))
+        b.report("originated@201", "delivered@202")
+        address, invite = b.take()[-1]
+        self.assertEqual((address, invite.method), (OTHER, "INVITE"))
         b.reply(invite, 486)
         self.assertEqual(b.asked(), [("clearConnection", {"call": 1, "device": "202"})])
         b.answer()
-        b.tell("connectionCleared@202", "connectionCleared@201", "callCleared")
+        b.report("connectionCleared@202", "connectionCleared@201", "callCleared")
         self.assertEqual(b.firsts(), ["ACK", "SIP/2.0 486"])
 
-    def test_a_click_rings_the_own_phone_first(self) -> None:
+    def test_a_click_rings_the_agents_phone_first(self) -> None:
         b = self.bench
-        b.tell("serviceInitiated@201")
+        b.report("serviceInitiated@201")
         [(_, invite)] = b.take()
         b.reply(invite, 200, body(7201))
         self.assertEqual(b.asked(), [("phoneOffHook", {"call": 1, "device": "201"})])
@@ -224,11 +224,11 @@ class Queued(OnABench):
         """A phone offers while it is offered something: 491, and so does an offer for a side that has one under way."""
         b = self.bench
         invite = b.talking()
-        told = next(message for to, message in b.take() if to == CALLER)
-        b.request("ACK", "sip:acd@x", to=told.get("to"))
+        answer = next(message for address, message in b.take() if address == CALLER)
+        b.request("ACK", "sip:acd@x", to=answer.get("to"))
         b.request("INVITE", "sip:acd@x", PHONE, "201", invite.get("call-id"), invite.get("from"), 2, text=body(7202))
         self.assertEqual(b.firsts(), ["SIP/2.0 100", "INVITE"])
-        b.request("INVITE", "sip:acd@x", to=told.get("to"), cseq=2, text=body(7003))
+        b.request("INVITE", "sip:acd@x", to=answer.get("to"), cseq=2, text=body(7003))
         b.request("INVITE", "sip:acd@x", PHONE, "201", invite.get("call-id"), invite.get("from"), 3, text=body(7203))
         self.assertEqual(b.firsts(), ["SIP/2.0 491"] * 2)
 
@@ -242,19 +242,19 @@ class Music(OnABench):
         b.waiting()
         [leg] = b.x.rows.legs.values()
         b.request("ACK", "sip:acd@x", to=f"<sip:100@x>;tag={leg.key}")
-        b.tell("diverted@100/100", "delivered@201/100")
-        b.reply(next(message for to, message in b.take() if to == PHONE), 200, body(7201))
+        b.report("diverted@100/100", "delivered@201/100")
+        b.reply(next(message for address, message in b.take() if address == PHONE), 200, body(7201))
         b.answer()
         b.reply(b.take()[-1][1], 200, body(7500), source=CALLER)
         self.assertEqual((leg.music, b.x.rows.calls["1"].joined), (False, True))
         b.take()
-        b.tell("transferred@201", "queued@101")
-        [(_, offer)] = [(to, message) for to, message in b.take() if to == CALLER]
+        b.report("transferred@201", "queued@101")
+        [(_, offer)] = [(address, message) for address, message in b.take() if address == CALLER]
         self.assertIn(f"m=audio {b.settings.music_port} ", offer.body)
         b.reply(offer, 491, source=CALLER)
         self.assertEqual((leg.music, b.firsts()), (False, ["ACK"]))
         b.pass_time(1.1)
-        [again] = [message for to, message in b.take() if to == CALLER and message.is_request]
+        [again] = [message for address, message in b.take() if address == CALLER and message.is_request]
         b.reply(again, 200, body(7500), source=CALLER)
         self.assertEqual((leg.music, b.x.rows.calls["1"].joined), (True, False))
 
@@ -265,18 +265,18 @@ class Music(OnABench):
         [leg] = b.x.rows.legs.values()
         self.assertEqual((leg.state, leg.music), ("up", True))
         # before the ACK of the first 200 no other offer can be made
-        b.tell("diverted@100/100", "delivered@201/100")
-        invite = next(message for to, message in b.take() if to == PHONE)
+        b.report("diverted@100/100", "delivered@201/100")
+        invite = next(message for address, message in b.take() if address == PHONE)
         b.reply(invite, 200, body(7201))
         b.answer()
         self.assertEqual(b.firsts(), ["ACK"])
         b.request("ACK", "sip:acd@x", to=f"<sip:100@x>;tag={leg.key}")
         b.pass_time(0.3)
-        [(to, offer)] = b.take()
-        self.assertEqual((to, offer.method, "m=audio 7201" in offer.body), (CALLER, "INVITE", True))
+        [(address, offer)] = b.take()
+        self.assertEqual((address, offer.method, "m=audio 7201" in offer.body), (CALLER, "INVITE", True))
         b.reply(offer, 200, body(7500), source=CALLER)
         sent = b.take()
-        self.assertEqual([(to, message.method, "m=audio 7500" in message.body) for to, message in sent], [(CALLER, "ACK", False), (PHONE, "INVITE", True)])
+        self.assertEqual([(address, message.method, "m=audio 7500" in message.body) for address, message in sent], [(CALLER, "ACK", False), (PHONE, "INVITE", True)])
         self.assertEqual((leg.music, b.x.rows.calls["1"].joined), (False, True))
 
 
@@ -300,7 +300,7 @@ class Edge(OnABench):
             self.assertEqual(b.asked()[-1], wanted)
 
     def test_for_whom_the_edge_vouches(self) -> None:
-        """Outside of a dialog nobody else is served; a CANCEL and an ACK are the edge's own, and have no field."""
+        """Outside of a dialog the exchange takes requests from nobody else; the edge makes a CANCEL and an ACK, and these have no field."""
         b = self.bench
         said = list[str]()
         setattr(b.x.steps, "say", said.append)
@@ -315,7 +315,7 @@ class Edge(OnABench):
             b.request("ACK", "sip:100@x", EDGE, fields=field)
             b.request("CANCEL", "sip:100@x", EDGE, fields=field, branch=f"z9hG4bKnobody{place}")
             self.assertEqual(b.firsts(), ["SIP/2.0 481"])
-        # an older file of the edge is told once an hour
+        # an older file of the edge makes a line once an hour
         self.assertEqual(["kamailio.cfg" in line for line in said], [True])
         b.request("INVITE", "sip:100@x", EDGE, branch="z9hG4bKc1", fields=TRUNK, text=body(7000))
         b.request("CANCEL", "sip:100@x", EDGE, branch="z9hG4bKc1")
@@ -325,7 +325,7 @@ class Edge(OnABench):
         b = self.bench
         b.request("INVITE", "sip:100@x", EDGE, fields=TRUNK, text=body(7000))
         b.answer(call=1)
-        b.tell("queued@100", "diverted@100/100", "delivered@201/100")
+        b.report("queued@100", "diverted@100/100", "delivered@201/100")
         b.reply(b.take()[-1][1], 200, body(7201), source=EDGE)
         b.answer()
         to = b.take()[-1][1].get("to")
@@ -333,7 +333,7 @@ class Edge(OnABench):
         b.request("BYE", "sip:acd@x", EDGE, to=to, cseq=2)
         self.assertEqual(b.firsts(), ["SIP/2.0 200"])
 
-    def test_a_tag_behind_what_looks_like_an_address(self) -> None:
+    def test_a_tag_after_what_looks_like_an_address(self) -> None:
         """For the edge each of these is a request in a dialog, so no password was asked for: here it is none that is known, or none at all."""
         b = self.bench
         for to, status in (('<sip:100@EDGE>;tag=abc;x=">"', 481), ("<sip:100@EDGE>;tag=a>", 400), ("<sip:100@EDGE>;tag=abc;z=<x>", 400),
@@ -346,12 +346,12 @@ class Edge(OnABench):
         b = self.bench
         b.request("INVITE", "sip:100@x", EDGE, fields=TRUNK, text=body(7000))
         b.answer(call=1)
-        b.tell("queued@100", "diverted@100/100", "delivered@201/100")
-        to, invite = b.take()[-1]
-        self.assertEqual((to, invite.target), (EDGE, f"sip:201@{EDGE}"))
+        b.report("queued@100", "diverted@100/100", "delivered@201/100")
+        address, invite = b.take()[-1]
+        self.assertEqual((address, invite.target), (EDGE, f"sip:201@{EDGE}"))
         b.reply(invite, 200, body(7201), source=EDGE, fields=f"Record-Route: <sip:{EDGE};lr>\r\n")
-        to, ack = b.take()[-1]
-        self.assertEqual((to, ack.method, ack.all("route")), (EDGE, "ACK", [f"<sip:{EDGE};lr>"]))
+        address, ack = b.take()[-1]
+        self.assertEqual((address, ack.method, ack.all("route")), (EDGE, "ACK", [f"<sip:{EDGE};lr>"]))
 
 
 class Acknowledged(OnABench):
@@ -372,20 +372,20 @@ class Sessions(OnABench):
     def test_too_short(self) -> None:
         b = self.bench
         b.invite(fields="Session-Expires: 60\r\nSupported: timer\r\n")
-        [(_, told)] = b.take()
-        self.assertEqual((told.status, told.get("min-se")), (422, "90"))
+        [(_, answer)] = b.take()
+        self.assertEqual((answer.status, answer.get("min-se")), (422, "90"))
 
     def test_the_exchange_refreshes(self) -> None:
         b = self.bench
         b.talking()
-        told = next(message for to, message in b.take() if to == CALLER)
-        b.request("ACK", "sip:acd@x", to=told.get("to"))
+        answer = next(message for address, message in b.take() if address == CALLER)
+        b.request("ACK", "sip:acd@x", to=answer.get("to"))
         b.pass_time(51)
-        offers = [(to, message) for to, message in b.take() if message.method == "INVITE"]
-        self.assertEqual(sorted({to for to, _ in offers}), [PHONE, CALLER])
+        offers = [(address, message) for address, message in b.take() if message.method == "INVITE"]
+        self.assertEqual(sorted({address for address, _ in offers}), [PHONE, CALLER])
         self.assertEqual({message.get("session-expires") for _, message in offers}, {"100;refresher=uac"})
-        for to, message in offers:
-            b.reply(message, 200, body(7000 if to == CALLER else 7201), source=to, fields="Session-Expires: 100;refresher=uac\r\n")
+        for address, message in offers:
+            b.reply(message, 200, body(7000 if address == CALLER else 7201), source=address, fields="Session-Expires: 100;refresher=uac\r\n")
         b.pass_time(40)
         self.assertEqual(b.asked(), [])
         b.pass_time(51)
@@ -395,17 +395,17 @@ class Sessions(OnABench):
         b = self.bench
         b.invite(fields="Session-Expires: 95;refresher=uac\r\nSupported: timer\r\n")
         b.answer(call=1)
-        b.tell("queued@100", "diverted@100/100", "delivered@201/100")
+        b.report("queued@100", "diverted@100/100", "delivered@201/100")
         invite = b.take()[-1][1]
         b.reply(invite, 200, body(7201))
         b.answer()
-        told = b.take()[-1][1]
-        self.assertEqual((told.status, told.get("session-expires"), told.get("require")), (200, "95;refresher=uac", "timer"))
-        b.request("ACK", "sip:acd@x", to=told.get("to"))
+        answer = b.take()[-1][1]
+        self.assertEqual((answer.status, answer.get("session-expires"), answer.get("require")), (200, "95;refresher=uac", "timer"))
+        b.request("ACK", "sip:acd@x", to=answer.get("to"))
         b.pass_time(40)
-        b.request("INVITE", "sip:acd@x", to=told.get("to"), cseq=2, fields="Session-Expires: 95;refresher=uac\r\nSupported: timer\r\n", text=body(7000))
-        self.assertIn((CALLER, "200"), [(to, message.first.split(" ")[1]) for to, message in b.take()])
-        b.request("ACK", "sip:acd@x", to=told.get("to"), cseq=2)
+        b.request("INVITE", "sip:acd@x", to=answer.get("to"), cseq=2, fields="Session-Expires: 95;refresher=uac\r\nSupported: timer\r\n", text=body(7000))
+        self.assertIn((CALLER, "200"), [(address, message.first.split(" ")[1]) for address, message in b.take()])
+        b.request("ACK", "sip:acd@x", to=answer.get("to"), cseq=2)
         b.pass_time(60)
         self.assertFalse([asked for asked in b.asked() if asked[1]["device"] == "0301"])
         b.pass_time(10)
@@ -431,11 +431,11 @@ class Codes(OnABench):
         b = self.bench
         b.invite("*221*100", "201")
         b.answer(state="notReady")
-        told = b.take()[-1][1]
-        self.assertEqual((told.status, told.tag("to") in b.x.rows.legs), (200, True))
-        b.request("ACK", "sip:acd@x", number="201", to=told.get("to"))
-        [(to, bye)] = b.take()
-        self.assertEqual((to, bye.method), (CALLER, "BYE"))
+        answer = b.take()[-1][1]
+        self.assertEqual((answer.status, answer.tag("to") in b.x.rows.legs), (200, True))
+        b.request("ACK", "sip:acd@x", number="201", to=answer.get("to"))
+        [(address, bye)] = b.take()
+        self.assertEqual((address, bye.method), (CALLER, "BYE"))
         b.reply(bye, 200, source=CALLER)
         self.assertEqual((b.asked(), len(b.x.rows.legs)), ([], 0))
         b.invite("*24", "201", "c2")
@@ -460,8 +460,8 @@ class Other(OnABench):
         self.assertEqual(b.asked(), [("singleStepTransfer", {"call": 1, "device": "201", "to": "202"})])
         self.assertEqual(b.firsts(), ["SIP/2.0 202", "NOTIFY"])
         b.answer()
-        b.tell("transferred@201", "delivered@202")
-        self.assertEqual([(to, message.method) for to, message in b.take()][:2], [(PHONE, "NOTIFY"), (PHONE, "BYE")])
+        b.report("transferred@201", "delivered@202")
+        self.assertEqual([(address, message.method) for address, message in b.take()][:2], [(PHONE, "NOTIFY"), (PHONE, "BYE")])
         self.assertIn("202", b.x.rows.calls["1"].legs)
         self.assertEqual(b.x.rows.legs[b.x.rows.calls["1"].legs["202"]].hop, OTHER)
         b.request("REFER", "sip:acd@x", PHONE, "201", invite.get("call-id"), invite.get("from"), 3, fields="Refer-To: <sip:202@x?Replaces=1>\r\n")

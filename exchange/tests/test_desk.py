@@ -51,7 +51,7 @@ class Line(unittest.TestCase):
             asyncio.run(line.start())
 
     def test_a_start_finds_calls_of_nobody(self) -> None:
-        """One is known by the events, one by the snapshot alone; a desk without snapshots tells of the first one."""
+        """The events show one, the snapshot alone the other; a desk without snapshots shows the first one."""
         live = {"connections": [{"device": "0301", "state": "connected"}, {"device": "100", "state": "queued"}]}
         cases: list[tuple[dict[str, Any], list[int]]] = [({"/snapshot": {"calls": [{"call": 8}]}}, [7, 8]), ({}, [7])]
         for snapshot, cleared in cases:
@@ -97,7 +97,7 @@ class Line(unittest.TestCase):
         self.assertEqual((desk.asked, [service for service, _ in bench.asked()]), (["first", "second", "silence"], ["silence", "third"]))
 
     def test_events_are_followed_from_the_last_one(self) -> None:
-        """A page whose step fails is taken event by event, and the one that fails is passed over."""
+        """If the step of a page fails, the exchange takes the page event by event, and passes over the one that fails."""
         desk = Desk({}, [event(1, "queued", 7), event(2, "queued", 8), event(3, "queued", 9)])
         bench, line = self.line(desk)
         take = bench.x.calls.take_event
@@ -147,8 +147,8 @@ class Line(unittest.TestCase):
         asyncio.run(line.once())
         self.assertEqual(desk.asked, ["/snapshot", "first"])
 
-    def test_a_tick_that_is_refused_is_told(self) -> None:
-        """The same answer once an hour at most, and each other one; what the desk will be asked again too."""
+    def test_a_tick_that_is_refused_is_reported(self) -> None:
+        """The same answer once an hour at most, and each other one at once; also answers after which the exchange asks again."""
         answers: list[Answer | Unanswered] = [
             Answer(403, {"error": {"code": 1, "name": "forbidden"}}), Answer(422, {"error": {"code": 2, "name": "keyReused"}}),
             Answer(200, {"result": {}}), Unanswered("status 503"), Unanswered("OSError()")]
@@ -164,8 +164,8 @@ class Line(unittest.TestCase):
         bench, line = self.line(Refusing({}), tick=1)
         said = list[str]()
         setattr(bench.x.steps, "say", said.append)
-        told = [f"a tick of the desk is answered {text}" for text in ("403 forbidden", "422 keyReused", "503")]
-        for seconds, wanted in ((0, told), (3000, told), (700, 2 * told)):
+        lines = [f"a tick of the desk is answered {text}" for text in ("403 forbidden", "422 keyReused", "503")]
+        for seconds, wanted in ((0, lines), (3000, lines), (700, 2 * lines)):
             bench.now += seconds
             for _ in range(10):
                 line.ticked = 0.0

@@ -34,13 +34,13 @@ class Messages(unittest.TestCase):
 
     def test_a_response(self) -> None:
         request = Message.read(HEAD + "Record-Route: <sip:e;lr>\r\n\r\n")
-        told = request.answer(200, "mine", [("contact", "<sip:c>")], "v=0\r\n")
-        self.assertEqual((told.first, told.status, told.get("to"), told.all("via"), told.all("record-route")),
+        answer = request.answer(200, "mine", [("contact", "<sip:c>")], "v=0\r\n")
+        self.assertEqual((answer.first, answer.status, answer.get("to"), answer.all("via"), answer.all("record-route")),
                          ("SIP/2.0 200 OK", 200, "<sip:100@x>;tag=mine", request.all("via"), ["<sip:e;lr>"]))
         self.assertEqual(request.answer(486, "mine", [], "").all("record-route"), [])
 
     def test_a_transaction_without_a_cookie(self) -> None:
-        """An older branch, or none, is told by what else belongs to a request."""
+        """A request with an older branch, or with none, is known by its other fields."""
         plain, other = (Message.read(HEAD.replace(";branch=z9hG4bK1", "").replace("i: id", f"i: {name}") + "\r\n\r\n") for name in ("id", "other"))
         self.assertNotEqual(plain.transaction, other.transaction)
         self.assertEqual(plain.transaction.rpartition(" ")[2], "INVITE")

@@ -1,4 +1,4 @@
-"""Music: behind the ACK, and where its sender may have it sent."""
+"""Music: after the ACK, and to addresses that its sender may name."""
 from __future__ import annotations
 
 import unittest
@@ -9,7 +9,7 @@ from bridge import music
 from bridge.records import Leg
 
 EDGE = "192.0.2.1:5060"
-OWN = {"192.0.2.1", "192.0.2.2", "192.0.2.255"}
+ADDRESSES = {"192.0.2.1", "192.0.2.2", "192.0.2.255"}
 
 
 def asking(host: str, port: int = 7000) -> str:
@@ -17,13 +17,13 @@ def asking(host: str, port: int = 7000) -> str:
 
 
 class Heard(unittest.TestCase):
-    """The addresses of this machine are those of OWN, with the broadcast of its network."""
+    """This machine has ADDRESSES, one of them the broadcast of its network."""
 
     def bench(self, **settings: Any) -> Bench:
         bench = Bench(**{"phones": {}, "edge": EDGE, "waiting": "music", "media": "198.51.100.0/24, 203.0.113.9", **settings})
         self.addCleanup(bench.close)
         is_here = music.is_here
-        setattr(music, "is_here", OWN.__contains__)
+        setattr(music, "is_here", ADDRESSES.__contains__)
         self.addCleanup(setattr, music, "is_here", is_here)
         self.said = list[str]()
         setattr(bench.x.steps, "say", self.said.append)
@@ -36,28 +36,28 @@ class Heard(unittest.TestCase):
         bench.request("INVITE", "sip:100@x", EDGE, "0301", f"c{number}", branch=f"z9hG4bKc{number}", fields=f"X-ACD-Sender: {sender}\r\n{phone}", text=asked)
         while bench.asked():
             bench.answer(call=int(number))
-        bench.tell("queued@100", call=int(number))
-        told = bench.take()[-1][1]
-        self.assertIn(told.status, (182, 200))
-        if told.status == 182:
+        bench.report("queued@100", call=int(number))
+        answer = bench.take()[-1][1]
+        self.assertIn(answer.status, (182, 200))
+        if answer.status == 182:
             return None
         self.assertEqual(list(bench.x.music.listeners()), [])
-        bench.request("ACK", "sip:acd@x", EDGE, "0301", f"c{number}", to=told.get("to"))
-        return bench.x.rows.legs[told.tag("to")]
+        bench.request("ACK", "sip:acd@x", EDGE, "0301", f"c{number}", to=answer.get("to"))
+        return bench.x.rows.legs[answer.tag("to")]
 
     def heard(self, bench: Bench) -> list[tuple[str, int]]:
-        return [to for _, to, _ in bench.x.music.listeners()]
+        return [address for _, address, _ in bench.x.music.listeners()]
 
     def test_where_it_goes(self) -> None:
         anywhere = {"192.0.2.50", "198.51.100.7", "203.0.113.9", "203.0.113.10", "10.9.9.8"}
         nowhere = {"0.0.0.0", "0.1.2.3", "224.0.0.1", "239.255.255.255", "240.0.0.1", "255.255.255.255"}
-        here = {"127.0.0.1", "127.8.9.1", *OWN}
+        here = {"127.0.0.1", "127.8.9.1", *ADDRESSES}
         cases = {
-            # by its addresses: its own, and the networks that were allowed
+            # a sender known by his address: that address, and the networks of the settings
             "trunk-address 192.0.2.50": {"192.0.2.50", "198.51.100.7", "203.0.113.9"},
             "trunk-address 127.0.0.1": {"127.0.0.1", "198.51.100.7", "203.0.113.9"},
             "trunk-address 192.0.2.1": {"192.0.2.1", "198.51.100.7", "203.0.113.9"},
-            # by a password: any, and of this machine's the sender's own alone
+            # a sender with a password: any address, and of this machine's only the sender's
             "trunk-password 192.0.2.50": anywhere,
             "trunk-password 127.0.0.1": anywhere | {"127.0.0.1"},
             "trunk-password 192.0.2.2": anywhere | {"192.0.2.2"},
@@ -75,8 +75,8 @@ class Heard(unittest.TestCase):
             bench = self.bench()
             self.assertEqual(self.call(bench, "phone 10.9.9.8", asking("10.9.9.8", port)) is not None, wanted, port)
 
-    def test_it_is_told_once(self) -> None:
-        """Again behind an hour; another address by itself."""
+    def test_it_is_said_once(self) -> None:
+        """Again after an hour; another address by itself."""
         bench = self.bench()
         for host in ("10.9.9.8", "10.9.9.8", "10.9.9.9", "10.9.9.8"):
             self.assertIsNone(self.call(bench, "trunk-address 192.0.2.50", asking(host)))
@@ -87,7 +87,7 @@ class Heard(unittest.TestCase):
         self.assertIsNone(self.call(bench, "trunk-address 192.0.2.50", asking("10.9.9.8")))
         self.assertEqual(len(self.said), 3)
 
-    def test_who_is_refused_is_told_again_and_again(self) -> None:
+    def test_who_is_refused_is_said_again_and_again(self) -> None:
         """As with --waiting queued."""
         bench = self.bench()
         self.assertIsNone(self.call(bench, "trunk-address 192.0.2.50", asking("10.9.9.8")))
@@ -99,17 +99,17 @@ class Heard(unittest.TestCase):
         bench.request("INVITE", "sip:100@x", EDGE, fields="X-ACD-Sender: phone 10.9.9.8\r\nX-ACD-Phone: 201\r\n", text=asking("10.9.9.8"))
         bench.answer(call=1)
         bench.answer()
-        bench.tell("queued@100")
-        told = bench.take()[-1][1]
-        self.assertEqual((told.status, self.heard(bench)), (200, []))
+        bench.report("queued@100")
+        answer = bench.take()[-1][1]
+        self.assertEqual((answer.status, self.heard(bench)), (200, []))
         bench.request("ACK", "sip:acd@x", EDGE, to="<sip:100@x>;tag=forged")
         bench.pass_time(1)
         self.assertEqual(self.heard(bench), [])
-        bench.request("ACK", "sip:acd@x", EDGE, to=told.get("to"))
+        bench.request("ACK", "sip:acd@x", EDGE, to=answer.get("to"))
         self.assertEqual(self.heard(bench), [("10.9.9.8", 7000)])
 
     def test_moved_while_it_plays(self) -> None:
-        """An offer that names another address: nothing goes there before its ACK, and where it isn't allowed nothing at all."""
+        """An offer that names another address: no music there before its ACK, and none at all if the address isn't allowed."""
         bench = self.bench()
         leg = self.call(bench, "trunk-address 192.0.2.50", asking("192.0.2.50"))
         assert leg is not None
@@ -126,17 +126,17 @@ class Heard(unittest.TestCase):
         for place, (host, status) in enumerate((("127.0.0.1", 200), ("127.0.0.2", 182), ("10.9.9.8", 182)), 1):
             bench.request("INVITE", "sip:100@x", CALLER, call_id=f"c{place}", text=asking(host))
             bench.answer(call=place)
-            bench.tell("queued@100", call=place)
+            bench.report("queued@100", call=place)
             self.assertEqual(bench.take()[-1][1].status, status, host)
-        bench.tell("serviceInitiated@201", call=9)
+        bench.report("serviceInitiated@201", call=9)
         bench.reply(bench.take()[-1][1], 200, asking("127.0.0.1", 7201))
         self.assertEqual(self.heard(bench), [("127.0.0.1", 7201)])
 
     def test_a_phone_that_the_edge_rings(self) -> None:
-        """It gave a password when it registered; its address isn't known, so nothing goes to this machine."""
+        """It gave a password when it registered; its address isn't known, so this machine gets no music."""
         for host, wanted in (("10.9.9.8", True), ("127.0.0.1", False), ("192.0.2.1", False)):
             bench = self.bench()
-            bench.tell("serviceInitiated@201")
+            bench.report("serviceInitiated@201")
             bench.reply(bench.take()[-1][1], 200, asking(host, 7201), source=EDGE)
             self.assertEqual(self.heard(bench), [(host, 7201)] * wanted, host)
 

@@ -24,8 +24,8 @@ THIRD = "127.0.0.1:5203"
 def rung(bench: Bench) -> Message:
     """The INVITE that the phone 201 gets, for an offer of a group."""
     bench.waiting()
-    bench.tell("diverted@100/100", "delivered@201/100")
-    return next(message for to, message in bench.take() if to == PHONE)
+    bench.report("diverted@100/100", "delivered@201/100")
+    return next(message for address, message in bench.take() if address == PHONE)
 
 
 def refuse(bench: Bench, invite: Message, status: int) -> None:
@@ -44,7 +44,7 @@ class ByHand(unittest.TestCase):
         return bench, said
 
     def test_a_group_s_offer_is_rejected(self) -> None:
-        """By each answer that tells of the phone, the edge's words for one that is silent or has no connection, and a 302 to where nobody can follow."""
+        """By each answer that concerns the phone, by the edge's answers for a silent phone or one without a connection, and by a 302 to an unknown place."""
         for status in (*UNAVAILABLE, 408, 477, 302):
             b, _ = self.bench()
             refuse(b, rung(b), status)
@@ -65,11 +65,11 @@ class ByHand(unittest.TestCase):
     def test_a_phone_that_nobody_knows(self) -> None:
         b, _ = self.bench(phones={"202": PHONES["202"]})
         b.waiting()
-        b.tell("diverted@100/100", "delivered@201/100")
+        b.report("diverted@100/100", "delivered@201/100")
         self.assertEqual(b.asked(), [REJECTED])
 
-    def test_what_tells_of_the_call_waits(self) -> None:
-        """A caller whose media no phone takes makes no agent not ready."""
+    def test_what_concerns_the_call_waits(self) -> None:
+        """A caller whose media every phone refuses makes no agent not ready."""
         for status in OF_THE_CALL:
             b, _ = self.bench()
             refuse(b, rung(b), status)
@@ -83,17 +83,17 @@ class ByHand(unittest.TestCase):
 
     def test_a_private_call_ends(self) -> None:
         for refused in ("reject", "wait"):
-            for status, told in ((404, 404), (480, 480), (486, 486), (603, 603), (0, 480), (408, 480), (477, 480), (500, 480)):
+            for status, answered in ((404, 404), (480, 480), (486, 486), (603, 603), (0, 480), (408, 480), (477, 480), (500, 480)):
                 b, _ = self.bench(refused=refused)
                 b.invite("201", "0301")
                 b.answer(call=1)
-                b.tell("delivered@201")
-                refuse(b, next(message for to, message in b.take() if to == PHONE), status)
+                b.report("delivered@201")
+                refuse(b, next(message for address, message in b.take() if address == PHONE), status)
                 self.assertEqual(b.asked(), [("clearConnection", {"call": 1, "device": "201"})], status)
                 b.answer()
                 b.take()
-                b.tell("connectionCleared@201", "connectionCleared@0301", "callCleared")
-                self.assertEqual(b.firsts(), [f"SIP/2.0 {told}"], status)
+                b.report("connectionCleared@201", "connectionCleared@0301", "callCleared")
+                self.assertEqual(b.firsts(), [f"SIP/2.0 {answered}"], status)
 
     def test_a_phone_that_moved(self) -> None:
         b, _ = self.bench()
@@ -114,7 +114,7 @@ class ByHand(unittest.TestCase):
             self.assertEqual((b.asked(), b.take(), said, sorted(b.x.rows.calls)), ([], [], [], ["1"]), error)
 
     def test_an_older_desk(self) -> None:
-        """It knows no such service. It is told once an hour at most, and the offer waits for the tick."""
+        """It knows no such service. The exchange says so once an hour at most, and the offer waits for the tick."""
         b, said = self.bench()
         refuse(b, rung(b), 486)
         answer = Answer(400, {"error": {"code": 30, "member": "service", "name": "malformed"}})
@@ -126,17 +126,17 @@ class ByHand(unittest.TestCase):
             b.take()
             self.assertTrue(b.x.steps.step(b.x.calls.take_reply, b.first_request(), answer))
             self.assertEqual((b.asked(), b.take(), said), ([], [], [line] * wanted))
-        b.tell("diverted@201/100", "queued@100", "diverted@100/100", "delivered@202/100")
-        self.assertEqual([(to, message.method) for to, message in b.take() if message.is_request], [(OTHER, "INVITE")])
+        b.report("diverted@201/100", "queued@100", "diverted@100/100", "delivered@202/100")
+        self.assertEqual([(address, message.method) for address, message in b.take() if message.is_request], [(OTHER, "INVITE")])
 
-    def test_another_answer_is_told(self) -> None:
+    def test_another_answer_is_reported(self) -> None:
         b, said = self.bench()
         refuse(b, rung(b), 486)
         self.assertTrue(b.x.steps.step(b.x.calls.take_reply, b.first_request(), Answer(403, {"error": {"code": 1, "name": "forbidden"}})))
         self.assertEqual((b.asked(), len(said)), ([], 1))
 
     def test_a_restart_before_the_reply(self) -> None:
-        """The request goes on with the key that it had."""
+        """The exchange sends the request again, with the same key."""
         b, _ = self.bench()
         refuse(b, rung(b), 486)
         body_of_it = dict(b.first_request().body)
@@ -145,8 +145,8 @@ class ByHand(unittest.TestCase):
         self.assertNotEqual(b.x.steps.requester, body_of_it["requester"])
         b.take()
         b.answer()
-        b.tell("diverted@201/100", "queued@100", "diverted@100/100", "delivered@202/100")
-        self.assertEqual([(to, message.method) for to, message in b.take() if message.is_request], [(OTHER, "INVITE")])
+        b.report("diverted@201/100", "queued@100", "diverted@100/100", "delivered@202/100")
+        self.assertEqual([(address, message.method) for address, message in b.take() if message.is_request], [(OTHER, "INVITE")])
 
     def test_a_restart_while_the_offer_waits(self) -> None:
         """The phone is rung once more, and where it refuses again the call waits on: it is the group's, as the desk shows it."""
@@ -156,7 +156,7 @@ class ByHand(unittest.TestCase):
             b.restart()
             shown = [{"device": "0301", "state": "connected"}, {"device": "201", "group": "100", "state": "alerting"}]
             b.x.steps.step(b.x.compare, "1", Answer(200, {"connections": shown}))
-            refuse(b, next(message for to, message in b.take() if to == PHONE and message.method == "INVITE"), 486)
+            refuse(b, next(message for address, message in b.take() if address == PHONE and message.method == "INVITE"), 486)
             self.assertEqual(b.asked(), wanted)
 
 
@@ -196,14 +196,14 @@ class Played(Bench):
 
     def rings(self) -> list[tuple[str, str]]:
         """Which phones were rung since it was last asked, and for which call."""
-        return [(to, message.get("x-acd-call")) for to, message in self.take() if message.method == "INVITE" and message.is_request]
+        return [(address, message.get("x-acd-call")) for address, message in self.take() if message.method == "INVITE" and message.is_request]
 
     def ring(self, *callers: str) -> Message:
         """Callers come, and the phone 201 rings for the first one: its INVITE."""
         for caller in callers or ("0301",):
             self.invite(number=caller, call_id="c" + caller)
             self.run()
-        return next(message for to, message in self.take() if to == PHONE and message.method == "INVITE")
+        return next(message for address, message in self.take() if address == PHONE and message.method == "INVITE")
 
     def states(self) -> list[str]:
         return [self.desk.switch.agents[agent].state for agent in "123"]
@@ -238,7 +238,7 @@ class OverTheSwitch(unittest.TestCase):
         b = self.played("123")
         refuse(b, b.ring(), 480)
         b.run()
-        refuse(b, next(message for to, message in b.take() if to == OTHER), 404)
+        refuse(b, next(message for address, message in b.take() if address == OTHER), 404)
         b.run()
         self.assertEqual((b.rings(), b.states()), ([(THIRD, "1")], ["notReady", "notReady", "ready"]))
 
@@ -271,7 +271,7 @@ class OverTheSwitch(unittest.TestCase):
         self.assertEqual((b.replies[-1], b.rings(), b.states()[:2]), ("rejectCall wrongConnectionState", [], ["busy", "ready"]))
 
     def test_the_caller_gives_up_meanwhile(self) -> None:
-        """Whichever the desk is asked first, the caller is told once, the call is cleared once, and nothing is asked behind it."""
+        """Whichever request the desk gets first, the caller gets one answer, the call is cleared once, and no request follows."""
         replies = {"phone": ["rejectCall 200", "clearConnection 200"], "caller": ["clearConnection 200", "rejectCall unknownCall"]}
         for first, wanted in replies.items():
             b = self.played("123")
@@ -279,16 +279,16 @@ class OverTheSwitch(unittest.TestCase):
             works: list[Callable[[], None]] = [lambda: refuse(b, invite, 486), lambda: b.request("CANCEL", "sip:100@x", branch="z9hG4bKc0301")]
             for work in works if first == "phone" else works[::-1]:
                 work()
-            before = [message.first.split(" ")[1] for to, message in b.take() if to == CALLER]
+            before = [message.first.split(" ")[1] for address, message in b.take() if address == CALLER]
             b.run()
             self.assertEqual((before, b.replies[-2:], b.states()[1:]), (["200", "487"], wanted, ["ready", "ready"]))
             self.assertEqual((b.desk.switch.calls, b.states()[0]), ({}, "notReady" if first == "phone" else "ready"))
-            # the next one was rung, but for a moment: it is told so as soon as it rings
-            rung_next = [message for to, message in b.take() if to == OTHER]
+            # the next phone was called for a moment only: it gets the CANCEL as soon as it rings
+            rung_next = [message for address, message in b.take() if address == OTHER]
             self.assertEqual([message.method for message in rung_next], ["INVITE"] if first == "phone" else [])
             for each in rung_next:
                 b.reply(each, 180, source=OTHER)
-                self.assertIn((OTHER, "CANCEL"), [(to, message.method) for to, message in b.take()])
+                self.assertIn((OTHER, "CANCEL"), [(address, message.method) for address, message in b.take()])
                 b.reply(each, 487, source=OTHER)
             b.pass_time(70)
             self.assertEqual((len(b.x.rows.legs), len(b.x.rows.calls), b.asked()), (0, 0, []))
@@ -307,9 +307,9 @@ class OverTheSwitch(unittest.TestCase):
         b = self.played("123")
         refuse(b, b.ring(), 480)
         b.run()
-        b.reply(next(message for to, message in b.take() if to == OTHER), 200, body(7202), source=OTHER)
+        b.reply(next(message for address, message in b.take() if address == OTHER), 200, body(7202), source=OTHER)
         b.run()
-        self.assertEqual([(message.first.split(" ")[1], "m=audio 7202" in message.body) for to, message in b.take() if to == CALLER], [("200", True)])
+        self.assertEqual([(message.first.split(" ")[1], "m=audio 7202" in message.body) for address, message in b.take() if address == CALLER], [("200", True)])
         self.assertEqual(b.states(), ["notReady", "busy", "ready"])
 
 

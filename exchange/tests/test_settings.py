@@ -28,7 +28,7 @@ class Command(unittest.TestCase):
             self.assertTrue(wanted in fault and bool(wanted) == bool(fault), (settings, fault))
 
     def test_the_desk_by_the_environment(self) -> None:
-        """Its address may have a password; a word of the command line goes before it."""
+        """Its address may have a password; an option of the command line has precedence."""
         cases: list[tuple[dict[str, str], list[str], str]] = [({}, [], "http://127.0.0.1:8080"), ({"EXCHANGE_DESK": "http://pbx:x@h:1"}, [], "http://pbx:x@h:1"),
                                                               ({"EXCHANGE_DESK": "http://pbx:x@h:1"}, ["--desk", "http://h:2"], "http://h:2")]
         for environment, words, wanted in cases:

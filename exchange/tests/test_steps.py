@@ -1,4 +1,4 @@
-"""Steps: kept before anything is sent, undone whole where they fail, taken up again behind a stop."""
+"""Steps: kept before anything is sent, undone as a whole if they fail, taken up again after a stop."""
 from __future__ import annotations
 
 import re
@@ -28,7 +28,7 @@ class Steps(unittest.TestCase):
         self.addCleanup(self.bench.close)
 
     def test_a_step_that_fails_is_undone(self) -> None:
-        """A fault is planted behind all that a step does, in each kind of input."""
+        """A fault is planted at the end of a step, in each kind of input."""
         b = self.bench
         b.ringing()
         before = {row.key: row.as_json() for table in b.x.steps.store.tables.values() for row in table.values()}
@@ -56,9 +56,9 @@ class Steps(unittest.TestCase):
             order.append("kept")
             return commit()
 
-        def sent(data: bytes, to: str) -> None:
+        def sent(data: bytes, address: str) -> None:
             order.append("sent")
-            send(data, to)
+            send(data, address)
 
         setattr(b.x.steps.store, "commit", kept)
         b.x.steps.send = sent
@@ -76,7 +76,7 @@ class Steps(unittest.TestCase):
         b.waiting()
         setattr(b.x.calls, "delivered", fail)
         with self.assertRaises(AssertionError):
-            b.tell("diverted@100/100", "delivered@201/100")
+            b.report("diverted@100/100", "delivered@201/100")
         b.check()
         self.assertEqual(b.x.steps.place.known["number"], 1)
 
@@ -98,7 +98,7 @@ class Steps(unittest.TestCase):
         self.assertEqual(b.x.steps.faults, 1)
 
     def test_no_key_is_used_twice(self) -> None:
-        """Not behind a start, and not behind a power cut that took what was kept last."""
+        """Not after a start, and not after a power cut that undid the last steps."""
         b, keys = self.bench, list[tuple[str, int]]()
         b.invite(call_id="c0")
         kept = list(b.x.steps.store.base.iterdump())
@@ -142,15 +142,15 @@ class Restarts(unittest.TestCase):
         self.addCleanup(self.bench.close)
 
     def test_a_talk_is_probed(self) -> None:
-        """A caller that is gone is found by its silence, an agent's phone that lost the talk by 481."""
+        """The exchange finds a caller that is gone by its silence, an agent's phone that lost the talk by 481."""
         for status, device in ((481, "201"), (0, "0301")):
             b = Bench()
-            told = b.talking()
-            caller = next(message for to, message in b.take() if to == CALLER)
+            invite = b.talking()
+            caller = next(message for address, message in b.take() if address == CALLER)
             b.request("ACK", "sip:acd@x", to=caller.get("to"))
             b.restart()
-            probes = {to: message for to, message in b.take() if message.method == "OPTIONS"}
-            self.assertEqual(sorted(probes), [PHONE, CALLER], told)
+            probes = {address: message for address, message in b.take() if message.method == "OPTIONS"}
+            self.assertEqual(sorted(probes), [PHONE, CALLER], invite)
             b.reply(probes[PHONE], status or 200)
             if status:
                 b.reply(probes[CALLER], 200, source=CALLER)
@@ -166,7 +166,7 @@ class Restarts(unittest.TestCase):
         b.pass_time(4)
         self.assertEqual(b.take(), [])
         b.pass_time(0.8)
-        self.assertEqual([(to, message.method) for to, message in b.take()], [(PHONE, "INVITE")])
+        self.assertEqual([(address, message.method) for address, message in b.take()], [(PHONE, "INVITE")])
 
     def test_an_answer_is_sent_again(self) -> None:
         b = self.bench
@@ -174,17 +174,17 @@ class Restarts(unittest.TestCase):
         b.take()
         b.restart()
         # no probe where the answer itself waits for its ACK
-        self.assertEqual([(to, message.method) for to, message in b.take()], [(PHONE, "ACK"), (PHONE, "OPTIONS")])
+        self.assertEqual([(address, message.method) for address, message in b.take()], [(PHONE, "ACK"), (PHONE, "OPTIONS")])
         b.pass_time(0.1)
-        self.assertIn((CALLER, "200"), [(to, message.first.split(" ")[1]) for to, message in b.take()])
+        self.assertIn((CALLER, "200"), [(address, message.first.split(" ")[1]) for address, message in b.take()])
 
     def test_orphans(self) -> None:
         """Calls that the exchange doesn't know, from events and from a snapshot; one that is gone by then."""
         b = self.bench
         b.x.calls.learning = True
-        b.tell("queued@100", call=7)
-        b.tell("serviceInitiated@201", "originated@201", call=8)
-        b.tell("queued@100", "callCleared", call=9)
+        b.report("queued@100", call=7)
+        b.report("serviceInitiated@201", "originated@201", call=8)
+        b.report("queued@100", "callCleared", call=9)
         b.x.calls.learning = False
         self.assertEqual((sorted(b.x.rows.strangers), b.take()), (["7", "8"], []))
         b.x.steps.step(b.x.compare, "7", shown({"0301": "connected", "100": "queued"}))
@@ -199,7 +199,7 @@ class Restarts(unittest.TestCase):
         b.waiting()
         b.take()
         b.x.steps.step(b.x.compare, "1", shown({"0301": "connected", "201": "alerting"}))
-        self.assertEqual([(to, message.method) for to, message in b.take()], [(PHONE, "INVITE")])
+        self.assertEqual([(address, message.method) for address, message in b.take()], [(PHONE, "INVITE")])
         b.x.steps.step(b.x.compare, "1", shown({}))
         self.assertEqual((len(b.x.rows.calls), b.firsts()), (0, ["SIP/2.0 480"]))
 

@@ -69,7 +69,7 @@ class Tortures(unittest.TestCase):
         """It keeps nothing, and its tag comes of the request; an ACK has no answer."""
         [each] = [each for each in TORTURES if each.section == "3.1.2.8"]
         bench, sent = self.bench(), list[bytes]()
-        setattr(bench.x.steps, "send", lambda data, to: sent.append(data))
+        setattr(bench.x.steps, "send", lambda data, address: sent.append(data))
         for data in (each.data, each.data, each.data.replace(b"z9hG4bK", b"z9hG4bKother"), each.data.replace(b"INVITE sip", b"ACK sip")):
             bench.x.receive(data, CALLER)
         self.assertEqual((len(sent), sent[0] == sent[1], sent[0] == sent[2]), (3, True, False))

@@ -115,15 +115,15 @@ def dialogs(bench: Bench, chance: random.Random) -> list[tuple[bytes, str]]:
         key, call = f"call{number}-{course}", number * 10 + course + 1
         bench.invite(number=f"03{number}{course}", call_id=key, fields=trunk)
         bench.x.steps.step(bench.x.calls.take_reply, bench.last_request(), answered({"call": call}))
-        bench.tell("queued@100", call=call)
+        bench.report("queued@100", call=call)
         if course > 1:
-            bench.tell("diverted@100/100", "delivered@201/100", call=call)
+            bench.report("diverted@100/100", "delivered@201/100", call=call)
             invite = bench.take()[-1][1]
             bench.reply(invite, 180)
             if course > 3:
                 bench.reply(invite, 200, body(7201))
                 bench.x.steps.step(bench.x.calls.take_reply, bench.last_request(), answered({}))
-                bench.tell("established@201/100", call=call)
+                bench.report("established@201/100", call=call)
                 bench.request("REFER" if course > 4 else "INVITE", "sip:acd@x", PHONE, "201", invite.get("call-id"), invite.get("from"), 2,
                               fields="Refer-To: <sip:202@x>\r\n", text="" if course > 4 else body(7201, "a=sendonly\r\n"))
         if course in (1, 3):

@@ -12,7 +12,7 @@ from machine.entries import entry_of, parts
 from machine.log import Forgotten
 
 PERIOD = 1000                                              # entries between two digests
-# How far a machine came: the place of the last entry, how many those were, and a digest of their replies, or of their own bytes where they are none.
+# How far a machine came: the place of the last entry, the number of entries, and a digest of their replies (of its bytes, for one without the form of an entry).
 Reached = namedtuple("Reached", "place count digest")
 NOTHING = Reached(0, 0, b"0" * 64)
 
@@ -23,12 +23,12 @@ def moment():
 
 
 def has_reads(program):
-    """Whether the desk's program answers lines that read. Those before version 1.1 don't."""
+    """Whether the desk's program answers lines that read. Programs before version 1.1 don't."""
     return b"--reads" in subprocess.run([program, "lines", "--help"], stdout=subprocess.PIPE).stdout
 
 
 class Bridge:
-    """Feeds each entry in order, one at a time, none passed over, and writes the place behind the reply. What isn't of an entry's form is passed over by all machines alike."""
+    """Feeds every entry, in order, one at a time, and writes the place after the reply. All machines alike pass over an entry that hasn't the form of one."""
 
     def __init__(self, folder, program, log, journal, patience=10):
         self.folder, self.program, self.log, self.journal, self.patience = folder, program, log, journal, patience
@@ -37,8 +37,8 @@ class Bridge:
         self.reads = ["--reads"] if has_reads(program) else []
         self.at = os.open(f"{folder}/at", os.O_RDWR | os.O_CREAT, 0o644)
         self.reached, self.passed = self.read_place(), 0
-        self.due = deque(maxlen=10)                        # digests that are yet to be told
-        self.held = False                                  # whether no request is taken, since etcd is nearly full
+        self.due = deque(maxlen=10)                        # digests that are yet to be published
+        self.held = False                                  # whether requests are refused, since etcd is nearly full
 
     def read_place(self):
         try:
@@ -48,13 +48,13 @@ class Bridge:
             return NOTHING                                 # from the beginning of the log: what was executed is repeated
 
     def durable_place(self):
-        """How far this machine came, once that is on its disk: what lies before may then be forgotten."""
+        """How far this machine came, once that is on its disk. The log may then forget all earlier entries."""
         reached = self.reached
         os.fsync(self.at)
         return reached
 
     def ask(self, desk, line, tries=0):
-        """The desk's answer line, asked for again while it has no memory, or so often; nothing where the desk ended, as it does behind a store fault."""
+        """The desk's answer line. While the desk has no memory, it is asked again, at most so often. Empty if the desk ended, as it does after a store fault."""
         for tried in itertools.count(1):
             try:
                 desk.stdin.write(line + b"\n")
@@ -67,9 +67,9 @@ class Bridge:
             time.sleep(0.1)
 
     def pass_over(self, place):
-        """Counts what is no entry, and tells of it once an hour at most."""
+        """Counts an entry without the form of one, and reports it once an hour at most."""
         self.passed += 1
-        self.journal.tell(f"what stands at place {place} of the log is no entry, and is passed over ({self.passed} such since the start): who puts it there?", "passed", 3600)
+        self.journal.report(f"what stands at place {place} of the log is no entry, and is passed over ({self.passed} such since the start): who puts it there?", "passed", 3600)
 
     def take(self, place, entry):
         """Feeds the desk one entry; whether it answered."""
@@ -96,7 +96,7 @@ class Bridge:
         return True
 
     def feed(self):
-        """Ends where the desk did, with its status: it is then started again, from the place that was reached."""
+        """Ends when the desk ends, with its status. The caller starts the desk again, from the place that it reached."""
         words = [self.program, "lines", *self.reads, "--end-on-store-fault", "--file", f"{self.folder}/desk.db"]
         desk = self.desk = subprocess.Popen(words, stdin=subprocess.PIPE, stdout=subprocess.PIPE)
         try:
@@ -114,13 +114,13 @@ class Bridge:
             try:
                 status = self.feed()
             except Forgotten as fault:
-                self.journal.tell(str(fault))
+                self.journal.report(str(fault))
                 os._exit(2)
-            self.journal.tell(f"the desk ended with status {status}, and is started again", f"ended {status}", 60)
+            self.journal.report(f"the desk ended with status {status}, and is started again", f"ended {status}", 60)
             time.sleep(0.2 if time.monotonic() > start + 2 else 1)
 
     def answer(self, request):
-        """The answer line to a request, by its own entry of the log; nothing where it isn't known in time, or isn't taken."""
+        """The answer line to a request, found by the token of its entry. Empty if it doesn't come in time, or if requests are refused."""
         if self.held:
             return b""
         token, waiter = uuid.uuid4().hex.encode(), [threading.Event()]
@@ -130,13 +130,13 @@ class Bridge:
             self.log.append(entry_of(token, moment(), request))
             waiter[0].wait(self.patience)
         except OSError as fault:
-            self.journal.tell(f"a request gets 503: {fault}", "append", 60)
+            self.journal.report(f"a request gets 503: {fault}", "append", 60)
         with self.lock:
             self.waiting.pop(token, None)
         return waiter[1] if len(waiter) > 1 else b""
 
     def read(self, target):
-        """The answer line to a read, behind the entries that the desk has answered; nothing where there is no desk, or it doesn't get its turn in time."""
+        """The answer line to a read, after the entries that the desk has answered. Empty if there is no desk, or if the read doesn't get its turn in time."""
         if not self.turn.acquire(timeout=5):
             return b""
         try:

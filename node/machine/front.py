@@ -27,12 +27,12 @@ FORBIDDEN = 403, b'{"error":{"code":41,"name":"forbidden"}}'
 TOO_LARGE_HEAD = 431, b'{"error":{"code":39,"name":"headTooLarge"}}'
 
 
-# what Python's reader of heads finds, as the desk says it
+# faults that Python's reader of heads finds, as the desk answers them
 FAULTS = {414: TOO_LARGE_HEAD, 431: TOO_LARGE_HEAD, 501: NOT_IMPLEMENTED}
 
 
 def length_of(path, fields):
-    """The length of a body that is to be read, or None; and the status and body with which the desk refuses such a POST before it reads one, or None."""
+    """The length of the body, or None; and None, or the status and body with which the desk refuses such a POST before it reads a body."""
     lengths = fields.get_all("Content-Length", [])
     if "Transfer-Encoding" in fields:
         return None, NOT_IMPLEMENTED
@@ -47,19 +47,19 @@ def length_of(path, fields):
 
 
 def path_of(target):
-    """The path of a target as the desk finds it: an absolute target loses what is before its path."""
+    """The path of a target as the desk reads it: an absolute target loses its scheme and host."""
     return re.sub(rb"(?i)\Ahttp://[^/?]*", b"", target).partition(b"?")[0]
 
 
 class Handler(BaseHTTPRequestHandler):
     protocol_version = "HTTP/1.1"
-    default_request_version = "HTTP/1.0"                   # what has none is told a status all the same
+    default_request_version = "HTTP/1.0"                   # a request without a version gets a status all the same
     disable_nagle_algorithm = True
     timeout = 75                                           # seconds for a read, a write and the handshake of TLS: a silent client holds one thread so long
 
     def handle(self):
         if isinstance(self.connection, ssl.SSLSocket):
-            self.connection.do_handshake()                 # in this connection's own thread, and not in the one that accepts them all
+            self.connection.do_handshake()                 # in the thread of this connection, and not in the one that accepts all
         super().handle()
 
     def send(self, status, body, kind="application/json"):
@@ -74,9 +74,9 @@ class Handler(BaseHTTPRequestHandler):
             self.wfile.write(body)
 
     def send_line(self, line):
-        """An answer line of the desk; where there is none the request is to be sent again."""
+        """Sends an answer line of the desk. Without one it asks the client to send the request again."""
         status, _, body = line.rstrip(b"\n").partition(b" ")
-        if body.startswith(b'"'):                          # the report: a line tells it as a JSON text
+        if body.startswith(b'"'):                          # the report, which a line has as a JSON string
             return self.send(int(status), json.loads(body).encode(), "text/plain")
         self.send(int(status or 503), body or AGAIN)
 
@@ -109,12 +109,12 @@ class Handler(BaseHTTPRequestHandler):
 class Front(ThreadingHTTPServer):
     daemon_threads = True
     request_queue_size = 128
-    most = 2000                                            # connections at a time; who comes behind them is closed, and sends again
+    most = 2000                                            # connections at a time; each further one is closed, and its client sends again
 
     def __init__(self, address, bridge, context=None):
         super().__init__(address, Handler)
         self.bridge, self.room = bridge, threading.BoundedSemaphore(self.most)
-        # whose clients are known by certificates has no gate before it, which would ask for the role
+        # a front that asks for certificates has no gate before it that would look at the role
         self.hides_requests = context is not None and context.verify_mode == ssl.CERT_REQUIRED
         if context:
             self.socket = context.wrap_socket(self.socket, server_side=True, do_handshake_on_connect=False)
@@ -132,12 +132,12 @@ class Front(ThreadingHTTPServer):
             self.room.release()
 
     def handle_error(self, request, client_address):
-        if not isinstance(sys.exc_info()[1], OSError):     # a client that went away, or that has no certificate, is no fault
+        if not isinstance(sys.exc_info()[1], OSError):     # a client that left, or that has no certificate, is no fault
             end_process(*sys.exc_info())
 
 
 def end_process(kind, fault, trace):
-    """What nobody foresaw ends the process, whichever thread it is in: half a machine would serve an old state for ever."""
+    """An unforeseen fault ends the process, in whichever thread it happens: half a machine would answer from an old state for ever."""
     traceback.print_exception(kind, fault, trace)
     sys.stderr.flush()
     os._exit(1)

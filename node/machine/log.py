@@ -9,20 +9,20 @@ import threading
 import time
 from collections import namedtuple
 
-# What a member of etcd says of itself: the bytes of its file, those in use, and its quota.
+# The state of a member of etcd: the bytes of its file, those in use, and its quota.
 Member = namedtuple("Member", "end size used quota")
-# What a machine told of itself: the revision of its telling, and its place.
-Told = namedtuple("Told", "revision place")
-QUOTA = 2 * 2 ** 30                                        # etcd's own, where a member doesn't tell it
+# The place that a machine published, and the revision by which it did.
+Published = namedtuple("Published", "revision place")
+QUOTA = 2 * 2 ** 30                                        # etcd's default, if a member doesn't show its quota
 NO_SUCH_REVISION = 11                                      # etcd's code: one that was compacted, or is yet to come
 
 
 class Forgotten(Exception):
-    """The log doesn't have what comes behind this machine's place."""
+    """The log doesn't have the entries after this machine's place."""
 
 
 class Compacted(OSError):
-    """A member's word that its log begins behind where a watch was to. Whether entries are gone by that, it doesn't say."""
+    """A member says that its log begins after the revision at which a watch was to begin. It doesn't say whether entries are lost by that."""
 
     def __init__(self, revision):
         super().__init__(f"it was compacted up to {revision} just now")
@@ -30,7 +30,7 @@ class Compacted(OSError):
 
 
 class Refused(OSError):
-    """A member's own word that it doesn't do this."""
+    """A member refuses to do this."""
 
     def __init__(self, text, code):
         super().__init__(text)
@@ -42,17 +42,17 @@ def text(data):
 
 
 def data_of(record, name):
-    """A member that is bytes; etcd leaves an empty one out."""
+    """The bytes of a member of a record; etcd leaves an empty member out."""
     return base64.b64decode(record.get(name, ""))
 
 
-def behind_all(front):
-    """The key behind all keys that begin so."""
+def after_all(front):
+    """The key after all keys that begin so."""
     return front[:-1] + bytes([front[-1] + 1])
 
 
 def said(status, body):
-    """What a member answered, as JSON. A fault of etcd is an OSError: another member may do better, or this one later."""
+    """The answer of a member, as JSON. A fault of etcd is an OSError: another member may do better, or this one later."""
     if status != 200:
         try:
             fault = json.loads(body)
@@ -63,7 +63,7 @@ def said(status, body):
 
 
 def events(line, place, version):
-    """The entries of one line of a watch behind a place, each with its revision and how often the key had been put by then. What was told before is passed over."""
+    """The entries of one line of a watch after a place, each with its revision and how often the key had been put by then. It passes over entries that came before."""
     if not line.endswith(b"\n"):
         raise OSError("a member broke off within a line")
     result = json.loads(line).get("result")
@@ -87,7 +87,7 @@ def events(line, place, version):
 class Log:
     def __init__(self, ends, line, context, journal, patience=1.5, silence=5):
         self.ends, self.line, self.context, self.journal = [tuple(end.rsplit(":", 1)) for end in ends], line, context, journal
-        self.patience, self.silence = patience, silence    # seconds: for an answer, and for a watch that tells nothing
+        self.patience, self.silence = patience, silence    # seconds: for an answer, and for a silent watch
         self.idle, self.at, self.lock = [], random.randrange(len(self.ends)), threading.Lock()
 
     # One call
@@ -120,7 +120,7 @@ class Log:
         connection.close()
 
     def call(self, path, body):
-        """One POST to the members in turn, until one does it."""
+        """One POST to the members in turn, until one of them does it."""
         fault = None
         for _ in range(len(self.ends) + 1):
             end, connection = self.taken()
@@ -128,12 +128,12 @@ class Log:
                 connection.request("POST", path, json.dumps(body))
                 answer = connection.getresponse()
                 found = said(answer.status, answer.read())
-            except (OSError, http.client.HTTPException) as told:
+            except (OSError, http.client.HTTPException) as error:
                 connection.close()
-                if isinstance(told, Refused) and told.code == NO_SUCH_REVISION:
+                if isinstance(error, Refused) and error.code == NO_SUCH_REVISION:
                     raise
                 self.leave(end)
-                fault = told
+                fault = error
                 continue
             self.keep(end, connection)
             return found
@@ -145,36 +145,36 @@ class Log:
         try:
             connection.request("GET" if body is None else "POST", path, None if body is None else json.dumps(body))
             answer = connection.getresponse()
-            told = answer.read()
-            return told if body is None else said(answer.status, told)
+            reply = answer.read()
+            return reply if body is None else said(answer.status, reply)
         finally:
             connection.close()
 
     # The entries
 
     def append(self, data):
-        """Returns once a majority has it on disk. A fault says nothing: it may stand in the log, once or twice."""
+        """Returns once a majority has it on disk. After a fault it is unknown whether the log has it, once, twice or not at all."""
         self.call("/v3/kv/put", {"key": text(self.line), "value": text(data)})
 
     def last(self):
-        """The log's last revision, whatever was put by it, and the record of the last entry, if any."""
+        """The log's last revision, by whichever put, and the record of the last entry, if any."""
         found = self.call("/v3/kv/range", {"key": text(self.line)})
         return int(found["header"]["revision"]), found.get("kvs", [])
 
     def begin(self, place):
-        """From which revision on the entries behind a place are, and how often the key had been put by then, by a majority's word. Raises Forgotten where no log has them."""
+        """The revision from which on the entries after a place are, and how often the key had been put by then, confirmed by a majority. Raises Forgotten if no log has them."""
         last, kvs = self.last()
         if last < place:
             raise Forgotten(f"the log ends at {last}, before this machine's place {place}: it isn't the log that this folder was fed from")
-        if kvs and int(kvs[0]["mod_revision"]) == place:   # nothing came since, so it may be compacted up to its end
+        if kvs and int(kvs[0]["mod_revision"]) == place:   # no entry came since, so the log may be compacted up to its end
             return last + 1, int(kvs[0]["version"])
-        known = place or 1                                 # etcd's own first one, where nothing was put yet
+        known = place or 1                                 # etcd's first revision, before the first put
         kvs = self.entry_up_to(known)
-        if kvs is None:                                    # compacted to behind it: up to places, it may be, that the machines told while nobody called
-            known = self.compacted_behind(known)
+        if kvs is None:                                    # compacted further: perhaps up to places that the machines published while nobody called
+            known = self.compaction_after(known)
             kvs = self.entry_up_to(known)
             if kvs is None:
-                raise Compacted(known)                     # and further since
+                raise Compacted(known)                     # and further meanwhile
             if not kvs or int(kvs[0]["mod_revision"]) != place:
                 raise Forgotten(f"the log begins behind this machine's place {place}: copy the folder of another machine")
         if kvs and int(kvs[0]["mod_revision"]) != place:
@@ -182,7 +182,7 @@ class Log:
         return known + 1, int(kvs[0]["version"]) if kvs else 0
 
     def entry_up_to(self, revision):
-        """The record of the last entry up to a revision, if any, in a list; None where the log no longer knows that revision."""
+        """The record of the last entry up to a revision, if any, in a list; None if the log no longer knows that revision."""
         try:
             return self.call("/v3/kv/range", {"key": text(self.line), "revision": str(revision)}).get("kvs", [])
         except Refused as fault:
@@ -190,16 +190,16 @@ class Log:
                 raise
             return None
 
-    def compacted_behind(self, revision):
-        """Up to where a log is compacted that no longer knows this revision. Only a watch is told it."""
+    def compaction_after(self, revision):
+        """The revision up to which the log is compacted, if it no longer knows this one. Only a watch shows it."""
         try:
             next(self.watched(self.ends[self.at % len(self.ends)], revision, revision, 0), None)
-        except Compacted as told:
-            return told.revision
+        except Compacted as fault:
+            return fault.revision
         raise OSError(f"a member doesn't say up to where it is compacted, which no longer knows {revision}")
 
     def watched(self, end, start, place, version):
-        """What one member tells of the entries from a revision on, until it breaks off."""
+        """The entries from a revision on, as one member reports them, until it breaks off."""
         connection = self.connect(end, self.silence)
         try:
             connection.request("POST", "/v3/watch", json.dumps({"create_request": {"key": text(self.line), "start_revision": str(start)}}))
@@ -211,7 +211,7 @@ class Log:
             connection.close()
 
     def follow(self, place):
-        """The entries behind a place, in order, for ever, with a place each. What hinders a member is waited out. Raises Forgotten where the log no longer has them."""
+        """The entries after a place, in order, for ever, each with its place. It waits out faults of members. Raises Forgotten if the log no longer has the entries."""
         for end in itertools.cycle(random.sample(self.ends, len(self.ends))):
             try:
                 start, version = self.begin(place)
@@ -220,23 +220,23 @@ class Log:
             except TimeoutError:                           # nothing came
                 pass
             except (OSError, http.client.HTTPException) as fault:
-                self.journal.tell(f"the log is away: {fault}", "follow", 60)
+                self.journal.report(f"the log is away: {fault}", "follow", 60)
             time.sleep(0.1)                                # the next member, from here
 
-    # What machines tell one another
+    # Values that machines publish for one another
 
     def listed(self, kind, keys_only=False):
-        """The keys of a kind, without what they all begin with, each with its record."""
+        """The keys of a kind, without their common front, each with its record."""
         front = self.line + b"/" + kind + b"/"
-        found = self.call("/v3/kv/range", {"key": text(front), "range_end": text(behind_all(front)), "keys_only": keys_only})
+        found = self.call("/v3/kv/range", {"key": text(front), "range_end": text(after_all(front)), "keys_only": keys_only})
         return {data_of(kv, "key")[len(front):]: kv for kv in found.get("kvs", [])}
 
-    def tell(self, kind, name, value):
+    def publish(self, kind, name, value):
         self.call("/v3/kv/put", {"key": text(self.line + b"/" + kind + b"/" + name), "value": text(value)})
 
-    def tell_digest(self, count, name, digest):
+    def publish_digest(self, count, name, digest):
         """Puts a machine's digest after so many entries."""
-        self.tell(b"digest", b"%d/%s" % (count, name), digest)
+        self.publish(b"digest", b"%d/%s" % (count, name), digest)
 
     def digests(self, count):
         """Those of all machines after so many entries, by the machine's name."""
@@ -249,23 +249,23 @@ class Log:
             if number.isdigit() and int(number) < count:
                 self.call("/v3/kv/deleterange", {"key": text(self.line + b"/digest/" + key)})
 
-    def tell_place(self, name, place):
-        self.tell(b"place", name, b"%d" % place)
+    def publish_place(self, name, place):
+        self.publish(b"place", name, b"%d" % place)
 
     def places(self):
-        """What each machine told of itself last, by its name. What is no number was told by none."""
+        """The last place that each machine published, by its name. A value that is no number comes from no machine."""
         found = {name: (int(kv["mod_revision"]), data_of(kv, "value")) for name, kv in self.listed(b"place").items()}
-        return {name: Told(revision, int(value)) for name, (revision, value) in found.items() if re.fullmatch(rb"[0-9]{1,18}", value)}
+        return {name: Published(revision, int(value)) for name, (revision, value) in found.items() if re.fullmatch(rb"[0-9]{1,18}", value)}
 
     # Upkeep
 
     def end_of(self, place):
-        """The log's last revision where its last entry is the one at this place; else the place."""
+        """The log's last revision, if its last entry is the one at this place; else the place."""
         last, kvs = self.last()
         return last if kvs and int(kvs[0]["mod_revision"]) == place else place
 
     def compact(self, place):
-        """Lets the log forget what lies before a place; the members give that free by and by. One that had forgotten it already is no fault."""
+        """Lets the log forget the entries before a place; the members free their room by and by. It is no fault if the log had forgotten them already."""
         try:
             self.call("/v3/kv/compaction", {"revision": str(place)})
         except Refused as fault:
@@ -273,7 +273,7 @@ class Log:
                 raise
 
     def member(self, end):
-        """What a member says of itself; None where it doesn't answer."""
+        """The state of a member; None if it doesn't answer."""
         try:
             status, metrics = self.ask(end, "/v3/maintenance/status", {}), self.ask(end, "/metrics", None)
         except (OSError, http.client.HTTPException):
@@ -282,11 +282,11 @@ class Log:
         return Member(end, int(status.get("dbSize", 0)), int(status.get("dbSizeInUse", 0)), int(float(quota.group(1))) if quota else QUOTA)
 
     def is_full(self):
-        """Whether etcd takes nothing more, since a member passed its quota."""
+        """Whether etcd refuses every put, since a member passed its quota."""
         return any(alarm.get("alarm") == "NOSPACE" for alarm in self.call("/v3/maintenance/alarm", {"action": "GET"}).get("alarms", []))
 
     def defragment(self, end):
-        """Gives back what a member's file has free. It answers nothing else meanwhile."""
+        """Gives back the free bytes of a member's file. The member answers nothing else meanwhile."""
         self.ask(end, "/v3/maintenance/defragment", {}, 600)
 
     def disarm(self):

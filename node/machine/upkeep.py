@@ -1,9 +1,9 @@
-"""What a timer does for etcd: gives back what its files have free, one member after another, and lets a full one take entries again."""
+"""What a timer does for etcd: it gives back the free bytes of its files, one member after another, and lets a full etcd take entries again."""
 import http.client
 import time
 
 SLOT = 300                                                 # seconds of a machine's turn, as the timer has them
-PAUSE, LONGEST, LEAST = 5, 600, 2 ** 16                     # seconds between two looks at what is in use, and for all of them; fewer bytes come and go with each commit
+PAUSE, LONGEST, LEAST = 5, 600, 2 ** 16                     # seconds between two looks at the bytes in use, and for all looks; each commit changes fewer bytes than LEAST
 
 
 def has_turn(name, machines, now):
@@ -12,7 +12,7 @@ def has_turn(name, machines, now):
 
 
 def least_place(log, machines):
-    """The least place that the machines have told; 0 where one of them has told none."""
+    """The least place that the machines have published; 0 if one of them has published none."""
     places = log.places()
     return min(places[machine].place if machine in places else 0 for machine in (name.encode() for name in machines))
 
@@ -22,15 +22,15 @@ def tidy(log, journal, member):
     try:
         log.defragment(member.end)
     except (OSError, http.client.HTTPException) as fault:
-        journal.tell(f"etcd at {':'.join(member.end)} isn't defragmented: {fault}")
+        journal.report(f"etcd at {':'.join(member.end)} isn't defragmented: {fault}")
         return False
-    journal.tell(f"etcd at {':'.join(member.end)} is defragmented: it had {member.size} bytes, {member.used} of them in use")
+    journal.report(f"etcd at {':'.join(member.end)} is defragmented: it had {member.size} bytes, {member.used} of them in use")
     return True
 
 
 def settle(log):
-    """Waits until no member gives anything free any more: it does so behind the answer to a compaction, 15 s for a million entries, and what isn't free can't be given back.
-    By how much there is less in use then says nothing: of the last of it a member tells only behind a later commit."""
+    """Waits until no member frees any more bytes: a member goes on to free them after its answer to a compaction, for 15 s after a million entries, and can give back only
+    free bytes. The difference in use says nothing of the last ones: a member counts them only after a later commit."""
     before, until = {}, time.monotonic() + LONGEST
     while time.monotonic() < until:
         used = {member.end: member.used for member in map(log.member, log.ends) if member}
@@ -46,11 +46,11 @@ def is_wasteful(member):
 
 
 def once(log, machines, journal):
-    """Looks after all members once: the status of the process, 1 where something that is needed couldn't be done."""
+    """Looks after all members once. Returns the status of the process: 1 if it couldn't do something that is needed."""
     try:
         return 0 if look_after(log, machines, journal) else 1
     except (OSError, http.client.HTTPException) as fault:
-        journal.tell(f"etcd isn't looked after: {fault}")
+        journal.report(f"etcd isn't looked after: {fault}")
         return 1
 
 
@@ -60,25 +60,25 @@ def look_after(log, machines, journal):
     place = least_place(log, machines) if full else 0
     if place:
         log.compact(log.end_of(place))
-    if full:                                               # a machine may have forgotten more just now
+    if full:                                               # a machine may have let the log forget more just now
         settle(log)
     members = [log.member(end) for end in log.ends]
     for member in members:
         if member is None or not (full or is_wasteful(member)):
             continue
         if None in members and not full:                   # without this one too there might be no majority
-            journal.tell("a member of etcd doesn't answer: none is defragmented")
+            journal.report("a member of etcd doesn't answer: none is defragmented")
             return False
         good = tidy(log, journal, member) and good
     return allow_again(log, journal) and good if full else good
 
 
 def allow_again(log, journal):
-    """Ends the alarm of a full etcd once there is room, be it for places alone: requests are refused until what all machines have is forgotten."""
+    """Ends the alarm of a full etcd once there is room, if only for places: nodes refuse requests until the log has forgotten the entries that all machines have."""
     for member in filter(None, map(log.member, log.ends)):
         if 64 * member.size > 63 * member.quota:
-            journal.tell(f"etcd at {':'.join(member.end)} is full, {member.used} of {member.quota} bytes in use: start the nodes that lack some of it, or its members with a greater --quota-backend-bytes")
+            journal.report(f"etcd at {':'.join(member.end)} is full, {member.used} of {member.quota} bytes in use: start the nodes that lack some of it, or its members with a greater --quota-backend-bytes")
             return False
     log.disarm()
-    journal.tell("etcd was full, and takes entries again")
+    journal.report("etcd was full, and takes entries again")
     return True

@@ -1,4 +1,4 @@
-"""What the tests of a machine's parts begin with: a store, members of an etcd of the tests, a log over them, and a desk."""
+"""The ground for tests of a machine's parts: a store, members of an etcd of the tests, a log over them, and a desk."""
 import io
 import sys
 import tempfile

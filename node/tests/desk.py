@@ -1,5 +1,5 @@
 #!/usr/bin/python3
-"""A desk of the tests. It answers each line with 200 and the line itself, and notes it in its file; behind `memory` it has none once, and behind `fault` it ends once."""
+"""A desk of the tests. It answers each line with 200 and the line itself, and writes it into its file. At the first `memory` it has no memory, and at the first `fault` it ends."""
 import sys
 from pathlib import Path
 
@@ -16,7 +16,7 @@ for line in sys.stdin.buffer:
         sys.stdout.write('503 {"error":{"code":33,"name":"noMemory"}}\n')
     else:
         if not word.startswith("GET "):
-            with open(file, "ab") as notes:
-                notes.write(line)
+            with open(file, "ab") as lines_fed:
+                lines_fed.write(line)
         sys.stdout.write(f"200 {word}\n")
     sys.stdout.flush()

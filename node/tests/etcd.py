@@ -15,7 +15,7 @@ def data(word):
 
 
 class Store:
-    """What the members have in common: each change with its revision, up to which of them is forgotten, and the alarm of a full etcd."""
+    """The common state of the members: each change with its revision, the revision up to which changes are forgotten, and the alarm of a full etcd."""
 
     def __init__(self):
         self.changes, self.revision, self.compacted, self.full, self.changed = [], 1, 0, False, threading.Condition()
@@ -61,7 +61,7 @@ def record(change):
 class Refused(Exception):
     def __init__(self, status, code, words):
         super().__init__(words)
-        self.status, self.told = status, {"error": words, "message": words, "code": code}
+        self.status, self.body = status, {"error": words, "message": words, "code": code}
 
 
 FUTURE = 400, 11, "etcdserver: mvcc: required revision is a future revision"
@@ -71,9 +71,9 @@ NO_LEADER = 503, 14, "etcdserver: no leader"
 
 
 class Member:
-    """One member, on a port of its own. `lag` is how many of the last changes its watches don't know yet, `late` for how long it keeps an answer back; `twice` puts each
-    put twice, and tells each event twice; `shuffled` tells the later of two events first; `broken` ends a watch within a line; `away` has no leader; `garbage` tells no JSON.
-    `leaves` is what it has in use when it is asked so for the first time, the second and so on."""
+    """One member, on a port of its own. `lag`: how many of the last changes its watches don't know yet. `late`: for how long it keeps an answer back. `twice`: it does each
+    put twice, and reports each event twice. `shuffled`: it reports the later of two events first. `broken`: it ends a watch within a line. `away`: it has no leader. `garbage`: it
+    answers no JSON. `leaves`: the bytes in use that it shows at the first question, the second and so on."""
 
     def __init__(self, store, port=0):
         self.store, self.lag, self.late, self.size, self.used, self.quota = store, 0, 0, 1000, 500, 2 * 2 ** 30
@@ -154,7 +154,7 @@ class Member:
             return known
 
     def lines(self, body):
-        """What a watch tells, a line after another."""
+        """The results that a watch reports, a line after another."""
         request = body["create_request"]
         key, start, header = data(request["key"]), int(request["start_revision"]), {"revision": str(self.store.revision)}
         yield {"header": header, "created": True}
@@ -191,11 +191,11 @@ class Handler(BaseHTTPRequestHandler):
         try:
             if self.path == "/v3/watch":
                 return self.watch(member, body)
-            told = member.answer(self.path, body)
+            answer = member.answer(self.path, body)
             time.sleep(member.late)                        # it is done, and nobody knows
-            self.send(200, b"{garbage" if member.garbage else json.dumps(told).encode())
+            self.send(200, b"{garbage" if member.garbage else json.dumps(answer).encode())
         except Refused as fault:
-            self.send(fault.status, json.dumps(fault.told).encode())
+            self.send(fault.status, json.dumps(fault.body).encode())
         except OSError:
             self.close_connection = True
 
@@ -203,13 +203,13 @@ class Handler(BaseHTTPRequestHandler):
         self.send_response(200)
         self.send_header("Transfer-Encoding", "chunked")
         self.end_headers()
-        for told in member.lines(body):
-            if told is None:
+        for result in member.lines(body):
+            if result is None:
                 if member.away or member.ended:
                     break
                 continue
-            line = json.dumps({"result": told}).encode() + b"\n"
-            if member.broken and "events" in told:
+            line = json.dumps({"result": result}).encode() + b"\n"
+            if member.broken and "events" in result:
                 self.wfile.write(b"%x\r\n%s\r\n0\r\n\r\n" % (len(line) // 2, line[:len(line) // 2]))
                 break
             self.wfile.write(b"%x\r\n%s\r\n" % (len(line), line))

@@ -39,7 +39,7 @@ class Feeding(Bench):
         file = (folder or self.folder) / "desk.db"
         return file.read_text("latin-1").splitlines() if file.exists() else []
 
-    def test_in_order_and_the_place_behind_it(self):
+    def test_in_order_and_the_place_after_it(self):
         self.member()
         self.entries(30)
         bridge = self.bridge()
@@ -58,7 +58,7 @@ class Feeding(Bench):
             self.until(lambda: bridge.reached.count == first + 19, 60)
         self.assertEqual(self.fed(), [f"5 line {number}" for number in range(1, 101)])
 
-    def test_what_is_no_entry_is_passed_over_counted_and_told(self):
+    def test_what_is_no_entry_is_passed_over_counted_and_reported(self):
         self.member()
         bad = [b"nospace", b"", token(7) + b" 5 GET /snapshot", b"x" * 5000, token(8) + b" 12345678901 line", b"\n\n"]
         first, second = self.bridge(), self.bridge(self.folder / "second")
@@ -68,8 +68,8 @@ class Feeding(Bench):
         self.store.delete(LINE)
         self.entries(1, 7)
         replies = [part for number, entry in enumerate(bad, 1) for part in (b"200 line %d\n" % number, entry)] + [b"", b"200 line 7\n"]
-        told = Reached(15, 14, digest_of(replies))
-        self.until(lambda: first.reached == second.reached == told)
+        wanted = Reached(15, 14, digest_of(replies))
+        self.until(lambda: first.reached == second.reached == wanted)
         self.assertEqual(self.fed(), [f"5 line {number}" for number in range(1, 8)])
         self.assertEqual((first.passed, self.said.getvalue().count("is no entry")), (7, 1))  # one line, of both machines' one journal
         self.now += 3601
@@ -143,7 +143,7 @@ class Feeding(Bench):
         self.assertEqual([bridge.answer(b"%d" % number) for number in range(3)], [b"200 0\n", b"200 1\n", b"200 2\n"])
         self.until(lambda: len(self.fed()) == 6)
 
-    def test_many_at_once_get_their_own(self):
+    def test_each_of_many_at_once_gets_its_answer(self):
         self.member(late=0.05)
         bridge, found = self.bridge(), {}
         asking = [threading.Thread(target=lambda number=number: found.__setitem__(number, bridge.answer(b"mine %d" % number))) for number in range(40)]
@@ -153,7 +153,7 @@ class Feeding(Bench):
             thread.join()
         self.assertEqual(found, {number: b"200 mine %d\n" % number for number in range(40)})
 
-    def test_nothing_without_the_own_entry(self):
+    def test_nothing_without_its_entry(self):
         self.member()
         bridge = self.bridge(feeds=False)
         bridge.patience = 0.2

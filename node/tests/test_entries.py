@@ -1,4 +1,4 @@
-"""What an entry of the log is."""
+"""The form of an entry of the log."""
 import sys
 import unittest
 from pathlib import Path

@@ -1,4 +1,4 @@
-"""What a client is answered: the desk's own refusals, and no entry of a body that can't be one."""
+"""The answers to a client: the refusals of the desk. A body that can't be an entry makes none."""
 import random
 import socket
 import ssl
@@ -85,12 +85,12 @@ class Requests(Fronting):
 
     def test_lengths(self):
         self.front()
-        for length, told in [(b"4097", (413, TOO_LARGE)), (b"9" * 5000, (413, TOO_LARGE)), (b"9" * 60000, (413, TOO_LARGE)),
-                             (b"0" * 5000 + b"2", (200, b"{}")), (b"0" * 5000, (400, JSON)), (b"-1", (400, LENGTH)),
-                             (b"+2", (400, LENGTH)), (b"0x2", (400, LENGTH)), (b"2,2", (400, LENGTH)),
-                             (b"2\r\nContent-Length: 2", (400, LENGTH)), (b"\xb2", (400, LENGTH)), (b"1_0", (400, LENGTH)),
-                             (b"2\r\nTransfer-Encoding: chunked", (501, NOT_IMPLEMENTED))]:
-            self.assertEqual(self.post(b"{}", length=length), told, length[:30])
+        for length, refusal in [(b"4097", (413, TOO_LARGE)), (b"9" * 5000, (413, TOO_LARGE)), (b"9" * 60000, (413, TOO_LARGE)),
+                                (b"0" * 5000 + b"2", (200, b"{}")), (b"0" * 5000, (400, JSON)), (b"-1", (400, LENGTH)),
+                                (b"+2", (400, LENGTH)), (b"0x2", (400, LENGTH)), (b"2,2", (400, LENGTH)),
+                                (b"2\r\nContent-Length: 2", (400, LENGTH)), (b"\xb2", (400, LENGTH)), (b"1_0", (400, LENGTH)),
+                                (b"2\r\nTransfer-Encoding: chunked", (501, NOT_IMPLEMENTED))]:
+            self.assertEqual(self.post(b"{}", length=length), refusal, length[:30])
         self.assertEqual(self.exchange(b"POST /csta HTTP/1.1\r\nHost: desk\r\n\r\n{}"), (411, NO_LENGTH))
         self.assertEqual(self.answers.asked, [b"{}"])
 
@@ -172,7 +172,7 @@ class Certificates(Fronting):
         return context
 
     def tried(self, context, sent=b"POST /csta HTTP/1.1\r\nHost: desk\r\nContent-Length: 2\r\n\r\n{}"):
-        """What a client gets, behind its request."""
+        """The bytes that a client gets after its request."""
         with socket.create_connection(self.server.server_address, timeout=5) as plain:
             try:
                 with context.wrap_socket(plain, server_hostname="127.0.0.1") as connection:
@@ -217,8 +217,8 @@ class Certificates(Fronting):
                 head, _, body = self.tried(self.client(ours, ours), b"GET %s HTTP/1.1\r\nHost: desk\r\n\r\n" % target).partition(b"\r\n\r\n")
                 wanted = (b"403", FORBIDDEN) if asks and is_one else (b"200", b"/requests" if target == b"//requests" else target)
                 self.assertEqual((head.split()[1], body), wanted, target)
-            told = self.tried(self.client(ours, ours), b"HEAD /requests HTTP/1.1\r\nHost: desk\r\n\r\n")
-            self.assertTrue(told.startswith(b"HTTP/1.1 403 " if asks else b"HTTP/1.1 200 ") and told.endswith(b"\r\n\r\n"), told)
+            answer = self.tried(self.client(ours, ours), b"HEAD /requests HTTP/1.1\r\nHost: desk\r\n\r\n")
+            self.assertTrue(answer.startswith(b"HTTP/1.1 403 " if asks else b"HTTP/1.1 200 ") and answer.endswith(b"\r\n\r\n"), answer)
 
 
 if __name__ == "__main__":

@@ -1,4 +1,4 @@
-"""Places that machines tell, compaction up to the least of them, digests that are compared and deleted, and warnings."""
+"""Places that machines publish, compaction up to the least of them, digests that are compared and deleted, and warnings."""
 import sys
 import unittest
 from pathlib import Path
@@ -39,29 +39,29 @@ class Keeping(Bench):
         for name, place in places.items():
             self.machines[name].reached = Reached(place, self.machines[name].reached.count, b"")
 
-    def told(self):
-        return {name.decode(): told.place for name, told in self.keepers["m1"].log.places().items()}
+    def published(self):
+        return {name.decode(): published.place for name, published in self.keepers["m1"].log.places().items()}
 
-    def test_the_place_is_told_each_minute_and_each_thousand_entries(self):
+    def test_the_place_is_published_each_minute_and_each_thousand_entries(self):
         self.at(m1=5)
         self.look("m1", after=0)
-        self.assertEqual(self.told(), {"m1": 5})
+        self.assertEqual(self.published(), {"m1": 5})
         self.at(m1=6)
         self.look("m1", after=59)
-        self.assertEqual(self.told(), {"m1": 5})
+        self.assertEqual(self.published(), {"m1": 5})
         self.look("m1", after=1)
-        self.assertEqual(self.told(), {"m1": 6})
+        self.assertEqual(self.published(), {"m1": 6})
         self.machines["m1"].reached = Reached(7, 999, b"")
         self.look("m1", after=1)
-        self.assertEqual(self.told(), {"m1": 6})
+        self.assertEqual(self.published(), {"m1": 6})
         self.machines["m1"].reached = Reached(8, 1000, b"")
         self.look("m1", after=1)
-        self.assertEqual(self.told(), {"m1": 8})
+        self.assertEqual(self.published(), {"m1": 8})
 
     def test_compaction_up_to_the_least_place(self):
         self.at(m1=30, m2=20)
         self.look("m1", "m2")
-        self.assertEqual(self.store.compacted, 0)          # m3 has told none
+        self.assertEqual(self.store.compacted, 0)          # m3 has published none
         self.at(m3=12)
         self.look("m3")
         self.assertEqual(self.store.compacted, 12)
@@ -78,17 +78,17 @@ class Keeping(Bench):
         self.keepers["m1"].machines = []
         self.at(m1=41)
         self.look("m1")
-        self.assertEqual((self.store.compacted, self.told()), (0, {"m1": 41}))
+        self.assertEqual((self.store.compacted, self.published()), (0, {"m1": 41}))
 
     def test_one_that_is_gone_is_named_each_hour_and_not_waited_for(self):
         self.at(m1=20, m2=30, m3=10)
         self.look("m1", "m2", "m3")
-        for minute in range(120):                          # the first of which finds what m3 told
+        for minute in range(120):                          # the first of which finds the place of m3
             self.look("m1", "m2")
         self.assertEqual((self.store.compacted, self.said.getvalue()), (10, ""))
         self.look("m1", "m2")
         self.assertEqual(self.store.compacted, 20)
-        self.assertEqual(self.said.getvalue().count("m3 has told no place for 2.0 hours"), 1)  # both tell it to one journal here
+        self.assertEqual(self.said.getvalue().count("m3 has told no place for 2.0 hours"), 1)  # both write it into one journal here
         for minute in range(59):
             self.look("m1", "m2")
         self.assertEqual(self.said.getvalue().count("m3 has told no place"), 1)
@@ -115,7 +115,7 @@ class Keeping(Bench):
         self.look("m3")                                    # it is started with the folder that it had
         self.assertEqual(self.keepers["m1"].log.places()[b"m3"], before)
 
-    def test_one_that_never_told_is_waited_for_as_long(self):
+    def test_one_that_never_published_is_waited_for_as_long(self):
         self.at(m1=20, m2=30)
         for minute in range(119):
             self.look("m1", "m2")
@@ -138,21 +138,21 @@ class Keeping(Bench):
         self.at(m1=20, m2=30, m3=10)
         self.look("m1", "m2", "m3")
         self.at(m1=41, m2=41)
-        self.store.full = True                             # so they can't tell that
+        self.store.full = True                             # so they can't publish that
         for minute in range(121):
             self.look("m1", "m2")
-        self.assertIn(self.store.compacted, range(20, 42))  # and nothing is taken from those that are there
+        self.assertIn(self.store.compacted, range(20, 42))  # and the log forgets nothing that the others need
 
     def test_a_full_etcd_forgets_all_the_same(self):
         self.at(m1=20, m2=30, m3=10)
         self.look("m1", "m2", "m3")
         self.store.full = True
         self.at(m3=15)
-        self.look("m3")                                    # it can't tell that, and knows it
-        self.assertEqual((self.store.compacted, self.told()["m3"]), (15, 10))
+        self.look("m3")                                    # it can't publish that, and knows it
+        self.assertEqual((self.store.compacted, self.published()["m3"]), (15, 10))
         self.at(m3=40)
         self.look("m1", "m2", "m3", after=1)
-        self.assertEqual((self.store.compacted, self.told()["m3"]), (20, 10))
+        self.assertEqual((self.store.compacted, self.published()["m3"]), (20, 10))
         self.assertIn("space exceeded", self.said.getvalue())
 
     def test_a_folder_that_may_be_of_another_log_forgets_nothing(self):
@@ -161,15 +161,15 @@ class Keeping(Bench):
         self.at(m3=40)
         with mock.patch.object(self.keepers["m3"].log, "begin", side_effect=OSError("no leader")):
             self.look("m3")
-        self.assertEqual((self.store.compacted, self.told()["m3"]), (10, 10))
+        self.assertEqual((self.store.compacted, self.published()["m3"]), (10, 10))
 
-    def test_a_place_that_wasnt_taken_is_told_again_soon(self):
+    def test_a_place_that_etcd_refused_is_published_again_soon(self):
         self.at(m1=5)
         self.store.full = True
         self.look("m1")
         self.store.full = False
         self.look("m1", after=1)
-        self.assertEqual(self.told(), {"m1": 5})
+        self.assertEqual(self.published(), {"m1": 5})
 
     def test_a_day_of_silence_while_the_machine_slept_is_two_minutes(self):
         self.at(m1=20, m2=30, m3=10)
@@ -177,7 +177,7 @@ class Keeping(Bench):
         self.look("m1", after=86400)
         self.assertEqual(self.store.compacted, 10)
 
-    def test_digests_are_told_and_old_ones_deleted(self):
+    def test_digests_are_published_and_old_ones_deleted(self):
         for count in range(1000, 15000, 1000):
             self.machines["m1"].due.append((count, b"%d" % count))
             self.look("m1", after=1)
@@ -194,7 +194,7 @@ class Keeping(Bench):
         self.assertEqual((len(self.machines["m1"].due), self.keepers["m1"].log.digests(1000)), (0, {b"m1": b"x"}))
 
     def ends(self, **digests):
-        """With which status each machine ends where these are their digests; 0 where it goes on."""
+        """The status with which each machine ends if these are their digests; 0 if it doesn't end."""
         with mock.patch("os._exit") as ended:
             for name, digest in digests.items():
                 self.machines[name].due.append((1000, digest))
@@ -225,11 +225,11 @@ class Keeping(Bench):
         member.quota, member.size, member.used = 1000, 500, 400
         for minute in range(61):
             self.look("m1")
-        told = self.said.getvalue()
-        self.assertEqual(told.count(f"etcd at {member.end} has 500 bytes of its quota of 1000, 400 of them in use"), 2)
-        self.assertNotIn(other.end, told)
+        printed = self.said.getvalue()
+        self.assertEqual(printed.count(f"etcd at {member.end} has 500 bytes of its quota of 1000, 400 of them in use"), 2)
+        self.assertNotIn(other.end, printed)
 
-    def test_near_the_quota_requests_are_refused_and_places_told_all_the_time(self):
+    def test_near_the_quota_requests_are_refused_and_places_published_all_the_time(self):
         member = self.members[0]
         for size, used, held in [(874, 874, False), (875, 749, False), (875, 750, True), (999, 999, True), (999, 100, False), (100, 100, False)]:
             member.quota, member.size, member.used = 1000, size, used
@@ -239,7 +239,7 @@ class Keeping(Bench):
         self.look("m1")
         self.at(m1=17)
         self.look("m1", after=1)
-        self.assertEqual(self.told(), {"m1": 17})
+        self.assertEqual(self.published(), {"m1": 17})
         self.assertEqual(self.said.getvalue().count("etcd is nearly full"), 1)
         member.size, member.used = 900, 200                # the log was shortened
         self.look("m1", after=1)

@@ -13,8 +13,8 @@ from bench import LINE, Bench, token  # noqa: E402
 from machine.log import QUOTA, Compacted, Forgotten, Refused, events  # noqa: E402
 
 
-def told(many, log, place=0):
-    """The numbers of so many entries behind a place."""
+def followed(many, log, place=0):
+    """The numbers of so many entries after a place."""
     return [int(entry.rsplit(b" ", 1)[1]) for _, entry in itertools.islice(log.follow(place), many)]
 
 
@@ -22,9 +22,9 @@ class Following(Bench):
     def test_each_entry_once_and_in_order(self):
         self.member()
         self.entries(5)
-        self.assertEqual(told(5, self.log()), [1, 2, 3, 4, 5])
+        self.assertEqual(followed(5, self.log()), [1, 2, 3, 4, 5])
         self.assertEqual(list(itertools.islice(self.log().follow(0), 2)), [(2, token(1) + b" 5 line 1"), (3, token(2) + b" 5 line 2")])
-        self.assertEqual(told(2, self.log(), 4), [4, 5])
+        self.assertEqual(followed(2, self.log(), 4), [4, 5])
 
     def test_other_keys_are_none_of_it(self):
         self.member()
@@ -32,32 +32,32 @@ class Following(Bench):
             self.entries(1, number)
             self.store.put(LINE + b"/digest/1000/m1", b"x")
             self.store.put(b"desk/linf", b"x")
-        self.assertEqual(told(3, self.log()), [1, 2, 3])
+        self.assertEqual(followed(3, self.log()), [1, 2, 3])
 
     def test_what_comes_later(self):
         self.member()
         self.entries(1)
         following = self.log().follow(0)
         next(following)
-        threading.Timer(1, self.entries, (2, 2)).start()  # behind several silences
+        threading.Timer(1, self.entries, (2, 2)).start()  # after several silences
         self.assertEqual([int(entry[-1:]) for _, entry in itertools.islice(following, 2)], [2, 3])
 
     def test_a_member_that_lags(self):
         self.member(lag=3)
         self.member()
         self.entries(9)
-        self.assertEqual(told(9, self.log()), list(range(1, 10)))
+        self.assertEqual(followed(9, self.log()), list(range(1, 10)))
 
     def test_events_that_come_twice(self):
         self.member(twice=True)
         self.entries(4)
-        self.assertEqual(told(4, self.log()), [1, 2, 3, 4])
+        self.assertEqual(followed(4, self.log()), [1, 2, 3, 4])
 
     def test_events_out_of_order_are_never_taken(self):
         self.member(shuffled=True)
         self.entries(4)
         log, found = self.log(), []
-        threading.Thread(target=lambda: found.extend(told(4, log)), daemon=True).start()
+        threading.Thread(target=lambda: found.extend(followed(4, log)), daemon=True).start()
         self.until(lambda: "before one that comes first" in self.said.getvalue())
         time.sleep(0.5)
         self.assertEqual(found, [])
@@ -69,20 +69,20 @@ class Following(Bench):
         self.member()
         self.entries(4)
         for _ in range(4):                                 # whichever is asked first
-            self.assertEqual(told(4, self.log()), [1, 2, 3, 4])
+            self.assertEqual(followed(4, self.log()), [1, 2, 3, 4])
 
     def test_a_member_that_breaks_off_within_a_line(self):
         self.member(broken=True)
         self.member()
         self.entries(3)
         for _ in range(4):
-            self.assertEqual(told(3, self.log()), [1, 2, 3])
+            self.assertEqual(followed(3, self.log()), [1, 2, 3])
 
     def test_members_away(self):
         away = self.member(away=True)
         self.entries(3)
         found, log = [], self.log()
-        threading.Thread(target=lambda: found.extend(told(3, log)), daemon=True).start()
+        threading.Thread(target=lambda: found.extend(followed(3, log)), daemon=True).start()
         self.until(lambda: "no leader" in self.said.getvalue())
         away.away = False
         self.until(lambda: found == [1, 2, 3])
@@ -103,7 +103,7 @@ class Following(Bench):
         self.entries(6)
         log = self.log()
         log.compact(4)
-        self.assertEqual(told(3, log, 4), [4, 5, 6])
+        self.assertEqual(followed(3, log, 4), [4, 5, 6])
         for place in (0, 2, 3):
             with self.assertRaises(Forgotten):
                 next(self.log().follow(place))
@@ -111,7 +111,7 @@ class Following(Bench):
     def test_compacted_up_to_the_end(self):
         self.member()
         self.entries(2)
-        for _ in range(9):                                 # machines that tell their place while nobody calls
+        for _ in range(9):                                 # machines that publish their place while nobody calls
             self.store.put(LINE + b"/place/m1", b"3")
         log = self.log()
         self.assertEqual((log.end_of(3), log.end_of(2)), (12, 2))
@@ -119,9 +119,9 @@ class Following(Bench):
         self.entries(1, 3)
         self.assertEqual(self.store.compacted, 12)
         self.assertEqual(log.end_of(3), 3)
-        self.assertEqual((log.begin(3), told(1, log, 3)), ((13, 2), [3]))  # of a machine that was away meanwhile
+        self.assertEqual((log.begin(3), followed(1, log, 3)), ((13, 2), [3]))  # of a machine that was away meanwhile
 
-    def test_compacted_up_to_behind_an_entry_that_a_machine_lacks(self):
+    def test_compacted_up_to_after_an_entry_that_a_machine_lacks(self):
         self.member()
         self.entries(3)
         self.store.put(LINE + b"/place/m1", b"4")
@@ -145,19 +145,19 @@ class Following(Bench):
         log = self.log()
         log.compact(5)
         self.entries(1, 2)
-        with mock.patch.object(log, "compacted_behind", return_value=4), self.assertRaises(Compacted):
+        with mock.patch.object(log, "compaction_after", return_value=4), self.assertRaises(Compacted):
             log.begin(2)
         self.assertEqual(log.begin(2), (6, 1))
 
     def test_an_entry_that_comes_between_two_watches(self):
-        """Behind a silence the node looks anew where to begin: what came just then is fed all the same, though places were forgotten behind its own."""
+        """After a silence the node looks anew where to begin. It feeds the entries that came just then all the same, though the log has forgotten places after its own."""
         self.member()
         self.entries(2)
         self.store.put(LINE + b"/place/m1", b"3")
         log = self.log()
         log.compact(log.end_of(3))
         with mock.patch("machine.log.time.sleep", side_effect=lambda _: self.entries(1, 3)):
-            self.assertEqual(told(1, log, 3), [3])
+            self.assertEqual(followed(1, log, 3), [3])
 
     def test_places_that_are_forgotten_before_a_watch_begins(self):
         self.member()
@@ -173,10 +173,10 @@ class Following(Bench):
 
         threading.Timer(0.5, self.entries, (1, 3)).start()
         with mock.patch.object(log, "begin", begin_late):
-            self.assertEqual(told(1, log, 3), [3])
+            self.assertEqual(followed(1, log, 3), [3])
         self.assertIn("compacted up to 6 just now", self.said.getvalue())
 
-    def test_nothing_is_missed_behind_a_compaction_up_to_the_end(self):
+    def test_nothing_is_missed_after_a_compaction_up_to_the_end(self):
         self.member()
         self.entries(2)
         self.store.put(LINE + b"/place/m1", b"3")
@@ -250,14 +250,14 @@ class Calling(Bench):
         log = self.log(patience=0.3)
         log.at = 0
         log.append(b"x")
-        self.assertEqual([change["value"] for change in self.store.changes], [b"x", b"x"])  # it stands there twice
+        self.assertEqual([change["value"] for change in self.store.changes], [b"x", b"x"])  # the log has it twice
 
     def test_digests(self):
         self.member()
         log = self.log()
         for count in (1000, 2000, 11000, 12000):
             for name in (b"m1", b"m2"):
-                log.tell_digest(count, name, b"%d of %s" % (count, name))
+                log.publish_digest(count, name, b"%d of %s" % (count, name))
         self.assertEqual(log.digests(1000), {b"m1": b"1000 of m1", b"m2": b"1000 of m2"})
         self.assertEqual(log.digests(1), {})
         self.store.put(LINE + b"/digest/x/m1", b"by hand")
@@ -267,8 +267,8 @@ class Calling(Bench):
     def test_places(self):
         self.member()
         log = self.log()
-        log.tell_place(b"m1", 7)
-        log.tell_place(b"m2", 0)
+        log.publish_place(b"m1", 7)
+        log.publish_place(b"m2", 0)
         for name, value in [(b"m3", b"x"), (b"m4", b""), (b"m5", b"-1")]:
             self.store.put(LINE + b"/place/" + name, value)
         self.assertEqual(log.places(), {b"m1": (2, 7), b"m2": (3, 0)})
@@ -281,7 +281,7 @@ class Calling(Bench):
             log.compact(place)
         self.assertEqual(self.store.compacted, 3)
 
-    def test_what_a_member_tells(self):
+    def test_what_a_member_says(self):
         member, gone = self.member(size=3000, used=1000, quota=3e6), self.member()
         log = self.log()
         gone.close()

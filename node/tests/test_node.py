@@ -43,13 +43,13 @@ class Processes(Bench):
         finally:
             connection.close()
 
-    def serves(self, process, word=b"x"):
+    def answers(self, process, word=b"x"):
         self.until(lambda: process.poll() is None and self.ask(word) == (200, word))
 
-    def test_it_serves_and_no_bad_body_gets_into_the_log(self):
+    def test_it_answers_and_no_bad_body_gets_into_the_log(self):
         self.member()
         process = self.start()
-        self.serves(process)
+        self.answers(process)
         before = len([change for change in self.store.changes if change["key"] == LINE])
         for body in [b"", b"GET /snapshot", b"HEAD /"]:
             self.assertEqual(self.ask(body), (400, b'{"error":{"code":30,"member":"json","name":"malformed"}}'))
@@ -58,30 +58,30 @@ class Processes(Bench):
     def test_bad_entries_stop_nothing(self):
         self.member()
         process = self.start()
-        self.serves(process)
+        self.answers(process)
         for entry in [b"nospace", b"", b" ", token(1) + b" x", b"\xff\n\xff"]:
             self.store.put(LINE, entry)
-        self.serves(process, b"y")
+        self.answers(process, b"y")
         process.send_signal(signal.SIGTERM)
         process.wait()
         process = self.start()
-        self.serves(process, b"z")
+        self.answers(process, b"z")
 
     def test_etcd_that_is_away_is_waited_out(self):
         member = self.member()
         process = self.start()
-        self.serves(process)
+        self.answers(process)
         member.away = True
         self.assertEqual(self.ask(b"x")[0], 503)
-        self.assertEqual(self.ask(target="/snapshot"), (200, b"GET /snapshot"))  # reads go on
+        self.assertEqual(self.ask(target="/snapshot"), (200, b"GET /snapshot"))  # reads are answered as before
         time.sleep(2)
         member.away = False
-        self.serves(process, b"y")
+        self.answers(process, b"y")
 
     def test_what_nobody_foresaw_ends_the_feeding_thread_with_the_process(self):
         self.member()
         process = self.start()
-        self.serves(process)
+        self.answers(process)
         self.members[0].lines = lambda body: iter([{"header": {}, "events": [{"kv": {"no": "revision"}}]}])
         self.assertEqual(process.wait(30), 1)
         self.assertIn("KeyError", process.stderr.read())
@@ -89,7 +89,7 @@ class Processes(Bench):
     def test_and_a_thread_that_answers_with_the_process(self):
         self.member()
         process = self.start()
-        self.serves(process)
+        self.answers(process)
         self.members[0].garbage = True
         self.ask(b"x")
         self.assertEqual(process.wait(30), 1)
@@ -104,7 +104,7 @@ class Processes(Bench):
         self.assertIn("the log begins behind this machine's place 0: copy the folder of another machine", process.stderr.read())
         self.store.compacted = 0
         process = self.start()
-        self.serves(process)
+        self.answers(process)
         self.store.forget_all()
         self.assertEqual(process.wait(30), 2)
         self.assertIn("it isn't the log that this folder was fed from", process.stderr.read())

@@ -1,4 +1,4 @@
-"""What the timer does: members defragmented one after another, and the alarm of a full etcd."""
+"""The work of the timer: it defragments members one after another, and ends the alarm of a full etcd."""
 import sys
 import unittest
 from pathlib import Path
@@ -48,10 +48,10 @@ class Upkeep(Bench):
             self.member(quota=1000, size=1000, used=900)
         self.entries(9)
         for name, place in [("m1", 9), ("m2", 7), ("m3", 8)]:
-            self.log().tell_place(name.encode(), place)
+            self.log().publish_place(name.encode(), place)
         self.store.full = True
         for member in self.members:
-            member.used = 100                              # behind the compaction
+            member.used = 100                              # after the compaction
         self.assertEqual((self.once(), self.store.full, self.store.compacted, self.tidied()), (0, False, 7, [1, 1, 1]))
 
     def test_what_is_given_free_by_and_by_is_waited_for(self):
@@ -72,14 +72,14 @@ class Upkeep(Bench):
         self.member(quota=1000, size=1000, leaves=[100, 105, 100, 95, 100, 105])
         self.store.full = True
         self.assertEqual((self.once(), self.store.full), (0, False))
-        self.assertEqual(len(self.members[0].leaves), 2)   # of one look, another, and those before and behind defragmenting
+        self.assertEqual(len(self.members[0].leaves), 2)   # of one look, another, and those before and after defragmenting
 
     def test_a_full_one_that_is_full_of_what_is_needed(self):
         self.member(quota=1000, size=1000, used=985)
         self.entries(9)
-        self.log().tell_place(b"m1", 9)
+        self.log().publish_place(b"m1", 9)
         self.store.full = True
-        self.assertEqual((self.once(), self.store.full, self.store.compacted), (1, True, 0))  # m2 and m3 have told no place
+        self.assertEqual((self.once(), self.store.full, self.store.compacted), (1, True, 0))  # m2 and m3 have published no place
         self.assertIn("is full, 985 of 1000 bytes", self.said.getvalue())
 
     def test_a_full_one_where_a_member_is_away(self):

@@ -2,7 +2,7 @@
 
 COPY = [
     ("a moved desk is passed over", "if desk.process in holding or desk.moved]", "if desk.process in holding]", "try_removed"),
-    ("what was moved isn't told", "        tell(line)\n", "        pass\n", "try_moved"),
+    ("what was moved isn't told", "        report(line)\n", "        pass\n", "try_moved"),
     ("the places are copied, whatever the desk has open", "if not (desk and desk.moved):", "if True:", "try_removed"),
     ("a copy of what was moved is a good one", "if desk and desk.moved:\n        kept_aside", "if False:\n        kept_aside", "try_moved_log"),
     ("the desk isn't let go on where its file was moved", "for desk in desks_over(options.file):", "for desk in []:", "try_moved"),
@@ -51,7 +51,7 @@ RESTORE = [
     ("a half copy", " and subprocess.run([\"cp\", \"--reflink=auto\", \"--preserve=timestamps\", \"--\", part, target]).returncode:", " and subprocess.run([\"cp\", \"--\", part, target]).returncode and False:", "try_room"),
     ("others may read it", "part.chmod(0o600)", "part.chmod(0o644)", "try_mask"),
     ("any name is a copy", '    if moment in ("", ".", "..") or "/" in moment or not', "    if not", "try_names"),
-    ("the note isn't written", "            note(self.file)\n", "            pass\n", "try_note"),
+    ("the note isn't written", "            write_note(self.file)\n", "            pass\n", "try_note"),
     ("the first is taken back first", "key=lambda one: one.number)", "key=lambda one: -one.number)", "try_several"),
     ("another desk's is taken back", 'if said["file"] == file.name:', "if True:", "try_two_desks"),
     ("another moment ends it", "or begun.moment != moment):", "and begun.moment != moment):", "try_broken_off"),
@@ -71,8 +71,8 @@ RESTORE = [
      "    if coming.is_none():\n        remove(file)\n    else:\n        move(coming.at_home(), file)\n    for part, path in beside.items():\n        if coming.is_at_home(part):\n            move(coming.at_home(part), path)\n", "file and log"),
     ("each begins anew", "next((one for one in known if not one.is_ended()), None)", "None", "file and log"),
     ("a state is written in place", "new = self.folder / \".state.json\"", "new = self.folder / \"state.json\"", "file and log"),
-    ("it has its name before it has its state", "        half.save()\n        named = PutAway(fresh(file, \"put-away\"), file)\n        move(half.folder, named.folder)\n",
-     "        named = PutAway(fresh(file, \"put-away\"), file)\n        move(half.folder, named.folder)\n        half.folder = named.folder\n        half.save()\n", "file and log"),
+    ("it has its name before it has its state", "        half.save()\n        named = PutAway(unused_name(file, \"put-away\"), file)\n        move(half.folder, named.folder)\n",
+     "        named = PutAway(unused_name(file, \"put-away\"), file)\n        move(half.folder, named.folder)\n        half.folder = named.folder\n        half.save()\n", "file and log"),
     ("half made folders stay", "        shutil.rmtree(half)\n    return", "        pass\n    return", "file and log"),
     ("what is in place of nothing is taken for what came", "if not self.new.is_at_home():", "if not is_hidden(self.file) and not self.old.is_at(self.file):", "no file"),
     ("an empty log is made", "        log_of(new).unlink()\n", "        pass\n", "try_no_log"),

@@ -11,7 +11,7 @@ FAULTS = [
     ("the status isn't compared", "page.records[0] != copy.record:", "page.records[0]._replace(status=copy.record.status) != copy.record:", "planted"),
     ("fewer at the desk is no fault", "if page.last < copy.last:", "if False:", "shorter"),
     ("what differs ends as other faults", "DIFFERS, LACKS = 3, 4", "DIFFERS, LACKS = 1, 4", "planted"),
-    ("it tells one of the two alone", ', f"{self.copy.file}: {own.text()}"\n\n', ",\n\n", "planted"),
+    ("it tells one of the two alone", ', f"{self.copy.file}: {of_copy.text()}"\n\n', ",\n\n", "planted"),
     ("a moment that goes back", "if before and record.moment < before.moment:", "if False:", "told_otherwise"),
     ("a request that is left out", "if record.stamp != self.copy.last + 1:", "if False:", "left_out"),
     ("a request that is told twice", "if self.copy.last != fed:", "if False:", "told_twice"),

@@ -16,7 +16,7 @@ FAULTS = [
     Fault("systemd gives up", (DESK, AGAIN, ""), "starting", ("try_installed",)),
     Fault("ticks with a step that is refused are started again and again", (TICKS, "RestartPreventExitStatus=2\n", ""), "starting", ("try_settings",)),
     Fault("quotes are taken for a part of a file's name", ("usr/sbin/acd-copy", r"""^(["'])(.*)\1$""", r"""^(["'])(.*)\1\1$"""), "starting", ("try_settings",)),
-    Fault("a log isn't looked at", ("usr/sbin/acd-ready", "    look_at_log(file)\n    note(file)\n", "    note(file)\n"), "damage", ("plan", "try_middle")),
+    Fault("a log isn't looked at", ("usr/sbin/acd-ready", "    look_at_log(file)\n    write_note(file)\n", "    write_note(file)\n"), "damage", ("plan", "try_middle")),
     Fault("nor whether file and log are of one time", ("usr/sbin/acd-ready", "if acd_pair.is_split(file):", "if False:"), "damage", ("plan", "try_older_file")),
     Fault("a time that is ahead isn't told", ("usr/sbin/acd-tick", "if moment > int(time.time()) + MINUTE:", "if False:"), "clock", ("plan", "try_ahead")),
     Fault("the desk doesn't wait for the clock", (DESK, "After=local-fs.target time-sync.target", "After=local-fs.target"), "clock", ("plan", "try_late_clock")),

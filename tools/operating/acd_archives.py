@@ -3,7 +3,7 @@
     rows = opened(file, archives, folder)
     rows.execute("SELECT moment, call FROM events WHERE kind = 3 ORDER BY number")
 
-The archives stand from the oldest on. What a file still has of the archive before it is read there, and has to be the same."""
+The archives are named from the oldest on. Rows that a file shares with the archive before it are read in the archive, and have to be the same."""
 import itertools
 import re
 import sqlite3
@@ -24,14 +24,14 @@ class Link:
     first: dict
     last: dict
 
-    def show(self, behind):
-        """From now on its tables have the rows alone that are behind these."""
+    def show(self, after):
+        """From now on its tables show only the rows after these numbers."""
         for table, (key, _, _) in HISTORY.items():
-            self.rows.execute(f"CREATE TEMP VIEW {table} AS SELECT * FROM main.{table} WHERE {key} > {behind[table]}")
+            self.rows.execute(f"CREATE TEMP VIEW {table} AS SELECT * FROM main.{table} WHERE {key} > {after[table]}")
 
 
 class Rows:
-    """All of them. A statement over kept or events gets the rows of one link after the other, in its order where that is the rows' own; any other is for the file alone."""
+    """All links. A statement over kept or events gets the rows of one link after the other, in its order if that is the order of the rows; any other reads the file alone."""
 
     def __init__(self, links):
         self.links = links
@@ -65,7 +65,7 @@ def link_of(file, folder, is_live):
 
 
 def fit(archive, link):
-    """Refuses a link that doesn't go on from this archive."""
+    """Refuses a link that doesn't continue this archive."""
     if archive.last["kept"] > link.last["kept"]:
         raise Fault(f"{archive.file} has requests up to {archive.last['kept']}, and {link.file} up to {link.last['kept']}: archives are named from the oldest on")
     for table, (key, _, what) in HISTORY.items():
@@ -79,12 +79,12 @@ def fit(archive, link):
 
 
 def opened(file, archives, folder, is_live=False):
-    """All of a file, which a desk may have open, and its archives. What has a log is copied into the folder."""
+    """All rows of a file, which a desk may have open, and of its archives. It copies a file that has a log into the folder."""
     links = [*(link_of(Path(archive), folder, False) for archive in archives), link_of(Path(file), folder, is_live)]
     for archive, link in itertools.pairwise(links):
         fit(archive, link)
-    behind = dict.fromkeys(HISTORY, 0)
+    after = dict.fromkeys(HISTORY, 0)
     for link in links:
-        link.show(behind)
-        behind = link.last
+        link.show(after)
+        after = link.last
     return Rows(links)

@@ -1,4 +1,4 @@
-"""What the program says of a copy of a desk's file: that it is sound, that its log ends early, or what else is the matter. Tested, not proved."""
+"""The program's verdict on a copy of a desk's file: it is sound, its log ends early, or something else is wrong. Tested, not proved."""
 import contextlib
 import os
 import shutil
@@ -20,7 +20,7 @@ NO_MEMORY = "acd: no memory"
 
 @dataclass(frozen=True)
 class Finding:
-    """The verdict; what was said; and how many requests a sound file has, with those of its archives."""
+    """The verdict; the program's words; and how many requests a sound file has, with those of its archives."""
     verdict: str
     said: str
     executed: int = 0
@@ -28,8 +28,8 @@ class Finding:
 
 def run(*words):
     """The status, and the lines that it printed."""
-    told = subprocess.run([*QUIETLY, *words], stdin=subprocess.DEVNULL, stdout=subprocess.PIPE, stderr=subprocess.STDOUT, text=True)
-    return told.returncode, told.stdout.splitlines()
+    done = subprocess.run([*QUIETLY, *words], stdin=subprocess.DEVNULL, stdout=subprocess.PIPE, stderr=subprocess.STDOUT, text=True)
+    return done.returncode, done.stdout.splitlines()
 
 
 def finding(status, lines):
@@ -49,14 +49,14 @@ def last_stamp(file):
 
 
 def carried(file, archive):
-    """Of a file that was carried over. A program that can't look at it behind its archive opens it, and what both have is compared by SQL."""
-    had_log = log_of(archive).exists()
-    told = acd_chain.audited(QUIETLY, file, archive, "--whole", "--count")
+    """The verdict on a file that was carried over. A program that can't audit it with its archive opens it, and SQL compares the rows of both."""
+    log_existed = log_of(archive).exists()
+    audit = acd_chain.audited(QUIETLY, file, archive, "--whole", "--count")
     # the audit makes one beside an archive, too, and leaves nothing in it
-    if not had_log and not holds_something(log_of(archive)):
+    if not log_existed and not holds_something(log_of(archive)):
         log_of(archive).unlink(missing_ok=True)
-    if told:
-        found = finding(told[0], told[1].splitlines())
+    if audit:
+        found = finding(audit[0], audit[1].splitlines())
         return Finding(SOUND, found.said, last_stamp(file)) if found.verdict == SOUND else found
     damage = acd_log.look(log_of(file))
     if isinstance(damage, (acd_log.Damaged, acd_log.Unreadable)):
@@ -71,7 +71,7 @@ def carried(file, archive):
 
 
 def audited(file, archive=None):
-    """What the audit finds, behind the archive where there is one. It empties the log, so that of a file that isn't sound is put back as it was."""
+    """The finding of the audit, with the archive if there is one. The audit empties the log; if the file isn't sound, the old log is put back."""
     log, aside = log_of(file), f"{log_of(file)}.aside"
     if log.exists():
         shutil.copy2(log, aside)

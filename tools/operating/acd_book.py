@@ -1,4 +1,4 @@
-"""A desk's file, as records of calls are read out of it: its events, and what only the kept requests tell. Tested, not proved."""
+"""A desk's file, as the source for records of calls: its events, and facts that only the kept requests have. Tested, not proved."""
 import fcntl
 import json
 import shutil
@@ -19,7 +19,7 @@ HEAD, TRIES = 32, 10
 
 
 class Fault(Exception):
-    """Why there is nothing to tell."""
+    """Why there is nothing to print."""
 
 
 def identifier(number):
@@ -28,7 +28,7 @@ def identifier(number):
 
 
 class Book:
-    """What a file tells, in the order in which it happened."""
+    """The content of a file, in the order in which it happened."""
 
     def __init__(self, rows):
         self.rows = rows
@@ -46,7 +46,7 @@ class Book:
             yield moment, json.loads(request), json.loads(body)["result"]
 
     def calls_that_came(self):
-        """Number, caller, called and moment of each call, and whether the caller is a station. Who called whom stands in no event."""
+        """Number, caller, called and moment of each call, and whether the caller is a station. No event says who called whom."""
         for moment, request, result in self.granted('"service":"arriveCall"', '"service":"makeCall"'):
             is_made = request["service"] == "makeCall"
             yield result["call"], request["device" if is_made else "caller"], request["called"], moment, is_made
@@ -73,7 +73,7 @@ class Book:
     def last_moment(self):
         return self.rows.execute("SELECT last_moment FROM meta").fetchone()[0]
 
-    # what lies elsewhere, where the file was carried over and not all of its archives are read
+    # requests in other files, if the file was carried over and not all of its archives are read
 
     def begins(self):
         """The moment of its first request, where it hasn't those before it; else nothing."""
@@ -91,7 +91,7 @@ class Book:
         return {identifier(station): identifier(agent) for agent, station in {**stays, **firsts}.items() if station is not None}
 
     def waited_before(self):
-        """How many waited in each group before its first event: as many as wait now, less those who came since and more those who went."""
+        """How many waited in each group before its first event: those who wait now, minus those who came since, plus those who left."""
         waiting = Counter(dict(self.rows.execute("SELECT device, count(*) FROM connections WHERE place IS NOT NULL AND offered IS NULL GROUP BY device")))
         groups = {device for device, in self.rows.execute("SELECT device FROM acd_groups")}
         queued, diverted, cleared = (KINDS.index(kind) + 1 for kind in ("queued", "diverted", "connectionCleared"))
@@ -143,8 +143,8 @@ def copied(file, log, folder):
 
 
 def copied_live(file, log, folder):
-    """A copy of one moment, while a desk goes on. What it writes comes into the log, and from there into the file; the log begins anew, under another head, only
-    once all of it is in the file. So a log that was copied behind the file, under the head that it had before, has all that changed in the file meanwhile."""
+    """A copy of one moment, while a desk runs. The desk writes into the log, and from there into the file; the log begins anew, with another head, only
+    once all of it is in the file. So a log that was copied after the file, with the same head as before, has all changes of the file meanwhile."""
     for _ in range(TRIES):
         before = head(log)
         book = copied(file, log, folder)

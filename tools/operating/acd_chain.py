@@ -1,6 +1,6 @@
 """The archives that a desk's file goes on from. Tested, not proved.
 
-Beside a file F that was carried over lies F.archive, the note of the file that it was carried over from, which is its archive:
+Beside a file F that was carried over is F.archive, the note of the file from which it was carried over, which is its archive:
 
     archive desk.db-2026-11-28-81234
     last 81234
@@ -8,8 +8,8 @@ Beside a file F that was carried over lies F.archive, the note of the file that 
     was 131 1800000000.5
 
 The archive's name, in F's folder; its last stamp; its SHA-256; and its inode, with the moment when that was made, as F had it until then. An archive that was
-itself carried over has such a note too, so archives are a chain. In a folder of copies each archive lies once, in the folder `archives`, with its note and the
-digest that it was copied with."""
+itself carried over has such a note too, so archives are a chain. A folder of copies has each archive once, in the folder `archives`, with its note and its
+digest at the time of the copy."""
 import contextlib
 import hashlib
 import os
@@ -23,7 +23,7 @@ from pathlib import Path
 import acd_pair
 
 NOTE, DIGEST = ".archive", ".sha256"
-# the folder beside a file in which acd-carry makes the one that takes its place
+# the folder beside a file in which acd-carry makes the file that replaces it
 BESIDE = ".carry"
 FOLDER = "archives"
 # the columns of meta that are limits
@@ -33,7 +33,7 @@ REFUSED = 2
 
 
 class Broken(Exception):
-    """An archive isn't there, or isn't the one that was noted."""
+    """An archive isn't there, or isn't the one that the note names."""
 
 
 # The note
@@ -53,8 +53,8 @@ def note_of(file):
     return Path(f"{file}{NOTE}")
 
 
-def noted(file):
-    """The note beside a file; nothing where it wasn't carried over."""
+def read_note(file):
+    """The note beside a file; None if the file wasn't carried over."""
     try:
         said = dict(line.partition(" ")[::2] for line in note_of(file).read_text().splitlines())
         return Note(said["archive"], int(said["last"]), said["digest"], said["was"])
@@ -65,7 +65,7 @@ def noted(file):
 
 
 def write(file, text):
-    """In one step, and on the disk; for its owner alone, as all that lies beside the file."""
+    """Writes a file in one step, and onto the disk; for its owner alone, as all files beside the desk's file."""
     new = file.with_name(f".{file.name}.new")
     new.unlink(missing_ok=True)
     with open(os.open(new, os.O_WRONLY | os.O_CREAT | os.O_EXCL, 0o600), "w") as out:
@@ -81,7 +81,7 @@ def put_note(file, note):
 
 
 def change_digest(note, name, old, new):
-    """Where a note says this digest of this archive, it says the new one: in place, since a restore knows the note by its inode, and within one sector."""
+    """Replaces this digest of this archive in a note by the new one: in place, since a restore knows the note by its inode, and within one sector."""
     data = note.read_bytes() if note.is_file() else b""
     if {f"archive {name}".encode(), f"digest {old}".encode()} <= set(data.splitlines()):
         with open(note, "rb+") as out:
@@ -92,23 +92,23 @@ def change_digest(note, name, old, new):
 
 
 def chain(file, folders=()):
-    """The notes of the archives, from the last one back to the oldest that is there. An archive's own is looked for beside the file, then in these folders."""
-    found, note = [], noted(file)
+    """The notes of the archives, from the last one back to the oldest that is there. It looks for an archive's note beside the file, then in these folders."""
+    found, note = [], read_note(file)
     while note and note.name not in [one.name for one in found]:
         found.append(note)
         places = [folder / note.name for folder in (file.parent, *folders)]
-        note = next((one for one in map(noted, places) if one), None)
+        note = next((one for one in map(read_note, places) if one), None)
     return found
 
 
 def exchanged(file):
-    """The note of a file whose place the new one has already, while the rest is still to do: it is where the new one was made. Else nothing."""
-    note = noted(Path(f"{file}{BESIDE}") / file.name)
+    """The note of an exchange that has put the new file in place and isn't finished: the note is in the folder where the new file was made. Else None."""
+    note = read_note(Path(f"{file}{BESIDE}") / file.name)
     return note if note and acd_pair.identity(file) != note.was else None
 
 
 def unfinished(file):
-    """What to say where an exchange was broken off."""
+    """The text for an exchange that was broken off."""
     return f"acd-carry of {file} was broken off: acd-carry --file {file} ends it" if exchanged(file) else None
 
 
@@ -121,7 +121,7 @@ def digest(file):
 
 
 def name_for(file, last, moment):
-    """What the file is called as an archive: by the day of its last request, in Universal Time, and its stamp."""
+    """The file's name as an archive: with the day of its last request, in Universal Time, and its stamp."""
     return f"{file.name}-{time.strftime('%Y-%m-%d', time.gmtime(moment))}-{last}"
 
 
@@ -130,7 +130,7 @@ def is_name(file, name):
 
 
 def place(note, *folders):
-    """Where an archive lies, in one of these folders."""
+    """The path of an archive, in one of these folders."""
     found = next((folder / note.name for folder in folders if (folder / note.name).is_file()), None)
     if not found:
         raise Broken(f"the archive {note.name} isn't in {' or '.join(map(str, folders))}")
@@ -143,21 +143,21 @@ def copies_of(folder):
     return folder / FOLDER
 
 
-def noted_digest(copy):
+def read_digest(copy):
     return Path(f"{copy}{DIGEST}").read_text().partition(" ")[0]
 
 
 def put_digest(copy, found):
-    """As sha256sum --check reads it."""
+    """Writes the digest as sha256sum --check reads it."""
     write(Path(f"{copy}{DIGEST}"), f"{found}  {copy.name}\n")
 
 
 def keep(archive, note, copies):
-    """Copies an archive into a folder of copies, where it isn't there; it has its name once it is whole, and has its digest."""
+    """Copies an archive into a folder of copies, if it isn't there; the copy gets its name once it is whole, and has its digest."""
     copies.mkdir(mode=0o700, exist_ok=True)
     copy = copies / note.name
     if copy.exists() and Path(f"{copy}{DIGEST}").exists():
-        if noted_digest(copy) != note.digest:
+        if read_digest(copy) != note.digest:
             raise Broken(f"{copy} is another archive than that which was noted: its digest is another one")
         return
     new = copies / f".{note.name}.new"
@@ -168,37 +168,37 @@ def keep(archive, note, copies):
         raise Broken(f"{archive} isn't the archive that was noted: its digest is another one")
     with open(new, "rb") as has:
         os.fsync(has.fileno())
-    own = noted(archive)
-    if own:
-        put_note(copy, own)
+    archive_note = read_note(archive)
+    if archive_note:
+        put_note(copy, archive_note)
     put_digest(copy, note.digest)
     os.replace(new, copy)
     acd_pair.sync_folder(copies)
 
 
 def look(copies):
-    """What is the matter with the archives in a folder of copies, a line each."""
+    """The faults of the archives in a folder of copies, a line each."""
     for copy in sorted(copies.iterdir()) if copies.is_dir() else ():
         # an audit by hand leaves a log beside an archive that holds nothing
         if copy.name.startswith(".") or copy.name.endswith((NOTE, DIGEST)) or copy.name.endswith("-wal") and not acd_pair.holds_something(copy):
             continue
         try:
-            if digest(copy) != noted_digest(copy):
+            if digest(copy) != read_digest(copy):
                 yield f"{copy} isn't what was copied: its digest is another one"
         except FileNotFoundError:
             yield f"{copy} has no digest beside it, {copy.name}{DIGEST}"
 
 
-# Whether a file goes on from its archive
+# Whether a file continues its archive
 
 def immutable(file):
-    """Its name for SQLite, which then takes no lock, and makes nothing beside it."""
+    """The file's name for SQLite, which then takes no lock, and makes no file beside it."""
     return f"{file.absolute().as_uri()}?immutable=1"
 
 
 def differences(file, archive):
-    """Why a file doesn't go on from its archive, as far as SQL tells it: limits, and the rows that both have; nothing where it does. What its newer requests
-    make of the archive's tables isn't looked at."""
+    """Why a file doesn't continue its archive, as far as SQL shows it: limits, and the rows that both have; None if it does. It doesn't check what its newer
+    requests make of the archive's tables."""
     with contextlib.closing(sqlite3.connect(immutable(file), uri=True)) as book:
         book.execute("ATTACH ? AS old", (immutable(archive),))
         ours, theirs = (book.execute(f"SELECT version, {LIMITS} FROM {base}.meta").fetchone() for base in ("main", "old"))
@@ -212,7 +212,7 @@ def differences(file, archive):
 
 
 def differs(book, table, key, last):
-    """Where the rows of a table of both aren't the same, or one is missing."""
+    """The first difference between the rows of a table of both, or a missing row."""
     end, = book.execute(f"SELECT {last} FROM old.meta").fetchone()
     newest, = book.execute(f"SELECT {last} FROM main.meta").fetchone()
     first, most, count = book.execute(f"SELECT coalesce(min({key}), ? + 1), coalesce(max({key}), ?), count(*) FROM main.{table}", (newest, newest)).fetchone()
@@ -227,7 +227,7 @@ def differs(book, table, key, last):
 
 
 def audited(program, file, archive, *more):
-    """Status and output of the program's audit of a file behind its archive, or nothing where the program can't look there."""
-    told = subprocess.run([*program, "audit", *more, "--file", file, "--archive", archive],
+    """Status and output of the program's audit of a file with its archive, or None if the program has no such audit."""
+    done = subprocess.run([*program, "audit", *more, "--file", file, "--archive", archive],
                           stdin=subprocess.DEVNULL, stdout=subprocess.PIPE, stderr=subprocess.STDOUT, text=True)
-    return None if told.returncode == REFUSED else (told.returncode, told.stdout)
+    return None if done.returncode == REFUSED else (done.returncode, done.stdout)

@@ -1,5 +1,5 @@
 #!/usr/bin/python3
-"""Who has a desk's file open, and whether the file or its log were removed or moved from under a desk that runs. /proc tells it; tested, not proved.
+"""The processes that have a desk's file open, and whether the file or its log were removed or moved from under a running desk, by /proc. Tested, not proved.
 
 usage: acd_held.py FILE      (says by a line what was removed or moved, with status 1; else it says nothing)"""
 import contextlib
@@ -30,7 +30,7 @@ class Open:
 
 
 def place(path):
-    """The whole path of a file, where links to it lead. Of a link that leads nowhere it is the link's own."""
+    """The whole path of a file, with links followed; the path of the link itself if it leads nowhere."""
     path = Path(os.path.abspath(path))
     for _ in range(LINKS):
         path = Path(os.path.realpath(path.parent)) / path.name
@@ -41,7 +41,7 @@ def place(path):
 
 
 def which(path):
-    """Which file lies at a path: its device and inode; nothing where there is none, and where a link leads nowhere."""
+    """The file at a path: its device and inode; None if there is none, or if a link leads nowhere."""
     try:
         found = os.stat(path)
     except (FileNotFoundError, NotADirectoryError):
@@ -106,7 +106,7 @@ def desks(path):
 
 
 def seen(process, path):
-    """Which file lies at a path, also where it is hidden from this process and not from that one."""
+    """The file at a path, even if it is hidden from this process and not from that one."""
     try:
         return which(path)
     except PermissionError:
@@ -114,7 +114,7 @@ def seen(process, path):
 
 
 def look(process, path):
-    """What was removed or moved from under a desk, 'file' or 'log', and the name of the one that it has open. Nothing where it has the right ones."""
+    """The part that was removed or moved from under a desk, 'file' or 'log', and the name of the one that the desk has open. None if it has the right ones open."""
     has, log = opened(process), Path(f"{path}-wal")
     file_now, log_now = seen(process, path), seen(process, log)
     if has and all(one.which != file_now for one in has):
@@ -126,8 +126,8 @@ def look(process, path):
 
 
 def moved(process, path):
-    """What to say where the file at this path, or its log, was removed or moved from under this desk; else nothing. It is looked at twice, since a desk
-    that ends closes one before the other."""
+    """The line that the file at this path, or its log, was removed or moved from under this desk; else None. It looks twice, since a desk that ends
+    closes one before the other."""
     path = place(path)
     try:
         found = look(process, path)
@@ -172,10 +172,10 @@ def main():
     if len(sys.argv) != 2 or sys.argv[1].startswith("-"):
         print("acd_held.py: usage: acd_held.py FILE", file=sys.stderr)
         sys.exit(2)
-    told = [line for line in (moved(process, sys.argv[1]) for process in desks(sys.argv[1])) if line]
-    for line in told:
+    lines = [line for line in (moved(process, sys.argv[1]) for process in desks(sys.argv[1])) if line]
+    for line in lines:
         print(line)
-    sys.exit(1 if told else 0)
+    sys.exit(1 if lines else 0)
 
 
 if __name__ == "__main__":

@@ -1,9 +1,9 @@
-"""Whether the log of a desk's file is whole, ends early or is damaged, told by its frames alone: neither it nor the file is opened as a database.
+"""Whether the log of a desk's file is whole, ends early or is damaged, judged by its frames alone: it opens neither the log nor the file as a database.
 
 It reads the log's form as SQLite describes it (fileformat2.html, section 4), and is tested, not proved. A log has a head of 32 bytes, and frames of 24
-bytes and a page. What a command takes of it ends before the first bad frame: one that hasn't the head's salt, or whose checksum, which goes on from
-frame to frame, doesn't fit. A power cut may spoil the last commit, whose answers nobody has got. So a log is damaged where, behind its first bad
-frame, a frame with the head's salt ends a commit, and behind that one another frame has the head's salt: what is between was on the disk before the
+bytes and a page. A command reads it up to the first bad frame: one without the head's salt, or whose checksum, which continues from frame to
+frame, doesn't fit. A power cut may spoil the last commit, whose answers nobody has got. So a log is damaged if, after its first bad frame, a
+frame with the head's salt ends a commit, and after that one another frame has the head's salt: the frames between were on the disk before the
 later one was written."""
 import os
 import struct
@@ -19,31 +19,31 @@ VERSION, SIZES = 3007000, [1 << power for power in range(9, 17)]
 
 @dataclass(frozen=True)
 class Sound:
-    """All that it holds is taken, or it holds nothing."""
+    """A command reads all of it, or it holds nothing."""
 
 
 @dataclass(frozen=True)
 class Torn:
-    """It ends in a commit that isn't whole, as behind a power cut: nothing that was answered is missing. The frames count from 1, offsets from 0."""
+    """It ends in a commit that isn't whole, as after a power cut: no answered request is missing. The frames count from 1, offsets from 0."""
     frame: int
     offset: int
 
 
 @dataclass(frozen=True)
 class Damaged:
-    """Answered requests are missing: those of this frame and of all that stand behind it."""
+    """Answered requests are missing: those of this frame and of all later ones."""
     frame: int
     offset: int
 
 
 @dataclass(frozen=True)
 class Unreadable:
-    """Its head can't be read, so nothing says what stands behind it."""
+    """Its head can't be read, so nothing says what follows it."""
     why: str
 
 
 def summed(order, sums, data):
-    """The checksum that goes on over these bytes."""
+    """The checksum, continued over these bytes."""
     words = array("I", data)
     if order != sys.byteorder:
         words.byteswap()
@@ -61,7 +61,7 @@ def commits(frame):
 
 
 class Reader:
-    """The frames behind a head that can be read."""
+    """The frames after a head that can be read."""
 
     def __init__(self, file, head):
         magic, _, self.page = struct.unpack_from(">3I", head)
@@ -71,8 +71,8 @@ class Reader:
     def offset(self, frame):
         return HEAD + (frame - 1) * (FRAME + self.page)
 
-    def sums_behind(self, sums, data):
-        """The checksum behind a frame, which goes on from the one before it; nothing where the frame is bad, or was cut meanwhile."""
+    def sums_after(self, sums, data):
+        """The checksum after a frame, which continues that of the frame before; None if the frame is bad, or was cut meanwhile."""
         if len(data) < FRAME + self.page or data[8:16] != self.salt or data[:4] == bytes(4):
             return None
         sums = summed(self.order, summed(self.order, sums, data[:8]), data[FRAME:])
@@ -84,7 +84,7 @@ class Reader:
         sums, committed = self.begin, 0
         for frame in range(1, self.count + 1):
             data = self.file.read(FRAME + self.page)
-            sums = self.sums_behind(sums, data)
+            sums = self.sums_after(sums, data)
             if sums is None:
                 return frame - 1, committed
             committed = frame if commits(data) else committed
@@ -100,9 +100,9 @@ class Reader:
 
     def look(self):
         good, committed = self.good()
-        behind = self.salted(good + 2)
-        # any() leaves what stands behind the first that ends a commit
-        if any(behind) and next(behind, None) is not None:
+        later = self.salted(good + 2)
+        # any() reads up to the first frame that ends a commit, and leaves the later ones
+        if any(later) and next(later, None) is not None:
             return Damaged(good + 1, self.offset(good + 1))
         if next(self.salted(committed + 1), None) is not None:
             return Torn(committed + 1, self.offset(committed + 1))
@@ -120,7 +120,7 @@ def fault_of(head):
 
 
 def look(path):
-    """What the log at this path is: Sound, Torn, Damaged or Unreadable. One that isn't there holds nothing. OSError where it can't be read."""
+    """The state of the log at this path: Sound, Torn, Damaged or Unreadable. A log that isn't there holds nothing. Raises OSError if the file can't be read."""
     try:
         file = open(path, "rb")
     except FileNotFoundError:

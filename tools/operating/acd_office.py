@@ -1,4 +1,4 @@
-"""What the office says in /etc/acd/board.json, as far as records go by it: names in any script, limits of the service level, the zone. Tested, not proved."""
+"""The settings of the office in /etc/acd/board.json, as far as records use them: names in any script, limits of the service level, the zone. Tested, not proved."""
 import json
 import os
 import time
@@ -36,27 +36,27 @@ class Office:
         return seconds(self.limits.get(f"limit.{group}")) or seconds(self.limits.get("limit")) or LIMIT
 
 
-def office(file, tell):
-    """What stands in the file. What of it can't be read counts as if it weren't there, and is told in a line."""
+def office(file, report):
+    """The content of the file. It ignores a part that can't be read, and reports it in a line."""
     try:
         said = json.loads(Path(file).read_bytes())
     except ValueError:
         said = None
     if not isinstance(said, dict):
-        tell(f"{file} is no JSON object: it is passed over")
+        report(f"{file} is no JSON object: it is passed over")
         return Office()
     zone, names = texts(said).get("zone"), said.get("names")
     if zone is not None and not is_zone(zone):
-        tell(f"{file}: there is no zone {zone}")
+        report(f"{file}: there is no zone {zone}")
         zone = None
     return Office({kind: texts(names.get(kind) if isinstance(names, dict) else None) for kind in ("groups", "agents")}, texts(said.get("limits")), zone)
 
 
-def counting(file, tell):
-    """What stands in the file that was named, else in the machine's, where that is there. Its zone counts where TZ names none."""
+def counting(file, report):
+    """The content of the named file, else of the machine's, if that is there. Its zone counts if TZ names none."""
     if file is None and not FILE.exists():
         return Office()
-    found = office(file or FILE, tell)
+    found = office(file or FILE, report)
     if found.zone and "TZ" not in os.environ:
         os.environ["TZ"] = found.zone
         time.tzset()

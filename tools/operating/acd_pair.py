@@ -1,7 +1,7 @@
-"""The note beside a desk's file of which file and which log were together: F-pair beside F and F-wal.
+"""The note beside a desk's file that says which file and which log belong together: F-pair beside F and F-wal.
 
-A file and a log of which one alone was exchanged make a mixture of two states. The note has, of each, its inode and when that was made, since a file
-system gives an inode's number away again: 'file 131 1800000000.5' and 'log 132 1800000001.25', a line each. Where there was no log the note says 'log none'."""
+A file and a log of which only one was exchanged make a mixture of two states. The note has the inode of each and when that was made, since a file
+system uses an inode's number again: 'file 131 1800000000.5' and 'log 132 1800000001.25', a line each. If there was no log, the note says 'log none'."""
 import os
 import subprocess
 from pathlib import Path
@@ -26,8 +26,8 @@ def holds_something(log):
 
 def identity(path):
     """Which file it is: its inode's number, and when that was made, where the file system says so."""
-    told = subprocess.run(["stat", "--format=%i %.9W", "--", path], stdout=subprocess.PIPE, stderr=subprocess.DEVNULL, text=True, env={**os.environ, "LC_ALL": "C"})
-    return told.stdout.strip() or NONE
+    done = subprocess.run(["stat", "--format=%i %.9W", "--", path], stdout=subprocess.PIPE, stderr=subprocess.DEVNULL, text=True, env={**os.environ, "LC_ALL": "C"})
+    return done.stdout.strip() or NONE
 
 
 def sync_folder(folder):
@@ -57,8 +57,8 @@ def remember(file):
     sync_folder(note.parent)
 
 
-def noted(file):
-    """What the note says; nothing where there is none, or none that can be read."""
+def read_note(file):
+    """The content of the note; empty if there is none, or none that can be read."""
     try:
         lines = note_of(file).read_text().splitlines()
     except (OSError, ValueError):
@@ -68,7 +68,7 @@ def noted(file):
 
 def is_split(file):
     """Whether the file and its log, which holds something, are of two pairs: the note names both, and exactly one of them is another one now."""
-    now, then = pair(file), noted(file)
+    now, then = pair(file), read_note(file)
     if not holds_something(log_of(file)) or now["file"] == NONE or NONE in (then.get("file", NONE), then.get("log", NONE)):
         return False
     return (now["file"] == then["file"]) != (now["log"] == then["log"])

@@ -31,7 +31,7 @@ class Quarter:
 
 
 class Quarters:
-    """limit_of tells a group's limit in seconds."""
+    """limit_of returns a group's limit in seconds."""
 
     def __init__(self, limit_of):
         self.limit_of, self.found = limit_of, defaultdict(Quarter)
@@ -68,7 +68,7 @@ class Quarters:
             self.take_clearing(moment, call, group)
 
     def take_agent(self, moment, kind, device, agent):
-        """What is done for a call ends with after-call work, where that is right behind it."""
+        """The handling of a call includes after-call work, if that follows at once."""
         group, begun, before = self.handles.pop(agent, (None, None, None))
         if kind == "agentBusy":
             self.handles[agent] = self.answers.pop(device), moment, kind

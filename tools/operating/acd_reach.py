@@ -1,4 +1,4 @@
-"""How a person's command reaches a desk: by its address, over TLS, and with a login whose password stands on no command line."""
+"""How a person's command reaches a desk: by its address, over TLS, and with a login whose password is on no command line."""
 import argparse
 import getpass
 import os
@@ -54,7 +54,7 @@ def check(parser, options):
 
 
 def owner(login, otherwise):
-    """What requesters begin with: the login, as the gate wants it, where a requester may."""
+    """The beginning of requesters: the login, as the gate demands, if a requester may begin so."""
     return login if re.fullmatch("[a-z0-9-]{1,15}", login or "") else otherwise
 
 
@@ -100,7 +100,7 @@ def insisted(attempt, patience):
 
 
 def read(desk, path):
-    """What the desk has at a path."""
+    """The desk's answer at a path."""
     answer = insisted(lambda: desk.attempt("GET", path), SOON)
     if answer.status != 200:
         raise Fault(f"the desk answered {answer.status} {answer.error}".rstrip())

@@ -17,13 +17,13 @@ class Days:
         self.open, self.written, self.newest = {}, 0, {}
         for kind in KINDS:
             (folder / kind).mkdir(mode=0o750, exist_ok=True)
-            # what a run left behind that was killed
+            # the remains of a run that was killed
             for left in (folder / kind).glob(".*.new"):
                 left.unlink()
             self.newest[kind] = max((file.stem for file in (folder / kind).glob("*.csv")), default="")
 
     def lacks(self):
-        """Whether days before the first one would be next, behind those that are written."""
+        """Whether days before the first one would be the next, after those that are written."""
         newest = max(self.newest.values())
         return self.first > datetime.date.min and newest < str(self.first - datetime.timedelta(days=1))
 

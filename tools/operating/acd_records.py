@@ -1,4 +1,4 @@
-"""What became of each call and of each agent's day, event by event. Tested, not proved."""
+"""The course of each call and of each agent's day, by the events. Tested, not proved."""
 import datetime
 import math
 from collections import defaultdict
@@ -39,7 +39,7 @@ class Calendar:
 
 @dataclass(eq=False)
 class Leg:
-    """A call at one device, from its coming there to its going: in a group's queue, or at a station. `offered` is one that rings by distribution."""
+    """A call at one device, from its arrival there to its end there: in a group's queue, or at a station. `offered` is a leg that rings by distribution."""
     device: str
     state: str
     begun: int
@@ -72,7 +72,7 @@ class Call:
     ended_at: int = None
     at: dict = field(default_factory=dict)  # where it is: device to leg, with the caller's from outside, which is none of its legs
     since: int = 0
-    busy: int = 0  # how many agents are busy with it, or in after-call work behind it
+    busy: int = 0  # how many agents are busy with it, or in after-call work after it
 
     def pass_to(self, moment):
         """Counts the seconds up to the moment by what the call's connections are."""
@@ -101,10 +101,10 @@ class Call:
 
     def ending(self, device, is_agent):
         """How a call ends that is cleared first at this device."""
-        own, states = self.at[device].state, [leg.state for leg in self.at.values()]
-        if own == "queued":
+        state, states = self.at[device].state, [leg.state for leg in self.at.values()]
+        if state == "queued":
             return f"at {device} while it waited"
-        if own in RINGS:
+        if state in RINGS:
             return f"at {device} while it rang"
         if "queued" in states or "offered" in states:
             return "abandoned"
@@ -120,7 +120,7 @@ class Agent:
     state: str = "null"
     since: int = 0
     groups: list = field(default_factory=list)
-    call: Call = None  # the one that the agent is busy with, or in after-call work behind, and its leg
+    call: Call = None  # the call that the agent is busy with, or after which the agent is in after-call work, and its leg
     leg: Leg = None
 
 
@@ -140,7 +140,7 @@ class Records:
         self.came, self.log_ons, self.by_ticks = book.calls_that_came(), book.log_ons(), book.returns_by_ticks()
         self.calls, self.agents, self.days, self.calendar = {}, defaultdict(Agent), defaultdict(Day), Calendar()
         self.at = {}  # who is logged on at a station
-        # the first call that is told of: of those before it the beginning lies elsewhere
+        # the first call of the records: earlier ones began in other files
         self.first = 1
         if book.begins() is not None:
             self.at = book.logged_on_before()
@@ -198,7 +198,7 @@ class Records:
         call.end(device, moment, ended, to)
 
     def take_return(self, moment, call, device):
-        """A tick's or a rejectCall's, which no event tells apart. Of several in one moment a tick made the first at most: no offer of that moment is overdue."""
+        """How the offer ended: by a tick or by a rejectCall, which no event shows. Of several in one moment a tick made the first at most: no offer of that moment is overdue."""
         is_refused = not self.by_ticks[moment, call, device]
         self.by_ticks[moment, call, device] = 0
         self.count(moment, self.at[device], "rings_refused" if is_refused else "rings_not_answered")
@@ -223,7 +223,7 @@ class Records:
         self.pass_to(moment, number, agent)
         before, agent.state = agent.state, AGENT_STATES[kind]
         if agent.state == "busy":
-            if agent.call is not None:  # it isn't one that isn't told of
+            if agent.call is not None:  # the records have the call
                 agent.call.busy += 1
         elif agent.call is not None and (before, agent.state) != ("busy", "workingAfterCall"):
             agent.call.busy -= 1
@@ -250,7 +250,7 @@ class Records:
             begin = end
 
     def finish(self, moment):
-        """Counts what goes on up to the moment."""
+        """Counts the times up to the moment."""
         for call in self.calls.values():
             if call.ended_at is None:
                 call.pass_to(moment)

@@ -1,9 +1,9 @@
 """Puts a copy of a desk's file back in the file's place, and takes that back. Tested, not proved.
 
-Beside the file F a restore makes a folder put-away-DATE-RANDOM. In it F and its log are put away; in its folder `new` is what comes in their place, until
-that is there; and its file `state.json` says which is which. From the moment on that F is touched until all is in place F has a second name, or is a link
+Beside the file F a restore makes a folder put-away-DATE-RANDOM. It puts F and its log away into it; the folder `new` in it has the files that come in their
+place, until they are there; and its file `state.json` says which is which. From the first change of F until all is in place F has a second name, or is a link
 that leads nowhere, and no command opens either. So each command finds at any moment a whole pair, or can't open F. Each step is on the disk before the
-next one begins, and is one that was done or is still to do, whenever it was broken off: by the same steps it is ended, and taken back."""
+next one begins, and is either done or still to do, whenever the restore was broken off: the same steps finish it, and undo it."""
 import contextlib
 import fcntl
 import json
@@ -28,7 +28,7 @@ NOWHERE = "/dev/null/"
 # SQLite's pending, reserved and shared locks, which the program takes too
 LOCKS_AT, LOCKS = 1 << 30, 512
 IN, BACK = "restore", "undo"
-# what goes with a file: its log, what SQLite leaves where it was ended, and the note of its archive
+# the parts of a file: its log, files that SQLite leaves if it was killed, and the note of its archive
 PARTS = ("", "-wal", "-journal", "-shm", acd_chain.NOTE)
 # the folders that nobody knows of yet, or any more
 HALF = ".put-away."
@@ -45,7 +45,7 @@ class Fault(Exception):
 # Files
 
 def inode(path):
-    """That of a file; nothing where there is none. A link isn't followed."""
+    """The inode of a file; None if there is none. It doesn't follow a link."""
     try:
         found = os.lstat(path)
     except FileNotFoundError:
@@ -79,8 +79,8 @@ def is_hidden(file):
 
 @dataclass
 class Pair:
-    """A file with what lies beside it, and with the archives that it alone goes on from, by the inodes of what is there; and where it lies while it isn't in
-    place."""
+    """A file with its parts, and with the archives that it alone goes on from, by the inodes of those that are there; and the folder in which it is while it
+    isn't in place."""
     home: Path
     name: str
     parts: dict = field(default_factory=dict)
@@ -89,7 +89,7 @@ class Pair:
         return self.home / f"{self.name}{part}"
 
     def found(self, file, archives=()):
-        """As it lies now, in this place, with these archives besides those that were its own."""
+        """Reads the inodes of the parts, at this path, with these archives besides those that it has already."""
         more = [f"{name[len(self.name):]}{part}" for name in archives for part in ("", acd_chain.NOTE)]
         self.parts = {part: inode(f"{file}{part}") for part in dict.fromkeys((*PARTS, *self.parts, *more))}
 
@@ -154,8 +154,8 @@ def exchange(file, leaving, coming, link):
         move(coming.at_home(), file)
 
 
-def note(file):
-    """Which file and which log are together now. One that isn't true any more mustn't stay where a full disk has no room for another."""
+def write_note(file):
+    """Writes the note of which file and which log belong together now. A note that isn't true any more mustn't stay if a full disk has no room for another."""
     try:
         acd_pair.remember(file)
     except OSError:
@@ -164,14 +164,14 @@ def note(file):
 
 # The folder
 
-def fresh(file, name):
+def unused_name(file, name):
     """A name beside the file that nothing has."""
     return file.parent / f"{name}-{time.strftime('%Y-%m-%dT%H%M%SZ', time.gmtime())}-{secrets.token_hex(3)}"
 
 
 class PutAway:
-    """A folder put-away-DATE-RANDOM, and what its state says: of which file it is, the restore's number, the moment of the copy, which way is gone, whether
-    what came was ever in place, and both pairs."""
+    """A folder put-away-DATE-RANDOM, and its state: its file, the restore's number, the moment of the copy, the direction, whether the new files were ever in
+    place, and both pairs."""
 
     def __init__(self, folder, file):
         self.folder, self.file = folder, file
@@ -187,7 +187,7 @@ class PutAway:
         return self
 
     def save(self):
-        """In one step, so that there is always a whole one."""
+        """Writes the state in one step, so that there is always a whole one."""
         new = self.folder / ".state.json"
         new.write_text(json.dumps({"file": self.file.name, "number": self.number, "moment": self.moment, "way": self.way, "was_in_place": self.was_in_place,
                                    "old": self.old.parts, "new": self.new.parts}) + "\n")
@@ -201,16 +201,16 @@ class PutAway:
         """Whether it was broken off before anything was moved."""
         return self.way == IN and self.new.is_at_home() and not self.old.at_home().exists() and not is_hidden(self.file)
 
-    def told(self):
-        """How one that isn't ended is ended."""
+    def advice(self):
+        """How to finish a restore that isn't finished."""
         back = "" if self.way == BACK else f"acd-copy --restore {self.moment} ends it, "
         return f"the {self.way} of {self.moment} isn't ended: {back}acd-copy --undo {'ends it' if self.way == BACK else 'takes it back'}"
 
     def turn(self):
-        """From now on the way is back, from wherever it was broken off, or from its end, since when there may be other files in place."""
+        """Turns the direction back, from wherever it was broken off, or from its end, since when there may be other files in place."""
         if not self.new.is_at_home():
             self.was_in_place = True
-            self.new.found(self.file, own_archives(self.file, self.old.at_home()))
+            self.new.found(self.file, unshared_archives(self.file, self.old.at_home()))
             if self.is_ended():
                 if not self.old.is_none() and inode(self.old.at_home()) is None:
                     raise Fault(f"{self.folder} hasn't the file any more that was put away")
@@ -219,16 +219,16 @@ class PutAway:
         self.save()
 
     def go(self):
-        """The way to its end."""
+        """Does the remaining steps."""
         if self.way == BACK:
             self.new.home.mkdir(exist_ok=True)
         leaving, coming = (self.old, self.new) if self.way == IN else (self.new, self.old)
-        exchange(self.file, leaving, coming, NOWHERE + self.told())
+        exchange(self.file, leaving, coming, NOWHERE + self.advice())
         if self.file.exists():
-            note(self.file)
+            write_note(self.file)
 
     def forget(self):
-        """Under another name first, so that half a folder isn't taken for one."""
+        """Removes the folder; renames it first, so that half a folder doesn't count as one."""
         gone = Path(tempfile.mkdtemp(prefix=HALF, dir=self.file.parent))
         move(self.folder, gone)
         shutil.rmtree(gone)
@@ -245,20 +245,20 @@ def folders_of(file):
 
 
 def put_away(file):
-    """The folders of this file, by their numbers. What is half made or half removed is cleared away: nobody knows of it."""
+    """The folders of this file, by their numbers. It clears away folders that are half made or half removed: no state names them."""
     for half in file.parent.glob(f"{HALF}*"):
         shutil.rmtree(half)
     return sorted(folders_of(file), key=lambda one: one.number)
 
 
 def unfinished(file):
-    """How a restore is ended that was broken off while the file was a link that leads nowhere, or had a second name; nothing where there is none."""
+    """How to finish a restore that was broken off while the file was a link that leads nowhere, or had a second name; None if there is none."""
     if is_hidden(file):
         return os.readlink(file)[len(NOWHERE):]
     # where it has one name alone, no folder is looked at
     if inode(file) is None or os.stat(file).st_nlink == 1:
         return None
-    return next((one.told() for one in folders_of(file) if inode(file) in (inode(one.old.at_home()), inode(one.new.at_home()))), None)
+    return next((one.advice() for one in folders_of(file) if inode(file) in (inode(one.old.at_home()), inode(one.new.at_home()))), None)
 
 
 # Who may, and beside whom
@@ -303,7 +303,7 @@ def become(user, group):
 
 @contextlib.contextmanager
 def alone(file):
-    """Nobody else puts files away in this folder, and no program opens the file as long as it lies there."""
+    """Nobody else puts files away in this folder, and no program opens the file while it is in place."""
     owner = owner_of(file)
     refuse_beside(file)
     become(*owner)
@@ -323,14 +323,14 @@ def alone(file):
 
 # Archives
 
-def own_archives(file, other):
-    """The names of the archives that a file goes on from, and the other one doesn't: what was made since the other one was."""
+def unshared_archives(file, other):
+    """The names of the archives that this file goes on from, and the other one doesn't: those that were made since the other one."""
     kept = {note.name for note in acd_chain.chain(other, [file.parent])}
     return [note.name for note in acd_chain.chain(file) if note.name not in kept and acd_chain.is_name(file, note.name)]
 
 
 def missing_archives(file, copy, new):
-    """Copies into the new file's folder the archives that it goes on from, and that aren't beside the file, as far as they lie in the folder of copies; their
+    """Copies into the new file's folder the archives that it goes on from, and that aren't beside the file, if the folder of copies has them. Returns their
     names."""
     copies, made = acd_chain.copies_of(copy.parent), []
     for note in acd_chain.chain(new, [file.parent, copies]):
@@ -355,24 +355,24 @@ def copy_of(file, copies, moment):
 
 
 def copied(file, copy, home):
-    """A copy of the copy, as the owner's alone; audited, as it will lie in its place. The names of the archives that come with it."""
+    """Copies the copy, for the owner alone, and audits it as it will be in its place. Returns the names of the archives that come with it."""
     home.mkdir()
     new = home / file.name
     for part, target in ((copy / file.name, new), *((at(copy / file.name), at(new)) for at in (log_of, acd_chain.note_of))):
         if part.exists() and subprocess.run(["cp", "--reflink=auto", "--preserve=timestamps", "--", part, target]).returncode:
             raise Fault(f"{part} can't be copied; nothing was touched")
-    had_log = log_of(new).exists()
+    log_existed = log_of(new).exists()
     archives = missing_archives(file, copy, new)
     sync(*home.iterdir(), home)
     try:
-        note = acd_chain.noted(new)
+        note = acd_chain.read_note(new)
         found = acd_audit.audited(new, acd_chain.place(note, file.parent, home) if note else None)
     except acd_chain.Broken as fault:
         raise Fault(f"{fault}; nothing was touched") from None
     if found.verdict != acd_audit.SOUND:
         raise Fault(f"the copy isn't sound: the audit says '{found.said}'; nothing was touched")
     # the audit made one, and left nothing in it
-    if not had_log and log_of(new).exists() and log_of(new).stat().st_size <= acd_pair.EMPTY:
+    if not log_existed and log_of(new).exists() and log_of(new).stat().st_size <= acd_pair.EMPTY:
         log_of(new).unlink()
     for part in home.iterdir():
         part.chmod(0o600)
@@ -381,15 +381,15 @@ def copied(file, copy, home):
 
 
 def prepared(file, copy, number):
-    """A folder with all that comes, beside the file; until it has its name nobody knows of it."""
+    """Makes a folder beside the file with all the new files; until it gets its name, nobody looks at it."""
     half = PutAway(Path(tempfile.mkdtemp(prefix=HALF, dir=file.parent)), file)
     try:
         archives = copied(file, copy, half.new.home)
         half.number, half.moment = number, copy.name
-        half.old.found(file, own_archives(file, half.new.at_home()))
+        half.old.found(file, unshared_archives(file, half.new.at_home()))
         half.new.found(half.new.at_home(), archives)
         half.save()
-        named = PutAway(fresh(file, "put-away"), file)
+        named = PutAway(unused_name(file, "put-away"), file)
         move(half.folder, named.folder)
     except BaseException:
         shutil.rmtree(half.folder, ignore_errors=True)
@@ -398,7 +398,7 @@ def prepared(file, copy, number):
 
 
 def restore(file, copies, moment, say):
-    """Puts a copy in the place of the file, or ends that where it was broken off."""
+    """Puts a copy in the place of the file, or finishes that if it was broken off."""
     with alone(file):
         copy = copy_of(file, copies, moment)
         known = put_away(file)
@@ -407,7 +407,7 @@ def restore(file, copies, moment, say):
             begun.forget()
             begun = None
         if begun and (begun.way == BACK or begun.moment != moment):
-            raise Fault(begun.told())
+            raise Fault(begun.advice())
         one = begun or prepared(file, copy, 1 + max((one.number for one in known), default=0))
         one.go()
         say(f"{file} is the copy of {moment}; what was in its place lies in {one.folder}, and acd-copy --undo puts it back")
@@ -416,7 +416,7 @@ def restore(file, copies, moment, say):
 
 
 def undo(file, say):
-    """Takes the last restore back, or the one that was broken off, or ends that."""
+    """Undoes the last restore, or the one that was broken off, or finishes an undo."""
     with alone(file):
         known = put_away(file)
         one = next((one for one in known if not one.is_ended()), known[-1] if known else None)
@@ -427,7 +427,7 @@ def undo(file, say):
         one.go()
         was = ""
         if one.was_in_place and any(one.new.home.iterdir()):
-            taken = fresh(file, "taken-back")
+            taken = unused_name(file, "taken-back")
             move(one.new.home, taken)
             was = f"; what was in its place lies in {taken}"
         say(f"{file} is what it was before the restore of {one.moment}{was}")

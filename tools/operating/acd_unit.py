@@ -1,8 +1,8 @@
 """Stops the desk's unit and keeps it down, while something is done to its file, and starts it again. By root; tested, not proved.
 
-In /run/acd-carry, which a power cut takes away, lie two files without bytes. `down` is a condition of the unit's own: while it is there nobody starts the unit, whoever
-asks for it; who does is remembered by systemd. `start` says that the unit was up, and has to be started again. Both are there before the unit is stopped, and `start`
-until it is started: so either command may be killed at any moment, and what it left is done by the second one alone, run once more."""
+/run/acd-carry, which a power cut empties, has two files without bytes. `down` is a condition of the unit: while it is there nobody starts the unit, whoever asks for it,
+and systemd remembers that somebody asked. `start` says that the unit was up, and has to be started again. Both are there before the unit is stopped, and `start`
+until it is started: so either command may be killed at any moment, and the second one alone, run once more, does the rest."""
 import subprocess
 import time
 from pathlib import Path
@@ -19,7 +19,7 @@ PATIENCE, PAUSE = 120, 0.1
 
 
 def systemctl(*words):
-    """What it prints."""
+    """The command's output."""
     done = subprocess.run(["systemctl", *words], stdin=subprocess.DEVNULL, stdout=subprocess.PIPE, stderr=subprocess.PIPE, text=True)
     if done.returncode:
         raise Fault(f"systemctl {' '.join(words)}: {' '.join(done.stderr.split()) or f'status {done.returncode}'}")
@@ -54,7 +54,7 @@ def was_refused():
 
 
 def start():
-    """From now on it isn't kept down, and it is started where `stop` found it up, or somebody asked for it meanwhile. What has nothing to undo does nothing."""
+    """From now on the unit isn't kept down, and it is started if `stop` found it up, or somebody asked for it meanwhile. If there is nothing to undo, it does nothing."""
     if not FOLDER.exists():
         return
     DOWN.unlink(missing_ok=True)

@@ -17,7 +17,7 @@ FAULTS = [
     ("any requester", "if not re.fullmatch(REQUESTER, options.requester):", "if False:"),
     ("every second tells", "MINUTE, HOUR = 60, 3600", "MINUTE, HOUR = 60, 60"),
     ("a name of any letters", 're.fullmatch("[A-Za-z]{1,40}", ', "bool("),
-    ("what was told ahead keeps back", "if not now - HOUR < self.told.get(text, -HOUR) <= now:", "if not now - HOUR < self.told.get(text, -HOUR):"),
+    ("what was told ahead keeps back", "if not now - HOUR < self.reported_at.get(text, -HOUR) <= now:", "if not now - HOUR < self.reported_at.get(text, -HOUR):"),
     ("what was moved is looked for once", "if self.looked <= now < self.looked + MINUTE:", "if self.looked > 0:"),
     ("no limit of all reads together", "signal.setitimer(signal.ITIMER_REAL, self.patience)", "connection.timeout = self.patience"),
 ]
