@@ -197,15 +197,15 @@ module _ {D : Type 0} (disk : Ghosts D) (IsFresh : Bool → D → Type 0) where
       of_left : (x : Done) → AuditedWithArchive disk IsFresh counts ending (file_state conn) (file_state last) x → Appends old_output new_output (text_left x) → status ≡ status_left x → AuditedWith disk IsFresh counts whole old_output new_output status
       of_left left.Nothing h text outcome = absurd h
       of_left (left.Text text) h written outcome = absurd h
-      of_left (left.Audited found end) h text outcome = (
-        found,
-        ending,
-        h.0,
-        is,
-        record { conn = conn; last = last; opened = opened; done = h.1; closed = subst (λ (x : Result (Unit {0}) F). OnOk x (IsLaidIn last)) p.shut laid },
-        subst (λ (y : Ending). Appends old_output new_output (finding_line y found)) h.2 text,
-        outcome ∙ ap (λ (y : Ending). finding_status y found) h.2,
-      )
+      of_left (left.Audited found end) h text outcome = record {
+        found = found;
+        ending = ending;
+        counted = h.0;
+        read = is;
+        done = record { conn = conn; last = last; opened = opened; done = h.1; closed = subst (λ (x : Result (Unit {0}) F). OnOk x (IsLaidIn last)) p.shut laid };
+        printed = subst (λ (y : Ending). Appends old_output new_output (finding_line y found)) h.2 text;
+        outcome = outcome ∙ ap (λ (y : Ending). finding_status y found) h.2;
+      }
 
   pub with_archive_task : {F : Type 0} (r : Result ℕ F) (asked : Task) (io : Streams) (old_errors new_errors : Option (List ℕ)) (file archive : _) (counts whole : Bool) → asked ≡ task.AuditWithArchive file archive counts whole
       → IfOk r (λ (status : ℕ). AuditedWith disk IsFresh counts whole io.old_output io.new_output status) → IfOk r (λ (status : ℕ). TaskDone disk IsFresh asked io old_errors new_errors status)

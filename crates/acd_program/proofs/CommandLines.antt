@@ -156,5 +156,5 @@ option_read f id b read = ap is_some (find_row f.entries.items id) ∙ same_some
 -- an audit without an archive
 pub audit_read : (options : List Row) (file : Bor Text) (counts whole : Bool) (asked : Task) → (whole ≡ true → asked ≡ AuditWhole file counts) → (whole ≡ false → asked ≡ Read file (kind.Audit counts Plain))
     → IsText (codes "file") options file → HasNone (codes "archive") options → counts ≡ is_given (codes "count") options → whole ≡ is_given (codes "whole") options → IsTaskWith (codes "audit") options asked
-audit_read options file counts true asked whole plain text none counted looked = subst (IsTaskWith (codes "audit") options) (sym (whole refl)) (refl, text, none, counted, looked)
+audit_read options file counts true asked whole plain text none counted looked = subst (IsTaskWith (codes "audit") options) (sym (whole refl)) ((refl, text, counted, looked), none)
 audit_read options file counts false asked whole plain text none counted looked = subst (IsTaskWith (codes "audit") options) (sym (plain refl)) (text, (refl, none, counted, looked, refl))

@@ -2,12 +2,16 @@
 use Rattle.std.specs.Prelude.{◌≡◌, Bool, false, Result, Ok, IfOk}
 use Rattle.sqlite.specs.State.{State}
 use Rattle.sqlite_disk.specs.declared.Disk.{Ghosts}
+use Rattle.acd_book.specs.declared.book.Book as book
+use Rattle.acd_book.specs.declared.fault.BookFault.{BookFault}
 use Rattle.acd_book.specs.Content.{Content}
 use Rattle.acd_book.specs.Order.{IsOrdered}
 use Rattle.acd_book.specs.State.{BookState, IfHonest}
 use Rattle.acd_desk.specs.declared.audit.AuditFault.{AuditFault}
 use Rattle.acd_desk.specs.AuditWith.{StandsInTime, IsDifferenceWith}
-use Rattle.acd_desk.specs.Standing.{Standing, InStep}
+use Rattle.acd_desk.specs.declared.desk.Desk.{Desk}
+use Rattle.acd_desk.specs.Pages.{ReadsIfOpen}
+use Rattle.acd_desk.specs.Standing.{Standing, InStep, standing}
 use Rattle.acd_desk.specs.ReadDone.{ReadDone}
 use Rattle.acd_desk.specs.WithArchive.{IsSoundWith}
 use Rattle.acd_log.specs.declared.ending.Ending.{Ending}
@@ -50,6 +54,14 @@ abbrev pub IsFoundWithArchive : BookState → BookState → Standing → Standin
 IsFoundWithArchive old_archive new_archive d e result =
     IfHonest old_archive new_archive (IfHonest d.book e.book (old_archive.is_open → d.book.is_open
     → IfOk result (λ (found : Finding). StandsInTime old_archive.content → IsOrdered d.book.content → IsDeskFindingWith old_archive.content d found)))
+
+-- the same of a call, by the archive and the desk, each as it was and as it is then
+abbrev pub FindsWith : {A B : Type 0} → book.Ghosts A → A × A → book.Ghosts B → Desk B × Desk B → Result Finding AuditFault → Type 0
+FindsWith archives archive books desk result = IsFoundWithArchive (archives.state archive.0) (archives.state archive.1) (standing books desk.0) (standing books desk.1) result
+
+-- and of the archive only that it was read
+abbrev pub ReadsArchive : {A X : Type 0} → book.Ghosts A → A → A → Result X BookFault → Type 0
+ReadsArchive archives old new result = ReadsIfOpen (archives.state old) (archives.state new) result Anything
 
 -- the same, of an archive that was open
 abbrev pub FindsWithArchive : BookState → BookState → Standing → Standing → Finding → Type 0

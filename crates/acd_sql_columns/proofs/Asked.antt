@@ -1,4 +1,4 @@
--- The result of each query.
+-- What each query shows.
 use Rattle.std.proofs.Common.{◌≡◌, ℕ, ◌+◌, zero, suc, List, [], ◌∷◌, map, filter, take, find, nat_lt, ◌==◌, ◌&&◌, cond, Bool, true, false, Option, Some, None, refl, sym, ap, ap₂, ◌∙◌, arith}
 use Rattle.std.specs.Prelude.{negsuc, pos, bytes_eq, option_to_list}
 use Rattle.std.specs.Ordering.{is_eq, is_gt}

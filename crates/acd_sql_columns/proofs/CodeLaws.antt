@@ -1,4 +1,4 @@
--- The state, kind or cause under its code is that one.
+-- What stands under the code of a state, a kind or a cause is that.
 use Rattle.std.proofs.Common.{◌≡◌, Some, refl}
 use Rattle.acd_terms.specs.declared.event.EventKind.{EventKind}
 use Rattle.acd_terms.specs.declared.event.EventKind.TheVariants as kind

@@ -1,4 +1,4 @@
--- The texts of a put, and what a statement leaves inside a transaction.
+-- What the texts of a put say, and what a statement leaves inside a transaction.
 use Rattle.std.proofs.Common.{◌≡◌, ℕ, zero, suc, ◌+◌, List, [], ◌∷◌, Bool, true, false, cond, Ok, Err, Result, OnOk, refl}
 use Rattle.sqlite_value.specs.declared.value.Value.{Value}
 use Rattle.sqlite_value.specs.declared.value.Value.TheVariants.{Null}

@@ -77,7 +77,7 @@ pub sets_connection : (x : ConnectionRecord) (c : Relations) (old new : State) (
     → HoldsUncommitted new (with_part table.Connections (put_by (at_connection x.call x.device) c.connections x) c)
 sets_connection x c old new count d ran some = updated_in connections connections_heaped UPDATE_CONNECTION.now connections_updates x c old new count d ran some
 
--- where the UPDATE changed no row, an INSERT after it makes what it would make of the rows before
+-- where the UPDATE changed no row, what an INSERT behind it makes is made of what was there
 pub after_none : (x : ConnectionRecord) (change : Relations → Relations) (old mid new : State) (none : ℕ) (result : Result (Unit {0}) Error) → Executes UPDATE_CONNECTION.now (connection_values x) old mid (Ok none) → none ≡ 0
     → OnOk result ((c : Relations) → HoldsUncommitted mid c → HoldsUncommitted new (change c)) → OnOk result ((c : Relations) → HoldsUncommitted old c → HoldsUncommitted new (change (with_part table.Connections c.connections c)))
 after_none x change old mid late none (Err e) ran missed put = tt

@@ -63,7 +63,7 @@ meta_put = record {
   source = λ m. refl;
 }
 
--- the values that an UPDATE binds: the limits and the counters, without the key and the version, which stay
+-- what an UPDATE binds: the limits and the counters, without the key and the version, which stay
 abbrev pub set_values : Meta → Row
 set_values m = drop 2 (meta_values m)
 

@@ -1,4 +1,4 @@
--- Rows represent the records that were written.
+-- Rows stand for the records that were written.
 use Rattle.std.proofs.Common.{◌≡◌, inl, inr, ℕ, ◌==◌, cond, ℤ, List, [], ◌∷◌, map, drop, refl, sym, ap, subst, ◌∙◌}
 use Rattle.std.specs.declared.cmp.Ordering.TheVariants.{Less, Equal, Greater}
 use Rattle.std.specs.declared.cmp.Ordering.{Ordering}
@@ -53,7 +53,7 @@ kept_each_back : (ks : List Kept) → Every IsReadable ks → records_in as_kept
 kept_each_back [] h = refl
 kept_each_back (k ∷ ks) h = rw (kept_back k h.0) (ap (λ l. k ∷ l) (kept_each_back ks h.1))
 
--- ---- rows with rowids apart from their keys
+-- ---- rows with numbers of their own
 
 -- of an ascending list, two that compare as equal are one
 pub one_of : {X : Type 0} (cmp : X → X → Ordering) (o : IsTotalOrder cmp) (xs : List X) (x y : X) → IsAscending cmp xs → Among x xs → Among y xs → cmp x y ≡ Equal → x ≡ y
@@ -192,7 +192,7 @@ ranks_back version.Second db c h =
     ap (λ n. cond (n == 1) [] (records_in as_priority (db (tree_of table.GroupPriority)))) (version_is 2 (meta_of c.rows) (db (tree_of table.Meta)) (h.tables table.Meta tt))
     ∙ rows_back as_priority priority_row _ (db (tree_of table.GroupPriority)) (priorities_in c.rows.groups) (h.tables table.GroupPriority tt) priority_back
 
--- the stored content is the one that the tables represent, in either version
+-- what is stored is what the tables stand for, in either version
 pub decoded_as : (v : Version) (db : Trees) (c : Content) → EncodesAs v db c → content_of db ≡ c
 unfolding content_of
 decoded_as v db c h =

@@ -47,7 +47,7 @@ use Rattle.acd_sql_columns.proofs.Updates.{Updating}
 use Rattle.acd_sql_columns.proofs.Common.{run, inert}
 use Rattle.acd_sql_columns.specs.Descriptions.{Description, after_key, row_of}
 
--- ---- what the texts of a table of so many columns after its key say
+-- ---- what the texts of a table of so many columns behind its key say
 
 -- the parameters, and NULL in the column that is the number of the row
 abbrev pub sources : ℕ → List Term
@@ -57,7 +57,7 @@ sources more = col 0 0 ∷ lit Null ∷ run 1 more
 abbrev pub by_first : List Term
 by_first = op2 (Compare Eq Binary) (col 1 0) (col 0 0) ∷ []
 
--- the number and key of the row that is there, and the parameters after the key
+-- the number and key of the row that is there, and the parameters behind the key
 abbrev pub columns_given : ℕ → List Term
 columns_given more = col 1 0 ∷ col 1 0 ∷ lit Null ∷ run 1 more
 
@@ -68,8 +68,7 @@ shown_columns more = col 1 0 ∷ columns 2 more
 -- ---- what is owed of a table
 
 module _ {R : Type 0} (d : Description R) where
-  -- a text that shows all rows, in the order of their keys, whatever tables come later than these, with which the book's
-  -- begin
+  -- a text that shows all rows, in the order of their keys, whatever lies behind these tables, with which the book's begin
   pub record Selects (base : List MadeTable) (text : List ℕ) : Type 0 where
     pub begins : BeginsSchema base book_schema
     pub selects : (rest : List MadeTable) (s : Schema) → command_of (understood (with_later base rest s) text) ≡ Select (record { lets = []; body = asking d.layout.tree [] (shown_columns (after_key d)) by_number no_limit }) (names_of d.layout)
@@ -82,7 +81,7 @@ module _ {R : Type 0} (d : Description R) where
     pub plain : IsPlain (understood book_schema text)
     pub changes : (new r : R) → showing (d.values new) (columns_given (after_key d)) (row_of d r) ≡ id_value (d.key r) ∷ id_value (d.key r) ∷ drop 1 (row_of d new)
 
-  -- a text that removes the row that has a key
+  -- a text that takes out the row that has a key
   pub record Deletes (text : List ℕ) : Type 0 where
     pub deletes : command_of (understood book_schema text) ≡ Delete d.place (record { lets = []; body = scan d.layout.tree by_first (col 1 0 ∷ []) [] })
     pub plain : IsPlain (understood book_schema text)
@@ -99,7 +98,7 @@ module _ {R : Type 0} (d : Description R) where
     pub of_record : (r : R) → ◌≡◌ {A = Row × List Row × Row}
         (d.values r, value_rows (d.values r) (after_key d + 2) (length (sources (after_key d)) / (after_key d + 2)) (sources (after_key d)), showing [] (shown_columns (after_key d)) (row_of d r))
         (id_value (d.key r) ∷ drop 1 (d.values r), row_of d r ∷ [], d.values r)
-    -- the values of any row that are looked at
+    -- what is looked at of any row
     pub of_row : (row : Row) → ◌≡◌ {A = Row × Bool} (showing [] (shown_columns (after_key d)) row, is_good d.table row) (values_in d.table row, is_some (d.in_row row))
     pub casts : (r : R) → cast_row (table_of d.layout) (row_of d r) ≡ row_of d r
     -- a row whose values are in their ranges is that of the record
@@ -115,7 +114,7 @@ module _ {R : Type 0} (d : Description R) where
     pub deletes : IfSome d.delete Deletes
     pub selects : IfSome d.select (Selects d.base)
 
-  -- a text that shows the first rows above a number, whatever tables come later than the nine
+  -- a text that shows the first rows above a number, whatever lies behind the nine tables
   pub record Pages (text : List ℕ) : Type 0 where
     pub pages : (rest : List MadeTable) (s : Schema) → command_of (understood (with_later nine rest s) text) ≡ Select (record { lets = []; body = asking d.layout.tree above_parameter (shown_columns (after_key d)) by_number (col 0 1) }) (names_of d.layout)
     pub plain : (rest : List MadeTable) (s : Schema) → IsPlain (understood (with_later nine rest s) text)
@@ -140,7 +139,7 @@ above_number n k limit row = truth_back _ ∙ above n k
 is_above : (n k : ℕ) (row : Row) (limit : ℕ) → row ≡ id_value k ∷ drop 1 row → list_all (holds ((id_value n ∷ id_value limit ∷ []) ∷ row ∷ [])) above_parameter ≡ nat_lt n k
 is_above n k row limit h = subst (λ r. list_all (holds ((id_value n ∷ id_value limit ∷ []) ∷ r ∷ [])) above_parameter ≡ nat_lt n k) (sym h) (above_number n k limit (drop 1 row))
 
--- the columns shown of a row don't depend on the parameters
+-- what is shown of a row's columns doesn't go by the parameters
 blind : (params row : Row) (start more : ℕ) → showing params (columns start more) row ≡ showing [] (columns start more) row
 blind params row start zero = refl
 blind params row start (suc more) = ap (λ l. column row start ∷ l) (blind params row (start + 1) more)

@@ -1,4 +1,4 @@
--- The end of a transaction: what it leaves.
+-- What the end of a transaction leaves.
 use Rattle.std.proofs.Common.{◌≡◌, [], inl, inr, true, false, Result, Ok, Err, IsTrue, IfErr, OnOk, OnErr, arith, sym, ap, subst, ◌∙◌}
 use Rattle.sqlite_trees.specs.Tree.{Trees}
 use Rattle.sqlite.specs.declared.error.Error.{Error}
@@ -47,7 +47,7 @@ works_on a b c p q = record {
       record { was_open = λ up. k.was_open (l.was_open up); committed = λ up. l.committed up ∙ k.committed (l.was_open up) };
 }
 
--- the connection holds the result of the transaction
+-- what the transaction made is what the connection holds
 pub holds_drafted : (mid new : State) (c : Content) → HoldsUncommitted mid (relations_of c) → Shows mid new mid.now mid.now false → HoldsContent new c
 holds_drafted mid new c d s = record {
   is_open = s.is_open;
@@ -56,7 +56,7 @@ holds_drafted mid new c d s = record {
   encodes = subst (λ (d : Database). Encodes d.trees c) (sym s.committed_is) d.tables;
 }
 
--- the end of a transaction commits what was uncommitted
+-- the end of a transaction makes what was drafted
 pub made_whole : (old mid new : State) (r : Result (Unit {0}) Error) (change : Content → Content) → ((c : Content) → HoldsContent old c → HoldsUncommitted mid (relations_of (change c)))
     → OnOk r (IsTrue mid.in_transaction × Shows mid new mid.now mid.now false × KeepsCounts mid new × (new.marks ≡ [])) → OnOk r ((c : Content) → HoldsContent old c → HoldsContent new (change c))
 made_whole old mid new (Err e) change put ended = tt

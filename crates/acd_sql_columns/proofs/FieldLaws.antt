@@ -17,7 +17,7 @@ use Rattle.acd_sql_columns.specs.Values.{id_value, cells}
 use Rattle.acd_lemmas.proofs.Lists.{head_is, tail_is, some_is}
 
 module _ {R : Type 0} where
-  -- whatever holds of all records made holds of those that were read
+  -- what holds of all that is made holds of what was read
   kept : (fs : List (Field R)) (make : Makes R fs) (P : R → Type 0) (row : Row) (at : ℕ) (x : R) → Agree fs make P → read_from fs make row at ≡ Some x → P x
   kept [] made P row at x agree h = subst P (some_is made x h) agree
   kept (f ∷ fs) make P row at x agree h =

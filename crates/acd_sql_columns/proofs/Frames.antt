@@ -1,4 +1,4 @@
--- A statement on one table: what it leaves of the content.
+-- What a statement on one table leaves of the content.
 use Rattle.std.proofs.Common.{◌≡◌, ◌≢◌, ℕ, ℤ, List, [], ◌∷◌, true, false, ◌==◌, slice_index_or, inl, inr, refl, sym, ap, subst, subst₂, ◌∙◌}
 use Rattle.std.proofs.lemmas.Bool.{cases_Bool}
 use Rattle.std.specs.List.{AllByRecursion}
@@ -39,7 +39,7 @@ at_table P all table.Kept = all.1.1.1.1.1.1.1.1.0
 at_table P all table.AgentGroups = all.1.1.1.1.1.1.1.1.1.0
 at_table P all table.GroupPriority = all.1.1.1.1.1.1.1.1.1.1.0
 
--- each table has a separate tree
+-- each table has a tree of its own
 tables : List Table
 tables = table.Meta ∷ table.Groups ∷ table.Stations ∷ table.Agents ∷ table.Agents ∷ table.Calls ∷ table.Connections ∷ table.Connections ∷ table.Monitors ∷ table.Events ∷ table.Kept ∷ table.Kept
     ∷ table.AgentGroups ∷ table.AgentGroups ∷ table.GroupPriority ∷ []
@@ -88,7 +88,7 @@ part_kept table.AgentGroups table.AgentGroups x r e = absurd (apart_from e)
 part_kept table.GroupPriority table.GroupPriority x r e = absurd (apart_from e)
 part_kept _ _ x r e = refl
 
--- the table that is written has its new rows, and each other its old ones
+-- the table that is written has its new rows, and each other what it had
 pub framed : (t : Table) (x : TableContent t) (rows : List Row) (old new : Trees) (r : Relations) → Stores t rows x → new (tree_of t) ≡ rows
     → AllByRecursion (λ u. u.tree ≢ tree_of t → new u.tree ≡ old u.tree) book_schema.tables → AreTables old r → AreTables new (with_part t x r)
 framed t x rows old new r stores is others was u = elim (cases_Bool (tree_of u == tree_of t)) [

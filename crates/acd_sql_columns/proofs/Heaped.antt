@@ -1,5 +1,4 @@
--- A table whose rows have rowids apart from their keys, and which is as it is described: what its statements and its query do, for any
--- such table.
+-- A table whose rows have numbers of their own, and which is as it is described: what its statements and its query do, for any such table.
 use Rattle.std.proofs.Common.{◌≡◌, ◌≢◌, inl, inr, ℕ, ℤ, ◌+◌, ◌/◌, suc, List, [], ◌∷◌, length, map, filter, drop, slice_get, Bool, true, false, not, ◌==◌, ◌&&◌, Option, Some, Ok, refl, sym, ap, ap₂, subst, subst₂, ◌∙◌}
 use Rattle.std.specs.List.{AllByRecursion, list_all, list_any}
 use Rattle.std.specs.List.Sorted.{IsPermutation}
@@ -71,7 +70,7 @@ use Rattle.acd_sql_columns.proofs.Sets.{set_none}
 use Rattle.acd_sql_columns.proofs.Statements.{Changed, Insertion, inserted, Deletion, deletion_edit, deleted, Replaces, replaces, inert_works}
 use Rattle.acd_sql_columns.proofs.Updates.{Updating, updating_edit, updated}
 
--- ---- what the texts of a table of so many columns after its key say
+-- ---- what the texts of a table of so many columns behind its key say
 
 -- NULL for the number that the row is given, and the parameters
 abbrev pub sources : ℕ → List Term
@@ -85,7 +84,7 @@ by_two = op2 (Compare Eq Binary) (col 1 1) (col 0 0) ∷ op2 (Compare Eq Binary)
 abbrev pub by_one : List Term
 by_one = op2 (Compare Eq Binary) (col 1 1) (col 0 0) ∷ []
 
--- the number of the row that is there, its number and key, and the parameters after the key
+-- the number of the row that is there, its number and key, and the parameters behind the key
 abbrev pub columns_given : ℕ → List Term
 columns_given more = col 1 0 ∷ col 1 0 ∷ col 1 1 ∷ col 1 2 ∷ run 2 more
 
@@ -118,7 +117,7 @@ module _ {R : Type 0} (h : Heap R) where
         (id_value (h.first r) ∷ id_value (h.second r) ∷ drop 2 (h.values r), (Null ∷ h.values r) ∷ [])
     -- its columns show its values, whatever its number
     pub shows : (id : ℤ) (r : R) → showing [] (shown_columns (after_both h)) (numbered_row h id r) ≡ h.values r
-    -- the values of any row that are looked at
+    -- what is looked at of any row
     pub of_row : (row : Row) → ◌≡◌ {A = Row × Bool} (showing [] (shown_columns (after_both h)) row, is_good h.table row) (values_in h.table row, is_some (h.in_row row))
     pub casts : (r : R) → cast_all h.layout.columns (h.values r) ≡ h.values r
     -- a row whose values are in their ranges is that of the record
@@ -137,12 +136,12 @@ module _ {R : Type 0} (h : Heap R) where
     pub plain : IsPlain (understood book_schema text)
     pub changes : (id : ℤ) (new r : R) → showing (h.values new) (columns_given (after_both h)) (numbered_row h id r) ≡ Int id ∷ Int id ∷ id_value (h.first r) ∷ id_value (h.second r) ∷ drop 2 (h.values new)
 
-  -- a text that removes the rows that pass these tests
+  -- a text that takes out the rows that pass these tests
   pub record DeletesThose (text : List ℕ) (terms : List Term) : Type 0 where
     pub deletes : command_of (understood book_schema text) ≡ Delete h.place (record { lets = []; body = scan h.layout.tree terms (col 1 0 ∷ []) [] })
     pub plain : IsPlain (understood book_schema text)
 
-  -- a text that shows all rows in the order of their keys, whatever tables come later than these
+  -- a text that shows all rows in the order of their keys, whatever lies behind these tables
   pub record SelectsAll (base : List MadeTable) (text : List ℕ) : Type 0 where
     pub selects : (rest : List MadeTable) (s : Schema) → command_of (understood (with_later base rest s) text) ≡ Select (record { lets = []; body = asking h.layout.tree [] (shown_columns (after_both h)) by_columns no_limit }) (names_of h.layout)
     pub plain : (rest : List MadeTable) (s : Schema) → IsPlain (understood (with_later base rest s) text)
@@ -223,7 +222,7 @@ module _ {R : Type 0} (h : Heap R) (f : Heaped h) where
       subst₂ (λ v w. agree plain key_columns (Int id ∷ v) key_columns (Int given ∷ w) ≡ is_like h r x) (sym (starts x)) (sym (starts r))
       (keys_agree id given (h.first r) (h.second r) (h.first x) (h.second x) (drop 2 (h.values x)) (drop 2 (h.values r)))
 
-  -- where a row could be put, no record had its key before
+  -- where a row could be put, no record had its key
   none_like : (rows : List Row) (records : List R) (are : AreRowsOf rows records) (id : ℤ) (r : R) (next : List Row) → are_fresh rows (numbered_row h id r ∷ []) ≡ true → next ≡ put_all rows (numbered_row h id r ∷ [])
       → AllByRecursion (λ row. (not (has_twin next row) && true) ≡ true) next → (x : R) → Among x records → is_like h r x ≡ false
   none_like rows records are id r next unused is alone x a = false_from_ne_true (is_like h r x) (λ met.
@@ -356,7 +355,7 @@ module _ {R : Type 0} (h : Heap R) (f : Heaped h) where
     abbrev pub listing : Listing base text
     listing = record { tree = h.layout.tree; terms = []; project = shown_columns (after_both h); order = by_columns; limit = no_limit; names = names_of h.layout; command = s.selects; plain = s.plain; unlisted = s.unlisted }
 
-    -- the sort key of a row, and the values that it shows
+    -- what a row is sorted by, and what it shows
     abbrev part : Row → Output
     part r = given (query_of listing) [] r
 

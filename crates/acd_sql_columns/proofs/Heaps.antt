@@ -1,4 +1,4 @@
--- Rows with rowids apart from their keys, which represent records that two numbers identify.
+-- Rows with numbers of their own, which stand for records that are told by two numbers.
 use Rattle.std.proofs.Common.{◌≡◌, ◌⊎◌, inl, inr, ℕ, ℤ, pos, List, [], ◌∷◌, Bool, true, false, not, ◌==◌, ◌&&◌, filter, map, drop, refl, sym, ap, ap₂, ◌∙◌, eq-eqb}
 use Rattle.std.specs.Cmp.{IsTotalOrder, both_ways}
 use Rattle.std.specs.List.{list_any, list_all}
@@ -116,7 +116,7 @@ module _ {R : Type 0} (h : Heap R) where
   pub ints_of : (rows : List Row) (records : List R) → AreHeaped (by_both h) (numbered_row h) rows records → (r : Row) → Has rows r → rowid r ≡ Int (id_in (rowid r))
   ints_of rows records are r there = let from = are.known r there in ap rowid from.2 ∙ ap (λ s. Int (id_in (rowid s))) (sym from.2)
 
-  -- the rows of some records are removed
+  -- the rows of some records are taken out
   pub heap_left : (gone : Row → Bool) (p : R → Bool) → ((id : ℤ) (x : R) → gone (numbered_row h id x) ≡ p x) → (rows : List Row) (records : List R) → AreHeaped (by_both h) (numbered_row h) rows records
       → AreHeaped (by_both h) (numbered_row h) (filter (λ r. not (gone r)) rows) (filter (λ x. not (p x)) records)
   heap_left gone p same rows records are = record {

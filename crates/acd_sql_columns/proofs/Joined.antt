@@ -1,4 +1,4 @@
--- Groups and agents, and what the tables have of them: separate tables hold a group's priority and an agent's further groups.
+-- Groups and agents, and what the tables have of them: a group's priority and an agent's further groups stand in tables of their own.
 use Rattle.std.proofs.Common.{◌≡◌, ◌⊎◌, inl, inr, ℕ, Bool, true, false, cond, not, ◌==◌, ◌++◌, List, [], ◌∷◌, map, filter, refl, sym, ap, ap₂, subst, ◌∙◌, append-nil}
 use Rattle.std.specs.Ordering.{nat_cmp, is_eq, ordering_then, ordering_reverse, match_ordering}
 use Rattle.std.specs.declared.cmp.Ordering.{Ordering}
@@ -113,7 +113,7 @@ agents_joined agents up = each_joined (further_in agents) agents (beside_each ag
 
 -- ---- an agent is put
 
--- a pair that comes before all of them stays before
+-- what comes before all of them stays before
 passed : (ps : List (ℕ × ℕ)) (q : ℕ × ℕ) (pairs : List (ℕ × ℕ)) → ((p : ℕ × ℕ) → Among p ps → pair_order p q ≡ Greater) → all_put ps (q ∷ pairs) ≡ q ∷ all_put ps pairs
 passed [] q pairs all = refl
 passed (p ∷ ps) q pairs all =
@@ -172,7 +172,7 @@ pairs_after n agents before q h = let from = pair_agent agents q h in ap (nat_cm
 abbrev left_pairs : ℕ → List AgentRecord → List (ℕ × ℕ)
 left_pairs n agents = filter (not_of n) (further_in agents)
 
--- the further groups of an agent that is put are put, in place of its old ones
+-- the further groups of an agent that is put are put, in place of those that it had
 pub further_put : (a : AgentRecord) (agents : List AgentRecord) → IsAscending nat_cmp (further_groups a.groups) → IsAscending by_agent agents → with_further a (further_in agents) ≡ further_in (put_by (by_agent a) agents a)
 further_put a [] groups_rise up = all_in_front a.agent (further_groups a.groups) [] groups_rise (λ q h. absurd h)
 further_put a (x ∷ agents) groups_rise up = by (by_agent a x) refl (further_put a agents groups_rise up.1)
@@ -274,7 +274,7 @@ groups_joined groups up = each_ranked (priorities_in groups) groups (priority_ea
 abbrev at_device : ℕ → GroupPriority → Ordering
 at_device n p = nat_cmp n p.device
 
--- of groups after a number, none has a priority there
+-- of groups behind a number, none has a priority there
 removed_none : (n : ℕ) (groups : List GroupRecord) → ((g : GroupRecord) → Among g groups → nat_cmp n g.device ≡ Less) → remove_by (at_device n) (priorities_in groups) ≡ priorities_in groups
 removed_none n [] before = refl
 removed_none n (g ∷ groups) before = by (g.priority == 0) (removed_none n groups (λ h k. before h (inr k)))
@@ -301,7 +301,7 @@ put_or_gone g b ps = cond b (remove_by (at_device g.device) ps) (put_by (at_devi
 abbrev first_or_none : GroupRecord → Bool → List GroupPriority → List GroupPriority
 first_or_none g b ps = cond b ps (priority_part g ∷ ps)
 
--- where it comes before all of them
+-- where it goes before all of them
 put_first : (g : GroupRecord) (groups : List GroupRecord) (b : Bool) → ((h : GroupRecord) → Among h groups → nat_cmp g.device h.device ≡ Less) → put_or_gone g b (priorities_in groups) ≡ first_or_none g b (priorities_in groups)
 put_first g groups true before = removed_none g.device groups before
 put_first g groups false before = put_in_front (priority_part g) groups before
@@ -314,14 +314,14 @@ put_over g x groups true false same before = ap (λ o. cond (is_eq o) (prioritie
 put_over g x groups false false same before =
     ap (λ o. match_ordering o (priority_part g ∷ priority_part x ∷ priorities_in groups) (priority_part g ∷ priorities_in groups) (priority_part x ∷ put_by (at_device g.device) (priorities_in groups) (priority_part g))) same
 
--- after the first of them
+-- behind the first of them
 put_after : (g x : GroupRecord) (ps : List GroupPriority) (b c : Bool) → nat_cmp g.device x.device ≡ Greater → put_or_gone g b (first_or_none x c ps) ≡ first_or_none x c (put_or_gone g b ps)
 put_after g x ps b true above = refl
 put_after g x ps true false above = ap (λ o. cond (is_eq o) ps (priority_part x ∷ remove_by (at_device g.device) ps)) above
 put_after g x ps false false above =
     ap (λ o. match_ordering o (priority_part g ∷ priority_part x ∷ ps) (priority_part g ∷ ps) (priority_part x ∷ put_by (at_device g.device) ps (priority_part g))) above
 
--- the priority of a group that is put is put, in place of its old one
+-- the priority of a group that is put is put, in place of the one that it had
 pub priority_put : (g : GroupRecord) (groups : List GroupRecord) → IsAscending by_group groups → with_priority_of g (priorities_in groups) ≡ priorities_in (put_by (by_group g) groups g)
 priority_put g [] up = put_first g [] (g.priority == 0) (λ h k. absurd k)
 priority_put g (x ∷ groups) up = by (by_group g x) refl (priority_put g groups up.1)

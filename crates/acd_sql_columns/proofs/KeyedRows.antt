@@ -26,7 +26,7 @@ id_tied m n = ap is_eq (id_cmp m n) ∙ eq_key m n
 pub apart : (m n : ℕ) → (m == n) ≡ false → m ≡ n → ⊥
 apart m n h e = grind (arith, nat_tests)
 
--- the one that is removed from an ascending list is the one that is added again
+-- the one that goes out of an ascending list is the one that comes back in
 module _ {R : Type 0} (order : R → R → Ordering) (total : IsTotalOrder order) (has : R → R → Bool) (tied : (new r : R) → is_eq (order new r) ≡ has new r) where
   module _ (new : R) where
     -- none of these has the key

@@ -1,4 +1,4 @@
--- Queries over one table whose rows represent records: they show the records that pass, in order.
+-- Queries over one table whose rows stand for records: they show the records that pass, in order.
 use Rattle.std.proofs.Common.{◌≡◌, ◌++◌, ℕ, List, [], ◌∷◌, map, filter, false, Bool, Ok, Err, Result, IfOk, OnOk, IsTrue, refl, sym, ap, subst, ◌∙◌}
 use Rattle.std.specs.Prelude.{Vec}
 use Rattle.std.specs.declared.alloc.Global.{Global}
@@ -36,8 +36,7 @@ use Rattle.acd_sql_columns.proofs.KeyedRows.{by_key, by_key_total, id_cmp}
 use Rattle.acd_sql_columns.proofs.Ordered.{asking, given, answered}
 use Rattle.acd_sql_columns.proofs.Scans.{showing, passing, filter_like, each, filter_mapped}
 
--- a text asks for this: the tests, the columns, the order and the limit of a query over one table; and so it does whatever tables come later than
--- these
+-- what a text asks for: the tests, the columns, the order and the limit of a query over one table; and so it does whatever lies behind these tables
 pub record Listing (base : List Made) (text : List ℕ) : Type 0 where
   pub tree : ℕ
   pub terms : List Term

@@ -1,4 +1,4 @@
--- The results of queries of tables whose rows may hold anything.
+-- What the queries show of tables whose rows may hold anything.
 use Rattle.std.proofs.Common.{◌≡◌, ◌&&◌, ℕ, zero, suc, length, take, filter, nat_lt, nat_le, List, [], ◌∷◌, map, cond, Bool, true, false, Option, Some, None, Result, inl, inr, refl, sym, ap, subst, ◌∙◌, IsTrue, arith}
 use Rattle.std.specs.Prelude.{Vec, pos, negsuc, codes}
 use Rattle.std.specs.declared.alloc.Global.{Global}
@@ -176,7 +176,7 @@ shown_meta d old new rows old_database b h =
     let whole_schema = with_later nine b.0 d.schema in
     subst (λ l. IsPermutation l rows) (ap (map (values_in table.Meta)) (filter_true (d.trees schema.meta.tree))) (in_database whole_schema whole_schema SELECT_META.now (meta_selection b.0 d.schema) d old new rows old_database (begun nine d.schema b) h)
 
--- whatever tables come later than the first
+-- whatever tables are behind the first
 abbrev first : List Made
 first = schema.table_of schema.meta ∷ []
 

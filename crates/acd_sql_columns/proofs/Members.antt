@@ -16,7 +16,7 @@ module _ {X : Type 0} where
   abbrev pub AreApart : List X → Type 0
   AreApart = IsAscending Differ
 
-  -- of images that differ where the members follow one another
+  -- of images that differ where the members stand one behind the other
   pub apart_under : {A : Type 0} {S : A → A → Type 0} (f : A → X) (xs : List A) → ((a b : A) → Has xs a → Has xs b → S a b → Differ (f a) (f b)) → IsAscending S xs → AreApart (map f xs)
   apart_under f [] so up = tt
   apart_under {S = S} f (a ∷ xs) so up = (
@@ -24,7 +24,7 @@ module _ {X : Type 0} where
     apart_under f xs (λ b c p q. so b c (inr p) (inr q)) up.1,
   )
 
-  -- its place
+  -- where it stands
   place : (ys : List X) (x : X) → Has ys x → (front : List X) × (back : List X) × (ys ≡ front ++ x ∷ back)
   place [] x h = absurd h
   place (y ∷ ys) x (inl e) = ([], ys, ap (λ z. z ∷ ys) (sym e))

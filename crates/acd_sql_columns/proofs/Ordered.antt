@@ -35,7 +35,7 @@ module _ {X Y : Type 0} (f : X → Y) where
   map_swaps xs [] = refl
   map_swaps xs (p ∷ ps) = map-swap (apply_swaps xs ps) p.0 p.1 ∙ ap (λ l. swap l p.0 p.1) (map_swaps xs ps)
 
-  -- a list in another order than the images is a list of images in another order
+  -- what is in another order than the images are images in another order
   unmapped : (xs : List X) (ys : List Y) → IsPermutation (map f xs) ys → (zs : List X) × IsPermutation xs zs × (ys ≡ map f zs)
   unmapped xs ys p = (
     apply_swaps xs p.moves,
@@ -69,7 +69,7 @@ module _ {R : Type 0} (cmp : R → R → Ordering) (total : IsTotalOrder cmp) wh
 abbrev pub asking : ℕ → List Term → List Term → List (Term × Key) → Term → Query
 asking t terms project order limit = record (scan t terms project order) { limit = limit }
 
--- the sort key of a row, and the values that it shows
+-- what a row is sorted by, and what it shows
 abbrev pub given : Query → Row → Row → Output
 given q params r = output q (params ∷ r ∷ [])
 

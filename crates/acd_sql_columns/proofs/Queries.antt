@@ -66,7 +66,7 @@ module _ (old new : State) {P : Trees → Type 0} (s : Survives old new P) where
     same = λ k c h up. elim (ends k) [ inl same ↦ holds_same old new c same h | inr back ↦ rolled_back old old new c h (record { was_open = λ x. x; committed = λ x. refl }) back up ];
   }
 
-  -- where nothing that it might commit is possible
+  -- where what it may commit cannot be
   pub quiet_stops : HasCleanDisk new → ((db : Trees) → ¬ P db) → NoStop old new
   quiet_stops k never db left = elim (s.crash k db left) [ inl was ↦ was | inr made ↦ absurd (never db made) ]
 

@@ -1,4 +1,4 @@
--- The records read of rows are those that the rows represent.
+-- What is read of rows are the records that the rows stand for.
 use Rattle.std.proofs.Common.{◌≡◌, List, [], ◌∷◌, map, Result, Ok, Err, Option, Some, IfOk, refl, sym, ap, ap₂, ◌∙◌}
 use Rattle.std.specs.Prelude.{Vec}
 use Rattle.std.specs.declared.alloc.Global.{Global}

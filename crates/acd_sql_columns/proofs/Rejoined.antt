@@ -58,7 +58,7 @@ first_le p q h = by (nat_cmp p.0 q.0) refl h
     by Equal e k = not_below q.0 p.0 (sym (cmp_equal p.0 q.0 e))
     by Greater e k = absurd (cc k)
 
--- of numbers that are none below, one after another that isn't it comes after
+-- of numbers that are none below, one behind another that isn't it comes after
 after_one : (n m k : ℕ) → nat_lt m n ≡ false → (m == n) ≡ false → nat_lt k m ≡ false → (k == n) ≡ false
 after_one n m k h e l = grind (arith, nat_tests)
 
@@ -166,7 +166,7 @@ module _ (agents : List AgentRow) (pairs : List (ℕ × ℕ)) (up : IsAscending 
   there : (p : ℕ × ℕ) → Among p pairs → (a : AgentRow) × Among a agents × (a.agent ≡ p.0)
   there p h = let from = seat p h in (from.0, from.1, eqb-true from.0.agent p.0 (and_parts (from.0.agent == p.0) (is_above from.0.group p.1) from.2).0)
 
-  -- a pair of an agent comes after its first group
+  -- a pair of an agent is behind its first group
   above : (a : AgentRow) → Among a agents → (p : ℕ × ℕ) → Among p (filter (of_agent a.agent) pairs) → is_above a.group p.1 ≡ true
   above a h p k =
       let was = filter_among (of_agent a.agent) pairs p k in
@@ -257,7 +257,7 @@ of_device n p = p.device == n
 abbrev rank_or_none : ℕ → ℕ → List GroupPriority
 rank_or_none n r = cond (r == 0) [] (record { device = n; priority = r } ∷ [])
 
--- the row of a group is its priority, and there is none where that is 0
+-- what stands for a group is its priority, and nothing where that is 0
 one_rank : (n : ℕ) (ps : List GroupPriority) → IsAscending by_rank ps → ((p : GroupPriority) → Among p ps → (p.priority == 0) ≡ false) → rank_or_none n (priority_of ps n) ≡ filter (of_device n) ps
 one_rank n [] up some = refl
 one_rank n (p ∷ ps) up some = by (p.device == n) refl (one_rank n ps up.1 (λ q h. some q (inr h)))

@@ -1,4 +1,4 @@
--- A record removed from the table of its kind, by its key.
+-- A record taken out of the table of its kind, by its key.
 use Rattle.std.proofs.Common.{◌≡◌, ℕ, List, [], ◌∷◌, map, ◌==◌, true, Ok, refl, sym, ap, ◌∙◌, arith}
 use Rattle.std.proofs.lemmas.Bool.Decides.{nat_tests}
 use Rattle.std.specs.List.{list_all}
@@ -18,7 +18,7 @@ use Rattle.acd_sql_columns.proofs.Scans.{taken_out}
 use Rattle.acd_sql_columns.proofs.Statements.{Deletion, deletion_edit, deleted, Replaces, replaces}
 use Rattle.acd_lemmas.proofs.Keyed.{key_is}
 
--- the text removes the row that has the number
+-- the text takes out the row that has the number
 pub record Removes {R : Type 0} (schema : Schema) (text : List ℕ) (key : R → ℕ) (row : R → Row) : Type 0 where
   pub it : Deletion schema text
   pub files : Files it.layout key row

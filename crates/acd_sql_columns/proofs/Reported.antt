@@ -110,7 +110,7 @@ report_formed c r h =
     let p = guarded (is_formed c) (Some (report_of c)) r h in
     ap columns_of (sym (some_is (report_of c) r p.1)) ∙ formed c.kind c.device c.call c.agent c.group c.to c.cause c.waited p.0
 
--- the columns of a report give the report back
+-- a report that is told by its columns is the report
 pub report_back : (r : Report) → report_of (columns_of r) ≡ r
 report_back (report.ServiceInitiated call station) = refl
 report_back (report.Originated call station to) = refl

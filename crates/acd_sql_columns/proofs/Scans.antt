@@ -1,4 +1,4 @@
--- A query over one table, and the rows that a DELETE removes by it.
+-- A query over one table, and the rows that a DELETE takes out by it.
 use Rattle.std.proofs.Common.{◌≡◌, ℕ, ℤ, pos, negsuc, List, [], ◌∷◌, ◌++◌, map, filter, Bool, true, false, not, ◌==◌, ◌&&◌, ◌||◌, cond, None, refl, sym, ap, subst, ◌∙◌, append_assoc, unwrap_or, Option}
 use Rattle.acd_sql_columns.specs.Values.{id_value}
 use Rattle.acd_sql_columns.proofs.KeyedRows.{id_tied}
@@ -44,7 +44,7 @@ shown_is : (q : Query) (params : Row) (rows : List Row) → map (λ (o : Output)
 shown_is q params [] = refl
 shown_is q params (r ∷ rs) = ap (λ t. showing params q.project r ∷ t) (shown_is q params rs)
 
--- where a query has no table
+-- where a query has no table of its own
 no_table : (b : Bool) (rows : List Row) → unwrap_or (cond {A = Option (List Row)} b None None) rows ≡ rows
 no_table true rows = refl
 no_table false rows = refl
@@ -63,7 +63,7 @@ scanned t terms project order db params rows h =
     let same = IsPermutation-map (λ (o : Output). o.1) _ a.ordered (subst (λ k. IsPermutation k a.ordered) kept a.same) in
     subst (λ l. IsPermutation l rows) (shown_is q params (passing params terms (db t))) (subst (IsPermutation (map (λ (o : Output). o.1) (map (output q) (map (λ r. params ∷ r ∷ []) (passing params terms (db t)))))) (sym a.shown) same)
 
--- ---- rows that are removed
+-- ---- rows taken out
 
 without_step : (p q : Row → Bool) (rows : List Row) → filter q (filter (λ r. not (p r)) rows) ≡ filter (λ r. not (p r) && q r) rows
 without_step p q [] = refl
@@ -132,7 +132,7 @@ module _ {R : Type 0} (key : R → ℕ) (row : R → Row) (keyed : (r : R) → r
   all_and A B [] f h = tt
   all_and A B (x ∷ xs) f h = (ap not (f x ∙ h.0), all_and A B xs f h.1)
 
-  -- the rest where these rowids are removed, in whatever order
+  -- what is left where these rowids are taken out, in whatever order
   pub left_over : (rs : List R) (ids : List ℤ) → IsPermutation (map (λ r. pos (key r)) (filter P rs)) ids → without_all (map row rs) ids ≡ map row (filter (λ r. not (P r)) rs)
   left_over rs ids same =
       let found = λ (r : R). sym (list_any-IsPermutation (λ id. has_rowid id (row r)) _ ids same) ∙ any_mapped (λ id. has_rowid id (row r)) (λ r. pos (key r)) (filter P rs) in

@@ -1,4 +1,4 @@
--- The result of the query of a whole table, whatever its rows hold.
+-- What the query of a whole table shows, whatever its rows hold.
 use Rattle.std.proofs.Common.{◌≡◌, List, [], map, Result, ap, subst, ◌∙◌, ℕ}
 use Rattle.std.specs.Prelude.{Vec}
 use Rattle.std.specs.declared.alloc.Global.{Global}

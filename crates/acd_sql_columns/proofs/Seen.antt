@@ -59,13 +59,13 @@ sees_query sql params d old new (Ok rows) plain s ok err =
     sees_shown d old new s (λ old_database db. never_commits sql params old db (plain_in sql d old old_database plain)) rows (λ (rows : Vec Row Global). Shown sql params old new rows.items)
     (λ k. shown_open sql params old new rows.items (ok k)) (λ k old_database. shown_same sql params old new rows.items (plain_in sql d old old_database plain) (ok k)) (λ k old_database. ok k)
 
--- ---- one read after another
+-- ---- one read behind another
 
 pub still_here : {A : Type 0} (d : Database) (old mid : State) (a : A) (P : A → Type 0) → Sees d old mid (Ok a) P → HasCleanDisk mid → HasDatabase old d → HasDatabase mid d
 still_here d old mid a P first m old_database = first.same m old_database (first.up m old_database)
 
 module _ {A B : Type 0} (d : Database) where
-  -- the answer of a read is used for the next result
+  -- what was read goes on to what is made of it
   pub sees_on : (old new : State) (a : A) (P : A → Type 0) (Q : B → Type 0) (r : Result B Error) → Sees d old new (Ok a) P → (HasDatabase old d → P a → IfOk r Q) → Sees d old new r Q
   sees_on old new a P Q (Ok b) h on = record { clean = h.clean; up = h.up; was_open = h.was_open; same = h.same; stops = h.stops; answer = λ k old_database. on old_database (h.answer k old_database) }
   sees_on old new a P Q (Err e) h on = record { clean = h.clean; up = λ k old_database. tt; was_open = h.was_open; same = h.same; stops = h.stops; answer = λ k old_database. tt }
@@ -92,7 +92,7 @@ module _ {A B : Type 0} (d : Database) where
 pub sees_here : {A : Type 0} (d : Database) (s : State) (a : A) (P : A → Type 0) → (HasDatabase s d → P a) → Sees d s s (Ok a) P
 sees_here d s a P here = record { clean = λ k. k; up = λ k old_database. old_database.is_open; was_open = λ k up. up; same = λ k old_database up. old_database; stops = λ k old_database db left. left; answer = λ k old_database. here old_database }
 
--- a consequence of the answer of a read is seen too
+-- what was found is also what follows of it
 pub sees_so : {A : Type 0} (d : Database) (old new : State) (r : Result A Error) (P Q : A → Type 0) → (HasDatabase old d → (a : A) → P a → Q a) → Sees d old new r P → Sees d old new r Q
 sees_so d old new (Ok a) P Q so h = sees_on d old new a P Q (Ok a) h (λ old_database p. so old_database a p)
 sees_so d old new (Err e) P Q so h = sees_fail d old new e P Q h

@@ -1,4 +1,4 @@
--- The query of a table: what it finds, and what it finds in a table whose rows may hold anything.
+-- What the query of a table finds, and what it tells of a table whose rows may hold anything.
 use Rattle.std.proofs.Common.{◌≡◌, ◌&&◌, ◌||◌, ℕ, not, List, [], ◌∷◌, map, Bool, true, false, Result, Ok, Err, IfOk, OnOk, IsTrue, Some, refl, sym, ap, ap₂, subst, ◌∙◌}
 use Rattle.std.specs.Prelude.{Vec, IsPermutation}
 use Rattle.std.specs.List.{list_any}

@@ -50,7 +50,7 @@ map_twice : {X Y Z : Type 0} (f : Y → Z) (g : X → Y) (xs : List X) → map f
 map_twice f g [] = refl
 map_twice f g (x ∷ xs) = ap (λ l. f (g x) ∷ l) (map_twice f g xs)
 
--- the columns shown of the rows that are found
+-- what is shown of the rows that are found
 shown_keyed : {R : Type 0} (schema : Schema) (text : List ℕ) (key : R → ℕ) (row params : R → Row) (s : Sets schema text key row params) (r : R) (rs : List R) (rows : List Row) → AreRows key row rows rs
     → map (showing (params r) s.it.project) (passing (params r) s.it.terms rows) ≡ map (λ (y : R). showing (params r) s.it.project (row y)) (filter (λ (y : R). key y == key r) rs)
 shown_keyed {R = R} schema text key row params s r rs rows are =

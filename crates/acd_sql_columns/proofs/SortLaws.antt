@@ -1,4 +1,4 @@
--- A read of a column gives the value that was written there, and so does the value shown of it.
+-- What is read of a column is what was written there, and so is what is shown of it.
 use Rattle.std.proofs.Common.{◌≡◌, ℕ, Some, None, refl, ap, ◌∙◌}
 use Rattle.sqlite_value.specs.declared.value.Value.TheVariants.{Null}
 use Rattle.sqlite_rules.specs.Cast.{cast}

@@ -1,4 +1,4 @@
--- The effect of a statement on the state of a connection, of any schema.
+-- What a statement does to the state of a connection, of any schema.
 use Rattle.std.proofs.Common.{◌≡◌, ◌≢◌, ◌⊎◌, inl, inr, ℕ, ◌/◌, List, [], ◌∷◌, length, map, slice_get, Bool, true, false, Some, None, Option, Ok, Err, Result, IsTrue, IfOk, refl, sym, ap, subst, subst₂, ◌∙◌, append-nil, if◌then◌else◌, ◌==◌}
 use Rattle.sqlite_value.specs.Order.{Row}
 use Rattle.sqlite_trees.specs.Tree.{Trees}

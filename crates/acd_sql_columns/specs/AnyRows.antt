@@ -1,4 +1,4 @@
--- Rows as they are in a database, whatever they hold, and whether their values are in their ranges.
+-- Rows as they stand in a database, whatever they hold, and whether their values are in their ranges.
 use Rattle.std.specs.Prelude.{◌≡◌, ℕ, suc, Bool, false, List, [], ◌∷◌, length, map, take, drop, filter, nat_lt, codes, IsTrue}
 use Rattle.std.specs.List.{AllByRecursion, list_all, list_any}
 use Rattle.std.specs.Option.{is_some}
@@ -43,9 +43,9 @@ is_good table.GroupPriority r = is_some (priority_in r)
 unfoldable pub are_good : Table → List Row → Bool
 are_good t rows = list_all (is_good t) rows
 
--- ---- rows as they are in a database
+-- ---- rows as they stand in a database
 
--- the number of the row, which is the key, and the columns after it
+-- the number of the row, which is the key, and the columns behind it
 abbrev pub keyed_in : Layout → Row → Row
 keyed_in l r = column r 0 ∷ cells 2 (after_first l) r
 
@@ -75,7 +75,7 @@ rows_in t db = map (values_in t) (db (tree_of t))
 unfoldable pub is_good_in : Table → Trees → Bool
 is_good_in t db = are_good t (rows_in t db)
 
--- each further group comes after the first one of its agent, who has seven at most
+-- each further group is behind the first one of its agent, who has seven at most
 unfoldable pub is_beside : Trees → Bool
 is_beside db = are_after (map as_agent (rows_in table.Agents db)) (map as_further (rows_in table.AgentGroups db))
 
@@ -97,7 +97,7 @@ pub record IsCanonicalAs (v : Version) (db : Trees) : Type 0 where
   pub numbered : (t : Table) → IsIn v t → AllByRecursion (λ r. IsTrue (is_int (rowid r))) (db (tree_of t))
   pub whole : HaveAllColumns v db
 
--- a bad one is there; and where the rows are canonical the query finds whether there is one
+-- a bad one is there; and where the rows are filed it is told whether there is one
 pub record FindsGood (t : Table) (db : Trees) (good : Bool) : Type 0 where
   pub bad : good ≡ false → is_good_in t db ≡ false
   pub canonical : IsCanonicalAs version.First db → good ≡ is_good_in t db

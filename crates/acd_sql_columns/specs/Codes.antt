@@ -1,4 +1,4 @@
--- The numbers that represent states, kinds and causes, and the meaning of a number.
+-- The numbers that stand for states, kinds and causes, and what stands under a number.
 use Rattle.std.specs.Prelude.{ℕ, ◌==◌, List, [], ◌∷◌, Option, find}
 use Rattle.acd_terms.specs.declared.state.AgentState.{AgentState}
 use Rattle.acd_terms.specs.declared.state.AgentState.TheVariants as agent
@@ -61,7 +61,7 @@ kind_code kind.AgentReady = 16
 kind_code kind.AgentBusy = 17
 kind_code kind.AgentWorkingAfterCall = 18
 
--- ---- the meaning of a number
+-- ---- what stands under a number
 
 -- the one with this code
 abbrev pub with_code : {A : Type 0} → (A → ℕ) → List A → ℕ → Option A

@@ -1,4 +1,4 @@
--- The trees of a database, and the content that they hold.
+-- What the trees of a database hold of a content.
 use Rattle.std.specs.Prelude.{◌≡◌, ℕ, ℤ, List, [], ◌∷◌, map, ⊤}
 use Rattle.std.specs.Ordering.{nat_cmp}
 use Rattle.std.specs.declared.cmp.Ordering.{Ordering}
@@ -40,7 +40,7 @@ tree_of table.Kept = schema.kept.tree
 tree_of table.AgentGroups = schema.agent_groups.tree
 tree_of table.GroupPriority = schema.group_priority.tree
 
--- the content of a table
+-- what a table holds
 abbrev pub TableContent : Table → Type 0
 TableContent table.Meta = Meta
 TableContent table.Groups = List GroupRow
@@ -81,12 +81,12 @@ with_part table.Kept kept r = record r { kept = kept }
 with_part table.AgentGroups further r = record r { further = further }
 with_part table.GroupPriority priorities r = record r { priorities = priorities }
 
--- the rows are those of the records, which are in ascending key
+-- the rows are those of the records, which stand in ascending key
 pub record AreRows {R : Type 0} (key : R → ℕ) (row : R → Row) (rows : List Row) (records : List R) : Type 0 where
   pub rows_are : rows ≡ map row records
   pub ascending : IsAscending (λ a b. nat_cmp (key a) (key b)) records
 
--- The key is of the first two columns, so the rows have separate rowids, and may be in any order of keys.
+-- The key is of the first two columns, so the rows have numbers of their own, and stand in any order of keys.
 pub record AreHeaped {R : Type 0} (order : R → R → Ordering) (row : ℤ → R → Row) (rows : List Row) (records : List R) : Type 0 where
   pub rising : IsTable rows
   -- each row is that of a record, and each record has a row
@@ -99,7 +99,7 @@ pub record AreHeaped {R : Type 0} (order : R → R → Ordering) (row : ℤ → 
 abbrev pub AreConnections : List Row → List ConnectionRecord → Type 0
 AreConnections rows records = AreHeaped connection_order connection_row rows records
 
--- the rows that represent a table's content; the first table holds the version
+-- the rows that stand for what a table holds; the version is told by the first table
 abbrev pub StoresAs : ℕ → (t : Table) → List Row → TableContent t → Type 0
 StoresAs v table.Meta rows m = rows ≡ meta_row_as v m ∷ []
 StoresAs v table.Groups rows groups = AreRows (λ (g : GroupRow). g.device) group_row rows groups

@@ -1,4 +1,4 @@
--- The meaning of rows, whatever they hold: a value of another kind, and a code that nothing has, mean some fixed value.
+-- What rows stand for, whatever they hold: a value of another kind, and a code that nothing has, stand for some fixed value.
 use Rattle.std.specs.Prelude.{ℕ, [], Option, Some, None, Result, Ok, Err}
 use Rattle.std.specs.Option.{unwrap_or}
 use Rattle.sqlite_value.specs.Order.{Row, column}
@@ -37,7 +37,7 @@ as_group r = shown_whole group_fields group_made r
 abbrev pub as_priority : Row → GroupPriority
 as_priority r = shown_whole priority_fields priority_made r
 
--- an agent and a group after its first
+-- an agent and a group that it has behind its first
 abbrev pub as_further : Row → ℕ × ℕ
 as_further r = shown_whole further_fields further_made r
 
@@ -100,7 +100,7 @@ abbrev pub as_request : Result Request Member → Request
 as_request (Ok request) = request
 as_request (Err member) = record { requester = []; invoke = 0; command = Tick }
 
--- the request is in its text
+-- the request stands in its text
 abbrev pub as_kept : Row → Kept
 as_kept r = record {
   stamp = number_in (column r 0);

@@ -1,4 +1,4 @@
--- A table of records.
+-- What a table of records is.
 use Rattle.std.specs.Prelude.{◌≡◌, ℕ, ℤ, [], ◌∷◌, List, Option, None, Some, option_map, Bool, length, drop}
 use Rattle.std.specs.List.{list_all}
 use Rattle.std.specs.Option.{is_some}
@@ -24,7 +24,7 @@ pub record Description (R : Type 0) : Type 1 where
   -- the values of the columns, and the record of such values where each is in its range
   pub values : R → Row
   pub in_row : Row → Option R
-  -- its records in the relations
+  -- what the relations have of it
   pub records : Relations → List R
   pub with_records : List R → Relations → Relations
   -- the columns can hold the record
@@ -52,19 +52,19 @@ abbrev pub the_text : Option (List ℕ) → List ℕ
 the_text None = []
 the_text (Some text) = text
 
--- how many columns come after the key
+-- how many columns stand behind the key
 abbrev pub after_key : {R : Type 0} → Description R → ℕ
 after_key d = after_first d.layout
 
--- the row as it is: the column that is the number of the row is NULL
+-- the row as it stands: the column that is the number of the row is NULL
 abbrev pub row_of : {R : Type 0} → Description R → R → Row
 row_of d r = keyed_row (d.values r)
 
--- each row represents a record
+-- each row stands for a record
 unfoldable pub are_read : {R : Type 0} → Description R → List Row → Bool
 are_read d rows = list_all (λ row. is_some (d.in_row row)) rows
 
--- ---- where the key is of the first two columns, so that the rows have separate rowids
+-- ---- where the key is of the first two columns, so that the rows have numbers of their own
 
 pub record Heap (R : Type 0) : Type 1 where
   pub table : Table
@@ -77,13 +77,13 @@ pub record Heap (R : Type 0) : Type 1 where
   -- the values of the columns, and the record of such values where each is in its range
   pub values : R → Row
   pub in_row : Row → Option R
-  -- its records in the relations
+  -- what the relations have of it
   pub records : Relations → List R
   pub with_records : List R → Relations → Relations
   -- the text of the statement that puts a record which has no row
   pub insert : List ℕ
 
--- how many columns come after the key
+-- how many columns stand behind the key
 abbrev pub after_both : {R : Type 0} → Heap R → ℕ
 after_both h = length (drop 2 h.layout.columns)
 

@@ -1,4 +1,4 @@
--- A record as the list of its fields, each in a separate column: the row that is kept of it, and the record of a row.
+-- A record as the list of its fields, each in a column of its own: the row that is kept of it, and the record of a row.
 use Rattle.std.specs.Prelude.{◌≡◌, ℕ, ◌==◌, List, [], ◌∷◌, length, Option, Some, None, if◌then◌else◌}
 use Rattle.std.proofs.Common.{suc}
 use Rattle.sqlite_value.specs.declared.value.Value.TheVariants.{Null}
@@ -20,7 +20,7 @@ has name s get = record { name = name; column = sure s; get = get }
 abbrev pub may_have : {R : Type 0} → List ℕ → (s : Sort) → (R → Option (Of s)) → Field R
 may_have name s get = record { name = name; column = maybe s; get = get }
 
--- the function that makes a record of the values of its fields
+-- what makes a record of the values of its fields
 abbrev pub Makes : (R : Type 0) → List (Field R) → Type 0
 Makes R [] = R
 Makes R (f ∷ fs) = Means f.column → Makes R fs

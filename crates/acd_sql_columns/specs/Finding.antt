@@ -1,4 +1,4 @@
--- The result of a read between transactions.
+-- What a read between transactions finds.
 use Rattle.std.specs.Prelude.{List, Result, IfOk, OnOk, IsTrue}
 use Rattle.sqlite.specs.State.{State, HasCleanDisk}
 use Rattle.acd_terms.specs.declared.rows.Rows.{Rows}

@@ -1,4 +1,4 @@
--- The content that the tables of a database represent, whatever their rows hold.
+-- What the tables of a database stand for, whatever their rows hold.
 use Rattle.std.specs.Prelude.{ℕ, ◌==◌, if◌then◌else◌, List, [], ◌∷◌, drop, map}
 use Rattle.std.specs.declared.cmp.Ordering.{Ordering}
 use Rattle.sqlite_value.specs.Order.{Row, column}
@@ -16,7 +16,7 @@ use Rattle.acd_sql_columns.specs.declared.meta.Meta.{Meta}
 use Rattle.acd_sql_columns.specs.Content.{tree_of}
 use Rattle.acd_sql_columns.specs.Decoding.{as_priority, as_further, as_group, as_station, as_agent, as_call, as_connection, as_monitor, as_event, as_kept, as_meta}
 
--- the number of the row is in the place of its key
+-- the number of the row stands in the place of its key
 abbrev pub unkeyed : Row → Row
 unkeyed (key ∷ empty ∷ values) = key ∷ values
 unkeyed row = row
@@ -32,12 +32,12 @@ in_order order (x ∷ xs) = put_by (order x) (in_order order xs) x
 abbrev pub connections_in : List Row → List ConnectionRecord
 connections_in rows = in_order connection_order (map (λ row. as_connection (drop 1 row)) rows)
 
--- the one row of the limits and the counters, after its key and the version
+-- the one row of the limits and the counters, behind its key and the version
 abbrev pub meta_stored : List Row → Meta
 meta_stored [] = as_meta []
 meta_stored (row ∷ rows) = as_meta (drop 2 (unkeyed row))
 
--- the version that the first table holds
+-- what the first table tells of the version
 abbrev pub version_in : List Row → ℕ
 version_in [] = 0
 version_in (first ∷ rows) = number_in (column first 2)
@@ -67,7 +67,7 @@ rows_from m db = record {
   last_event = m.last_event;
 }
 
--- the content that the tables of a database represent
+-- what the tables of a database stand for
 unfoldable pub content_of : Trees → Content
 content_of db = record {
   rows = rows_from (meta_stored (db (tree_of table.Meta))) db;

@@ -52,7 +52,7 @@ pub record Builds (s : State) (schema : Schema) (rows : List (List Row)) : Type 
   pub schema_is : s.now.schema ≡ schema
   pub rows_are : HasRows s.now.trees schema.tables rows
 
--- the version becomes 2, and nothing else is changed
+-- the version is told to be 2, and nothing else is changed
 pub record SetsSecondVersion (old new : State) : Type 0 where
   pub inside : new.in_transaction ≡ old.in_transaction
   pub schema_is : new.now.schema ≡ book_schema

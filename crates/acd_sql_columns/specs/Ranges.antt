@@ -1,4 +1,4 @@
--- The records of rows whose values are all in their ranges, column by column. A row of another width represents none.
+-- The records of rows whose values are all in their ranges, column by column. A row of another width stands for none.
 use Rattle.std.specs.Prelude.{ℕ, ◌==◌, length, ◌&&◌, Option, None, Some, option_map, if◌then◌else◌}
 use Rattle.std.specs.Result.{result_ok}
 use Rattle.std.specs.Str.{bytes_eq}
@@ -29,7 +29,7 @@ group_in r = read_whole group_fields group_made r
 abbrev pub priority_in : Row → Option GroupPriority
 priority_in r = read_whole priority_fields priority_made r
 
--- an agent and a group after its first
+-- an agent and a group that it has behind its first
 abbrev pub further_in : Row → Option (ℕ × ℕ)
 further_in r = read_whole further_fields further_made r
 
@@ -64,7 +64,7 @@ event_in r = read_whole event_fields event_made r >>= event_from
 abbrev pub event_number : Row → Option ℕ
 event_number r = option_map (λ (e : Event). e.number) (event_in r)
 
--- the request that the text represents, where the text is that of the request, and the key is that of its columns
+-- the request that the text stands for, where the text is its own, and the key that of its columns
 unfoldable pub request_at : Row → Option Request
 request_at r = do
   requester ← text_at r 1

@@ -1,4 +1,4 @@
--- The records of the tables, and which of a content they hold.
+-- What the tables hold, and what they hold of a content.
 use Rattle.std.specs.Prelude.{ℕ, ◌==◌, List, [], ◌∷◌, ◌++◌, map, filter, not, length, nat_lt, nat_le, Bool, false, ◌&&◌, Option, None, Some, if◌then◌else◌}
 use Rattle.std.specs.List.{list_any, list_all}
 use Rattle.std.specs.Ordering.{nat_cmp, ordering_then}
@@ -31,7 +31,7 @@ pub record Relations : Type 0 where
   pub monitors : List MonitorRecord
   pub events : List Event
   pub kept : List Kept
-  -- an agent and a group after its first
+  -- an agent and a group that it has behind its first
   pub further : List (ℕ × ℕ)
   pub priorities : List GroupPriority
 
@@ -142,7 +142,7 @@ with_groups groups a = record {
   since = a.since;
 }
 
--- 0 where there is none
+-- 0 where none stands there
 abbrev pub priority_of : List GroupPriority → ℕ → ℕ
 priority_of [] device = 0
 priority_of (p ∷ ps) device = if p.device == device then p.priority else priority_of ps device
@@ -150,18 +150,18 @@ priority_of (p ∷ ps) device = if p.device == device then p.priority else prior
 abbrev pub joined_group : List GroupPriority → GroupRow → GroupRecord
 joined_group priorities g = with_priority (priority_of priorities g.device) g
 
--- ---- rows beside the rows that they belong to
+-- ---- what stands beside rows that it belongs to
 
--- a number after that of the first group
+-- a number behind that of the first group
 abbrev pub is_above : Option ℕ → ℕ → Bool
 is_above None group = false
 is_above (Some first) group = nat_lt first group
 
--- the pair is of the agent, and its group comes after the agent's first one
+-- the pair is of the agent, and its group is behind the agent's first one
 abbrev pub is_after : AgentRow → ℕ × ℕ → Bool
 is_after a p = a.agent == p.0 && is_above a.group p.1
 
--- the groups beside the agent
+-- the groups that stand beside the agent
 abbrev pub groups_beside : List (ℕ × ℕ) → ℕ → List ℕ
 groups_beside further agent = map (λ (p : ℕ × ℕ). p.1) (filter (λ (p : ℕ × ℕ). p.0 == agent) further)
 
@@ -169,7 +169,7 @@ abbrev pub after_first : Option ℕ → List ℕ → List ℕ
 after_first None further = further
 after_first (Some group) further = group ∷ further
 
--- each pair is of an agent, after its first group, and no agent has more than seven
+-- each pair is of an agent, behind its first group, and no agent has more than seven
 abbrev pub are_after : List AgentRow → List (ℕ × ℕ) → Bool
 are_after agents pairs =
     list_all (λ (p : ℕ × ℕ). list_any (λ (a : AgentRow). is_after a p) agents) pairs

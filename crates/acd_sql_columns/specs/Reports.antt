@@ -66,16 +66,26 @@ abbrev pub admits_cause : EventKind → Option Cause → Bool
 admits_cause k None = true
 admits_cause k (Some why) = has_cause k why
 
--- the seconds that a call waited come with the group in which it did
+-- the seconds that a call had waited stand beside the group in which it had
 abbrev pub are_together : EventKind → Bool → Bool → Bool
 are_together kind.Established group waited = if group then waited else not waited
 are_together _ group waited = true
 
+-- the cause and the seconds are some that the kind has
+abbrev pub are_of_kind : Columns → Bool
+are_of_kind c = admits_cause c.kind c.cause && are_together c.kind (is_some c.group) (is_some c.waited)
+
+-- what is told of the device, the call and the agent is there or isn't, as the shape has it, and is of the kind
+abbrev pub has_details : Shape → Columns → Bool
+has_details s c = admits s.group (is_some c.group) && admits s.to (is_some c.to) && admits s.cause (is_some c.cause) && admits s.waited (is_some c.waited) && are_of_kind c
+
+-- the device, the call and the agent are there or aren't, and so is what is told of them
+abbrev pub has_columns : Shape → Columns → Bool
+has_columns s c = admits s.device (is_some c.device) && admits s.call (is_some c.call) && admits s.agent (is_some c.agent) && has_details s c
+
+-- the columns are those of a report of their kind
 unfoldable pub is_formed : Columns → Bool
-is_formed c =
-    admits (shape_of c.kind).device (is_some c.device) && admits (shape_of c.kind).call (is_some c.call) && admits (shape_of c.kind).agent (is_some c.agent)
-    && admits (shape_of c.kind).group (is_some c.group) && admits (shape_of c.kind).to (is_some c.to) && admits (shape_of c.kind).cause (is_some c.cause)
-    && admits (shape_of c.kind).waited (is_some c.waited) && admits_cause c.kind c.cause && are_together c.kind (is_some c.group) (is_some c.waited)
+is_formed c = has_columns (shape_of c.kind) c
 
 -- the report that has these columns
 unfoldable pub report_in : Columns → Option Report

@@ -1,4 +1,4 @@
--- The fields of the records, and the rows that represent them. A row has its number first, and then its columns; the column that is the number is NULL there.
+-- The fields of the records, and the rows that stand for them. A row has its number first, and then its columns; the column that is the number is NULL there.
 use Rattle.std.specs.Prelude.{◌≡◌, ℕ, ℤ, List, [], ◌∷◌, Ok, codes}
 use Rattle.sqlite_value.specs.declared.value.Value.TheVariants.{Null, Int, Text}
 use Rattle.sqlite_value.specs.Order.{Row}
@@ -45,7 +45,7 @@ priority_fields =
 abbrev pub priority_made : Makes GroupPriority priority_fields
 priority_made = λ device priority. record { device = device; priority = priority }
 
--- an agent and a group after its first
+-- an agent and a group that it has behind its first
 abbrev pub further_fields : List (Field (ℕ × ℕ))
 further_fields =
     has (codes "agent") agent (λ p. p.0) ∷ has (codes "grp") device (λ p. p.1) ∷ []
@@ -109,7 +109,7 @@ monitor_fields =
 abbrev pub monitor_made : Makes MonitorRecord monitor_fields
 monitor_made = λ monitor device after_event. record { monitor = monitor; device = device; after_event = after_event }
 
--- the limits and the counters, after the key and the version
+-- the limits and the counters, which stand behind the key and the version
 abbrev pub meta_fields : List (Field Meta)
 meta_fields =
     has (codes "max_requests") whole (λ m. m.limits.requests) ∷ has (codes "max_calls") whole (λ m. m.limits.calls)
@@ -220,7 +220,7 @@ agent_row a = keyed_row (agent_values a)
 abbrev pub call_row : CallRecord → Row
 call_row c = keyed_row (call_values c)
 
--- a connection's row has a separate rowid
+-- a connection's row has a number of its own
 abbrev pub connection_row : ℤ → ConnectionRecord → Row
 connection_row id x = Int id ∷ connection_values x
 
@@ -233,13 +233,13 @@ event_row e = keyed_row (event_values e)
 abbrev pub kept_row : Kept → Row
 kept_row k = keyed_row (kept_values k)
 
--- of an agent and a further group; it has a separate rowid
+-- of an agent and a further group; it has a number of its own
 abbrev pub further_row : ℤ → ℕ × ℕ → Row
 further_row id p = Int id ∷ further_values p
 
 abbrev pub priority_row : GroupPriority → Row
 priority_row p = keyed_row (priority_values p)
 
--- the text under which a request is kept reads as the request
+-- what a request is kept as reads as the request
 abbrev pub IsReadable : Kept → Type 0
 IsReadable k = reads_as (request_text k.request) ≡ Ok k.request

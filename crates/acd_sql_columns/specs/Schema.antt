@@ -40,7 +40,7 @@ field_columns (f ∷ fs) = column_of f.name (type_in f.column) (is_sure f.column
 abbrev pub no_schema : Schema
 no_schema = record { tables = []; indexes = []; views = [] }
 
--- the text of a table: none counts its rowids, and none has a default
+-- what the text of a table says: none counts its rowids, and none has a default
 pub record Layout : Type 0 where
   pub name : List ℕ
   pub tree : ℕ
@@ -68,7 +68,7 @@ table_of l = record {
   is_counted = false;
 }
 
--- how many columns come after the first
+-- how many columns stand behind the first
 abbrev pub after_first : Layout → ℕ
 after_first l = length (drop 1 l.columns)
 
@@ -127,7 +127,7 @@ agents_station = unique (codes "sqlite_autoindex_agents_1") 4 3 (5 ∷ [])
 abbrev pub calls : Layout
 calls = keyed (codes "calls") 5 (field_columns call_fields)
 
--- its key is of two columns, so its rows have separate rowids
+-- its key is of two columns, so its rows have numbers of their own
 abbrev pub connections : Layout
 connections = record {
   name = codes "connections";
@@ -168,7 +168,7 @@ old_schema = record { tables = nine; indexes = agents_station ∷ connections_ke
 
 -- ---- version 2
 
--- the groups of an agent after its first; its key is of two columns, so its rows have separate rowids
+-- the groups of an agent behind its first; its key is of two columns, so its rows have numbers of their own
 abbrev pub agent_groups : Layout
 agent_groups = record {
   name = codes "agent_groups";
@@ -200,7 +200,7 @@ book_schema = record { tables = nine ++ two; indexes = agents_station ∷ connec
 
 -- ---- of either version
 
--- these tables, and whatever tables come later
+-- these tables, and whatever lies behind them
 abbrev pub with_later : List Table → List Table → Schema → Schema
 with_later base rest s = record s { tables = base ++ rest }
 

@@ -1,4 +1,4 @@
--- The view that a read between transactions has of a database, whatever that holds.
+-- What a read between transactions sees of a database, whatever that holds.
 use Rattle.std.specs.Prelude.{◌≡◌, Result, IfOk, OnOk, IsTrue}
 use Rattle.sqlite.specs.Effect.{Database, IsDatabase}
 use Rattle.sqlite.specs.State.{State, HasCleanDisk}

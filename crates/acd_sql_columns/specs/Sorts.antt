@@ -1,4 +1,4 @@
--- The meaning of columns: of each sort the value that is kept, and how it is read.
+-- What columns stand for: of each sort the value that is kept, and how it is read.
 use Rattle.std.specs.Prelude.{ℕ, List, Bool, true, false, Option, None, Some}
 use Rattle.std.specs.Option.{unwrap_or}
 use Rattle.sqlite_value.specs.declared.value.Value.{Value}
@@ -41,7 +41,7 @@ pub data Column : Type 0 where
   sure : Sort → Column
   maybe : Sort → Column
 
--- the meaning of a value of the sort
+-- what a value of the sort stands for
 abbrev pub Of : Sort → Type 0
 Of name = List ℕ
 Of agent_state = AgentState
@@ -99,7 +99,7 @@ abbrev pub read_at : (c : Column) → Row → ℕ → Option (Means c)
 read_at (sure s) r at = read_of s r at
 read_at (maybe s) r at = or_none (read_of s) r at
 
--- ---- the value shown, whatever the column holds: one of another kind, and a code that nothing has, mean some fixed value
+-- ---- what is shown, whatever the value holds: one of another kind, and a code that nothing has, stand for some fixed value
 
 abbrev pub shown_of : (s : Sort) → Value → Of s
 shown_of whole v = number_in v

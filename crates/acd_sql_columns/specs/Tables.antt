@@ -187,7 +187,7 @@ connections = record {
   insert = INSERT_CONNECTION.now;
 }
 
--- an agent and a group after its first
+-- an agent and a group that it has behind its first
 abbrev pub agent_groups : Heap (ℕ × ℕ)
 agent_groups = record {
   table = table.AgentGroups;

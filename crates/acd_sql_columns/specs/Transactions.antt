@@ -1,4 +1,4 @@
--- The content of a connection, inside a transaction and between two.
+-- What a connection holds, inside a transaction and between two.
 use Rattle.std.specs.Prelude.{◌≡◌, ◌⊎◌, ◌<◌, ◌^◌, ℕ, List, Ok, true, IsTrue}
 use Rattle.sqlite_value.specs.Order.{Row}
 use Rattle.sqlite_trees.specs.Tree.{Trees}

@@ -1,4 +1,4 @@
--- The values of columns, and the meaning of each: in its range, and whatever it holds.
+-- The values of columns, and what each stands for: in its range, and whatever it holds.
 use Rattle.std.specs.Prelude.{ℕ, zero, suc, pos, ◌==◌, List, [], ◌∷◌, nat_le, Bool, true, false, ◌||◌, Option, None, Some, option_map, if◌then◌else◌}
 use Rattle.std.specs.Result.{result_ok}
 use Rattle.std.specs.Str.{is_utf8}

@@ -1,4 +1,4 @@
-//! The numbers that represent states, kinds and causes, and the meaning of a number.
+//! The numbers that stand for states, kinds and causes, and what stands under a number.
 
 ghost use Rattle.std.specs.Prelude.{◌≡◌};
 ghost use Rattle.acd_sql_columns.specs.Codes.{agent_code, pending_code, connection_code, kind_code, cause_code, agent_state_of, pending_of, connection_state_of, kind_of, cause_of};

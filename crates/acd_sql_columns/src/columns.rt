@@ -1,7 +1,6 @@
-//! The columns of each table, named once: the place of each, the field that it holds and how that is read and bound,
-//! and what the texts say. A field may be one of a part, as `entered of figures`. A table's macro hands its columns to
-//! the macro of a text, of a reader or of a binder, after what is to be read or bound. The constants say how many
-//! columns a table has.
+//! The columns of each table, named once: the place of each, the field that it holds and how that is read and bound, and what the texts say.
+//! A field may be one of a part, as `entered of figures`. A table's macro hands its columns to the macro of a text, of a reader or of a binder,
+//! behind what is to be read or bound. The constants say how many columns a table has.
 
 // As many as there are columns.
 macro_rules! count {

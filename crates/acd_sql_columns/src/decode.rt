@@ -50,7 +50,7 @@ macro_rules! whole {
     };
 }
 
-// After the key and the version.
+// Behind the key and the version.
 macro_rules! counters {
     ($row:ident, $table:literal $made:tt, $first:literal $of:tt $key:literal $kind:literal, $other:literal $by:tt $second:literal $sort:literal, $($place:literal $field:tt $column:literal $type:literal),*) => {
         record!($row $made 3, $($place $field),*)
@@ -87,7 +87,7 @@ pub fn connection_in(row: &Row) -> Option<ConnectionRecord>
     connections!(whole, row)
 }
 
-/// An agent and a group after its first.
+/// An agent and a group that it has behind its first.
 pub fn further_in(row: &Row) -> Option<(AgentId, DeviceId)>
     ensures { result ≡ further_in row.now }
 {
@@ -141,7 +141,7 @@ pub fn event_in(row: &Row) -> Option<Event>
     })
 }
 
-/// The number of the event that the row represents.
+/// The number of the event that the row stands for.
 #[tactic(auto, unfolding(crate::specs::Reports::report_in))]
 pub fn event_number(row: &Row) -> Option<u64>
     ensures { result ≡ event_number row.now }
@@ -154,7 +154,7 @@ pub fn event_number(row: &Row) -> Option<u64>
     }
 }
 
-// Whether the bytes are the text of the request.
+// Whether the bytes are the request's own text.
 fn is_text_of(alloc: Global, request: &Request, bytes: &[u8]) -> Result<bool, AllocError>
     ensures { IfOk result (λ same. same ≡ bytes_eq bytes.now (request_text request.now)) }
 {
@@ -192,7 +192,7 @@ impl KeptReader {
         }
     }
 
-    // The request that bytes represent, if they do.
+    // The request that bytes stand for, if they do.
     fn request_of(&mut self, bytes: &[u8]) -> Result<Option<Request>, AllocError>
         ensures { IfOk result (λ request. request ≡ result_ok (reads_as bytes.now)) }
     {
@@ -228,7 +228,7 @@ impl KeptReader {
         }
     }
 
-    // None where a value is out of its range, the text isn't that of its request, or the key isn't that of the columns.
+    // None where a value is out of its range, the text isn't its request's own, or the key isn't that of the columns.
     #[tactic(auto, unfolding(crate::specs::Ranges::kept_in))]
     fn head_in(&mut self, row: &Row) -> Result<Option<KeptHead>, AllocError>
         ensures { IfOk result (λ head. option_and_then (kept_from row.now) head ≡ kept_in row.now) }
@@ -256,7 +256,7 @@ impl KeptReader {
         }))
     }
 
-    /// The stamp of the kept record that the row represents. Its body isn't copied.
+    /// The stamp of the kept record that the row stands for. Its body isn't copied.
     pub fn stamp(&mut self, row: &Row) -> Result<Option<u64>, AllocError>
         ensures { IfOk result (λ stamp. stamp ≡ kept_stamp row.now) }
     {
@@ -270,7 +270,7 @@ impl KeptReader {
         }
     }
 
-    /// None where a value is out of its range, the text isn't that of its request, or the key isn't that of the
+    /// None where a value is out of its range, the text isn't its request's own, or the key isn't that of the
     /// columns.
     pub fn read(&mut self, row: &Row) -> Result<Option<Kept>, AllocError>
         ensures { IfOk result (λ kept. kept ≡ kept_in row.now) }
@@ -292,7 +292,7 @@ impl KeptReader {
     }
 }
 
-/// The kept record of a row, read with a new reader.
+/// The kept record of a row, read with a reader of its own.
 pub fn kept_in(alloc: Global, row: &Row) -> Result<Option<Kept>, AllocError>
     ensures { IfOk result (λ kept. kept ≡ kept_in row.now) }
 {

@@ -1,4 +1,4 @@
-//! The row of a record: the values of its columns, as the parameters of the statement that puts it.
+//! What stands in a row for a record: the values of its columns, as the parameters of the statement that puts it.
 
 ghost use Rattle.std.specs.Prelude.{◌≡◌, IfSome};
 ghost use Rattle.sqlite.specs.Values.{bound};
@@ -35,7 +35,7 @@ macro_rules! all {
     };
 }
 
-// After the key and the version.
+// Behind the key and the version.
 macro_rules! counters {
     ($from:ident, $table:literal $made:tt, $first:literal $of:tt $key:literal $kind:literal, $other:literal $by:tt $second:literal $sort:literal, $($rest:tt)*) => {
         all!($from, $table $made, $($rest)*)

@@ -1,5 +1,5 @@
-//! A table of the book: its columns and the texts of its statements, the row of a record, and which record a row
-//! represents where each value is in its range.
+//! What a table of the book is: its columns and the texts of its statements, what stands in a row for a record, and which record a row stands
+//! for where each value is in its range.
 //!
 //! ```ignore
 //! let station = decode::station_in(&row);

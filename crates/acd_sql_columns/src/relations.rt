@@ -1,5 +1,4 @@
-//! The content of the tables of groups and of agents. Separate tables hold a group's priority and an agent's further
-//! groups.
+//! What the tables of groups and of agents hold. A group's priority and an agent's further groups stand in tables of their own.
 
 ghost use Rattle.std.specs.Prelude.{◌≡◌};
 ghost use Rattle.acd_sql_columns.specs.Relations.{group_part, agent_part, with_priority, with_groups};

@@ -131,7 +131,7 @@ fn admits_cause(kind: EventKind, cause: Option<Cause>) -> bool
     }
 }
 
-// The seconds that a call waited come with the group in which it did.
+// The seconds that a call had waited stand beside the group in which it had.
 fn are_together(kind: EventKind, group: bool, waited: bool) -> bool
     ensures { result ≡ are_together kind group waited }
 {

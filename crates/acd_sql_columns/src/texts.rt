@@ -112,7 +112,7 @@ macro_rules! select_pair {
     };
 }
 
-// in the order of the rows
+// in the order in which the rows stand
 macro_rules! select_standing {
     ($table:literal $made:tt, $first:literal $of:tt $key:literal $kind:literal $(, $value:literal $field:tt $column:literal $type:literal)*) => {
         concat!("SELECT ", $key $(, ", ", $column)*, " FROM ", $table)
@@ -121,7 +121,7 @@ macro_rules! select_standing {
 
 // ---- the limits and the counters
 
-// the columns after key and version
+// the columns behind key and version
 macro_rules! select_counters {
     ($table:literal $made:tt, $first:literal $of:tt $key:literal $kind:literal, $other:literal $by:tt $second:literal $sort:literal, $next:literal $in:tt $third:literal $with:literal $(, $value:literal $field:tt $column:literal $type:literal)*) => {
         concat!("SELECT ", $third $(, ", ", $column)*, " FROM ", $table)
@@ -141,7 +141,7 @@ pub const INSERT_META: &str = meta!(insert);
 pub const UPDATE_META: &str =
     "UPDATE meta SET max_requests = ?1, max_calls = ?2, max_groups = ?3, max_stations = ?4, max_agents = ?5, max_monitors = ?6, last_stamp = ?7, last_moment = ?8, last_call = ?9, last_monitor = ?10, last_event = ?11 WHERE id = 1";
 
-// makes version 2 of a version 1, after its new tables
+// what makes version 2 of a version 1, behind its new tables
 pub const UPDATE_VERSION: &str = "UPDATE meta SET version = 2 WHERE id = 1";
 
 pub const SELECT_META: &str = meta!(select_counters);

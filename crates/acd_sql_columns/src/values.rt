@@ -1,4 +1,4 @@
-//! The values of a row, each read by its range. None is a value that is out of it.
+//! The values of a row, each read by the range of what it stands for. None is a value that is out of it.
 
 ghost use Rattle.std.specs.Prelude.{◌≡◌, option_map};
 ghost use Rattle.sqlite_value.specs.Value.{owned};

@@ -1,4 +1,4 @@
--- Two lists in ascending key, compared in one pass, give each difference once and in order.
+-- Two lists in ascending key, gone through together, give each difference once and in order.
 use Rattle.std.proofs.Common.{◌≡◌, inl, inr, Bool, true, false, cond, List, [], ◌∷◌, map, refl, sym, ap, subst, ◌∙◌}
 use Rattle.std.specs.Cmp.{IsTotalOrder}
 use Rattle.std.specs.declared.cmp.Ordering.{Ordering}
@@ -51,7 +51,7 @@ module _ {T : Type 0} (cmp : T → T → Ordering) (total : IsTotalOrder cmp) (s
   later z [] h = tt
   later z (x ∷ xs) h = (h.0, later z xs h.1)
 
-  -- a property of all records is one of those of the steps
+  -- what holds of all records holds of those of the steps
   module _ (P : T → Type 0) where
     every_put : (ys : List T) → Every P ys → Every (λ s. P (record_of s)) (map put ys)
     every_put [] h = tt
@@ -84,7 +84,7 @@ module _ {T : Type 0} (cmp : T → T → Ordering) (total : IsTotalOrder cmp) (s
   all_later s [] h = tt
   all_later s (t ∷ steps) h = (h.0, all_later s steps h.1)
 
-  -- y comes before the records of a list whose first is after it, or equals it
+  -- y stands before the records of a list whose first is behind it, or is as it
   module _ (x y : T) (xs : List T) (up : AllAfter cmp x xs) where
     before_all : cmp x y ≡ Greater → AllAfter cmp y xs
     before_all e = after_lower cmp total y x (turned x y Greater e) xs up
@@ -127,7 +127,7 @@ module _ {T : Type 0} (cmp : T → T → Ordering) (total : IsTotalOrder cmp) (s
   passes_gone : (z x : T) (xs : List T) → cmp z x ≡ Less → remove_by (cmp x) (z ∷ xs) ≡ z ∷ remove_by (cmp x) xs
   passes_gone z x xs e = ap (λ o. cond (is_eq o) xs (z ∷ remove_by (cmp x) xs)) (turned z x Less e)
 
-  -- steps after a record leave it where it is
+  -- steps behind a record leave it where it is
   past : (z : T) (xs : List T) (steps : List (Step T)) → begins z steps → stepped cmp (z ∷ xs) steps ≡ z ∷ stepped cmp xs steps
   past z xs [] h = refl
   past z xs (gone x ∷ steps) h = ap (λ l. stepped cmp l steps) (passes_gone z x xs h.0) ∙ past z (remove_by (cmp x) xs) steps h.1
@@ -201,7 +201,7 @@ module _ {T : Type 0} (cmp : T → T → Ordering) (total : IsTotalOrder cmp) (s
   )
   names_merged x held low more (y ∷ ys) up z = go (cmp x y) refl (names_merged x held low more ys up.1 z)
     where
-      -- no record of the held list after x has the key of y, which comes at x or before it
+      -- no record of the held list behind x has the key of y, which stands at x or before it
       clear : AllAfter cmp y held → Among z held → cmp z y ≡ Equal → ⊥
       clear after a k = none_keyed y z (after_among cmp y held z after a) k
 
@@ -254,7 +254,7 @@ module _ {T : Type 0} (cmp : T → T → Ordering) (total : IsTotalOrder cmp) (s
   )
   puts_merged x held low more (y ∷ ys) up z = go (cmp x y) refl (puts_merged x held low more ys up.1 z)
     where
-      -- x comes before what is after y, where it comes before y or at it
+      -- x stands before what is behind y, where it stands before y or at it
       ahead : cmp x z ≡ Less → cmp x z ≡ Equal → same z x ≡ false
       ahead less k = absurd (not_equal x z Less less refl k)
 

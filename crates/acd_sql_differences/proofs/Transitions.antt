@@ -176,7 +176,7 @@ next cmp off on k same exact s t new old now adds up later whole so_far =
     (subst (λ r. HasTables r (k.set t new)) (sym (changed_by_append s old more))
     (leads cmp off on k same exact (changed_by s old) t new more here up later adds.1 (whole_back old more parts)))
 
--- the groups, the stations and the agents, who are first without the stations that they give up
+-- the groups, the stations and the agents, who first stand without the stations that they give up
 pub plan_leads : (held new : Rows) (agents : List AgentRecord) (c0 c1 c2 c3 c4 : List Change) → c0 ≡ []
     → AddsSteps group_order group_eq none_gone PutGroup held.groups new.groups c0 c1 → AddsSteps station_order station_eq none_gone PutStation held.stations new.stations c1 c2
     → AddsSteps agent_order agent_eq none_gone PutAgent held.agents agents c2 c3 → AddsSteps agent_order agent_eq none_gone PutAgent agents new.agents c3 c4
@@ -215,7 +215,7 @@ traffic_leads held new connections c0 c1 c2 c3 c4 none a1 a2 a3 a4 connections_u
     let last = next monitor_order monitor_gone PutMonitor monitors_kind monitor_eq same_monitor s t3 new.monitors c3 c4 a4 o.monitors n.monitors whole at3 in
     record { groups = last.groups; stations = last.stations; agents = last.agents; calls = last.calls; connections = last.connections; monitors = last.monitors }
 
--- one after the other
+-- the one behind the other
 pub both_lead : (held new : Rows) (plan traffic all : List Change) → all ≡ plan ++ traffic → Lead held (with_plan held new) plan → Lead (with_plan held new) new traffic → Lead held new all
 both_lead held new plan traffic all is first second s has_tables o n whole =
     let parts = subst AreWhole is whole in

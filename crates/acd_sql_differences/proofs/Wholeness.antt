@@ -36,7 +36,7 @@ module _ {T : Type 0} (off on : T → Change) where
   whole_at [] s whole a = absurd a
 
   module _ (cmp : T → T → Ordering) (same : T → T → Bool) (puts : (y : T) → on y ≡ Nothing → ⊥) where
-    -- a removal is always named
+    -- what is taken out is always named
     always_whole : ((x : T) → off x ≡ Nothing → ⊥) → (held new : List T) → AreWhole (differences cmp same off on held new)
     always_whole outs held new = whole_from (merged cmp same held new) (λ s a. each s)
       where
@@ -56,7 +56,7 @@ module _ {T : Type 0} (off on : T → Change) where
       whole_keeps never whole =
           every_from (λ x. IsNoKey cmp x new → ⊥) held (λ x a alone. whole_at (merged cmp same held new) (gone x) whole ((names_gone cmp total same held new h k x).1 (a, alone)) (never x))
 
--- ---- agents, who are in between without the stations that they give up
+-- ---- agents, who stand between without the stations that they give up
 
 abbrev StaysIn : List AgentRecord → AgentRecord → Type 0
 StaysIn new x = IsNoKey agent_order x new → ⊥

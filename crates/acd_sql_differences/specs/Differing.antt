@@ -1,12 +1,14 @@
--- The steps from one list of records to another, both in ascending key.
-use Rattle.std.specs.Prelude.{◌≡◌, ◌↔◌, Bool, true, false, List, [], ◌∷◌, map, if◌then◌else◌}
+-- What leads from one list of records to another, both in ascending key.
+use Rattle.std.specs.Prelude.{◌≡◌, ◌↔◌, Bool, true, false, List, [], ◌∷◌, ◌++◌, ◌+◌, ◌<◌, length, map, option_to_list, Option, Vec, if◌then◌else◌}
+use Rattle.std.specs.Borrow.{Bor}
+use Rattle.std.specs.declared.alloc.Global.{Global}
 use Rattle.std.specs.declared.cmp.Ordering.{Ordering}
 use Rattle.std.specs.declared.cmp.Ordering.TheVariants.{Equal}
 use Rattle.std.specs.Ordering.{match_ordering}
 use Rattle.acd_terms.specs.Lists.{Among, Every, IsAscending, put_by, remove_by}
 use Rattle.acd_model.specs.declared.moves.Change.{Change}
 
--- a record is removed, or is put
+-- a record is gone, or is put
 pub data Step (T : Type 0) : Type 0 where
   gone : T → Step T
   put : T → Step T
@@ -33,7 +35,7 @@ IsNoKey cmp x = Every (λ y. cmp x y ≡ Equal → ⊥)
 abbrev pub IsOther : {T : Type 0} → (T → T → Ordering) → (T → T → Bool) → T → List T → Type 0
 IsOther cmp same y = Every (λ x. cmp x y ≡ Equal → same y x ≡ false)
 
--- each record that is removed and each record that isn't equally held is named, in ascending key, and nothing else
+-- each record that is gone and each record that isn't equally held is named, in ascending key, and nothing else
 pub record AreSteps {T : Type 0} (cmp : T → T → Ordering) (same : T → T → Bool) (held new : List T) (steps : List (Step T)) : Type 0 where
   pub ascending : IsAscending (λ a b. cmp (record_of a) (record_of b)) steps
   pub gone_are : (x : T) → Among (gone x) steps ↔ (Among x held × IsNoKey cmp x new)
@@ -46,7 +48,7 @@ abbrev pub LeadTo : {T : Type 0} → (T → T → Ordering) → (T → T → Boo
 LeadTo {T} cmp same off on held new changes =
     IsAscending cmp held → IsAscending cmp new → (steps : List (Step T)) × AreSteps cmp same held new steps × (changes ≡ map (change_by off on) steps)
 
--- ---- the same in one pass over both lists
+-- ---- the same as both lists are gone through
 
 abbrev pub replaced : {T : Type 0} → (T → T → Bool) → T → T → List (Step T) → List (Step T)
 replaced same x y rest = if same y x then rest else put y ∷ rest
@@ -61,3 +63,40 @@ merged cmp same (x ∷ held) new = merged_from cmp same x (merged cmp same held)
 
 abbrev pub differences : {T : Type 0} → (T → T → Ordering) → (T → T → Bool) → (T → Change) → (T → Change) → List T → List T → List Change
 differences cmp same off on held new = map (change_by off on) (merged cmp same held new)
+
+-- ---- of a table
+
+-- the change that takes a record of a table out, and the one that puts it
+pub record Changes (T : Type 0) : Type 0 where
+  pub gone : T → Change
+  pub put : T → Change
+
+-- how the records of a table are ordered, when two are the same, and their changes
+pub record Comparing (T : Type 0) : Type 0 where
+  pub order : T → T → Ordering
+  pub same : T → T → Bool
+  pub changes : Changes T
+
+-- ordered by the key
+abbrev pub keyed : {T K : Type 0} → (T → K) → (K → K → Ordering) → (T → T → Bool) → Changes T → Comparing T
+keyed key_of cmp same changes = record { order = λ x y. cmp (key_of x) (key_of y); same = same; changes = changes }
+
+abbrev pub differences_of : {T : Type 0} → Comparing T → List T → List T → List Change
+differences_of c held new = differences c.order c.same c.changes.gone c.changes.put held new
+
+-- these are the changes, and they lead from the one list to the other
+abbrev pub AreDifferences : {T : Type 0} → Comparing T → List T → List T → Vec Change Global → Type 0
+AreDifferences c held new changes =
+    (changes.items ≡ differences_of c held new) × LeadTo c.order c.same c.changes.gone c.changes.put held new changes.items
+
+-- the first change, if there is one, and what is left of both lists
+abbrev pub Turn : Type 0 → Type 0
+Turn T = Option Change × Bor (List T) × Bor (List T)
+
+-- the changes are that one and those of what is left
+abbrev pub IsTurn : {T : Type 0} → Comparing T → List T → List T → Turn T → Type 0
+IsTurn c held new t = differences_of c held new ≡ option_to_list t.0 ++ differences_of c t.1.now t.2.now
+
+-- less is left of both lists
+abbrev pub IsShorter : {T : Type 0} → List T → List T → Turn T → Type 0
+IsShorter held new t = length t.1.now + length t.2.now < length held + length new

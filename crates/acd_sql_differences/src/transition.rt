@@ -1,17 +1,17 @@
-//! The changes from the tables of one state to those of another, in an order in which each change leaves all references
-//! and keys as the schema wants them.
+//! What leads from the tables of one state to those of another, in an order in which each change leaves
+//! all references and keys as the schema wants them.
 
 ghost use Rattle.std.specs.Prelude.{◌≡◌, ◌↔◌, ◌++◌, filter, map, IfOk, OnOk, IsTrue};
 ghost use Rattle.acd_sql_differences.specs.Leading.{shared_station, station_in, unseated, stays, plan_differences, traffic_differences, rows_differences};
-ghost use Rattle.acd_sql_differences.specs.Transition.{AreWhole, KeepsPlan, Lead, AddsSteps, with_plan};
-ghost use Rattle.acd_lemmas.specs.Orders.{Orders};
+ghost use Rattle.acd_sql_differences.specs.Transition.{with_plan, AddsDifferences, AreWhole, AreWholeIfKept, Lead};
+ghost use Rattle.acd_sql_differences.specs.Differing.{keyed};
 
 use crate::difference::{TableRecord, row_changes};
 use acd_model::Change;
 use acd_terms::{AgentRecord, ConnectionRecord, DeviceId, Rows, find};
 use std::alloc::{AllocError, Global};
 
-// Adds them all, for any type: the goals of a separate function are short.
+// Adds them all, for any type: the goals of a function of its own are short.
 fn extend<T: Copy + Drop>(list: &mut Vec<T>, more: &[T]) -> Result<(), AllocError>
     ensures { OnOk result (list.new.items ≡ list.old.items ++ more.now) }
 {
@@ -25,9 +25,8 @@ fn add_changes<R: TableRecord>(
     held: &[R],
     new: &[R],
 ) -> Result<(), AllocError>
-    ensures { OnOk result
-        (AddsSteps (λ x y. R.Key.cmp (R.key_of x) (R.key_of y)) R.eq R.gone_of R.put_of held.now
-        new.now changes.old.items changes.new.items) }
+    ensures { OnOk result (AddsDifferences (keyed R.key_of R.Key.cmp R.eq R.changes)
+        held.now new.now changes.old changes.new) }
 {
     let more = row_changes(alloc, held, new)?;
     extend(changes, &more)
@@ -171,14 +170,13 @@ fn traffic_changes(alloc: Global, held: &Rows, new: &Rows) -> Result<Vec<Change>
 /// The changes from the tables that are held to new ones, in an order that keeps each reference and each
 /// key at each step, where both states keep them.
 ///
-/// Groups and stations come before agents, and agents give their stations up before others take them. Connections are
-/// removed before their calls, and calls are put before their connections. [`Change::Nothing`] names a group, a station
-/// or an agent that is missing.
+/// Groups and stations come before agents, and agents give their stations up before others take them.
+/// Connections go before their calls, and calls come before their connections. A group, a station or an
+/// agent that is gone is named by [`Change::Nothing`].
 pub fn rows_changes(alloc: Global, held: &Rows, new: &Rows) -> Result<Vec<Change>, AllocError>
     ensures lead { IfOk result (λ changes. Lead held.now new.now changes.items) }
     ensures exact { IfOk result (λ changes. changes.items ≡ rows_differences held.now new.now) }
-    ensures whole { IfOk result (λ changes. Orders held.now → Orders new.now
-        → (AreWhole changes.items ↔ KeepsPlan held.now new.now)) }
+    ensures whole { IfOk result (λ changes. AreWholeIfKept held.now new.now changes.items) }
 {
     let mut changes = plan_changes(alloc, held, new)?;
     let more = traffic_changes(alloc, held, new)?;
@@ -186,7 +184,7 @@ pub fn rows_changes(alloc: Global, held: &Rows, new: &Rows) -> Result<Vec<Change
     Ok(changes)
 }
 
-/// Whether no record is missing that is never removed.
+/// Whether no record is gone that is never taken out.
 pub fn are_whole(changes: &[Change]) -> bool
     ensures { IsTrue result ↔ AreWhole changes.now }
 {

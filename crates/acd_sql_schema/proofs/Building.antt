@@ -14,7 +14,7 @@ use Rattle.sqlite.proofs.Callers.{runs_as}
 use Rattle.acd_sql_columns.specs.Making.{MakesTable, Builds, HasRows}
 use Rattle.acd_sql_columns.proofs.Statements.{went, same_value}
 
--- the kept rows are those that were there, and the last table's come after them
+-- rows that were kept are those that were there, and the last table's come behind them
 all_rows : (old new : Trees) (ts : List Table) (rows : List (List Row)) (t : Table) → AllByRecursion (λ u. new u.tree ≡ old u.tree) ts → HasRows old ts rows → new t.tree ≡ [] → HasRows new (ts ++ t ∷ []) (rows ++ [] ∷ [])
 all_rows old new [] [] t kept old_rows none = (none, tt)
 all_rows old new [] (r ∷ rows) t kept old_rows none = absurd old_rows

@@ -1,4 +1,4 @@
--- Rows that are canonical, and in their ranges, are those of a content.
+-- Rows that are filed, and in their ranges, are those of a content.
 use Rattle.std.proofs.Common.{◌≡◌, ◌==◌, ◌&&◌, ◌||◌, ℕ, ℤ, pos, negsuc, zero, suc, length, drop, map, not, slice_get, List, [], ◌∷◌, ◌++◌, inl, inr, Option, Some, None, Bool, true, false, IsTrue, refl, sym, ap, ap₂, subst, subst₂, ◌∙◌, arith, ◌+◌, ◌<◌, ◌≤◌}
 use Rattle.std.specs.List.{AllByRecursion}
 use Rattle.std.specs.Option.{is_some}
@@ -115,7 +115,7 @@ of_width n r w = row_is n r (ap (λ k. k == n) w ∙ eqb_self n)
 next : (n : ℕ) → n + 1 ≡ suc n
 next n = omega arith
 
--- the values shown of some columns
+-- what is shown of some columns
 shown_cells : (start n : ℕ) (r : Row) → showing [] (columns start n) r ≡ cells start n r
 shown_cells start zero r = refl
 shown_cells start (suc n) r = ap (λ l. column r start ∷ l) (shown_cells (start + 1) n r ∙ ap (λ k. cells k n r) (next start))
@@ -140,7 +140,7 @@ width_is columns (v ∷ vs) h last =
     let high = there_at (v ∷ vs) (length columns) last in
     omega (arith, low, high)
 
--- the last column after the key is never NULL
+-- the last column behind the key is never NULL
 abbrev ends : List Column → Bool
 ends [] = false
 ends (c ∷ []) = c.not_null
@@ -257,7 +257,7 @@ module _ {R : Type 0} (d : Description R) (f : Described d) where
           let more = records_of rows w.1 typed.1 g.1 in
           (x.0 ∷ more.0, ap₂ (λ y ys. y ∷ ys) x.1 more.1, (x.2, more.2), one_more d.table (d.values x.0) (map d.values more.0) x.3 more.3)
 
--- ---- a table whose rows have rowids apart from their keys
+-- ---- a table whose rows have numbers of their own
 
 level : (o : Ordering) → is_true (from_truth (Some (is_ne o))) ≡ false → o ≡ Equal
 level Less h = absurd (cc h)
@@ -303,7 +303,7 @@ module _ {R : Type 0} (h : Heap R) (f : Heaped h) where
         back = λ y a. elim a [ inl e ↦ subst (λ z. h.in_row (h.values z) ≡ Some z) (sym e) back | inr b ↦ more.back y b ];
       }
 
-  -- the rows are those of records that are read back, which are in the order of their keys
+  -- the rows are those of records that are read back, which stand in the order of their keys
   pub record IsHeapOf (rows : List Row) : Type 0 where
     pub records : List R
     pub are : AreHeaped (by_both h) (numbered_row h) rows records
@@ -354,7 +354,7 @@ good_rows : (t : Table) (db : Trees) → is_good_in t db ≡ true → AllByRecur
 unfolding is_good_in
 good_rows t db h = of_mapped (λ r. is_good t r ≡ true) (values_in t) (db (tree_of t)) (each_good t (rows_in t db) h)
 
--- the content of each table
+-- what each table holds
 record Parts (v : Version) (db : Trees) : Type 0 where
   pub meta : Meta
   pub meta_is : db (tree_of table.Meta) ≡ meta_row_as (number_of v) meta ∷ []
@@ -369,7 +369,7 @@ record Parts (v : Version) (db : Trees) : Type 0 where
   pub kept : AreOf kept kept_described (db (tree_of table.Kept))
   pub beside : Beside v db agents.records groups.records
 
--- the nine are canonical as in version 1
+-- the nine are filed as in version 1
 pub as_first : (v : Version) (db : Trees) → IsCanonicalAs v db → IsCanonicalAs version.First db
 as_first v db h = record { rising = λ t old. h.rising t (old_in v t old); numbered = λ t old. h.numbered t (old_in v t old); whole = (h.whole.0, h.whole.1, h.whole.2, λ here. absurd here) }
 
@@ -383,7 +383,7 @@ module _ (v : Version) (d : Database) (book : IsOfBook v d) (obeys : IsDatabase 
   abbrev its_schema : Schema
   its_schema = with_later nine nine_there.0 d.schema
 
-  -- a rule on a table of the nine
+  -- what a rule says of a table of the nine
   ruled : (rule : Constraint) (l : Layout) (place : ℕ) → slice_get nine place ≡ Some (table_of l) → AllByRecursion (λ r. passes rule its_schema d.trees (table_of l) r ≡ true) (d.trees l.tree)
   ruled rule l place here =
       all_has (λ t. AllByRecursion (λ r. passes rule its_schema d.trees t r ≡ true) (d.trees t.tree)) (nine ++ nine_there.0) (table_of l) (rules_of d nine_there obeys rule)
@@ -412,9 +412,9 @@ module _ (v : Version) (d : Database) (book : IsOfBook v d) (obeys : IsDatabase 
       let alone = f.alone v here d.trees (subst (λ s. Keeps rule.Unique s d.trees) book.schema_is (obeys.obeys.rules rule.Unique)) in
       heap_of h f rows links.0 links.1 (canonical.rising h.table here) (subst (λ n. AllByRecursion (λ r. (not (has_twin (d.trees n) r) && true) ≡ true) (d.trees n)) (heap_tree h f) alone)
 
--- ---- rows beside agents and groups
+-- ---- what stands beside agents and groups
 
--- a rule on a table of version 2
+-- what a rule says of a table of version 2
 in_second : (d : Database) → IsDatabase d → d.schema ≡ book_schema → (rule : Constraint) (l : Layout) (place : ℕ) → slice_get book_schema.tables place ≡ Some (table_of l)
     → AllByRecursion (λ r. passes rule book_schema d.trees (table_of l) r ≡ true) (d.trees l.tree)
 in_second d obeys is rule l place here =
@@ -537,7 +537,7 @@ module _ (v : Version) (db : Trees) (p : Parts v db) where
 pub content_in : (v : Version) (d : Database) → IsOfBook v d → IsDatabase d → IsCanonicalAs v d.trees → (c : Content) × EncodesAs v d.trees c × IsInRange c
 content_in v d book obeys canonical = let p = parts v d book obeys canonical in (whole_content v d.trees p, parts_encode v d.trees p, parts_in_range v d.trees p)
 
--- ---- the rows of a content are canonical
+-- ---- the rows of a content are filed
 
 record AreCanonical (width : ℕ) (rows : List Row) : Type 0 where
   pub rising : IsTable rows

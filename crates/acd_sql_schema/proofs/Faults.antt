@@ -23,7 +23,7 @@ use Rattle.acd_sql_schema.specs.SettingUp.{FailsToMake}
 use Rattle.acd_sql_schema.proofs.Contents.{as_first}
 use Rattle.acd_sql_schema.proofs.Looks.{Good, Left, begins_not, every_at}
 
--- ---- one after another
+-- ---- one behind another
 
 module _ (l : Log) (n : ℕ) (old mid new : State) (seen : (d : Database) → BeginsSchema nine d.schema → Sees {A = Unit {0}} d old mid (Ok tt) (Left l n d.trees)) (first : HasLookCause {A = Unit {0}} (IsPaged l) old mid (Ok tt)) where
   pub pages_looked : (r : Result Page Error) → ((d : Database) → BeginsSchema nine d.schema → Sees d mid new r (λ page. IsPageOfLog l n d.trees page)) → HasLookCause (IsPaged l) mid new r → HasLookCause (IsPaged l) old new r
@@ -39,7 +39,7 @@ module _ (old mid new : State) (tables : List Table) (i : ℕ) (seen : (d : Data
       looks_then (HasCanonical (λ s. Every (Covers s) tables)) (HasCanonical (λ s. Every (Covers s) tables)) (HasCanonical (λ s. Covers s t)) (λ (d : Database) (u : Unit {0}). Good (take i tables) d.trees u) (λ (d : Database) (good : Bool). FindsGood t d.trees good)
       old mid new tt r (λ d h. h) first (λ d h. seen d h.0) (λ d h p. (covers d h.0, h.1)) (λ d h. last d (covers d h.0)) next
 
--- the rows of the database that is there are canonical
+-- the rows of the database that is there are filed
 pub canonical_there : (v : Version) (s : State) (d : Database) → s.now.schema ≡ schema_of v → HasDatabase s d → IsCanonical d → HasCanonical (λ x. x ≡ schema_of v) d
 canonical_there v s d is old_database canonical = let here = sym (ap (λ (x : Database). x.schema) old_database.now) ∙ is in (here, as_first v d.trees (canonical v here))
 

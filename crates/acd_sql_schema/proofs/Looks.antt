@@ -1,4 +1,4 @@
--- Reads that are made one after the other, before a connection is adopted as a book.
+-- Reads that are made one after the other, before a connection is taken for a book.
 use Rattle.std.proofs.lemmas.Grind.{common_steps}
 use Rattle.std.proofs.lemmas.Bool.Decides.{nat_tests}
 use Rattle.std.proofs.lemmas.List.Sorted.{length_permutation}
@@ -94,7 +94,7 @@ version_read d old new rows t b is h =
     let here = moved_all (Shows d.trees) _ rows.items same (mapped_all (Shows d.trees) (λ r. column r 2 ∷ []) (d.trees schema.meta.tree) (all_from (λ r. Shows d.trees (column r 2 ∷ [])) (d.trees schema.meta.tree) (λ r k. (r, k, refl)))) in
     subst (IsVersionRead d) (sym is) (version_found d b rows.items same here))
 
--- what was read of the version is a fault
+-- what was told of the version is a fault
 pub fault_read : (d : Database) (old new : State) (f : AdoptFault) → Sees d old new (Ok (Faulty f)) (λ t. IsVersionRead d t) → Sees d old new (Ok (Fault f)) (λ f. IsFound d f)
 fault_read d old new f h = sees_on d old new (Faulty f) (λ t. IsVersionRead d t) (λ f. IsFound d f) (Ok (Fault f)) h (λ old_database p. p)
 
@@ -241,7 +241,7 @@ covered version.Second s is = let b = version_begins version.Second s is in (b, 
 pub bad_found : (v : Version) (d : Database) (old new : State) (t : Table) → Sees d old new (Ok (Some t)) (λ bad. IsBadOf (tables_of v) d bad) → Sees d old new (Ok (Some (BadRow t))) (λ f. IsRowFound v d f)
 bad_found v d old new t h = sees_on d old new (Some t) (λ bad. IsBadOf (tables_of v) d bad) (λ f. IsRowFound v d f) (Ok (Some (BadRow t))) h (λ old_database bad. inl bad)
 
--- where each table is good by itself, the look finds the misplaced row
+-- where each table is good by itself, what is misplaced is what is found
 pub place_after : (v : Version) (d : Database) (old mid new : State) (r : Result (Option AdoptFault) Error) → Sees d old mid (Ok None) (λ bad. IsBadOf (tables_of v) d bad) → Sees d mid new r (λ f. IsPlaceFound v d f)
     → Sees d old new r (λ f. IsRowFound v d f)
 place_after v d old mid new r first next = sees_then d old mid new None (λ bad. IsBadOf (tables_of v) d bad) first (λ f. IsPlaceFound v d f) (λ f. IsRowFound v d f) r both next
@@ -250,7 +250,7 @@ place_after v d old mid new r first next = sees_then d old mid new None (λ bad.
     both all None placed = (placed, λ canonical. each_good v d.trees (all canonical))
     both all (Some f) fault = fault
 
--- ---- rows beside the rows that they belong to
+-- ---- what stands beside rows that it belongs to
 
 abbrev pub IsRankFound : Database → Option AdoptFault → Type 0
 IsRankFound d f = is_beside d.trees ≡ true → IsPlaceFound version.Second d f
@@ -291,7 +291,7 @@ begins_not a b s of_book first second is begins = subst₂ AreSameFirst (sym fir
 pub begins_of : (a b : List Made) (s of_book : Schema) → AreSameFirst a b → a ≡ s.tables → b ≡ of_book.tables → of_book ≡ old_schema → BeginsAsBook s
 begins_of a b s of_book same first second is = begins_of_first s.tables (subst₂ AreSameFirst first (second ∙ ap (λ (x : Schema). x.tables) is) same)
 
--- the view of the database that is there
+-- what is seen of the database that is there
 pub sees_at : {A : Type 0} (d : Database) (old new : State) (r : Result A Error) (P : Database → A → Type 0) → Sees old.now old new r (P old.now) → Sees d old new r (P d)
 sees_at d old new r P h =
     let there : HasDatabase old d → Sees d old new r (P d) = λ old_database. subst (λ x. Sees x old new r (P x)) old_database.now h in

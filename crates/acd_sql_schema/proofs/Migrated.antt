@@ -1,4 +1,4 @@
--- The new tables after the nine, and the new version, inside a transaction and after it.
+-- The new tables behind the nine, and the version told, inside a transaction and behind it.
 use Rattle.std.proofs.Common.{◌≡◌, ◌≢◌, ◌≤◌, ℕ, inl, inr, List, [], ◌∷◌, ◌++◌, false, Result, Ok, Err, IsTrue, OnOk, OnErr, IfErr, refl, sym, ap, subst, ◌∙◌}
 use Rattle.sqlite_value.specs.Order.{Row}
 use Rattle.sqlite_trees.specs.Tree.{Trees}
@@ -64,7 +64,7 @@ altered_if old mid new (Err e) makes set inside is = tt
 altered_if old mid new (Ok x) makes set inside is =
     let b = makes (rows_of old.now.trees) (old_builds old inside is) in altered old mid new b (set b.schema_is)
 
--- ---- after it
+-- ---- behind it
 
 pub made_of : (old mid new : State) (r : Result (Unit {0}) Error) → IsAltered old mid → OnOk r (IsTrue mid.in_transaction × Shows mid new mid.now mid.now false × KeepsCounts mid new × (new.marks ≡ [])) → OnOk r (IsMade old new)
 made_of old mid new (Err e) a ended = tt

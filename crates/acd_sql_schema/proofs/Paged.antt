@@ -1,4 +1,4 @@
--- A log that is read page by page: what is left after a page decides about all.
+-- A log that is read page by page: what is left behind a page tells of all.
 use Rattle.std.proofs.Common.{◌≡◌, ℕ, ◌+◌, ◌<◌, ◌≤◌, suc, length, drop, get_or, zero, take, ◌⊎◌, Result, Ok, Err, IfErr, IfSome, filter, nat_lt, List, [], ◌∷◌, map, cond, Option, Some, None, Bool, true, false, IsTrue, refl, sym, ap, subst, ◌∙◌, inl, inr, arith}
 use Rattle.std.specs.Prelude.{option_map}
 use Rattle.std.specs.List.{AllByRecursion}
@@ -143,7 +143,7 @@ number_stored r e is = ap (λ x. whole_at x 0) (event_stored r e is)
 stamp_stored : (r : Row) (k : Kept) → kept_in r ≡ Some k → whole_at r 0 ≡ Some k.stamp
 stamp_stored r k is = ap (λ x. whole_at x 0) (kept_stored r k is).0
 
--- a good row gives its number
+-- a good row tells its number
 good_number : (l : Log) (r : Row) → is_good (table_of_log l) r ≡ true → (n : ℕ) × (whole_at r 0 ≡ Some n)
 good_number log.Events r h = let e = number_there (event_in r) h in (e.0.number, number_stored r e.0 e.1)
 good_number log.Kept r h = let k = stamp_there (kept_in r) h in (k.0.stamp, stamp_stored r k.0 k.1)
@@ -202,7 +202,7 @@ page_fails l n d rows old new (Ok p) page xs lacks = tt
 page_fails l n d rows old new (Err e) page xs (inl memory) = inl memory
 page_fails l n d rows old new (Err e) page xs (inr none) = absurd (page_above l n d rows page xs.0 xs.1 none)
 
--- the rest that a page leaves of a database
+-- what a page leaves of a database
 pub page_is : (l : Log) (n : ℕ) (d : Database) (rows : List Row) (p : Page) → IsPageRows l n 1000 d.trees rows → IsLogPage l n rows p → IsPageOfLog l n d.trees p
 unfolding is_good_after
 page_is l n d rows Bad page is = page_bad l n 1000 d.trees rows page is
@@ -230,13 +230,13 @@ old_log : (l : Log) → IsIn version.First (table_of_log l)
 old_log log.Events = tt
 old_log log.Kept = tt
 
--- where its rows are canonical, and no number is below 1, the numbers rise from 0
+-- where its rows are filed, and no number is below 1, the numbers rise from 0
 pub numbers_of : (l : Log) (db : Trees) → AllByRecursion (λ r. IsTrue (is_int (rowid r)) → FromOne r) (db (tree_of (table_of_log l))) → IsCanonicalAs version.First db → (xs : List Numbered) × AreNumbered l db xs
 numbers_of l db low canonical =
     let xs = numbered_of (db (tree_of (table_of_log l))) (each_from_one (db (tree_of (table_of_log l))) (canonical.numbered (table_of_log l) (old_log l)) low) in
     (xs.0, record { rising = canonical.rising (table_of_log l) (old_log l); rows = xs.1 })
 
--- where no number is below 1, those above 0 decide about all
+-- where no number is below 1, those above 0 tell of all
 pub log_found : (l : Log) (db : Trees) (good : Bool) → AllByRecursion (λ r. IsTrue (is_int (rowid r)) → FromOne r) (db (tree_of (table_of_log l))) → FindsGoodAfter l db good → FindsGood (table_of_log l) db good
 unfolding is_good_in is_good_after
 log_found l db false low h = record { bad = h.bad; canonical = λ canonical. sym (h.bad refl) }

@@ -1,4 +1,4 @@
--- The rows beside those of agents and of groups: none in version 1.
+-- What stands beside the rows of agents and of groups: nothing in version 1.
 use Rattle.std.proofs.Common.{◌≡◌, ◌==◌, ◌&&◌, ◌≤◌, ℕ, ℤ, suc, Bool, true, false, cond, List, [], ◌∷◌, length, map, filter, drop, nat_le, inl, inr, Option, Some, None, refl, sym, ap, ap₂, subst, ◌∙◌, arith}
 use Rattle.std.specs.List.{AllByRecursion, list_all, list_any}
 use Rattle.std.specs.Option.{is_some}
@@ -97,7 +97,7 @@ module _ (n : ℕ) where
       (subst (λ k. cond (p.0 == n) (suc (count (in_order pair_order ps))) (count (in_order pair_order ps)) ≤ k) (sym (one_more p ps))
       (longer_by (p.0 == n) (count (in_order pair_order ps)) (count ps) (in_order_at_most ps))))
 
--- they come after the first groups of their agents in whatever order they come
+-- they are behind the first groups of their agents in whatever order they come
 after_in_order : (agents : List AgentRow) (pairs : List (ℕ × ℕ)) → are_after agents pairs ≡ true → are_after agents (in_order pair_order pairs) ≡ true
 after_in_order agents pairs h =
     let parts = and_parts (list_all (λ (p : ℕ × ℕ). list_any (λ (a : AgentRow). is_after a p) agents) pairs) (list_all (λ (a : AgentRow). nat_le (length (groups_beside pairs a.agent)) 7) agents) h in
@@ -149,7 +149,7 @@ abbrev pub NoneBefore : Version → List (ℕ × ℕ) → List GroupPriority →
 NoneBefore version.First further priorities = (further ≡ []) × (priorities ≡ [])
 NoneBefore version.Second further priorities = Unit {0}
 
--- further groups after the first ones of these agents, and priorities of these groups
+-- further groups behind the first ones of these agents, and priorities of these groups
 pub record Beside (v : Version) (db : Trees) (agents : List AgentRow) (groups : List GroupRow) : Type 0 where
   pub further : List (ℕ × ℕ)
   pub priorities : List GroupPriority

@@ -23,7 +23,7 @@ step_failed schema text table makes taken rows old new e b (inl memory) = inl me
 step_failed schema text table makes taken rows old new e b (inr (inl failed)) = inr failed
 step_failed schema text table makes taken rows old new e b (inr (inr refused)) = absurd (never_refused schema text table makes taken old.step_limit old.now b.schema_is refused)
 
--- a failure after what was made
+-- a failure behind what was made
 pub make_later : (old mid new : State) (e : Error) → Works old mid → HasCleanDisk mid → mid.faults ≤ new.faults → FailsToMake mid new e → FailsToMake old new e
 make_later old mid new e w k counts (inl memory) = inl memory
 make_later old mid new e w k counts (inr failed) = inr (failed_after old mid new w.survives k counts failed)
@@ -32,7 +32,7 @@ pub make_later_if : (old mid new : State) (r : Result (Unit {0}) Error) → Work
 make_later_if old mid new (Ok x) w k counts h = tt
 make_later_if old mid new (Err e) w k counts h = make_later old mid new e w k counts h
 
--- nothing after a failure changes it
+-- what is behind a failure changes nothing of it
 pub make_still : (old mid new : State) (e : Error) → mid.faults ≤ new.faults → FailsToMake old mid e → FailsToMake old new e
 make_still old mid new e counts (inl memory) = inl memory
 make_still old mid new e counts (inr failed) = inr (failed_before old mid new failed counts)
@@ -53,12 +53,12 @@ module _ (limits : Limits) where
   none_set_up old new e (inr failed) = inr (inl failed)
 
   -- the row of the limits
-  pub start_failed : (old mid new : State) (e : Error) → Works old mid → HasCleanDisk mid → mid.faults ≤ new.faults → Builds mid book_schema (no_rows 11) → FailsToStart mid new (start_of limits) e → FailsToSetUp old new limits e
+  pub start_failed : (old mid new : State) (e : Error) → Works old mid → HasCleanDisk mid → mid.faults ≤ new.faults → Builds mid book_schema (no_rows 11) → FailsToStart (start_of limits) mid new e → FailsToSetUp old new limits e
   start_failed old mid new e w k counts b (inl memory) = inl memory
   start_failed old mid new e w k counts b (inr (inl failed)) = inr (inl (failed_after old mid new w.survives k counts failed))
   start_failed old mid new e w k counts b (inr (inr refused)) = inr (inr (mid.now, b.schema_is, b.rows_are, subst (λ l. Refuses l mid.now INSERT_META.now (meta_values (start_of limits))) w.survives.limit refused))
 
-  -- nothing after a failure changes it
+  -- what is behind a failure changes nothing of it
   pub still_failed : (old mid new : State) (e : Error) → mid.faults ≤ new.faults → FailsToSetUp old mid limits e → FailsToSetUp old new limits e
   still_failed old mid new e counts (inl memory) = inl memory
   still_failed old mid new e counts (inr (inl failed)) = inr (inl (failed_before old mid new failed counts))

@@ -1,4 +1,4 @@
--- The store never refuses to make a table of a book after those before it.
+-- The store never refuses to make a table of a book behind those before it.
 use Rattle.std.proofs.Common.{◌≡◌, ◌⊎◌, inl, inr, ℕ, zero, suc, get_or, ◌<◌, ◌+◌, ◌*◌, ◌^◌, ◌≤◌, nat_le, nat_lt, List, [], ◌∷◌, length, codes, Bool, true, false, ◌||◌, Option, None, Some, Result, Ok, Err, refl, sym, ap, subst, ◌∙◌, arith}
 use Rattle.std.specs.List.{list_all, list_any}
 use Rattle.std.specs.Ordering.{is_eq}
@@ -84,7 +84,7 @@ all_has p (y ∷ xs) x all (inl same) = ap p same ∙ (and_parts (p y) (list_all
 all_has p (y ∷ xs) x all (inr h) = all_has p xs x (and_parts (p y) (list_all p xs) all).1 h
 
 module _ (s : Schema) (text : List ℕ) (t : Table) (m : MakesTable s text t) (k : IsTaken s text t) where
-  -- the text defines this table
+  -- what the text defines is this table
   same_table : (u : Table) → table_defined_by text ≡ Ok u → u ≡ t
   same_table u is = cc (sym is ∙ m.defined)
 

@@ -1,4 +1,4 @@
--- The tables that are made, one after the other, are such that the store refuses none.
+-- The tables that are made, one behind the other, are such that the store refuses none.
 use Rattle.std.proofs.Common.{[], ◌∷◌, refl}
 use Rattle.std.specs.Fmt.{digits}
 use Rattle.sqlite_trees.specs.Sound.{begins, same_name, is_free_name}

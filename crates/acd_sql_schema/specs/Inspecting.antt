@@ -1,4 +1,4 @@
--- A connection is adopted as a book if its version is that of these tables, and each value is in its range.
+-- When a connection is taken for a book: its version is that of these tables, and each value is in its range.
 use Rattle.std.specs.Prelude.{◌==◌, ◌≡◌, ◌≢◌, ◌⊎◌, ◌<◌, ◌≤◌, ℕ, Bool, true, false, List, [], ◌∷◌, Option, None, Some, Result, if◌then◌else◌, ⊤}
 use Rattle.sqlite_value.specs.Order.{Row}
 use Rattle.sqlite_trees.specs.Tree.{Trees}
@@ -31,7 +31,9 @@ use Rattle.acd_sql_columns.specs.Transactions.{Fits}
 use Rattle.acd_sql_columns.specs.AnyRows.{is_good, are_good, is_good_in, is_beside, is_ranked, IsCanonicalAs, table_of_log, Numbered, AreNumbered, values_after, has_meta, BeginsAsBook, schema_of, Covers, FindsGood}
 use Rattle.acd_sql_columns.specs.Schema.{book_schema, nine, BeginsSchema}
 use Rattle.acd_sql_columns.specs.Schema as schema
-use Rattle.acd_sql_statements.specs.Looking.{HasLookCause, SeesOver}
+use Rattle.acd_sql_columns.specs.Seeing.{Sees}
+use Rattle.acd_sql_statements.specs.Between.{IsBookSchema}
+use Rattle.acd_sql_statements.specs.Looking.{Look, over, BeginsNine}
 use Rattle.acd_sql_columns.specs.Values.{◌>>=◌, whole_at}
 
 -- the tables of a version, in the order in which they are looked at
@@ -45,18 +47,10 @@ tables_of version.Second =
 abbrev pub CoversAll : List Table → Schema → Type 0
 CoversAll tables s = Every (Covers s) tables
 
--- one that isn't good or, of rows that are canonical, none
+-- one that isn't good or, of rows that are filed, none
 abbrev pub IsBadOf : List Table → Database → Option Table → Type 0
 IsBadOf tables d None = IsCanonicalAs version.First d.trees → Every (λ t. is_good_in t d.trees ≡ true) tables
 IsBadOf tables d (Some t) = Covers d.schema t × (is_good_in t d.trees ≡ false)
-
--- the rows that a look sees of each database of such a schema
-abbrev pub SeesRows : {S A : Type 0} → (Schema → Type 0) → Ghosts S → Held S → Held S → Result A Error → (Trees → A → Type 0) → Type 0
-SeesRows Has g old new result IsAnswer = SeesOver Has g old new result (λ (d : Database). IsAnswer d.trees)
-
--- whether each value of the table is in its range
-abbrev pub SeesGood : {S : Type 0} → Table → (Schema → Type 0) → Ghosts S → Held S → Held S → Result Bool Error → Type 0
-SeesGood t Has g old new result = SeesRows Has g old new result (FindsGood t)
 
 unfoldable pub is_good_after : Log → ℕ → List Numbered → Bool
 is_good_after l n xs = are_good (table_of_log l) (values_after l n xs)
@@ -69,13 +63,13 @@ unfoldable pub last_good : Log → ℕ → List Row → Option ℕ
 last_good l n [] = Some n
 last_good l n (row ∷ rows) = number_if_good l row >>= (λ m. last_good l m rows)
 
--- the rows of a page give this
+-- what the rows of a page tell
 abbrev pub IsLogPage : Log → ℕ → List Row → Page → Type 0
 IsLogPage l n rows Bad = last_good l n rows ≡ None
 IsLogPage l n rows Last = rows ≡ []
 IsLogPage l n rows (More m) = last_good l n rows ≡ Some m
 
--- what is left after a page
+-- what is left behind a page
 abbrev pub IsPageOfLog : Log → ℕ → Trees → Page → Type 0
 IsPageOfLog l n db Bad = is_good_in (table_of_log l) db ≡ false
 IsPageOfLog l n db Last = (xs : List Numbered) → AreNumbered l db xs → is_good_after l n xs ≡ true
@@ -118,7 +112,7 @@ IsLike s (Whole v) = s ≡ schema_of v
 IsLike s First = BeginsAsBook s × IsNoBook s
 IsLike s Other = (¬ (BeginsAsBook s)) × IsNoBook s
 
--- a row of the first table holds this version
+-- a row of the first table tells this version
 abbrev pub IsVersionIn : Trees → Option ℕ → Type 0
 IsVersionIn db version = (r : Row) × Has (db schema.meta.tree) r × (whole_at r 2 ≡ version)
 
@@ -128,7 +122,7 @@ IsVersion d n =
     ((has_meta d.schema.tables ≡ false) × (n ≡ 0))
     ⊎ (BeginsAsBook d.schema × (((d.trees schema.meta.tree ≡ []) × (n ≡ 0)) ⊎ IsVersionIn d.trees (Some n)))
 
--- a further group, or a priority, doesn't belong to the row beside it
+-- a further group, or a priority, doesn't belong to what stands beside it
 abbrev pub IsMisplaced : Table → Trees → Type 0
 IsMisplaced table.AgentGroups db = is_beside db ≡ false
 IsMisplaced table.GroupPriority db = is_ranked db ≡ false
@@ -144,12 +138,12 @@ abbrev pub version_read_of : Option ℕ → VersionRead
 version_read_of None = Faulty (BadRow table.Meta)
 version_read_of (Some n) = if n == 1 then Of version.First else if n == 2 then Of version.Second else Faulty (WrongVersion n)
 
--- the rows of versions give this
+-- what the rows of versions tell
 abbrev pub version_read_in : List Row → VersionRead
 version_read_in [] = Faulty (WrongVersion 0)
 version_read_in (r ∷ rows) = version_read_of (whole_at r 0)
 
--- the version of a book is read, and the tables are those of no version; or they are those of another
+-- a version of a book is told, and the tables are those of no version; or they are those of another
 pub data IsUnlike (d : Database) : Type 0 where
   -- a table has the name `meta`, and isn't the first one as a book has it
   other : has_meta d.schema.tables ≡ true → ¬ (BeginsAsBook d.schema) → IsUnlike d
@@ -165,46 +159,41 @@ IsAdoptStoreFault (BadRow t) = ⊥
 IsAdoptStoreFault NoMemory = ⊤
 IsAdoptStoreFault Store = ⊤
 
--- a version that is answered is that of the database, and is none of a book; a table that is answered has a value out of
--- its range
+-- a version that is told is that of the database, and is none of a book; a table that is told has a value out of its range
 abbrev pub IsAdoptFaultOf : Database → AdoptFault → Type 0
 IsAdoptFaultOf d (WrongVersion n) = (n ≢ 1) × (n ≢ 2) × IsVersion d n
 IsAdoptFaultOf d (BadRow t) = IsBadIn t d
 IsAdoptFaultOf d NoMemory = ⊤
 IsAdoptFaultOf d Store = ⊤
 
--- the same of a fault that a look found: the store hasn't failed, and where no other fault is found, the tables are unlike a book's
+-- the same of a fault that a look has found: the store hasn't failed, and where no other fault is told, the tables are unlike a book's
 abbrev pub IsFoundFaultOf : Database → AdoptFault → Type 0
 IsFoundFaultOf d (WrongVersion n) = IsAdoptFaultOf d (WrongVersion n)
 IsFoundFaultOf d (BadRow t) = IsAdoptFaultOf d (BadRow t)
 IsFoundFaultOf d NoMemory = ⊥
 IsFoundFaultOf d Store = IsUnlike d
 
--- further groups and priorities belong to the rows beside them
+-- further groups and priorities belong to what stands beside them
 abbrev pub ArePlaced : Version → Trees → Type 0
 ArePlaced version.First db = ⊤
 ArePlaced version.Second db = (is_beside db ≡ true) × (is_ranked db ≡ true)
 
--- the tables are those of a book of this version, and where their rows are canonical, each value is in its range
+-- the tables are those of a book of this version, and where their rows are filed, each value is in its range
 pub record IsOfBook (v : Version) (d : Database) : Type 0 where
   pub schema_is : d.schema ≡ schema_of v
   pub in_range : IsCanonicalAs version.First d.trees → (t : Table) → IsIn v t → is_good_in t d.trees ≡ true
   pub version : IsVersionIn d.trees (Some (number_of v))
   pub placed : ArePlaced v d.trees
 
--- the rows of tables that are a book's give this
+-- what the rows tell of tables that are a book's
 abbrev pub IsRowFound : Version → Database → Option AdoptFault → Type 0
 IsRowFound v d None = ArePlaced v d.trees × (IsCanonicalAs version.First d.trees → (t : Table) → IsIn v t → is_good_in t d.trees ≡ true)
 IsRowFound v d (Some f) = IsFoundFaultOf d f
 
--- further groups and priorities give this
+-- what further groups and priorities tell
 abbrev pub IsPlaceFound : Version → Database → Option AdoptFault → Type 0
 IsPlaceFound v d None = ArePlaced v d.trees
 IsPlaceFound v d (Some f) = IsFoundFaultOf d f
-
--- the same of each database of this version
-abbrev pub SeesPlaces : {S : Type 0} → Version → Ghosts S → Held S → Held S → Result (Option AdoptFault) Error → Type 0
-SeesPlaces v g old new result = SeesOver (IsSchemaOf v) g old new result (IsPlaceFound v)
 
 abbrev pub IsFound : Database → Found → Type 0
 IsFound d (Book v) = IsOfBook v d
@@ -220,15 +209,65 @@ abbrev pub adopt_fault_of : Error → AdoptFault
 adopt_fault_of (SqliteFailure OutOfMemory) = NoMemory
 adopt_fault_of _ = Store
 
+-- ---- what is looked for
+
+-- whether each value of the table is in its range, where a book's is there
+abbrev pub good_table : Table → Look Bool
+good_table t = over (λ s. Covers s t) (λ (d : Database) (good : Bool). FindsGood t d.trees good)
+
+-- whether each value of the log is
+abbrev pub good_log : Log → Look Bool
+good_log l = over BeginsNine (λ (d : Database) (good : Bool). FindsGood (table_of_log l) d.trees good)
+
+-- what is left behind a page of its rows, and whether all of its pages are good
+abbrev pub log_page : Log → ℕ → Look Page
+log_page l n = over BeginsNine (λ (d : Database) (page : Page). IsPageOfLog l n d.trees page)
+
+abbrev pub good_pages : Log → Look Bool
+good_pages l = over BeginsNine (λ (d : Database) (good : Bool). FindsGoodAfter l d.trees good)
+
+-- the first of these tables that isn't good
+abbrev pub bad_table : List Table → Look (Option Table)
+bad_table tables = over (CoversAll tables) (IsBadOf tables)
+
+-- what is misplaced in the tables of this version, and of the priorities alone, where the further groups are placed
+abbrev pub misplaced_in : Version → Look (Option AdoptFault)
+misplaced_in v = over (IsSchemaOf v) (IsPlaceFound v)
+
+abbrev pub ranks_misplaced : Look (Option AdoptFault)
+ranks_misplaced = over IsBookSchema (λ (d : Database) (fault : Option AdoptFault). is_beside d.trees ≡ true → IsPlaceFound version.Second d fault)
+
+-- what is against a book in the rows of tables of this version
+abbrev pub bad_row : Version → Look (Option AdoptFault)
+bad_row v = over (IsSchemaOf v) (IsRowFound v)
+
+-- what is found where they name this version too
+abbrev pub found_in_rows : Version → Look Found
+found_in_rows v = over (IsSchemaOf v) (λ (d : Database) (found : Found). IsVersionIn d.trees (Some (number_of v)) → IsFound d found)
+
+-- the first table alone is a book's
+abbrev pub IsLikeFirst : Schema → Type 0
+IsLikeFirst s = IsLike s First
+
+-- what is found in the database that the connection has
+abbrev pub SeesNow : {S A : Type 0} → Ghosts S → Held S → Held S → Result A Error → (Database → A → Type 0) → Type 0
+SeesNow g old new result IsAnswer = Sees (state g old).now (state g old) (state g new) result (IsAnswer (state g old).now)
+
 -- ---- why a look fails
 
--- why a look at a database of which this is so fails
-abbrev pub HasLookCauseIn : {S A : Type 0} → (Database → Type 0) → Ghosts S → Held S → Held S → Result A Error → Type 0
-HasLookCauseIn Is g old new result = HasLookCause Is (state g old) (state g new) result
-
--- the schema is one of these, and the rows of the nine tables are canonical
+-- the schema is one of these, and the rows of the nine tables are filed
 abbrev pub HasCanonical : (Schema → Type 0) → Database → Type 0
 HasCanonical Has d = Has d.schema × IsCanonicalAs version.First d.trees
+
+-- the same of a table, of several, and of the tables of a version
+abbrev pub HasCanonicalTable : Table → Database → Type 0
+HasCanonicalTable t = HasCanonical (λ s. Covers s t)
+
+abbrev pub HasCanonicalTables : List Table → Database → Type 0
+HasCanonicalTables tables = HasCanonical (CoversAll tables)
+
+abbrev pub HasCanonicalOf : Version → Database → Type 0
+HasCanonicalOf v = HasCanonical (IsSchemaOf v)
 
 -- the nine tables are there, and the numbers of the rows of this one rise from 0
 abbrev pub IsPaged : Log → Database → Type 0

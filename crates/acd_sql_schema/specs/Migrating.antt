@@ -1,5 +1,5 @@
--- The result of a migration of version 1, and what a crash leaves of it.
-use Rattle.std.specs.Prelude.{◌≡◌, ◌≢◌, ◌⊎◌, ℕ, true, [], ◌∷◌, Option, IsTrue}
+-- What a migration makes of version 1, and what a crash leaves of it.
+use Rattle.std.specs.Prelude.{◌≡◌, ◌≢◌, ◌⊎◌, ℕ, true, [], ◌∷◌, Option, Result, IsTrue, OnErr}
 use Rattle.sqlite_trees.specs.Tree.{Trees}
 use Rattle.sqlite_trees.specs.declared.store.Store.{Ghosts}
 use Rattle.sqlite.specs.Effect.{Database}
@@ -37,7 +37,7 @@ pub record IsAltered (old new : State) : Type 0 where
   pub schema_is : new.now.schema ≡ book_schema
   pub tables : IsMigration old.now.trees new.now.trees
 
--- after it
+-- behind it
 pub record IsMade (old new : State) : Type 0 where
   pub is_open : IsTrue new.is_open
   pub idle : new.now ≡ new.committed
@@ -49,20 +49,28 @@ pub record IsRestored (old new : State) : Type 0 where
   pub now : new.now ≡ old.committed
   pub committed : new.committed ≡ old.committed
 
+-- after an error, one that is open has what it had
+abbrev pub IfFailsRestored : {A : Type 0} → Result A Error → State → State → Type 0
+IfFailsRestored result old new = OnErr result (IsTrue new.is_open → IsRestored old new)
+
+-- where no disk lied, one that is open was open
+abbrev pub WasOpen : {S : Type 0} → Ghosts S → Held S → Held S → Type 0
+WasOpen g old new = HasCleanDisk (state g new) → IsTrue (state g new).is_open → IsTrue (state g old).is_open
+
 -- a crash leaves what it left before, or a migration
 abbrev pub MayAlter : State → State → Type 0
 MayAlter old new = (db : Trees) → new.may_leave db → old.may_leave db ⊎ IsMigration old.now.trees db
 
 -- ---- failures
 
--- the nine tables with these rows, and two empty ones after them
+-- the nine tables with these rows, and two empty ones behind them
 pub record AreBeside (old : Trees) (d : Database) : Type 0 where
   pub schema_is : d.schema ≡ book_schema
   pub kept : (t : Table) → IsIn version.First t → d.trees (tree_of t) ≡ old (tree_of t)
   pub further : d.trees (tree_of table.AgentGroups) ≡ []
   pub priorities : d.trees (tree_of table.GroupPriority) ≡ []
 
--- the store refuses to write version 2 into them
+-- the store refuses to tell version 2 in them
 abbrev pub IsVersionRefused : Option ℕ → Trees → Type 0
 IsVersionRefused limit old = (d : Database) × AreBeside old d × Refuses limit d UPDATE_VERSION.now []
 

@@ -1,4 +1,4 @@
--- The making of the tables: what a crash leaves of it, and why they aren't made.
+-- What a crash leaves of the making of the tables, and why they aren't made.
 use Rattle.std.specs.Prelude.{◌≡◌, ◌⊎◌, ◌++◌, ◌∷◌, [], ℕ, List, Option, Result, IfErr, OnOk}
 use Rattle.std.specs.Borrow.{MutBor}
 use Rattle.sqlite_value.specs.Order.{Row}
@@ -17,15 +17,30 @@ use Rattle.acd_sql_columns.specs.declared.tables.Version.TheVariants as version
 use Rattle.acd_sql_columns.specs.declared.texts.TheConstants.{INSERT_META}
 use Rattle.acd_sql_columns.specs.AnyRows.{schema_of}
 use Rattle.acd_sql_columns.specs.Content.{Encodes}
-use Rattle.acd_sql_columns.specs.Transactions.{Works}
+use Rattle.acd_sql_columns.specs.Transactions.{HoldsContent, Works}
 use Rattle.acd_sql_columns.specs.Making.{Builds, HasRows, no_rows, plan_schema, state_schema}
 use Rattle.acd_sql_columns.specs.Rows.{meta_values}
-use Rattle.acd_sql_columns.specs.Schema.{book_schema, no_schema}
+use Rattle.acd_sql_columns.specs.Schema.{book_schema, no_schema, old_schema}
 use Rattle.acd_sql_statements.specs.Failing.{IsMemory, StoreHasFailed, Refuses}
 
--- this holds of the states before and after, where no disk broke a promise
+-- this holds of the states before and behind, where no disk lied
 abbrev pub IfClean : {S : Type 0} → Ghosts S → Held S → Held S → (State → State → Type 0) → Type 0
 IfClean g old new Fact = HasCleanDisk (state g new) → Fact (state g old) (state g new)
+
+-- where it succeeds, this holds of the states before and behind; where it fails, it has such a cause
+abbrev pub IfSucceeds : {A : Type 0} → Result A Error → (State → State → Type 0) → State → State → Type 0
+IfSucceeds result Fact old new = OnOk result (Fact old new)
+
+abbrev pub IfFails : {A : Type 0} → Result A Error → (State → State → Error → Type 0) → State → State → Type 0
+IfFails result Cause old new = IfErr result (Cause old new)
+
+-- the tables are those of this version
+abbrev pub HasTablesOf : Version → State → State → Type 0
+HasTablesOf v old new = new.now.schema ≡ schema_of v
+
+-- a book with the limits and nothing else is there
+abbrev pub HasNewBook : Limits → State → State → Type 0
+HasNewBook limits old new = HoldsContent new (empty_content limits)
 
 -- a crash leaves what it left before, or a book with the limits and nothing else
 abbrev pub MayMake : State → State → Limits → Type 0
@@ -52,7 +67,7 @@ FailsToSetUp old new limits e = IsMemory e ⊎ (StoreHasFailed old new ⊎ IsUns
 
 -- a fault has such a cause, where no disk lied
 abbrev pub FailsBy : {S A : Type 0} → Ghosts S → Held S → Held S → Result A Error → (State → State → Error → Type 0) → Type 0
-FailsBy g old new result Cause = IfClean g old new (λ (s t : State). IfErr result (Cause s t))
+FailsBy g old new result Cause = IfClean g old new (IfFails result Cause)
 
 -- ---- inside the transaction
 
@@ -82,13 +97,17 @@ state_made = stage state_schema (no_rows 7)
 abbrev pub made_of : Version → Stage
 made_of version = stage (schema_of version) (no_rows (tables_in version))
 
--- the nine tables of version 1 with these rows, and two without one after them
+-- the nine tables of version 1 with these rows, and two without one behind them
 abbrev pub eleven_with : List (List Row) → Stage
 eleven_with rows = stage book_schema ((rows ++ [] ∷ []) ++ [] ∷ [])
 
--- tables with their rows become others, and nothing is committed
-pub record MakesTables {S : Type 0} (g : Ghosts S) (old new : MutBor (Held S)) (result : Result (Unit {0}) Error) (before after : Stage) : Type 0 where
+-- tables with their rows, the first of these, become the second, and nothing is committed
+pub record MakesTables {S : Type 0} (g : Ghosts S) (old new : MutBor (Held S)) (result : Result (Unit {0}) Error) (stages : Stage × Stage) : Type 0 where
   pub same : new.ghost_name ≡ old.ghost_name
   pub works : Works (state g old.now) (state g new.now)
-  pub made : HasCleanDisk (state g new.now) → OnOk result (Builds (state g old.now) before.schema before.rows → Builds (state g new.now) after.schema after.rows)
-  pub failed : HasCleanDisk (state g new.now) → Builds (state g old.now) before.schema before.rows → IfErr result (FailsToMake (state g old.now) (state g new.now))
+  pub made : HasCleanDisk (state g new.now) → OnOk result (Builds (state g old.now) stages.0.schema stages.0.rows → Builds (state g new.now) stages.1.schema stages.1.rows)
+  pub failed : HasCleanDisk (state g new.now) → Builds (state g old.now) stages.0.schema stages.0.rows → IfErr result (FailsToMake (state g old.now) (state g new.now))
+
+-- the two tables of version 2 are made behind the nine, whatever rows these have
+abbrev pub MakesTwo : {S : Type 0} → Ghosts S → MutBor (Held S) → MutBor (Held S) → Result (Unit {0}) Error → Type 0
+MakesTwo g old new result = (rows : List (List Row)) → MakesTables g old new result (stage old_schema rows, eleven_with rows)

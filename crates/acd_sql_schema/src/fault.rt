@@ -1,4 +1,4 @@
-//! The result of a look at a connection, and why one was not adopted.
+//! What a look at a connection finds, and why one was not adopted.
 
 use acd_sql_columns::{Table, Version};
 use thiserror::Error;
@@ -18,11 +18,11 @@ pub enum AdoptFault {
     Store,
 }
 
-/// The result of a look at a connection.
+/// What a look at a connection has found.
 #[derive(Clone, Copy)]
 pub enum Found {
     /// A book of a version, with each value in its range.
     Book(Version),
-    /// Why it isn't adopted.
+    /// Why it isn't taken for one.
     Fault(AdoptFault),
 }

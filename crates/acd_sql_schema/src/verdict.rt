@@ -1,4 +1,4 @@
-//! The verdict on a database as it is looked over.
+//! What is told of a database as it is looked over.
 
 use crate::fault::AdoptFault;
 use acd_sql_columns::Version;
@@ -8,19 +8,19 @@ use acd_sql_columns::Version;
 pub(crate) enum Likeness {
     /// All of them are those of a version, and there are no others.
     Whole(Version),
-    /// The first, which holds the version.
+    /// The first, which tells the version.
     First,
     Other,
 }
 
-// What the first table holds of the version.
+// What the first table tells of the version.
 #[derive(Clone, Copy)]
 pub(crate) enum VersionRead {
     Of(Version),
     Faulty(AdoptFault),
 }
 
-// What a page of a log gives.
+// What a page of a log tells.
 #[derive(Clone, Copy)]
 pub(crate) enum Page {
     /// A value is out of its range.

@@ -83,7 +83,7 @@ module _ (s : Schema) (text : List ℕ) (params : Row) where
               never h.0.command run.1 (ap (λ (x : Database). x.schema) same ∙ is) is_whole.4 (subst (IsUnanswered h.0.command run.1) bare run.3)
         ]
 
--- whatever tables come later
+-- whatever lies behind the tables
 pub over : (base : List Table) (text : List ℕ) (params : Row) → ((rest : List Table) (s : Schema) → (reads_listing (with_later base rest s) text ≡ false) × IsWhole (with_later base rest s) text params (understood (with_later base rest s) text))
     → IsAnsweredOver base text params
 over base text params whole d b = answered (with_later base b.0 d.schema) text params (whole b.0 d.schema).0 (whole b.0 d.schema).1 d (begun base d.schema b)

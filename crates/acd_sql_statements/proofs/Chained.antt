@@ -66,18 +66,18 @@ module _ {A B : Type 0} (old mid new : State) (a : A) (P : Content → A → Typ
     answer = λ k. tt;
   }
 
--- a consequence of the answer is found too
+-- what was found is also what follows of it
 pub finds_so : {A : Type 0} (old new : State) (r : Result A Error) (P Q : Content → A → Type 0) → ((c : Content) → HoldsContent old c → (a : A) → P c a → Q c a) → Finds old new r P → Finds old new r Q
 finds_so old new (Ok a) P Q so h = record { up = h.up; quiet = h.quiet; stops = h.stops; answer = λ k c held. so c held a (h.answer k c held) }
 finds_so old new (Err e) P Q so h = record { up = λ k. tt; quiet = h.quiet; stops = h.stops; answer = λ k. tt }
 
--- the answer is used for the next result
+-- what was found goes on to what is made of it
 pub finds_on : {A B : Type 0} (old new : State) (a : A) (r : Result B Error) (P : Content → A → Type 0) (Q : Content → B → Type 0) → Finds {E = Error} old new (Ok a) P
     → IfOk r (λ (b : B). (c : Content) → P c a → Q c b) → Finds old new r Q
 finds_on old new a (Ok b) P Q h on = record { up = h.up; quiet = h.quiet; stops = h.stops; answer = λ k c held. on c (h.answer k c held) }
 finds_on old new a (Err e) P Q h on = record { up = λ k. tt; quiet = h.quiet; stops = h.stops; answer = λ k. tt }
 
--- the last of two answers what was asked for
+-- the last of two tells what was asked for
 pub finds_after : {A B : Type 0} (old mid new : State) (a : A) (r : Result B Error) (P : Content → A → Type 0) (Q W : Content → B → Type 0) → Finds {E = Error} old mid (Ok a) P
     → ((c : Content) (b : B) → P c a → Q c b → W c b) → Finds mid new r Q → Finds old new r W
 finds_after old mid new a (Ok b) P Q W first both second = chained old mid new a P Q first b b W (λ c p q. both c b p q) second

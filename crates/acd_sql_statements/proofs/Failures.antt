@@ -1,4 +1,4 @@
--- The store's answers, and what they say of why it failed.
+-- What the store's answers say of why it failed.
 use Rattle.std.proofs.Common.{◌≡◌, ◌⊎◌, inl, inr, ℕ, ◌≤◌, List, false, None, Result, Ok, Err, IfErr, IsTrue, sym, ◌∙◌, arith}
 use Rattle.std.proofs.lemmas.Bool.{cases_Bool}
 use Rattle.sqlite_trees.specs.declared.error.StoreError.{StoreError}
@@ -99,7 +99,7 @@ module _ (old new : State) where
       only (inr (inr none)) = absurd none
   commit_failed e inside (inr h) = absurd (let apart = sym inside ∙ h.1 in cc)
 
--- ---- one call after another
+-- ---- one call behind another
 
 pub failed_before : (old mid new : State) → StoreHasFailed old mid → mid.faults ≤ new.faults → StoreHasFailed old new
 failed_before old mid new (inl more) counts = inl (omega (arith, more, counts))

@@ -1,4 +1,4 @@
--- A list that isn't accepted as the groups of an agent is longer than eight, or doesn't ascend.
+-- What isn't taken for the groups of an agent is more than eight, or doesn't ascend.
 use Rattle.std.proofs.Common.{◌≡◌, ℕ, ◌≤◌, ◌==◌, nat_le, nat_eq, Bool, true, false, List, [], ◌∷◌, ◌++◌, length, Option, Some, None, inl, inr, refl, sym, ap, ap₂, subst, ◌∙◌, append_assoc, append-nil, length-append, arith}
 use Rattle.std.specs.Cmp.Lexicographic.{pointwise}
 use Rattle.std.specs.Ordering.{nat_cmp, match_ordering}
@@ -12,7 +12,7 @@ use Rattle.acd_terms.specs.Lists.{ascends, put_by, AllAfter, IsAscending}
 use Rattle.acd_lemmas.proofs.Decided.{ascending_from}
 use Rattle.acd_lemmas.proofs.Numbers.{greater_is}
 
--- one after all that are there
+-- one behind all that stand there
 below : (g : ℕ) (front : List ℕ) (d : ℕ) (rest : List ℕ) → AllAfter nat_cmp g (front ++ d ∷ rest) → nat_cmp g d ≡ Less
 below g [] d rest h = h.0
 below g (x ∷ front) d rest h = below g front d rest h.1

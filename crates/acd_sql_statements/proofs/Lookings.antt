@@ -63,7 +63,7 @@ module _ (Is Was : Database → Type 0) (so : (d : Database) → Is d → Was d)
   pub looks_done : {A B : Type 0} (old new : State) (a : A) (b : B) → HasLookCause Was old new (Ok a) → HasLookCause Is old new (Ok b)
   looks_done old new a b h = record { spares = h.spares; cause = λ k d old_database it. tt }
 
-  -- the answer of a read is used for the next result
+  -- what was read goes on to what is made of it
   pub looks_on : {A B : Type 0} (old new : State) (a : A) (r : Result B Error) → HasLookCause Was old new (Ok a) → (HasCleanDisk new → (d : Database) → HasDatabase old d → Is d → IfErr r (FailsToLook old new)) → HasLookCause Is old new r
   looks_on old new a r h on = record { spares = h.spares; cause = on }
 
@@ -89,9 +89,9 @@ module _ {A B : Type 0} (Is First Next : Database → Type 0) (IsAnswer : Databa
         later old mid new r first.spares.counts first.spares.limit (next.cause k d (saw.same m old_database (saw.up m old_database)) (is d it (saw.answer m old_database)));
   }
 
--- ---- rows that represent no record
+-- ---- rows that stand for no record
 
--- of a table whose values are in their ranges each row represents one
+-- of a table whose values are in their ranges each row stands for one
 module _ {R : Type 0} (in_row : Row → Option R) (t : Table) (decides : (row : Row) → is_good t row ≡ is_some (in_row row)) where
   decoded : {B : Type 0} (d : Database) (old new : State) (rows : Vec Row Global) (r : Result B Error) → HasCleanDisk new → HasDatabase old d → is_good_in t d.trees ≡ true
       → Sees d old new (Ok rows) (λ rows. IsPermutation (rows_in t d.trees) rows.items) → IfErr r (FailsToDecode in_row rows.items) → IfErr r (FailsToLook old new)

@@ -1,4 +1,4 @@
--- A list that is processed item by item.
+-- A list that is gone through one after the other.
 use Rattle.std.proofs.Common.{◌≡◌, ℕ, ◌+◌, ◌<◌, suc, length, drop, get_or, drop-cons, ap₂, List, ◌∷◌, sym, ◌∙◌, arith}
 
 pub at : {X : Type 0} (xs : List X) (i : ℕ) (x d : X) → x ≡ get_or xs i d → i < length xs → drop i xs ≡ x ∷ drop (i + 1) xs

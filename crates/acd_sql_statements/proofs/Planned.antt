@@ -20,7 +20,7 @@ use Rattle.acd_sql_columns.proofs.Joined.{groups_joined, agents_joined}
 use Rattle.acd_sql_columns.proofs.Listings.{stored}
 use Rattle.acd_lemmas.proofs.Lists.{take-push, map-push}
 
--- ---- the result
+-- ---- what is found
 
 pub ranked_so : (old new : State) (ps : Vec GroupPriority Global) (parts qs : List _) (r : Result (Vec GroupRecord Global) Error) → qs ≡ ps.items → Finds {E = Error} old new (Ok ps) (λ c ps. ps.items ≡ priorities_in c.rows.groups)
     → IfOk r (λ gs. gs.items ≡ map (joined_group qs) parts) → Finds old new r (λ c gs. parts ≡ map group_part c.rows.groups → gs.items ≡ c.rows.groups)

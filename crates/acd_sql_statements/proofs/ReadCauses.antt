@@ -150,14 +150,14 @@ cause_failed old new e h = record { spares = h.spares; cause = h.cause }
 pub cause_as : {A B : Type 0} (old new : State) (e : Error) (r : Result B Error) → r ≡ Err e → HasReadCause {A = A} old new (Err e) → HasReadCause old new r
 cause_as old new e r is h = subst (HasReadCause old new) (sym is) (cause_failed old new e h)
 
--- the answer of a read is used for the next result
+-- what was read goes on to what is made of it
 pub cause_on : {A B : Type 0} (old new : State) (a : A) (r : Result B Error) → HasReadCause old new (Ok a) → (HasCleanDisk new → (c : Content) → HoldsContent old c → IfErr r (FailsToRead c old new)) → HasReadCause old new r
 cause_on old new a r h on = record { spares = h.spares; cause = λ k c held any. on k c held }
 
 pub cause_done : {A B : Type 0} (old new : State) (a : A) (b : B) → HasReadCause old new (Ok a) → HasReadCause old new (Ok b)
 cause_done old new a b h = cause_on old new a (Ok b) h (λ k c held. tt)
 
--- a failure after what was read is one of the whole
+-- a failure behind what was read is one of the whole
 later : (c : Content) (old mid new : State) (e : Error) → old.faults ≤ mid.faults → mid.step_limit ≡ old.step_limit → FailsToRead c mid new e → FailsToRead c old new e
 later c old mid new e counts limit (inl memory) = inl memory
 later c old mid new e counts limit (inr (inl more)) = inr (inl (omega (arith, more, counts)))
@@ -185,7 +185,7 @@ cause_then P IsAnswer old mid new a r first found so clean next = record {
 pub cause_given : {A : Type 0} (P : Content → Type 0) (old new : State) (r : Result A Error) → HasReadCause old new r → HasReadCauseIf P old new r
 cause_given P old new r h = record { spares = h.spares; cause = λ k c held p. h.cause k c held tt }
 
--- the answers of reads are combined, where memory alone can lack
+-- what was read is put together, where memory alone can lack
 pub cause_memory : {A B : Type 0} (old new : State) (a : A) (r : Result B Error) → HasReadCause old new (Ok a) → IfErr r IsMemory → HasReadCause old new r
 cause_memory old new a r h fails = cause_on old new a r h (λ k c held. each r c fails)
   where

@@ -44,7 +44,7 @@ module _ (old new : State) where
   pub by_same : {B : Type 0} (R : Option ℕ → Relations → Type 0) (e : Error) (result : Result B Error) → result ≡ Err e → (HasCleanDisk new → (r : Relations) → HoldsUncommitted old r → FailsToLeave R r old new e) → HasWriteCause R old new result
   by_same R e result is h = λ clean r d. subst (λ b. IfErr b (FailsToLeave R r old new)) (sym is) (h clean r d)
 
-  -- where something more is known of the view
+  -- where something more is known of what was seen
   pub by_known : {A : Type 0} (Is : Relations → Type 0) (P Q : Option ℕ → Relations → Type 0) (result : Result A Error) → (HasCleanDisk new → (r : Relations) → HoldsUncommitted old r → Is r)
       → ((limit : Option ℕ) (r : Relations) → Is r → P limit r → Q limit r) → HasWriteCause P old new result → HasWriteCause Q old new result
   by_known Is P Q (Ok x) known so h = λ clean r d. tt
@@ -58,7 +58,7 @@ module _ (old new : State) where
   pub by_more : {A : Type 0} (P Q : Option ℕ → Relations → Type 0) (result : Result A Error) → ((limit : Option ℕ) (r : Relations) → P limit r → Q limit r) → HasWriteCause P old new result → HasWriteCause Q old new result
   by_more P Q result so = by_known (λ r. Unit {0}) P Q result (λ clean r d. tt) (λ limit r known p. so limit r p)
 
--- after what was written before
+-- behind what was written before
 pub by_later : {A : Type 0} (old mid new : State) (change : Relations → Relations) (Q : Option ℕ → Relations → Type 0) (result : Result A Error) → Works old mid → Works mid new
     → (HasCleanDisk mid → (r : Relations) → HoldsUncommitted old r → HoldsUncommitted mid (change r)) → HasWriteCause Q mid new result → HasWriteCause (λ limit r. Q limit (change r)) old new result
 by_later old mid new change Q (Ok x) first second made h = λ clean r d. tt
@@ -98,7 +98,7 @@ still_uncommitted d f text u x r old mid none uncommitted ran missed =
 pub still_connected : (x : ConnectionRecord) (r : Relations) (old mid : State) (none : ℕ) → HoldsUncommitted old r → Executes UPDATE_CONNECTION.now (connection_values x) old mid (Ok none) → none ≡ 0 → HoldsUncommitted mid r
 still_connected x r old mid none uncommitted ran missed = after_none x (λ r. r) old mid mid none (Ok tt) ran missed (λ r d. d) r uncommitted
 
--- ---- further groups, one after the other
+-- ---- further groups, one behind the other
 
 pub any_default : (xs : List ℕ) (i d e : ℕ) → i < length xs → get_or xs i d ≡ get_or xs i e
 any_default xs i d e low = grind (arith, common_steps)

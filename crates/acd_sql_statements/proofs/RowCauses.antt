@@ -62,7 +62,7 @@ monitor_has c n w h = found_has (λ (w : MonitorRecord). w.monitor == n) c.rows.
 pub rows_has : {X : Type 0} (values : X → Row) (some all : List X) (row : Row) → ((x : X) → Has some x → Has all x) → Has (map values some) row → Has (map values all) row
 rows_has values some all row within h = let from = has_mapped values some row h in subst (Has (map values all)) (sym from.2) (mapped_has values all from.0 (within from.0 from.1))
 
--- ---- rows that represent no record
+-- ---- rows that stand for no record
 
 module _ {R : Type 0} (in_row : Row → Option R) where
   -- of one of them

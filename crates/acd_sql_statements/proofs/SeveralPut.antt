@@ -65,9 +65,9 @@ puts_four : (a b c d : Event) → Puts INSERT_FOUR_EVENTS.now (rows_from 0 4) (a
 unfolding understood everything
 puts_four a b c d = record { command = refl; plain = (refl, refl); source = refl }
 
--- ---- what the table has after it
+-- ---- what the table has behind it
 
--- one put after the other
+-- one put behind the other
 abbrev all_put : List Event → List Event → List Event
 all_put [] rs = rs
 all_put (e ∷ es) rs = all_put es (put_by (by_key number e) rs e)

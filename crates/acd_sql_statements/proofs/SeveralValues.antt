@@ -1,4 +1,4 @@
--- The values of several events, one after the other.
+-- The values of several events, one behind the other.
 use Rattle.std.proofs.Common.{◌≡◌, ℕ, ◌+◌, ◌<◌, List, [], ◌∷◌, ◌++◌, length, take, get_or, refl, sym, ap, ◌∙◌}
 use Rattle.std.proofs.lemmas.List.{take_more}
 use Rattle.acd_terms.specs.declared.event.Event.{Event}

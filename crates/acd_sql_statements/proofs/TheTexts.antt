@@ -1,4 +1,4 @@
--- A statement on a text that a table may have holds of the one that it has.
+-- What is said of a text that a table may have is said of the one that it has.
 use Rattle.std.proofs.Common.{ℕ, List, Option, Some, None, IfSome, IsSome}
 use Rattle.acd_sql_columns.specs.Descriptions.{the_text}
 

@@ -28,9 +28,13 @@ pub record RefusesOn (sql : List ℕ) (params : Row) (limit : Option ℕ) (r : R
   pub tables : AreTables database.trees r
   pub refuses : Refuses limit database sql params
 
--- the further groups of an agent removed
+-- the further groups of an agent taken out
 abbrev pub without_further : ℕ → Relations → Relations
 without_further agent r = with_part table.AgentGroups (filter (λ (p : ℕ × ℕ). not (p.0 == agent)) r.further) r
+
+-- further groups of an agent put in
+abbrev pub with_further_groups : ℕ → List ℕ → Relations → Relations
+with_further_groups agent gs r = with_part table.AgentGroups (all_put (map (λ (g : ℕ). (agent, g)) gs) r.further) r
 
 -- no record has its key
 abbrev pub HasNone : {R : Type 0} → Description R → R → Relations → Type 0
@@ -54,17 +58,16 @@ abbrev pub RefusesPriority : GroupRecord → Option ℕ → Relations → Type 0
 RefusesPriority g limit r =
     RefusesOn DELETE_GROUP_PRIORITY.now (id_value g.device ∷ []) limit r ⊎ RefusesPut group_priority UPDATE_GROUP_PRIORITY.now (priority_part g) limit r
 
--- a group, or its priority after it
+-- a group, or its priority behind it
 abbrev pub RefusesGroup : GroupRecord → Option ℕ → Relations → Type 0
 RefusesGroup g limit r = RefusesPut groups UPDATE_GROUP.now (group_part g) limit r ⊎ RefusesPriority g limit (with_put groups (group_part g) r)
 
--- one of an agent's further groups, after those before it
+-- one of an agent's further groups, behind those before it
 abbrev pub RefusesFurther : ℕ → List ℕ → Option ℕ → Relations → Type 0
 RefusesFurther agent gs limit r =
-    (i : ℕ) × (i < length gs) × RefusesOn INSERT_AGENT_GROUP.now (further_values (agent, get_or gs i 0)) limit
-    (with_part table.AgentGroups (all_put (map (λ (g : ℕ). (agent, g)) (take i gs)) r.further) r)
+    (i : ℕ) × (i < length gs) × RefusesOn INSERT_AGENT_GROUP.now (further_values (agent, get_or gs i 0)) limit (with_further_groups agent (take i gs) r)
 
--- an agent, its further groups that are removed after it, or those that are put after that
+-- an agent, its further groups that are taken out behind it, or those that are put behind that
 abbrev pub RefusesAgent : AgentRecord → Option ℕ → Relations → Type 0
 RefusesAgent a limit r =
     RefusesPut agents UPDATE_AGENT.now (agent_part a) limit r

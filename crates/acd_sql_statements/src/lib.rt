@@ -1,7 +1,7 @@
 //! The tables of a book in SQLite: the statement or the query that works on each.
 //!
-//! A query of `query` shows the values of the rows of a content, in the order of its key; `acd_sql_columns` says what
-//! they represent. The queries of `look` and of `tables` also find what a database holds that is no book's yet.
+//! A query of `query` shows the values of the rows of a content, in the order of its key; what they stand for `acd_sql_columns` says.
+//! What a database holds that is no book's yet, the queries of `look` and of `tables` tell too.
 //!
 //! Each function of `put`, of `several` and of `write` works inside a transaction, and adds no stop.
 //!

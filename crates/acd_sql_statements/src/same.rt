@@ -14,7 +14,7 @@ use sqlite_sql::ops::BinaryOp;
 use sqlite_value::keys::Order;
 use sqlite_value::value::Value;
 
-// Values that may be the same as others.
+// What may be the same as another.
 trait Same {
     // it has nothing that no table of a book has
     ghost is_plain: { Self → Bool };
@@ -78,7 +78,7 @@ fn leaf_of(op: &Op) -> Option<Leaf>
     }
 }
 
-// The term at a place, if it is no term of others. Beyond the nodes, and where none may be read, it is NULL.
+// What the term at a place is, if it is no term of others. Beyond the nodes, and where none may be read, it is NULL.
 fn leaf_at(ops: &[Op], depth: usize, at: usize) -> Option<Leaf>
     ensures { result ≡ leaf_of (term_to ops.now depth at) }
 {

@@ -1,5 +1,4 @@
-//! The operations needed of a record that a table holds. `acd_sql_columns` describes the table, with the evidence that
-//! its texts do what they say.
+//! What is asked of a record that a table holds. What the table is `acd_sql_columns` says, with the evidence that its texts do what they say.
 
 ghost use Rattle.std.specs.Prelude.{◌≡◌};
 ghost use Rattle.acd_sql_columns.specs.Descriptions.{Description, AreTexts};
@@ -8,7 +7,7 @@ ghost use Rattle.acd_sql_statements.specs.Inside.{CountsRows};
 use acd_sql_columns::texts::Texts;
 use sqlite::{Alter, Error, Row, Transaction};
 
-/// A record with a separate table, whose key is the number of its row.
+/// A record with a table of its own, whose key is the number of its row.
 pub trait Stored: Drop {
     ghost descr: { Description Self };
 
@@ -20,7 +19,7 @@ pub trait Stored: Drop {
     fn run<S: Alter>(&self, tx: &mut Transaction<'_, S>, sql: &str) -> Result<usize, Error>
         requires { descr.Fits self.now }
         ensures { CountsRows S.Store tx.old.conn tx.new.conn result
-            sql.now (descr.values self.now) };
+            (sql.now, descr.values self.now) };
 
     /// The record of a row whose values are all in their ranges.
     fn decode(row: &Row) -> Option<Self>
