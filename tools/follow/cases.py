@@ -6,11 +6,13 @@ import os
 import signal
 import sqlite3
 import subprocess
+import tempfile
 import threading
 import time
 from pathlib import Path
 
-from ground import Between, Desk, Follower, ask, certificate, copied, day, held, is_beginning, judge, last_of, log_of, state_in, until
+from ground import PATIENCE, Between, Follower, Ground, Served, ask, certificate, day, held, is_beginning, last_of, log_of, state_in
+from trial import until
 
 FAULT, REFUSED, DIFFERS, LACKS = 1, 2, 3, 4
 # what it makes a file at
@@ -74,40 +76,38 @@ def page_with(body, change):
     return json.dumps(page, separators=(",", ":"), sort_keys=True).encode()
 
 
-class Cases:
-    def __init__(self, ground):
-        self.ground, self.folder = ground, ground.scratch()
-        self.count, self.lines = 0, day(7, 240)
-        self.desk = self.day_at("desk.db", self.lines)
-        self.last = len(self.desk.rows()["kept"])
+class Cases(Ground):
+    @classmethod
+    def setUpClass(cls):
+        super().setUpClass()
+        cls.lines = day(7, 240)
+        cls.desk = cls.day_at("desk.db", cls.lines)
+        cls.last = len(cls.desk.rows()["kept"])
 
-    def day_at(self, name, lines):
+    @classmethod
+    def tearDownClass(cls):
+        cls.desk.kill()
+
+    def setUp(self):
+        self.before = self.count.tried
+
+    def tearDown(self):
+        if not self.count.is_planted:
+            print(f"    {self.id().rpartition('.try_')[2]}: {self.count.tried - self.before}", flush=True)
+
+    @classmethod
+    def day_at(cls, name, lines):
         """A desk that has answered these lines."""
-        desk = Desk(self.ground, self.folder / name)
-        self.ground.feed(desk.file, lines)
-        return desk.start()
-
-    def expect(self, what, has, wanted=True):
-        self.ground.expect(what, has, wanted)
-
-    def new_file(self, of=None):
-        """The name of a new copy, or one that has what the desk has."""
-        self.count += 1
-        file = self.folder / f"copy-{self.count}/copy.db"
-        file.parent.mkdir()
-        if of:
-            copied(of, file.parent)
-            for path in list(file.parent.iterdir()):
-                path.rename(path.with_name(path.name.replace(of.name, file.name)))
-        return file
+        cls.feed(cls.folder / name, lines)
+        return Served(cls, cls.folder / name).start()
 
     def whole(self):
         """A copy that has all."""
         return self.new_file(of=self.desk.file)
 
-    def follow(self, what, address, file, wanted, *texts, more=None, words=()):
+    def follow(self, what, address, file, wanted, *texts, more=(), words=()):
         """Once; its status, and what it tells, among it these texts."""
-        status, said, told = self.ground.once(address, file, *words, more=more)
+        status, said, told = self.once(address, file, *words, more=more)
         self.expect(f"{what}: {told}{said}", (status, [text for text in texts if text not in told]), (wanted, []))
         state = state_in(said)
         if state:
@@ -116,26 +116,26 @@ class Cases:
 
     # all is well
 
-    def anew(self):
+    def try_anew(self):
         """Three pages of an office's day."""
         desk, file = self.day_at("long.db", day(8, 2200)), self.new_file()
         between = Between(desk)
         self.follow("anew", between.address, file, 0)
-        count = judge(self.ground, "anew", file, desk)
+        count = self.judge("anew", file, desk)
         self.expect("anew: what it asked for", [asked[0] for asked in between.asked], [f"/requests?after={after}" for after in (0, 999, 1998)])
         self.expect("anew: nobody else reads it", file.stat().st_mode & 0o077, 0)
-        status, said, _ = self.ground.run("acd", "audit", "--count", "--file", file)
+        status, said, _ = self.acd("audit", "--count", "--file", file)
         self.expect("anew: its audit", (status, said), (0, f"sound\nexecuted {count}\n"))
         desk.kill()
 
-    def again(self):
+    def try_again(self):
         file = self.whole()
         between = Between(self.desk)
         told, state = self.follow("again", between.address, file, 0)
         self.expect("again: it asks for one page", [asked[0] for asked in between.asked], [f"/requests?after={self.last - 1}"])
         self.expect("again: the state", state, (self.last, self.last))
 
-    def rests(self):
+    def try_rests(self):
         """While it is far behind the desk serves others for as long as it served this. Of short pages, which are fed at once."""
         def alter(number, path, status, body):
             time.sleep(1)
@@ -146,22 +146,22 @@ class Cases:
         pauses = [later[1] - before[2] for before, later in zip(between.asked, between.asked[1:])]
         self.expect(f"short pages: a pause as long as each, {pauses}", len(pauses) == 4 and min(pauses) > 0.95)
 
-    def empty(self):
+    def try_empty(self):
         """Of a desk that has nothing, and then one request, and then two."""
-        desk, file = Desk(self.ground, self.folder / "empty.db").start(), self.new_file()
+        desk, file = Served(self, self.folder / "empty.db").start(), self.new_file()
         for number in range(3):
             if number:
                 ask(desk.port, "/csta", b'{"requester":"a","invoke":%d,"service":"tick"}' % number)
             _, state = self.follow(f"{number} requests", desk.address, file, 0)
             self.expect(f"{number} requests: the state", state, (number, number))
-        judge(self.ground, "two requests", file, desk)
+        self.judge("two requests", file, desk)
         desk.kill()
 
-    def copy_of_it(self):
+    def try_copy_of_it(self):
         """acd-copy takes one in place of a desk that it halts."""
         file, copies = self.new_file(), self.folder / "copies"
         self.follow("a live copy", self.desk.address, file, 0)
-        status, said, told = self.ground.script("acd-copy", "--file", file, "--folder", copies)
+        status, said, told = self.script("acd-copy", "--file", file, "--folder", copies)
         self.expect(f"acd-copy of it: {said}{told}", (status, "halted" in said, "sound: " in said), (0, False, True))
         made = next(copies.glob("20*")) / file.name
         has = held(made)
@@ -169,7 +169,7 @@ class Cases:
 
     # who doesn't answer
 
-    def silent(self):
+    def try_silent(self):
         """Each is asked again, and told once."""
         def alter(number, path, status, body):
             odd = [(503, b'{"error":{"code":33,"name":"noMemory"}}'), None, (502, b"<html>"), (200, body[:-40]), (200, b"[]"), (200, b'{"last":9}'),
@@ -178,46 +178,46 @@ class Cases:
 
         file, between = self.new_file(), Between(self.desk, alter)
         # with --once it gives up behind some seconds, so without
-        follower = Follower(self.ground, between.address, file)
-        self.expect("silent: it goes on", until(lambda: len(between.asked) > 14))
+        follower = Follower(self, between.address, file)
+        self.expect("silent: it goes on", until(lambda: len(between.asked) > 14, PATIENCE, 0.01))
         status, said = follower.end()
         self.expect(f"silent: it says so once, {said}", (status, said.count("no answer: "), said.count("the desk answers again")), (0, 1, 1))
-        judge(self.ground, "silent", file, self.desk)
+        self.judge("silent", file, self.desk)
 
-    def nobody(self):
+    def try_nobody(self):
         with contextlib.closing(Between(self.desk, lambda *_: None).listener) as listener:
             told, state = self.follow("nobody", f"http://127.0.0.1:{listener.getsockname()[1]}", self.new_file(), FAULT, "no answer: ")
             self.expect("nobody: the state", state, (0, None))
 
-    def refusals(self):
+    def try_refusals(self):
         for status, name in ((404, "notFound"), (403, "forbidden"), (401, "unauthorized"), (400, "malformed")):
             body = b'{"error":{"code":35,"name":"%s"}}' % name.encode()
             self.follow(f"{status}", Between(self.desk, lambda *_: (status, body)).address, self.new_file(), FAULT, f"answered {status} {name}")
 
     # a file that isn't there yet
 
-    def made(self):
+    def try_made(self):
         """A desk that is killed as it makes the file; what a killed acd-follow left; a log whose file is gone."""
         file, program = self.new_file(), self.folder / "killed"
-        program.write_text(KILLED_PROGRAM.format(note=self.folder / "killed-once", program=self.ground.program))
+        program.write_text(KILLED_PROGRAM.format(note=self.folder / "killed-once", program=self.program))
         program.chmod(0o755)
         self.follow("a desk that is killed amid the making", self.desk.address, file, 0, words=("--desk", program))
-        judge(self.ground, "a desk that is killed amid the making", file, self.desk)
+        self.judge("a desk that is killed amid the making", file, self.desk)
 
         for whole in (False, True):
             file = self.whole() if whole else self.new_file()
             for part in (HALF, f"{HALF}-wal"):
                 (file.parent / part).write_text("a part of what was to be one")
             self.follow("what a killed one left", self.desk.address, file, 0)
-            judge(self.ground, "what a killed one left", file, self.desk)
+            self.judge("what a killed one left", file, self.desk)
             self.expect("what a killed one left: it goes", [*file.parent.glob(".*")], [])
 
         file = self.whole()
         file.unlink()
         self.follow("an empty log alone", self.desk.address, file, 0)
-        judge(self.ground, "an empty log alone", file, self.desk)
+        self.judge("an empty log alone", file, self.desk)
 
-        other = Desk(self.ground, self.whole()).start()
+        other = Served(self, self.whole()).start()
         ask(other.port, "/csta", b'{"requester":"other","invoke":1,"service":"tick"}')
         other.kill()
         other.file.unlink()
@@ -226,7 +226,7 @@ class Cases:
 
     # another history
 
-    def told_otherwise(self):
+    def try_told_otherwise(self):
         """What the desk tells of a request in the middle isn't what the copy answers: it has that one then, and none behind it."""
         place = 150
 
@@ -246,7 +246,7 @@ class Cases:
             self.expect(f"another {what}: what it has", told(what, change, f"copy.db: request number {place}"), place)
         self.expect("an earlier moment: what it has", told("moment", lambda record: {"moment": 1}, "moment", f"copy.db: request number {place - 1}"), place - 1)
 
-    def told_twice(self):
+    def try_told_twice(self):
         """A request in another one's place, as that is answered."""
         def twice(records):
             return [records[at - 1] | {"stamp": record["stamp"]} if record["stamp"] == 90 else record for at, record in enumerate(records)]
@@ -258,7 +258,7 @@ class Cases:
         told, _ = self.follow("told twice", Between(self.desk, alter).address, file, DIFFERS, "told one of them twice")
         self.expect("told twice: what it has", is_beginning(held(file)["kept"][:89], self.desk.rows()["kept"]))
 
-    def left_out(self):
+    def try_left_out(self):
         def alter(number, path, status, body):
             return status, page_with(body, lambda records: [record for record in records if record["stamp"] != 110])
 
@@ -266,7 +266,7 @@ class Cases:
         self.follow("left out", Between(self.desk, alter).address, file, LACKS, "request 110 ")
         self.expect("left out: what it has", len(held(file)["kept"]), 109)
 
-    def planted(self):
+    def try_planted(self):
         """The last request is another one here or there."""
         _, requester, invoke, moment, _, status, _ = self.desk.rows()["kept"][-1]
         request = json.dumps({"invoke": invoke, "requester": requester, "service": "tick"}, separators=(",", ":"))
@@ -278,7 +278,7 @@ class Cases:
             self.follow(f"another {column} in the copy", self.desk.address, file, DIFFERS, *texts)
             self.expect(f"another {column} in the copy: nothing was fed", held(file), before)
 
-            spoilt = Desk(self.ground, self.whole())
+            spoilt = Served(self, self.whole())
             changed(spoilt.file, f"UPDATE kept SET {column} = ? WHERE stamp = ?", value, self.last)
             spoilt.start()
             file = self.whole()
@@ -287,14 +287,14 @@ class Cases:
             self.expect(f"another {column} at the desk: nothing was fed", held(file), before)
             spoilt.kill()
 
-    def shorter(self):
+    def try_shorter(self):
         """An older copy was put back: with fewer requests, with as many, with more."""
-        desk = Desk(self.ground, self.folder / "older.db")
-        self.ground.feed(desk.file, self.lines[:60])
+        desk = Served(self, self.folder / "older.db")
+        self.feed(desk.file, self.lines[:60])
         short = len(held(desk.file)["kept"])
         file = self.new_file(of=desk.file)
         # one that has three more than the desk has
-        self.ground.feed(file, [f'9999 {{"requester":"more","invoke":{number},"service":"tick"}}' for number in (1, 2, 3)])
+        self.feed(file, [f'9999 {{"requester":"more","invoke":{number},"service":"tick"}}' for number in (1, 2, 3)])
         for number in range(5):
             desk.start()
             if number:
@@ -305,11 +305,11 @@ class Cases:
             self.expect(f"a copy put back, and {number} requests: nothing was fed", held(file), before)
             desk.kill()
 
-    def clocks(self):
+    def try_clocks(self):
         """Nobody learns the ticks' requester."""
-        desk = Desk(self.ground, self.folder / "clock.db")
+        desk = Served(self, self.folder / "clock.db")
         secret = "clock-abcdefghijkl"
-        self.ground.feed(desk.file, [f'{number} {{"requester":"{secret}","invoke":{number},"service":"tick"}}' for number in (1, 2)])
+        self.feed(desk.file, [f'{number} {{"requester":"{secret}","invoke":{number},"service":"tick"}}' for number in (1, 2)])
         file = self.new_file(of=desk.file)
         changed(file, "UPDATE kept SET moment = 3 WHERE stamp = 2")
         desk.start()
@@ -319,17 +319,17 @@ class Cases:
 
     # a file that was carried over
 
-    def carried(self):
+    def try_carried(self):
         whole, new = self.folder / "carried/whole.db", self.folder / "carried/desk.db"
         whole.parent.mkdir()
-        self.ground.feed(whole, self.lines)
+        self.feed(whole, self.lines)
         up_to_date = self.new_file(of=whole)
-        self.ground.feed(whole.with_name("behind.db"), self.lines[:70])
+        self.feed(whole.with_name("behind.db"), self.lines[:70])
         behind = self.new_file(of=whole.with_name("behind.db"))
-        status, said, told = self.ground.script("acd-carry", "--from", whole, "--to", new, "--keep", 90)
+        status, said, told = self.script("acd-carry", "--from", whole, "--to", new, "--keep", 90)
         self.expect(f"acd-carry: {told}", status, 0)
         first = held(new)["kept"][0][0]
-        desk = Desk(self.ground, new).start()
+        desk = Served(self, new).start()
         self.follow("carried over, up to date", desk.address, up_to_date, 0)
         needed = len(held(behind)["kept"])
         for what, file, number in (("behind", behind, needed), ("anew", self.new_file(), 1)):
@@ -350,10 +350,10 @@ class Cases:
         program = self.folder / "odd"
         program.write_text(ODD_PROGRAM)
         program.chmod(0o755)
-        note = self.folder / f"odd-{self.count}-{how}-{at}"
-        return ("--desk", program), {"ODD_HOW": how, "ODD_AT": str(at), "ODD_NOTE": str(note), "ODD_REAL": str(self.ground.program)}
+        note = Path(tempfile.mkdtemp(dir=self.folder)) / "note"
+        return ("--desk", program), {"ODD_HOW": how, "ODD_AT": str(at), "ODD_NOTE": str(note), "ODD_REAL": str(self.program)}
 
-    def its_desk(self):
+    def try_its_desk(self):
         """Refuses memory, fails, is killed before or behind a line."""
         for how in ("33", "34", "before", "behind"):
             for at in (1, 50, self.last):
@@ -361,61 +361,61 @@ class Cases:
                 words, more = self.odd(how, at)
                 told, _ = self.follow(f"its desk, {how} at {at}", self.desk.address, file, 0, words=words, more=more)
                 self.expect(f"its desk, {how} at {at}: it says so once, {told}", told.count("it is opened and asked again"), 1)
-                judge(self.ground, f"its desk, {how} at {at}", file, self.desk)
+                self.judge(f"its desk, {how} at {at}", file, self.desk)
 
-    def signals(self):
+    def try_signals(self):
         """One that comes while a line is on its way waits for the answer: what it says that it has is what it has."""
         for one in (signal.SIGTERM, signal.SIGINT, signal.SIGHUP):
             file = self.new_file()
             words, more = self.odd("slow", 50)
-            follower = Follower(self.ground, self.desk.address, file, *words, more=more)
+            follower = Follower(self, self.desk.address, file, *words, more=more)
             note = Path(more["ODD_NOTE"])
-            self.expect("a slow line is on its way", until(note.exists))
+            self.expect("a slow line is on its way", until(note.exists, PATIENCE, 0.01))
             status, said = follower.end(one)
             self.expect(f"a signal amid a line: {said}", (status, (state_in(said) or [None])[0]), (0, last_of(file)))
 
-    def terminal(self):
+    def try_terminal(self):
         """Ctrl-C is for all of a terminal's processes: its desk answers the line first."""
         file = self.new_file()
         words, more = self.odd("slow", 50)
-        follower = Follower(self.ground, self.desk.address, file, *words, more=more, process_group=0)
-        self.expect("a slow line is on its way", until(Path(more["ODD_NOTE"]).exists))
+        follower = Follower(self, self.desk.address, file, *words, more=more, process_group=0)
+        self.expect("a slow line is on its way", until(Path(more["ODD_NOTE"]).exists, PATIENCE, 0.01))
         os.killpg(follower.process.pid, signal.SIGINT)
         status, said = follower.end()
         self.expect(f"Ctrl-C amid a line: {said}", (status, state_in(said)), (0, (50, self.last)))
 
-    def soon(self):
+    def try_soon(self):
         """A file that another program has for a moment yet, as the desk that a killed one left."""
         file = self.whole()
-        other = Desk(self.ground, file).start()
-        threading.Timer(1.5, other.process.kill).start()
+        other = Served(self, file).start()
+        threading.Timer(1.5, other.desk.process.kill).start()
         self.follow("open elsewhere for a moment", self.desk.address, file, 0)
 
-    def disk(self):
+    def try_disk(self):
         """The copy's disk is full: it ends, or asks again, and goes on once there is room."""
         folder = self.folder / "disk"
         folder.mkdir()
         subprocess.run(["mount", "-t", "tmpfs", "-o", "size=500k", "full", folder], check=True)
         try:
             file = folder / "copy.db"
-            ends = [self.ground.once(self.desk.address, file)[0]]
+            ends = [self.once(self.desk.address, file)[0]]
             self.expect("a full disk: it doesn't end well", ends, [FAULT])
             has = len(held(file)["kept"])
             self.expect(f"a full disk: {has} of {self.last} are there", 0 < has < self.last)
             subprocess.run(["mount", "-o", "remount,size=50m", folder], check=True)
             self.follow("a disk with room again", self.desk.address, file, 0)
-            judge(self.ground, "a disk with room again", file, self.desk)
+            self.judge("a disk with room again", file, self.desk)
         finally:
             subprocess.run(["umount", "--lazy", folder], check=True)
 
-    def held_elsewhere(self):
+    def try_held_elsewhere(self):
         file = self.whole()
-        other = Desk(self.ground, file).start()
+        other = Served(self, file).start()
         self.follow("open elsewhere", self.desk.address, file, FAULT, "is open elsewhere", f"{file} can't be opened")
         other.kill()
         self.follow("not any more", self.desk.address, file, 0)
 
-    def programs(self):
+    def try_programs(self):
         self.follow("no program", self.desk.address, self.new_file(), FAULT, "No such file", words=("--desk", self.folder / "none"))
         self.follow("another program", self.desk.address, self.new_file(), FAULT, "can't be opened", words=("--desk", "/bin/true"))
         old = self.folder / "old"
@@ -428,34 +428,21 @@ class Cases:
 
     # the way there
 
-    def login(self):
+    def try_login(self):
         made, context = certificate(self.folder)
         between = Between(self.desk, context=context, needs=base64.b64encode(b"standby:secret-1").decode())
         right, wrong = {"ACD_PASSWORD": "secret-1"}, {"ACD_PASSWORD": "secret-2"}
         words = "--ca", made, "--login", "standby"
         file = self.new_file()
         self.follow("by a login", between.address, file, 0, words=words, more=right)
-        judge(self.ground, "by a login", file, self.desk)
+        self.judge("by a login", file, self.desk)
         self.follow("a wrong password", between.address, file, FAULT, "401 unauthorized", words=words, more=wrong)
         self.follow("nobody's certificate", between.address, file, FAULT, "CERTIFICATE_VERIFY_FAILED", words=words[2:], more=right)
         self.follow("no terminal", between.address, file, FAULT, "no terminal", words=words)
 
-    def command_lines(self):
+    def try_command_lines(self):
         here, file = "http://127.0.0.1:1", ("--file", "g")
         for words in ((), (here,), ("ftp://a", *file), ("http://a:b@127.0.0.1:1", *file), ("http://10.0.0.1:1", *file, "--login", "a"),
                       (here, *file, "--ca", "a"), (here, *file, "--on"), (here, *file, "more")):
-            status, said, told = self.ground.script("acd-follow", *words)
+            status, said, told = self.script("acd-follow", *words)
             self.expect(f"{words}: {told}", (status, said, "acd-follow: error: " in told), (REFUSED, "", True))
-
-    def all(self, only=None):
-        names = [name for name in ORDER if only in (None, name)]
-        for name in names:
-            tried = self.ground.tried
-            getattr(self, name)()
-            if not self.ground.is_planted:
-                print(f"    {name}: {self.ground.tried - tried}", flush=True)
-        self.desk.kill()
-
-
-ORDER = ("anew", "again", "made", "rests", "empty", "copy_of_it", "silent", "nobody", "refusals", "told_otherwise", "told_twice", "left_out", "planted",
-         "shorter", "clocks", "carried", "its_desk", "signals", "terminal", "soon", "disk", "held_elsewhere", "programs", "login", "command_lines")

@@ -1,5 +1,6 @@
 """What try-follow stands on: desks that serve, the script that follows them, what stands between, and what files hold by an independent reader."""
-import http.client
+import contextlib
+import itertools
 import json
 import re
 import shutil
@@ -11,9 +12,11 @@ import sys
 import tempfile
 import threading
 import time
+from http.client import HTTPException
 from pathlib import Path
 
-TOP = Path(__file__).resolve().parents[2]
+from trial import TOP, Connection, Desk, Trial, planted, ran, until
+
 OPERATING, CLIENT = TOP / "tools/operating", TOP / "clients/python"
 sys.path.append(str(TOP / "tests"))
 import office  # noqa: E402
@@ -24,142 +27,114 @@ import tables  # noqa: E402
 PYTHON = "/usr/bin/python3"
 STATE = re.compile(r" has the requests up to (\d+); (?:the desk told nothing yet|the last that the desk told of is (\d+), at ([-0-9: ]+ UTC))\n$")
 # what acd-carry keeps at least; a short day has less
-LEAST, SHORT = "LEAST, HOUR, DAY = 1000, 3600, 86400", "LEAST, HOUR, DAY = 1, 0, 86400"
+CARRY = planted((OPERATING / "acd-carry").read_text(), "LEAST, HOUR, DAY = 1000, 3600, 86400", "LEAST, HOUR, DAY = 1, 0, 86400")
 PATIENCE = 120
+# all that is tried is alone in its network, and below these nobody is given a port
+PORTS = itertools.count(18001)
 
 
-class Found(Exception):
-    """What goes otherwise, where a fault is planted."""
+class Ground(Trial):
+    """A class has the program as `acd`, and the scripts under trial, of which acd-follow may have another text."""
 
+    another = None
 
-def planted(text, old, new):
-    if text.count(old) != 1:
-        raise SystemExit(f"try-follow: {old!r} isn't there once")
-    return text.replace(old, new)
+    @classmethod
+    def setUpClass(cls):
+        super().setUpClass()
+        cls.scripts, program = cls.folder / "scripts", cls.folder / "bin/acd"
+        cls.scripts.mkdir()
+        program.parent.mkdir()
+        cls.program = Path(shutil.copy(Trial.program, program))
+        for file in (*OPERATING.glob("acd_*.py"), CLIENT / "acd_client.py", *(OPERATING / name for name in ("acd-follow", "acd-copy"))):
+            shutil.copy(file, cls.scripts)
+        (cls.scripts / "acd-carry").write_text(CARRY)
+        if cls.another:
+            (cls.scripts / "acd-follow").write_text(cls.another)
 
+    @classmethod
+    def settings(cls, more=()):
+        return {"PATH": f"{cls.program.parent}:/usr/sbin:/usr/bin:/sbin:/bin", "LC_ALL": "C.UTF-8", **dict(more)}
 
-def until(test, patience=PATIENCE):
-    """Waits until it holds; whether it did."""
-    end = time.monotonic() + patience
-    while not test():
-        if time.monotonic() > end:
-            return False
-        time.sleep(0.01)
-    return True
+    @classmethod
+    def ran(cls, *words, more=()):
+        return ran(*words, seconds=600, env=cls.settings(more))
 
+    @classmethod
+    def script(cls, name, *words, **how):
+        return cls.ran(PYTHON, cls.scripts / name, *words, **how)
 
-class Ground:
-    """A folder with the program as `acd`, and the scripts under trial."""
-
-    def __init__(self, folder, program):
-        self.folder, self.tried, self.wrong, self.is_planted = Path(folder), 0, 0, False
-        self.program, self.scripts, self.port, self.started = self.folder / "bin/acd", self.folder / "scripts", 18000, []
-        self.program.parent.mkdir()
-        shutil.copy(program, self.program)
-        self.lay(None)
-
-    def lay(self, fault):
-        """The scripts; acd-follow may have a fault, a pair of texts."""
-        shutil.rmtree(self.scripts, ignore_errors=True)
-        self.scripts.mkdir()
-        for file in (*OPERATING.glob("acd_*.py"), CLIENT / "acd_client.py", *(OPERATING / name for name in ("acd-follow", "acd-carry", "acd-copy"))):
-            text = file.read_text()
-            if fault and file.name == "acd-follow":
-                text = planted(text, *fault)
-            (self.scripts / file.name).write_text(planted(text, LEAST, SHORT) if file.name == "acd-carry" else text)
-
-    def expect(self, what, has, wanted=True):
-        self.tried += 1
-        if has != wanted:
-            if self.is_planted:
-                raise Found(f"{what}: {str(has)[:200]}")
-            self.wrong += 1
-            print(f"WRONG {what}: {has!r} and not {wanted!r}"[:1500], flush=True)
-
-    def scratch(self):
-        return Path(tempfile.mkdtemp(dir=self.folder))
-
-    def new_port(self):
-        self.port += 1
-        return self.port
-
-    def settings(self):
-        return {"PATH": f"{self.program.parent}:/usr/sbin:/usr/bin:/sbin:/bin", "LC_ALL": "C.UTF-8"}
-
-    def start(self, *words, **how):
-        started = subprocess.Popen([*map(str, words)], env=self.settings() | how.pop("more", {}), text=True, **how)
-        self.started.append(started)
-        return started
-
-    def run(self, *words, given="", more=None):
-        done = subprocess.run([*map(str, words)], input=given, capture_output=True, text=True, timeout=600, env=self.settings() | (more or {}))
-        return done.returncode, done.stdout, done.stderr
-
-    def script(self, name, *words, **how):
-        return self.run(PYTHON, self.scripts / name, *words, **how)
-
-    def once(self, address, file, *words, **how):
+    @classmethod
+    def once(cls, address, file, *words, **how):
         """acd-follow until it has caught up: its status, what it said of the copy, and what it told."""
-        return self.script("acd-follow", address, "--file", file, "--once", *words, **how)
+        return cls.script("acd-follow", address, "--file", file, "--once", *words, **how)
 
-    def feed(self, file, lines):
-        status, told, faults = self.run("acd", "lines", "--file", file, given="".join(f"{line}\n" for line in lines))
-        self.expect(f"acd lines: {faults}", status, 0)
-        return told.splitlines()
+    @classmethod
+    def feed(cls, file, lines):
+        done = cls.acd("lines", "--file", file, given="".join(f"{line}\n" for line in lines))
+        cls.expect(f"acd lines: {done.faults}", done.status, 0)
 
-    def end(self):
-        for one in self.started:
-            if one.poll() is None:
-                one.kill()
-                one.wait()
-            for stream in (one.stdout, one.stderr):
-                if stream:
-                    stream.close()
-        self.started = []
+    def new_file(self, of=None):
+        """The name of a new copy, or one that has what the desk has."""
+        file = Path(tempfile.mkdtemp(dir=self.folder)) / "copy.db"
+        if of:
+            copied(of, file.parent)
+            for path in list(file.parent.iterdir()):
+                path.rename(path.with_name(path.name.replace(of.name, file.name)))
+        return file
+
+    def judge(self, what, file, desk, is_whole=True):
+        """The copy is what the first of the desk's requests make; and all that the desk has."""
+        has, wanted = held(file), desk.rows()
+        self.expect(f"{what}: its requests are a beginning of the desk's", is_beginning(has["kept"], wanted["kept"]))
+        self.expect(f"{what}: its rows are foreseen", [table for table, rows in foreseen(has["kept"]).items() if rows != has[table]], [])
+        if is_whole:
+            differing = [table for table in wanted if has[table] != wanted[table]]
+            self.expect(f"{what}: {len(has['kept'])} requests are {len(wanted['kept'])}, row for row", differing, [])
+        return len(has["kept"])
 
 
 # Desks, and who follows them
 
-class Desk:
-    """A desk over a file, at one port, however often it is killed."""
+class Served:
+    """A desk over a file, at one port, however often it is killed. It ends with the trial's method, or with its class."""
 
-    def __init__(self, ground, file, program=None):
-        self.ground, self.file, self.port, self.program, self.process = ground, file, ground.new_port(), program or ground.program, None
+    def __init__(self, trial, file):
+        self.trial, self.file, self.port, self.desk = trial, file, next(PORTS), None
         self.address = f"http://127.0.0.1:{self.port}"
 
     def start(self):
-        self.process = self.ground.start(self.program, "serve", "--file", self.file, "--port", self.port, "--endless", stdout=subprocess.PIPE)
-        if self.process.stdout.readline() != f"listening on 127.0.0.1:{self.port}\n":
-            raise ValueError("no desk serves")
+        self.desk = Desk(self.trial.program, self.file, port=self.port)
+        (self.trial.addClassCleanup if isinstance(self.trial, type) else self.trial.addCleanup)(self.desk.kill)
         return self
 
     def kill(self):
         """It served until now: a desk that ended by itself said why on standard error."""
-        self.ground.expect(f"{self.address} still served", self.process.poll(), None)
-        self.process.kill()
-        self.process.wait()
+        self.trial.expect(f"{self.address} still served: {self.desk.said()}", self.desk.process.poll(), None)
+        self.desk.kill()
 
     def rows(self):
         """What its file holds just now; it is halted for that."""
-        runs = self.process and self.process.poll() is None
+        process = self.desk and self.desk.process
+        runs = process and process.poll() is None
         if runs:
-            self.process.send_signal(signal.SIGSTOP)
-            until(lambda: "\nState:\tT" in Path(f"/proc/{self.process.pid}/status").read_text())
+            process.send_signal(signal.SIGSTOP)
+            until(lambda: "\nState:\tT" in Path(f"/proc/{process.pid}/status").read_text(), PATIENCE, 0.01)
         try:
             return held(self.file)
         finally:
             if runs:
-                self.process.send_signal(signal.SIGCONT)
+                process.send_signal(signal.SIGCONT)
 
 
 class Follower:
     """acd-follow over a file, and what it said."""
 
-    def __init__(self, ground, address, file, *words, more=None, **how):
+    def __init__(self, trial, address, file, *words, more=(), **how):
         # a file takes what it says, since nobody reads a pipe meanwhile
-        self.said = tempfile.NamedTemporaryFile("w+", dir=ground.folder)
-        words = [PYTHON, ground.scripts / "acd-follow", address, "--file", file, *words]
-        self.process = ground.start(*words, stdout=self.said, stderr=subprocess.STDOUT, more=more or {}, **how)
+        self.said = tempfile.NamedTemporaryFile("w+", dir=trial.folder)
+        words = [PYTHON, trial.scripts / "acd-follow", address, "--file", file, *words]
+        self.process = subprocess.Popen([*map(str, words)], stdout=self.said, stderr=subprocess.STDOUT, env=trial.settings(more), **how)
+        trial.addCleanup(self.kill)
 
     def has_ended(self):
         return self.process.poll() is not None
@@ -173,6 +148,10 @@ class Follower:
             self.process.send_signal(by)
         self.process.wait(PATIENCE)
         return self.process.returncode, self.text()
+
+    def kill(self):
+        self.process.kill()
+        self.process.wait()
 
     def desk(self):
         """The process of its desk."""
@@ -192,7 +171,7 @@ class Between:
 
     def __init__(self, desk, alter=lambda number, path, status, body: (status, body), context=None, needs=None):
         self.desk, self.alter, self.context, self.needs, self.asked = desk, alter, context, needs, []
-        self.listener = socket.create_server(("127.0.0.1", desk.ground.new_port()))
+        self.listener = socket.create_server(("127.0.0.1", next(PORTS)))
         self.address = f"{'https' if context else 'http'}://127.0.0.1:{self.listener.getsockname()[1]}"
         threading.Thread(target=self.serve, daemon=True).start()
 
@@ -229,13 +208,8 @@ class Between:
 
 def ask(port, path, body=None):
     """The status of an answer, and its bytes."""
-    asks = http.client.HTTPConnection("127.0.0.1", port, timeout=10)
-    try:
-        asks.request("POST" if body else "GET", path, body)
-        said = asks.getresponse()
-        return said.status, said.read()
-    finally:
-        asks.close()
+    with Connection(port, seconds=10) as connection:
+        return connection.ask("POST" if body else "GET", path, body)[::2]
 
 
 def certificate(folder):
@@ -286,10 +260,9 @@ class Load:
 
     def insist(self, request):
         while self.goes_on:
-            try:
-                status, _ = ask(self.port, "/csta", request.encode())
-            except (OSError, http.client.HTTPException):
-                status = None
+            status = None
+            with contextlib.suppress(OSError, HTTPException):
+                status, _ = ask(self.port, "/csta", request)
             if status not in (None, 503):
                 self.sent += 1
                 time.sleep(self.pause)
@@ -341,14 +314,3 @@ def foreseen(kept):
 
 def is_beginning(some, all_of_them):
     return some == all_of_them[:len(some)]
-
-
-def judge(ground, what, file, desk, is_whole=True):
-    """The copy is what the first of the desk's requests make; and all that the desk has."""
-    has, wanted = held(file), desk.rows()
-    ground.expect(f"{what}: its requests are a beginning of the desk's", is_beginning(has["kept"], wanted["kept"]))
-    ground.expect(f"{what}: its rows are foreseen", [table for table, rows in foreseen(has["kept"]).items() if rows != has[table]], [])
-    if is_whole:
-        differing = [table for table in wanted if has[table] != wanted[table]]
-        ground.expect(f"{what}: {len(has['kept'])} requests are {len(wanted['kept'])}, row for row", differing, [])
-    return len(has["kept"])

@@ -4,20 +4,22 @@ import contextlib
 import os
 import random
 import signal
+import tempfile
 import time
 from collections import Counter
+from pathlib import Path
 
-from ground import Desk, Follower, Load, copied, endless_day, held, is_beginning, judge, last_of, state_in
+from ground import Follower, Ground, Load, Served, copied, endless_day, held, is_beginning, last_of, state_in
 
 DIFFERS, KILLED = 3, -signal.SIGKILL
 SEEN = Counter()
 
 
 class Run:
-    def __init__(self, ground, seed):
-        self.ground, self.chance, self.what = ground, random.Random(seed), f"run {seed}"
-        self.folder = ground.scratch()
-        self.desk = Desk(ground, self.folder / "desk.db").start()
+    def __init__(self, trial, seed):
+        self.trial, self.chance, self.what = trial, random.Random(seed), f"run {seed}"
+        self.folder = Path(tempfile.mkdtemp(dir=trial.folder))
+        self.desk = Served(trial, self.folder / "desk.db").start()
         self.load = Load(self.desk.port, endless_day(seed), self.chance)
         self.file, self.follower, self.saved = self.folder / "g/copy.db", None, None
         # the requests of each history that ended by a copy that was put back
@@ -26,10 +28,10 @@ class Run:
         self.follow()
 
     def expect(self, what, has, wanted=True):
-        self.ground.expect(f"{self.what}, {what}", has, wanted)
+        self.trial.expect(f"{self.what}, {what}", has, wanted)
 
     def follow(self):
-        self.follower = Follower(self.ground, self.desk.address, self.file, "--desk", self.ground.program)
+        self.follower = Follower(self.trial, self.desk.address, self.file, "--desk", self.trial.program)
 
     # what happens
 
@@ -104,25 +106,25 @@ class Run:
 
     def catch_up(self):
         for _ in range(2):
-            status, said, told = self.ground.once(self.desk.address, self.file, "--desk", self.ground.program)
+            status, said, told = self.trial.once(self.desk.address, self.file, "--desk", self.trial.program)
             if status != DIFFERS:
                 break
             self.ended(status, told + said)
         self.expect(f"it catches up: {said}{told}", status, 0)
         if not status:
-            SEEN["requests"] += judge(self.ground, self.what, self.file, self.desk)
+            SEEN["requests"] += self.trial.judge(self.what, self.file, self.desk)
 
 
-def try_runs(ground, count, first=1):
-    SEEN.clear()
-    begun = time.monotonic()
-    for seed in range(first, first + count):
-        run = Run(ground, seed)
-        try:
-            run.all()
-        finally:
-            run.load.stop()
-            ground.end()
-        if not ground.is_planted and (seed - first) % 50 == 49:
-            print(f"    {seed - first + 1} runs, {time.monotonic() - begun:.0f} s", flush=True)
-    print(f"    {count} runs: {', '.join(f'{what} {number}' for what, number in sorted(SEEN.items()))}", flush=True)
+class Runs(Ground):
+    def try_runs(self):
+        first, count = self.options.first, self.options.runs
+        for seed in range(first, first + count):
+            run = Run(self, seed)
+            try:
+                run.all()
+            finally:
+                run.load.stop()
+                self.doCleanups()
+            if (seed - first) % 50 == 49:
+                self.tell(f"{seed - first + 1} runs")
+        print(f"    {count} runs: {', '.join(f'{what} {number}' for what, number in sorted(SEEN.items()))}", flush=True)

@@ -1,16 +1,12 @@
 """Who reads /requests, by each spelling of the path that nginx knows, and by many that it doesn't: past the gate nobody."""
-import contextlib
-import http.client
 import json
 import random
 import re
-import socket
 from base64 import b64encode
 
-from place import PAGE, UNCHECKED, plan_of, token_of
+from place import PAGE, Place, token_of
+from trial import ANY, bytes_back
 
-ROLES = {"ana": "agent agent=7 reads=all", "sup": "supervisor", "lea": "lead groups=100", "planner": "office", "blind": "office reads=none", "pbx": "exchange",
-         "nobody": None, "copy": "follow", "Copy.2": "follow", "odd": "follow reads=all"}
 READERS = {"planner", "copy", "Copy.2"}
 FORBIDDEN = 403, b'{"error":{"code":41,"name":"forbidden"}}'
 # what nginx takes for /requests, and what it doesn't
@@ -25,67 +21,72 @@ OTHERS = ["/requests/", "/requests/.", "/requests/x/..", "/requests/?after=0", "
           "*", "http:/requests", "/%7/requests", "/board/requests", "/auth/requests", "/requests/after=0", "/r%65quests/%2e"]
 
 
-def executed(place):
-    place.begin(plan_of(), ROLES)
-    place.service("try", "arriveCall", caller="0301234567", called="100")
-    by_role(place)
-    spelt(place)
-    drawn(place)
-    place.see("the gate's journal names the line that can't be read", "odd gets nothing" in (place.folder / "gate-errors").read_text())
+class Executed(Place):
+    ROLES = {"ana": "agent agent=7 reads=all", "sup": "supervisor", "lea": "lead groups=100", "planner": "office", "blind": "office reads=none", "pbx": "exchange",
+             "nobody": None, "copy": "follow", "Copy.2": "follow", "odd": "follow reads=all"}
 
+    @classmethod
+    def setUpClass(cls):
+        super().setUpClass()
+        cls.service("try", "arriveCall", caller="0301234567", called="100")
 
-def by_role(place):
-    page = place.direct("GET", "/requests?after=2")[2]
-    place.see("the desk tells its requests", [one["stamp"] for one in json.loads(page)["requests"]][:2] == [3, 4] and b"0301234567" in page, page[:300])
-    for login in ROLES:
-        told = place.ask("GET", "/requests?after=2", login=login)
-        place.expect(f"{login} at /requests", (told[0], told[2]), (200, page) if login in READERS else FORBIDDEN)
-        status, fields, body = place.ask("HEAD", "/requests?after=2", login=login)
-        wanted = (200, len(page), b"") if login in READERS else (403, len(FORBIDDEN[1]), b"")
-        place.expect(f"{login}, HEAD", (status, int(fields["Content-Length"]), body), wanted)
-        for method in ("POST", "PUT", "DELETE", "OPTIONS"):
-            place.expect(f"{login}, {method}", place.ask(method, "/requests", "", login=login)[0], 403)
-    place.see("no copy of a page is kept", place.ask("GET", "/requests", login="copy")[1]["Cache-Control"] == "no-store")
-    place.expect("nobody", [place.ask(method, "/requests")[0] for method in ("GET", "HEAD")], [401, 401])
-    place.expect("a wrong password", place.ask("GET", "/requests", Authorization="Basic " + b64encode(b"copy:guess").decode())[0], 401)
-    for login in ("copy", "planner", "sup"):
-        token = token_of(place.log_in(login)[1])
-        place.expect(f"a session of {login}", place.ask("GET", "/requests?after=2", cookie=token, **PAGE)[0], 200 if login in READERS else 403)
-    for path in ("/snapshot", "/history", "/events", "/agents/7", "/calls/1", "/devices/100", "/queues/100", "/monitors/1/events", "/reports/queues", "/mine",
-                 "/mine?agent=7", "/records/", "/records/calls"):
-        place.expect(f"a follow at {path}", place.ask("GET", path, login="copy")[0], 403)
-    asked = [place.request("copy", service, agent="7", device="100")[0] for service in ("tick", "addStation", "setAgentState", "arriveCall", "holdCall")]
-    place.expect("a follow's services", asked, [403] * 5)
-    for login in ("copy", "Copy.2"):
-        place.expect(f"{login} is told who it is", json.loads(place.ask("GET", "/who", login=login)[2]), {"login": login, "reads": "none", "role": "follow"})
+    def said(self, target, login):
+        """Status and body, where the target goes to nginx as it stands."""
+        word = f"Authorization: Basic {b64encode(f'{login}:secret'.encode()).decode()}\r\n" if login else ""
+        head, _, body = bytes_back(self.port, f"GET {target} HTTP/1.1\r\nHost: desk\r\n{word}Connection: close\r\n\r\n".encode("latin-1"), ANY, seconds=30).partition(b"\r\n\r\n")
+        return int(head.split()[1]), body
 
+    def try_by_role(self):
+        page = self.direct("GET", "/requests?after=2").body
+        self.see("the desk tells its requests", [one["stamp"] for one in json.loads(page)["requests"]][:2] == [3, 4] and b"0301234567" in page, page[:300])
+        for login in self.ROLES:
+            self.expect(f"{login} at /requests", self.ask("GET", "/requests?after=2", login=login)[::2], (200, page) if login in READERS else FORBIDDEN)
+            status, fields, body = self.ask("HEAD", "/requests?after=2", login=login)
+            wanted = (200, len(page), b"") if login in READERS else (403, len(FORBIDDEN[1]), b"")
+            self.expect(f"{login}, HEAD", (status, int(fields["content-length"]), body), wanted)
+            for method in ("POST", "PUT", "DELETE", "OPTIONS"):
+                self.expect(f"{login}, {method}", self.ask(method, "/requests", "", login=login).status, 403)
+        self.see("no copy of a page is kept", self.ask("GET", "/requests", login="copy").fields["cache-control"] == "no-store")
+        self.expect("nobody", [self.ask(method, "/requests").status for method in ("GET", "HEAD")], [401, 401])
+        self.expect("a wrong password", self.ask("GET", "/requests", Authorization="Basic " + b64encode(b"copy:guess").decode()).status, 401)
+        for login in ("copy", "planner", "sup"):
+            token = token_of(self.log_in(login)[1])
+            self.expect(f"a session of {login}", self.ask("GET", "/requests?after=2", cookie=token, **PAGE).status, 200 if login in READERS else 403)
+        for path in ("/snapshot", "/history", "/events", "/agents/7", "/calls/1", "/devices/100", "/queues/100", "/monitors/1/events", "/reports/queues", "/mine",
+                     "/mine?agent=7", "/records/", "/records/calls"):
+            self.expect(f"a follow at {path}", self.ask("GET", path, login="copy").status, 403)
+        asked = [self.request("copy", service, agent="7", device="100")[0] for service in ("tick", "addStation", "setAgentState", "arriveCall", "holdCall")]
+        self.expect("a follow's services", asked, [403] * 5)
+        for login in ("copy", "Copy.2"):
+            self.expect(f"{login} is told who it is", self.ask("GET", "/who", login=login).value, {"login": login, "reads": "none", "role": "follow"})
 
-def spelt(place):
-    for target in SAME:
-        # the desk is asked by the plain path, and by the query that a client wrote
-        query = re.sub(r"#.*", "", target.partition("?")[2])
-        wanted = place.direct("GET", f"/requests?{query}")
-        place.expect(f"planner at {target}", said(place, target, "planner"), (wanted[0], wanted[2]))
-        place.expect(f"sup at {target}", said(place, target, "sup"), FORBIDDEN)
-        place.expect(f"nobody at {target}", said(place, target, None)[0], 401)
-    for target in OTHERS:
-        for login in ("planner", "sup"):
-            status, told = said(place, target, login)
-            place.see(f"{login} at {target}", status in (400, 404) and b'"requests"' not in told, (status, told[:200]))
+    def try_spelt(self):
+        for target in SAME:
+            # the desk is asked by the plain path, and by the query that a client wrote
+            query = re.sub(r"#.*", "", target.partition("?")[2])
+            self.expect(f"planner at {target}", self.said(target, "planner"), self.direct("GET", f"/requests?{query}")[::2])
+            self.expect(f"sup at {target}", self.said(target, "sup"), FORBIDDEN)
+            self.expect(f"nobody at {target}", self.said(target, None)[0], 401)
+        for target in OTHERS:
+            for login in ("planner", "sup"):
+                status, told = self.said(target, login)
+                self.see(f"{login} at {target}", status in (400, 404) and b'"requests"' not in told, (status, told[:200]))
 
+    def try_drawn(self):
+        """Spellings drawn at random: who may not read gets nothing by any of them; who may is told what the desk tells."""
+        chance, told = random.Random(6), 0
+        for _ in range(self.options.pages // 2):
+            target = spelling(chance)
+            (may, page), (may_not, nothing) = self.said(target, "copy"), self.said(target, "sup")
+            is_one = (may, may_not) in ((200, 403), (403, 404), (403, 400), (400, 400), (302, 302))
+            good = is_one and b'"requests"' not in nothing and (may != 200 or page == self.direct("GET", "/requests").body)
+            self.see(f"drawn: {target}", good, (may, may_not, page[:100], nothing[:100]))
+            told += may == 200
+        self.see("many of them were /requests", told > self.options.pages // 20, told)
+        print(f"    {told} of {self.options.pages // 2} spellings were /requests")
 
-def drawn(place):
-    """Spellings drawn at random: who may not read gets nothing by any of them; who may is told what the desk tells."""
-    chance, told = random.Random(6), 0
-    for _ in range(place.pages // 2):
-        target = spelling(chance)
-        (may, page), (may_not, nothing) = said(place, target, "copy"), said(place, target, "sup")
-        is_one = (may, may_not) in ((200, 403), (403, 404), (403, 400), (400, 400), (302, 302))
-        good = is_one and b'"requests"' not in nothing and (may != 200 or page == place.direct("GET", "/requests")[2])
-        place.see(f"drawn: {target}", good, (may, may_not, page[:100], nothing[:100]))
-        told += may == 200
-    place.see("many of them were /requests", told > place.pages // 20, told)
-    print(f"    {told} of {place.pages // 2} spellings were /requests")
+    def try_journal(self):
+        self.see("the gate's journal names the line that can't be read", "odd gets nothing" in (self.folder / "gate-errors").read_text())
 
 
 def spelling(chance):
@@ -101,13 +102,3 @@ def spelling(chance):
         elif at == 0 or text[at - 2:at - 1] != "%" != text[at - 1:at]:
             text = text[:at] + more + text[at:]
     return chance.choice(["", "", "", "http://desk"]) + text
-
-
-def said(place, target, login):
-    """Status and body, where the target goes to nginx as it stands."""
-    word = f"Authorization: Basic {b64encode(f'{login}:secret'.encode()).decode()}\r\n" if login else ""
-    with socket.create_connection(("127.0.0.1", place.port), 30) as plain, UNCHECKED.wrap_socket(plain) as connection:
-        connection.sendall(f"GET {target} HTTP/1.1\r\nHost: desk\r\n{word}Connection: close\r\n\r\n".encode("latin-1"))
-        with contextlib.closing(http.client.HTTPResponse(connection)) as reply:
-            reply.begin()
-            return reply.status, reply.read()

@@ -1,60 +1,60 @@
 """What the gate follows of a desk, against the desk's own snapshots, over an office's day at its own moments."""
 import importlib.util
 import json
-import subprocess
 import sys
 
-from place import TOP
+from trial import TOP, Lines, Trial, ran
 
 EACH = 20
 
 
-def followed(place):
-    module = load()
-    desk = Lines(place.program)
-    lines = subprocess.run([sys.executable, "-B", TOP / "tests/office.py", "given"], stdout=subprocess.PIPE, text=True, check=True).stdout.splitlines()
-    # one begins before the day, and each later one in the middle of it; all are carried on to its end
-    followers, compared, waited, rang = [module.Following(desk.ask)], 0, 0, 0
-    for number, line in enumerate(lines, 1):
-        desk.say(line)
-        if number % 400 == 0:
-            followers.append(module.Following(desk.ask))
-        if number % EACH == 0 or number == len(lines):
-            snapshot = json.loads(desk.ask("GET", "/snapshot")[2])
-            wanted = shape_of_snapshot(snapshot)
-            waited, rang = waited + sum(map(len, wanted["queues"].values())), rang + sum(side[1] == "alerting" for sides in wanted["calls"].values() for side in sides)
-            for follower in followers:
-                # a snapshot of its own would mend what reports were taken wrongly
-                follower.renewed = float("inf") if follower.state else 0
-                follower.catch_up()
-                found = shape_of_state(follower.state)
-                compared += 1
-                for what, told in wanted.items():
-                    place.see(f"{what} behind request {number}", found[what] == told, differences(found[what], told))
-    desk.end()
-    another(place, module, followers[:2], lines)
-    place.see("an office's day was followed", compared > 500 and waited > 500 and rang > 100, (compared, waited, rang))
-    print(f"    {len(followers)} times begun, {compared} comparisons with {waited} waiting and {rang} ringing calls")
-
-
-def another(place, module, followers, lines):
-    """Another desk's history in place of the one that was followed: one with fewer events, and one that differs in its moments alone."""
-    later = [f"{int(moment) + 7} {request}" for moment, _, request in (line.partition(" ") for line in lines)]
-    for follower, others in zip(followers, (lines[:200], later)):
-        desk = Lines(place.program)
-        for line in others:
+class Followed(Trial):
+    def try_followed(self):
+        module, desk, lines = load(), self.enterContext(Asked(self.program)), office()
+        # one begins before the day, and each later one in the middle of it; all are carried on to its end
+        followers, compared, waited, rang = [module.Following(desk.ask)], 0, 0, 0
+        for number, line in enumerate(lines, 1):
             desk.say(line)
-        follower.ask, told = desk.ask, None
-        try:
-            follower.catch_up()
-        except module.Away:
-            told = follower.state
-            follower.catch_up()
-        else:
-            told = "nothing"
-        place.expect("another history is seen", told, None)
-        place.expect("and followed from its begin", shape_of_state(follower.state), shape_of_snapshot(json.loads(desk.ask("GET", "/snapshot")[2])))
-        desk.end()
+            if number % 400 == 0:
+                followers.append(module.Following(desk.ask))
+            if number % EACH == 0 or number == len(lines):
+                snapshot = json.loads(desk.ask("GET", "/snapshot")[2])
+                wanted = shape_of_snapshot(snapshot)
+                waited, rang = waited + sum(map(len, wanted["queues"].values())), rang + sum(side[1] == "alerting" for sides in wanted["calls"].values() for side in sides)
+                for follower in followers:
+                    # a snapshot of its own would mend what reports were taken wrongly
+                    follower.renewed = float("inf") if follower.state else 0
+                    follower.catch_up()
+                    found = shape_of_state(follower.state)
+                    compared += 1
+                    for what, told in wanted.items():
+                        self.see(f"{what} behind request {number}", found[what] == told, differences(found[what], told))
+        self.another(module, followers[:2], lines)
+        self.see("an office's day was followed", compared > 500 and waited > 500 and rang > 100, (compared, waited, rang))
+        print(f"    {len(followers)} times begun, {compared} comparisons with {waited} waiting and {rang} ringing calls")
+
+    def another(self, module, followers, lines):
+        """Another desk's history in place of the one that was followed: one with fewer events, and one that differs in its moments alone."""
+        later = [f"{int(moment) + 7} {request}" for moment, _, request in (line.partition(" ") for line in lines)]
+        for follower, others in zip(followers, (lines[:200], later)):
+            desk = self.enterContext(Asked(self.program))
+            for line in others:
+                desk.say(line)
+            follower.ask, told = desk.ask, None
+            try:
+                follower.catch_up()
+            except module.Away:
+                told = follower.state
+                follower.catch_up()
+            else:
+                told = "nothing"
+            self.expect("another history is seen", told, None)
+            self.expect("and followed from its begin", shape_of_state(follower.state), shape_of_snapshot(json.loads(desk.ask("GET", "/snapshot")[2])))
+
+
+def office():
+    """The lines of the day of tests/office.py."""
+    return ran(sys.executable, "-B", TOP / "tests/office.py", "given").output.splitlines()
 
 
 def load():
@@ -66,25 +66,20 @@ def load():
     return module
 
 
-class Lines:
-    """A desk in memory, by lines."""
+class Asked(Lines):
+    """A desk in memory; it is asked at its last moment."""
 
     def __init__(self, program):
-        self.child = subprocess.Popen([program, "lines", "--reads"], stdin=subprocess.PIPE, stdout=subprocess.PIPE, text=True, bufsize=1)
+        super().__init__(program, words=["--reads"])
         self.moment = "0"
 
     def say(self, line):
         self.moment = line.partition(" ")[0]
-        self.child.stdin.write(line + "\n")
-        return self.child.stdout.readline()
+        return super().say(line)
 
     def ask(self, method, path):
         status, _, body = self.say(f"{self.moment} {method} {path}").partition(" ")
         return int(status), "application/json", body.encode()
-
-    def end(self):
-        self.child.stdin.close()
-        self.child.wait(10)
 
 
 def shape_of_snapshot(snapshot):

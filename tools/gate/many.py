@@ -10,63 +10,75 @@ from base64 import b64encode
 from collections import Counter
 from pathlib import Path
 
-from place import UNCHECKED
+from place import Place
+from trial import ANY, Plan
 
-GROUPS, PAUSE, SETTLES = 24, 0.1, 5
+GROUPS, PAUSE, SETTLES = [str(100 + number) for number in range(24)], 0.1, 5
 
 
-def many(place):
-    groups, agents = [str(100 + number) for number in range(GROUPS)], [str(number + 1) for number in range(place.pages)]
-    chance = random.Random(1)
-    plan = [*({"service": "addGroup", "device": group, "name": f"Group {group}", "ring": 20, "wrap": 30} for group in groups)]
-    for number, agent in enumerate(agents):
-        served = sorted(chance.sample(groups, chance.choice((1, 1, 2, 3))))
-        plan += [{"service": "addStation", "device": str(2000 + number)}, {"service": "addAgent", "agent": agent, "name": f"Agent {agent}"},
-                 {"service": "setAgentState", "agent": agent, "requested": "loggedOn", "device": str(2000 + number), "groups": served},
-                 {"service": "setAgentState", "agent": agent, "requested": "ready"}]
-    place.begin(plan, {f"a{agent}": f"agent agent={agent}" for agent in agents})
-    one, all_of_them = measure(place, agents[:1], groups), measure(place, agents, groups)
-    place.expect("answers other than 200", {status: count for status, count in all_of_them["statuses"].items() if status != 200}, {})
-    told, answers = sorted(all_of_them["told"]), sum(all_of_them["statuses"].values()) / place.seconds
-    place.see("pages are told of their own news", len(told) > 20, len(told))
-    print(f"    {place.pages} pages, {all_of_them['services']:.1f} services and {answers:.0f} answers a second, {len(told)} of own news; with one page {one['services']:.1f} services")
-    print(f"    the gate takes {1000 * all_of_them['gate'] / max(1, answers):.2f} ms of a processor for an answer")
-    place.figure("share of a processor: the gate", all_of_them["gate"], 0.5)
-    place.figure("the desk (1.2 times what it takes with one page)", all_of_them["desk"], 1.2 * one["desk"] + 0.005)
-    place.figure("from a request for a service to the page's news, 95 % in seconds", told[int(0.95 * len(told))] if told else 99, 0.25)
+class Many(Place):
+    @classmethod
+    def setUpClass(cls):
+        cls.agents = [str(number + 1) for number in range(cls.options.pages)]
+        cls.ROLES = {f"a{agent}": f"agent agent={agent}" for agent in cls.agents}
+        super().setUpClass()
+
+    @classmethod
+    def planned(cls):
+        """Each agent is logged on, ready and at a station of its own."""
+        chance = random.Random(1)
+        plan = list(cls.requests.plan(Plan([(group, f"Group {group}", 20, 30) for group in GROUPS], [], [])))
+        for number, agent in enumerate(cls.agents):
+            served = sorted(chance.sample(GROUPS, chance.choice((1, 1, 2, 3))))
+            plan += cls.requests.plan(Plan([], [str(2000 + number)], [agent]))
+            plan += [cls.requests.log_on(agent, str(2000 + number), *served), cls.requests.state(agent)]
+        return plan
+
+    def try_many(self):
+        one, all_of_them = self.measure(self.agents[:1]), self.measure(self.agents)
+        self.expect("answers other than 200", {status: count for status, count in all_of_them["statuses"].items() if status != 200}, {})
+        told, answers = sorted(all_of_them["told"]), sum(all_of_them["statuses"].values()) / self.options.seconds
+        self.see("pages are told of their own news", len(told) > 20, len(told))
+        print(f"    {len(self.agents)} pages, {all_of_them['services']:.1f} services and {answers:.0f} answers a second, {len(told)} of own news; with one page {one['services']:.1f} services")
+        print(f"    the gate takes {1000 * all_of_them['gate'] / max(1, answers):.2f} ms of a processor for an answer")
+        self.figure("share of a processor: the gate", all_of_them["gate"], 0.5)
+        self.figure("the desk (1.2 times what it takes with one page)", all_of_them["desk"], 1.2 * one["desk"] + 0.005)
+        self.figure("from a request for a service to the page's news, 95 % in seconds", told[int(0.95 * len(told))] if told else 99, 0.25)
+
+    def used(self, office):
+        return [*map(seconds_of, (self.gate, self.desk.process)), office.done]
+
+    def measure(self, agents):
+        """What it takes while these pages ask, in a process of their own, and an office works."""
+        office, (here, there) = Office(self), multiprocessing.Pipe()
+        pages = multiprocessing.Process(target=ask_until_told, args=(self.port, agents, there))
+        worker = threading.Thread(target=office.work)
+        pages.start()
+        try:
+            self.see("all pages are answered", here.poll(240), "not within four minutes")
+            worker.start()
+            time.sleep(SETTLES)
+            before, began = self.used(office), time.monotonic()
+            time.sleep(self.options.seconds)
+            lasted = time.monotonic() - began
+            used = [(now - then) / lasted for now, then in zip(self.used(office), before)]
+            here.send("end")
+            here.recv()
+            answers = here.recv()
+        finally:
+            office.ended.set()
+            pages.join(20)
+            pages.kill()
+        counted = [(agent, state, moment, status) for agent, state, moment, status in answers if began <= moment < began + lasted]
+        # each news with the last request before it that brought the agent to this state
+        befores = [(moment, [one for one in office.changed.get((agent, state), ()) if one <= moment]) for agent, state, moment, _ in counted if state]
+        told = [moment - before[-1] for moment, before in befores if before and before[-1] >= began]
+        return {"gate": used[0], "desk": used[1], "services": used[2], "told": told, "statuses": Counter(status for *_, status in counted)}
 
 
 def seconds_of(process):
     words = Path(f"/proc/{process.pid}/stat").read_text().rpartition(") ")[2].split()
     return (int(words[11]) + int(words[12])) / 100
-
-
-def measure(place, agents, groups):
-    """What it takes while these pages ask, in a process of their own, and an office works."""
-    office, (here, there) = Office(place, groups), multiprocessing.Pipe()
-    pages = multiprocessing.Process(target=ask_until_told, args=(place.port, agents, there))
-    worker = threading.Thread(target=office.work)
-    pages.start()
-    try:
-        place.see("all pages are answered", here.poll(240), "not within four minutes")
-        worker.start()
-        time.sleep(SETTLES)
-        before, began = (seconds_of(place.gate), seconds_of(place.desk), office.done), time.monotonic()
-        time.sleep(place.seconds)
-        lasted = time.monotonic() - began
-        used = [(now - then) / lasted for now, then in zip((seconds_of(place.gate), seconds_of(place.desk), office.done), before)]
-        here.send("end")
-        here.recv()
-        answers = here.recv()
-    finally:
-        office.ended.set()
-        pages.join(20)
-        pages.kill()
-    counted = [(agent, state, moment, status) for agent, state, moment, status in answers if began <= moment < began + lasted]
-    # each news with the last request before it that brought the agent to this state
-    befores = [(moment, [one for one in office.changed.get((agent, state), ()) if one <= moment]) for agent, state, moment, _ in counted if state]
-    told = [moment - before[-1] for moment, before in befores if before and before[-1] >= began]
-    return {"gate": used[0], "desk": used[1], "services": used[2], "told": told, "statuses": Counter(status for *_, status in counted)}
 
 
 def ask_until_told(port, agents, told):
@@ -91,7 +103,7 @@ def ask_until_told(port, agents, told):
 async def page(port, agent, answers):
     """An agent's page over one connection that stays open; an answer with another state of the agent than before is own news."""
     await asyncio.sleep(random.uniform(0, 5))
-    reader, writer = await asyncio.open_connection("127.0.0.1", port, ssl=UNCHECKED, limit=1 << 20)
+    reader, writer = await asyncio.open_connection("127.0.0.1", port, ssl=ANY, limit=1 << 20)
     after, names, state = 0, 0, None
     head = f"Host: desk\r\nAuthorization: Basic {b64encode(f'a{agent}:secret'.encode()).decode()}\r\n\r\n"
     while True:
@@ -112,8 +124,8 @@ async def page(port, agent, answers):
 class Office:
     """Callers and agents, straight at the desk: up to ten services a second, of which most change an agent's state."""
 
-    def __init__(self, place, groups):
-        self.place, self.groups, self.done, self.ended = place, groups, 0, threading.Event()
+    def __init__(self, place):
+        self.place, self.done, self.ended = place, 0, threading.Event()
         self.changed, self.chance = {}, random.Random(2)
 
     def ask(self, whose, state, service, **members):
@@ -129,7 +141,7 @@ class Office:
                 self.step()
 
     def look(self):
-        snapshot = json.loads(self.place.direct("GET", "/snapshot")[2])
+        snapshot = self.place.direct("GET", "/snapshot").value
         sides = [(call["call"], side) for call in snapshot["calls"] for side in call["connections"] if "group" in side]
         at = {agent["device"]: agent["agent"] for agent in snapshot["agents"]}
         self.calls, self.talks = ([(call, side["device"], at[side["device"]]) for call, side in sides if side["state"] == state] for state in ("alerting", "connected"))
@@ -154,4 +166,4 @@ class Office:
             agent = self.idle.pop(self.chance.randrange(len(self.idle)))
             self.ask(agent, "notReady", "setAgentState", agent=agent, requested="notReady")
         else:
-            self.ask(None, None, "arriveCall", caller=f"030{self.chance.randrange(10**7)}", called=self.chance.choice(self.groups))
+            self.ask(None, None, "arriveCall", caller=f"030{self.chance.randrange(10**7)}", called=self.chance.choice(GROUPS))

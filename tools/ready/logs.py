@@ -1,9 +1,6 @@
 """Cases of acd_log.py: logs of the program and of SQLite, spoiled in many places. The rule judges, over frames that this file reads by itself, and so does SQLite, by the rows that it finds."""
 import itertools
-import os
 import random
-import shutil
-import signal
 import sqlite3
 import struct
 import subprocess
@@ -11,13 +8,11 @@ import time
 from contextlib import closing
 from dataclasses import dataclass
 
+from ground import Scripts, arrival
+from trial import Lines
+
 HEAD, FRAME = 32, 24
-PLAN = "kind,number,name,ring,wrap\ngroup,100,Billing,20,5\nstation,201,,,\nagent,7,Ana,,\n"
 KILLS = 60
-
-
-def caller(number, moment=1800000000):
-    return f'{moment + number} {{"requester":"pbx","invoke":{number},"service":"arriveCall","caller":"030{number}","called":"100"}}\n'
 
 
 def summed(big, first, second, data):
@@ -77,18 +72,12 @@ class Log:
         return b"".join(out)
 
 
-def of_program(program, folder, count=10):
+def of_program(program, file, count=10):
     """A log of the program, which is killed: a commit for each request."""
-    file = folder / "desk.db"
-    (folder / "plan.csv").write_text(PLAN)
-    subprocess.run([program, "import", "--file", file, "--plan", folder / "plan.csv"], check=True, stdout=subprocess.DEVNULL)
-    with subprocess.Popen([program, "lines", "--file", file], stdin=subprocess.PIPE, stdout=subprocess.PIPE, text=True) as desk:
+    with Lines(program, file) as desk:
         for number in range(1, count + 1):
-            desk.stdin.write(caller(number))
-            desk.stdin.flush()
-            assert desk.stdout.readline().startswith("200 ")
-        desk.kill()
-    return Log("of the program", (folder / "desk.db-wal").read_bytes(), file.read_bytes(), "kept")
+            assert desk.say(arrival(number)).startswith("200 ")
+    return Log("of the program", file.with_name("desk.db-wal").read_bytes(), file.read_bytes(), "kept")
 
 
 def of_sqlite(folder, page, restarted=False):
@@ -105,12 +94,12 @@ def of_sqlite(folder, page, restarted=False):
         return Log(name, file.with_name(f"{file.name}-wal").read_bytes(), file.read_bytes(), "t")
 
 
-class Logs:
-    """look is acd_log's; expect counts and tells."""
-
-    def __init__(self, reader, expect, program, folder):
-        self.reader, self.expect, self.program, self.folder = reader, expect, program, folder
-        self.places = itertools.count()
+class Logs(Scripts):
+    @classmethod
+    def setUpClass(cls):
+        super().setUpClass()
+        cls.reader, cls.places = cls.module().acd_log, itertools.count()
+        cls.logs = [of_program(cls.program, cls.new()), *(of_sqlite(cls.folder, page) for page in (512, 4096)), of_sqlite(cls.folder, 1024, restarted=True)]
 
     def look(self, data):
         path = self.folder / "looked-at"
@@ -130,19 +119,12 @@ class Logs:
     def kind(self, found):
         return type(found).__name__
 
-    def all(self):
-        logs = [of_program(self.program, self.folder), *(of_sqlite(self.folder, page) for page in (512, 4096)), of_sqlite(self.folder, 1024, restarted=True)]
-        for log in logs:
-            self.try_frames(log)
-            self.try_last_commit(log)
-            self.try_cuts(log)
-            self.try_head(log)
-        self.try_no_log()
-        for log in (logs[1], of_sqlite(self.folder, 65536)):
-            self.try_orders(log)
-        self.try_kills()
+    def try_logs(self):
+        for log in self.logs:
+            for part in (self.frames, self.last_commit, self.cuts, self.head):
+                part(log)
 
-    def try_frames(self, log):
+    def frames(self, log):
         """Each frame spoiled in each of its parts: told or not by the rule, from that frame on; SQLite takes the commits before it."""
         whole = self.rows(log, log.data)
         self.expect(f"{log.name}: whole", (self.kind(self.look(log.data)), len(log.marks) > 5), ("Sound", True))
@@ -163,7 +145,7 @@ class Logs:
                 taken = self.rows(log, log.data[:log.at(first)])
                 self.expect(f"{log.name}: rows behind a bad frame {bad}", (self.rows(log, log.flipped(at + FRAME)), taken < whole), (taken, True))
 
-    def try_last_commit(self, log):
+    def last_commit(self, log):
         """Pairs, beginnings and ends of the last commit's frames, of noughts, of noise, and of what another salt left there: never told."""
         first, last = log.marks[-2] + 1, log.marks[-1]
         noise, mark = random.Random(1), log.data[log.at(log.marks[0]):][:log.long]
@@ -178,7 +160,7 @@ class Logs:
                         data = data[:log.at(frame)] + new + data[log.at(frame) + log.long:]
                     self.expect(f"{log.name}: {what}, frames {one} and {other} of the last commit", self.kind(self.look(data)) in ("Torn", "Sound"))
 
-    def try_cuts(self, log):
+    def cuts(self, log):
         """A log that ends early has nothing behind its end: never told."""
         for frame in range(1, log.frames + 1):
             for place in (0, 1, FRAME - 1, FRAME, log.long - 1):
@@ -186,7 +168,7 @@ class Logs:
         for end in range(HEAD + FRAME):
             self.expect(f"{log.name}: of {end} bytes", self.kind(self.look(log.data[:end])), "Sound")
 
-    def try_head(self, log):
+    def head(self, log):
         """Each bit of the head turned is told in other words, where there are frames; a log that is being emptied begins with a nought."""
         for place, bit in itertools.product(range(HEAD), range(8)):
             self.expect(f"{log.name}: bit {bit} of byte {place} of the head", self.look(log.flipped(place, bit)), self.reader.Unreadable("its head is damaged"))
@@ -210,8 +192,12 @@ class Logs:
         except OSError:
             self.expect("a folder in its place is a fault", True)
 
-    def try_orders(self, log):
+    def try_orders(self):
         """A log whose checksums read words with the highest byte first, as another machine writes it: SQLite takes all of it, and so does the reader."""
+        for log in (self.logs[1], of_sqlite(self.folder, 65536)):
+            self.orders(log)
+
+    def orders(self, log):
         def turn(head):
             head[3] = 0x83
 
@@ -223,18 +209,13 @@ class Logs:
 
     def try_kills(self):
         """The program is killed while it writes, and while it opens what the last kill left: whatever that leaves is never told. Nothing is reckoned here but by the kills themselves."""
-        folder, moment = self.folder / "kills", random.Random(2)
-        told = []
+        requests, moment, told = self.folder / "lines", random.Random(2), []
         for number in range(KILLS):
             if number % 5 == 0:
-                shutil.rmtree(folder, ignore_errors=True)
-                folder.mkdir()
-                (folder / "plan.csv").write_text(PLAN)
-                subprocess.run([self.program, "import", "--file", folder / "desk.db", "--plan", folder / "plan.csv"], check=True, stdout=subprocess.DEVNULL)
-            with open(folder / "lines", "w") as lines:
-                lines.writelines(caller(2000 * number + one) for one in range(1, 2000))
-            with open(folder / "lines") as lines, subprocess.Popen([self.program, "lines", "--file", folder / "desk.db"], stdin=lines, stdout=subprocess.DEVNULL) as desk:
+                file = self.new()
+            requests.write_text("".join(arrival(2000 * number + one) for one in range(1, 2000)))
+            with open(requests) as given, subprocess.Popen([self.program, "lines", "--file", file], stdin=given, stdout=subprocess.DEVNULL) as desk:
                 time.sleep(moment.uniform(0.002, 0.15))
-                os.kill(desk.pid, signal.SIGKILL)
-            told.append(self.kind(self.reader.look(folder / "desk.db-wal")))
+                desk.kill()
+            told.append(self.kind(self.reader.look(file.with_name("desk.db-wal"))))
         self.expect(f"{KILLS} kills: {told.count('Torn')} left a torn end", [kind for kind in told if kind not in ("Sound", "Torn")], [])

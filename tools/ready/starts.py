@@ -1,29 +1,20 @@
 """Cases of acd-ready: what keeps a desk from being served, which file and log belong together, a log that is damaged, and a new desk."""
 import contextlib
-import http.client
-import importlib.machinery
-import importlib.util
 import os
 import re
 import resource
 import shutil
 import socket
 import sqlite3
-import subprocess
 import sys
 import time
 from pathlib import Path
 
-from logs import PLAN, Log, caller
+from ground import Scripts, arrival
+from logs import Log
+from trial import Desk, free_port, ran
 
 MEND, WORDS, ELSEWHERE, AGAIN = 64, 2, 4, 1
-LONG = 120
-
-
-def free_port():
-    with socket.socket() as listener:
-        listener.bind(("127.0.0.1", 0))
-        return listener.getsockname()[1]
 
 
 def seconds_used():
@@ -32,88 +23,58 @@ def seconds_used():
     return used.ru_utime + used.ru_stime
 
 
-class Starts:
-    """scripts is the folder of acd-ready and its modules."""
+class Served(Desk):
+    """A desk that is served by these words, and is killed at the end."""
 
-    def __init__(self, scripts, expect, program, folder):
-        self.scripts, self.expect, self.folder, self.number = scripts, expect, Path(folder), 0
-        self.bin = self.folder / "bin"
-        self.bin.mkdir(exist_ok=True)
-        if not (self.bin / "acd").exists():
-            (self.bin / "acd").symlink_to(program)
-        self.environment = {**os.environ, "PATH": f"{self.bin}:{os.environ['PATH']}"}
+    def __init__(self, words, port, variables):
+        self.port = port
+        self.start(*words, variables=variables)
+        self.listens = self.process.stdout.readline()
+
+
+class Starts(Scripts):
+    @classmethod
+    def setUpClass(cls):
+        super().setUpClass()
+        cls.bin = cls.folder / "bin"
+        cls.bin.mkdir()
+        (cls.bin / "acd").symlink_to(cls.program)
+        cls.variables = cls.finding(cls.bin)
+
+    @staticmethod
+    def finding(folder):
+        """The variables of a process that finds `acd` in this folder."""
+        return {**os.environ, "PATH": f"{folder}:{os.environ['PATH']}"}
 
     def words(self, *words):
         return [sys.executable, self.scripts / "acd-ready", *words]
 
-    def run(self, *words):
-        """The status, and what is printed on the two outputs."""
-        done = subprocess.run(self.words(*words), env=self.environment, stdin=subprocess.DEVNULL, capture_output=True, text=True, timeout=LONG)
-        return done.returncode, done.stdout, done.stderr
-
-    def acd(self, *words, given=""):
-        return subprocess.run([self.bin / "acd", *words], input=given, stdout=subprocess.PIPE, stderr=subprocess.STDOUT, text=True).stdout
+    def ready(self, *words, variables=None):
+        return ran(*self.words(*words), env=variables or self.variables)
 
     def executed(self, file):
         """How many requests an audit finds in the file and its log, or in copies of them."""
-        return int(re.search(r"executed (\d+)", self.acd("audit", "--file", file, "--count")).group(1))
+        return int(re.search(r"executed (\d+)", self.acd("audit", "--file", file, "--count").output).group(1))
 
-    def new(self):
-        """The file of a desk in a folder of its own: three requests made its plan."""
-        self.number += 1
-        folder = self.folder / f"desk-{self.number}"
-        folder.mkdir()
-        (self.folder / "plan.csv").write_text(PLAN)
-        self.acd("import", "--file", folder / "desk.db", "--plan", self.folder / "plan.csv")
-        return folder / "desk.db"
-
-    @contextlib.contextmanager
     def served(self, file, port=None):
-        """A desk that is served, and is killed at the end; what it says on standard error stands in `said` by then."""
         port = port or free_port()
-        desk = subprocess.Popen(self.words("--serve", "--file", file, "--port", str(port)), env=self.environment, stdout=subprocess.PIPE, stderr=subprocess.PIPE, text=True)
-        desk.port = port
-        try:
-            desk.listens = desk.stdout.readline()
-            yield desk
-        finally:
-            desk.kill()
-            desk.said = desk.communicate()[1]
+        return Served(self.words("--serve", "--file", file, "--port", port), port, self.variables)
 
     def ask(self, desk, number):
         """The status of a call's arrival."""
-        connection = http.client.HTTPConnection("127.0.0.1", desk.port, timeout=10)
-        connection.request("POST", "/csta", caller(number).partition(" ")[2].strip())
-        status = connection.getresponse().status
-        connection.close()
-        return status
+        return desk.post(arrival(number).partition(" ")[2].strip()).status
 
     def starts(self, what, file, calls=()):
         """It is served, and takes calls; what it says."""
         with self.served(file) as desk:
             self.expect(f"{what}: it listens", desk.listens, f"listening on 127.0.0.1:{desk.port}\n")
             self.expect(f"{what}: it answers", [self.ask(desk, number) for number in calls], [200] * len(list(calls)))
-        return desk.said
+        return desk.said()
 
     def fails(self, what, said, *words, status=MEND):
         """One line that has these words, a status, and nothing else."""
-        has, out, line = self.run("--serve", *words)
+        has, out, line = self.ready("--serve", *words)
         self.expect(f"{what}: {line!r}", (has, out, line.count("\n"), line.startswith("acd-ready: "), [one for one in said if one not in line]), (status, "", 1, True, []))
-
-    def all(self):
-        self.try_words()
-        self.try_file()
-        self.try_restore()
-        self.try_port()
-        self.try_serving()
-        self.try_make()
-        self.try_pairs()
-        self.try_other_pairs()
-        self.try_note()
-        self.try_damage()
-        self.try_torn_ends()
-        self.try_damage_kept_once()
-        self.try_damage_while_written()
 
     # what is looked at
 
@@ -121,13 +82,13 @@ class Starts:
         file = self.new()
         for words in (["--port", "0"], ["--port", "65536"], ["--port", "80x"], ["--port", ""], ["--port", "-1"], ["--port"], ["--file"], ["--file", ""], ["--other"], ["more"], ["--make"]):
             self.fails(f"the words {words}", [], *(["--file", file] if "--file" not in words else []), *words, status=WORDS)
-        self.expect("neither of both", self.run("--file", file)[0], WORDS)
-        status, out, _ = self.run("--help")
+        self.expect("neither of both", self.ready("--file", file)[0], WORDS)
+        status, out, _ = self.ready("--help")
         self.expect("help", (status, "--serve" in out, "--make" in out), (0, True, True))
 
     def try_file(self):
         file = self.new()
-        log, folder, port = file.with_name("desk.db-wal"), file.parent, ["--port", str(free_port())]
+        log, folder, port = file.with_name("desk.db-wal"), file.parent, ["--port", free_port()]
         self.fails("no folder", [str(folder / "none"), "isn't there"], "--file", folder / "none/desk.db", *port)
         self.fails("no file", ["other.db isn't there", "acd-copy --restore", f"acd-ready --make --file {folder / 'other.db'}"], "--file", folder / "other.db", *port)
         self.fails("a folder in its place", [f"{folder} is no file"], "--file", folder, *port)
@@ -145,9 +106,9 @@ class Starts:
         (folder / "away").unlink()
         (folder / "link").symlink_to(file)
         self.starts("a link that leads to it", folder / "link", [1])
-        self.try_lone_log(file, log, port)
+        self.lone_log(file, log, port)
 
-    def try_lone_log(self, file, log, port):
+    def lone_log(self, file, log, port):
         """A log whose file is away stays as it is, and nothing is made in the file's place."""
         held = log.read_bytes()
         self.expect("its log holds something", len(held) > 41)
@@ -157,7 +118,7 @@ class Starts:
             self.fails(f"a log whose file {what}", [f"{file} {what}", str(log), "put desk.db or a copy back", "move the log away", "don't remove it"], "--file", file, *port)
             self.expect("the log is as it was", log.read_bytes(), held)
         file.unlink()
-        status, out, line = self.run("--make", "--file", file)
+        status, out, line = self.ready("--make", "--file", file)
         self.expect(f"nor is a new desk made there: {line}", (status, out, "don't remove it" in line, file.exists(), log.read_bytes() == held), (MEND, "", True, False, True))
         away.rename(file)
         self.starts("with the file put back", file)
@@ -175,8 +136,8 @@ class Starts:
         link.parent.mkdir()
         link.symlink_to("../desk.db")
         for path in (file, link):
-            self.expect(f"a restore that isn't ended, {path}", self.run("--serve", "--file", path, "--port", str(free_port())), (MEND, "", f"acd-ready: {words}\n"))
-            self.expect(f"nor is a new desk made there, {path}", self.run("--make", "--file", path), (MEND, "", f"acd-ready: {words}\n"))
+            self.expect(f"a restore that isn't ended, {path}", self.ready("--serve", "--file", path, "--port", free_port()), (MEND, "", f"acd-ready: {words}\n"))
+            self.expect(f"nor is a new desk made there, {path}", self.ready("--make", "--file", path), (MEND, "", f"acd-ready: {words}\n"))
         self.expect("the link is as it was", os.readlink(file), f"/dev/null/{words}")
         away.replace(file)
         self.starts("with the file back", link, [1])
@@ -203,14 +164,14 @@ class Starts:
         """It becomes the program, which has the words that it was given, and says nothing."""
         file = self.new()
         with self.served(file) as desk:
-            process = Path(f"/proc/{desk.pid}")
+            process = Path(f"/proc/{desk.process.pid}")
             self.expect("its name and its words", (process.joinpath("comm").read_text(), process.joinpath("cmdline").read_text().split("\0")),
                         ("acd\n", ["acd", "serve", "--file", str(file), "--port", str(desk.port), "--endless", ""]))
-            self.expect("nothing is left open", sorted(os.readlink(one).partition(":")[0] for one in process.joinpath("fd").iterdir() if not os.readlink(one).startswith("pipe")),
-                        sorted(["/dev/null" if sys.stdin is None else os.readlink("/proc/self/fd/0").partition(":")[0], str(file), f"{file}-wal", "socket"]))
-            status, _, line = self.run("--serve", "--file", file, "--port", str(free_port()))
+            held = sorted(os.readlink(one).partition(":")[0] for one in process.joinpath("fd").iterdir() if one.name not in ("1", "2"))
+            self.expect("nothing is left open", held, sorted([os.readlink("/proc/self/fd/0").partition(":")[0], str(file), f"{file}-wal", "socket"]))
+            status, _, line = self.ready("--serve", "--file", file, "--port", free_port())
             self.expect("a second one over the same file", (status, line), (ELSEWHERE, f"acd: {file} is open elsewhere\n"))
-        self.expect("it says nothing", desk.said, "")
+        self.expect("it says nothing", desk.said(), "")
 
     # a new desk
 
@@ -218,20 +179,19 @@ class Starts:
         folder = self.folder / "new"
         folder.mkdir()
         file = folder / "desk.db"
-        self.expect("a new desk", self.run("--make", "--file", file), (0, f"made {file}\n", ""))
+        self.expect("a new desk", self.ready("--make", "--file", file), (0, f"made {file}\n", ""))
         self.expect("it is there alone, and its user's", ([one.name for one in folder.iterdir()], file.stat().st_mode & 0o777), (["desk.db"], 0o600))
-        self.expect("it is a desk", (self.acd("audit", "--file", file), self.executed(file)), ("sound\n", 0))
+        self.expect("it is a desk", (self.acd("audit", "--file", file), self.executed(file)), ((0, "sound\n", ""), 0))
         self.starts("it is served", file)
         held = file.read_bytes()
-        self.expect("one that is there", self.run("--make", "--file", file), (0, f"{file} is there already\n", ""))
+        self.expect("one that is there", self.ready("--make", "--file", file), (0, f"{file} is there already\n", ""))
         self.expect("stays as it is", file.read_bytes(), held)
-        status, _, line = self.run("--make", "--file", folder / "none/desk.db")
+        status, _, line = self.ready("--make", "--file", folder / "none/desk.db")
         self.expect(f"in no folder: {line}", (status, line.count("\n")), (MEND, 1))
         (folder / "acd").write_text("#!/bin/sh\necho 'acd: store fault' >&2\nexit 1\n")
         (folder / "acd").chmod(0o755)
-        self.environment["PATH"] = f"{folder}:{os.environ['PATH']}"
-        self.expect("one that can't be made", self.run("--make", "--file", folder / "b.db"), (AGAIN, "", f"acd-ready: {folder / 'b.db'} isn't made: acd: store fault\n"))
-        self.environment["PATH"] = f"{self.bin}:{os.environ['PATH']}"
+        done = self.ready("--make", "--file", folder / "b.db", variables=self.finding(folder))
+        self.expect("one that can't be made", done, (AGAIN, "", f"acd-ready: {folder / 'b.db'} isn't made: acd: store fault\n"))
         self.expect("leaves nothing", sorted(one.name for one in folder.iterdir()), ["acd", "desk.db", "desk.db-pair", "desk.db-wal"])
 
     # which file and log belong together
@@ -247,7 +207,7 @@ class Starts:
         self.expect("and takes the log away", log.exists(), False)
         for number in (3, 4):
             self.expect("a start behind it", self.starts(f"start {number - 2} behind sqlite3", file, [number]), "")
-        self.acd("import", "--file", file, "--plan", self.folder / "plan.csv")
+        self.acd("import", "--file", file, "--plan", self.plan)
         self.expect("behind an import", self.starts("behind an import", file, [5]), "")
         self.acd("audit", "--file", file)
         log.unlink()
@@ -280,15 +240,15 @@ class Starts:
             held = {one: one.read_bytes() for one in (file, log, newer) if one.exists()}
             for what, put in (("copied", lambda: shutil.copy(kept / older.name, older)), ("moved", lambda: os.replace(shutil.copy(kept / older.name, older.with_name("moved")), older))):
                 put()
-                self.fails(f"an older {older.name} beside the newer one, {what}", ["weren't here together", f"remove {note}", "acd-copy --restore"], "--file", file, "--port", str(free_port()))
+                self.fails(f"an older {older.name} beside the newer one, {what}", ["weren't here together", f"remove {note}", "acd-copy --restore"], "--file", file, "--port", free_port())
                 self.expect("what was there is as it was", {one: one.read_bytes() for one in held}, held)
                 older.unlink()
             newer.rename(older)
             self.expect("the newer one back", self.starts("the newer one back", file), "")
-        self.try_numbers_given_again(file, kept)
+        self.numbers_given_again(file, kept)
         self.expect("nothing was lost", self.executed(file), 3 + 19)
 
-    def try_numbers_given_again(self, file, kept):
+    def numbers_given_again(self, file, kept):
         """The newer one is removed first: its inode's number goes to the older one, on most file systems."""
         later = file.parent / "later"
         later.mkdir()
@@ -298,7 +258,7 @@ class Starts:
                 shutil.copy(one, later)
             older.unlink()
             shutil.copy(kept / older.name, older)
-            self.fails(f"an older {older.name}, the newer one being removed", ["weren't here together"], "--file", file, "--port", str(free_port()))
+            self.fails(f"an older {older.name}, the newer one being removed", ["weren't here together"], "--file", file, "--port", free_port())
             for one in both:
                 one.unlink()
                 shutil.copy(later / one.name, one)
@@ -378,23 +338,10 @@ class Starts:
         file.write_bytes(broken)
         leftover = file.parent / ".damaged-2026-01-01T000000Z-abcdefgh"
         leftover.mkdir()
-        said = [self.run("--serve", "--file", file, "--port", str(free_port())) for _ in range(3)]
+        said = [self.ready("--serve", "--file", file, "--port", free_port()) for _ in range(3)]
         self.expect("each start tells the same line, and the desk's own", [(status, line == said[0][2], line.count("\n"), "is damaged" in line) for status, _, line in said], [(1, True, 2, True)] * 3)
         self.expect("there is one folder", len(self.folders(file)), 1)
         self.expect("an earlier half copy is gone", leftover.exists(), False)
-
-    def module(self):
-        """acd-ready as a module, with another reader in the place of acd_log's."""
-        sys.path.insert(0, str(self.scripts))
-        try:
-            loader = importlib.machinery.SourceFileLoader("acd_ready", str(self.scripts / "acd-ready"))
-            module = importlib.util.module_from_spec(importlib.util.spec_from_loader("acd_ready", loader))
-            for name in ("acd_log", "acd_pair"):
-                sys.modules.pop(name, None)
-            loader.exec_module(module)
-        finally:
-            sys.path.remove(str(self.scripts))
-        return module
 
     def try_damage_while_written(self):
         """What another program writes meanwhile looks damaged, and isn't."""

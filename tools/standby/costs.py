@@ -4,8 +4,8 @@ import statistics
 import subprocess
 import time
 
-from ground import until
 from machines import BENCH, PORT, Machine, grown
+from trial import until
 
 RATE, COUNT, ROUNDS = 2000, 6000, 5
 
@@ -48,7 +48,7 @@ def try_costs(ground, machines, kept):
             if follows:
                 second.follow(first.address, ground.newer)
                 had = first.last()
-                ground.expect("the copy comes to have all", until(lambda: first.asked()[-1:] >= [had - 1]))
+                ground.expect("the copy comes to have all", until(lambda: first.asked()[-1:] >= [had - 1], 120, 0.01))
             begun, before = spent(desk_in(first)), len(first.asked())
             rate, *_ = exchanges(COUNT, "post", "900", RATE, calls)
             calls += COUNT

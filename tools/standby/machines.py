@@ -9,7 +9,8 @@ import sys
 import time
 from pathlib import Path
 
-TOP = Path(__file__).resolve().parents[2]
+from trial import TOP
+
 OPERATING, CLIENT, BENCH = TOP / "tools/operating", TOP / "clients/python", TOP / "bench"
 
 # that of Debian, which the scripts are run by

@@ -6,8 +6,9 @@ import statistics
 import subprocess
 import time
 
-from ground import copied, held, until
+from ground import copied, held
 from machines import CLIENT, DAY, NOTING, OPERATING, PORT, PYTHON, Machine, Office, grown, run
+from trial import until
 
 
 def percentile(values, share):
@@ -36,7 +37,7 @@ class Takeover:
         noting.chmod(0o755)
         self.second.follow(self.first.address, noting)
         self.office = Office(ground, rate)
-        ground.expect("the second machine follows", until(lambda: self.notes.exists() and self.notes.stat().st_size > 0))
+        ground.expect("the second machine follows", until(lambda: self.notes.exists() and self.notes.stat().st_size > 0, 120, 0.01))
         # what waited while the copy was opened has been fed by then
         self.up = time.time() + 1
         time.sleep(ground.seconds)
@@ -126,7 +127,7 @@ def try_upgrade(ground, machines, kept):
     trial.first.leave_address()
     trial.first.ticks.kill()
     had = trial.first.last()
-    ground.expect("the copy comes to have all", until(lambda: trial.begun_with + len(trial.notes.read_text().splitlines()) >= had))
+    ground.expect("the copy comes to have all", until(lambda: trial.begun_with + len(trial.notes.read_text().splitlines()) >= had, 120, 0.01))
     last, told, _ = trial.second.end_following()
     trial.first.stop_desk()
     opening = trial.over_to_second()

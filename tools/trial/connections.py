@@ -59,7 +59,7 @@ def bytes_back(port, sent, context=None, ends=False, seconds=60):
     """What comes back for these bytes until the other side closes; `ends` says that nothing more is sent. Where the connection breaks it is what came before."""
     got = b""
     with contextlib.suppress(OSError), socket.create_connection(("127.0.0.1", port), timeout=seconds) as plain:
-        connection = context.wrap_socket(plain) if context else plain
+        connection = context.wrap_socket(plain, server_hostname="127.0.0.1") if context else plain
         connection.sendall(sent)
         if ends:
             connection.shutdown(socket.SHUT_WR)

@@ -83,7 +83,9 @@ class Started:
 
     def start(self, *words, room=None, variables=(), **how):
         self.errors = tempfile.TemporaryFile("w+", encoding="utf-8")
-        self.process = subprocess.Popen([*map(str, words)], stdout=subprocess.PIPE, stderr=self.errors, encoding="utf-8", env={**os.environ, **dict(variables)}, **limited(room), **how)
+        # for writing alone: what a desk has open to read and write is its file and its log, by acd_held.py
+        with open(f"/proc/self/fd/{self.errors.fileno()}", "w") as errors:
+            self.process = subprocess.Popen([*map(str, words)], stdout=subprocess.PIPE, stderr=errors, encoding="utf-8", env={**os.environ, **dict(variables)}, **limited(room), **how)
 
     def __enter__(self):
         return self
