@@ -6,7 +6,7 @@ import sqlite3
 import subprocess
 from pathlib import Path
 
-from ground import copied, firsts, held, log_of
+from ground import Ground, copied, firsts, held, log_of
 from kills import PLAN
 
 HOUR, DAY = 3600, 86400
@@ -177,6 +177,7 @@ class Cases:
             case()
 
 
-def try_all(ground):
-    with ground.scratch() as folder:
-        Cases(ground, folder).all()
+class OfCases(Ground):
+    def try_cases(self):
+        with self.scratch() as folder:
+            Cases(self, folder).all()

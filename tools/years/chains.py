@@ -9,7 +9,7 @@ import subprocess
 from pathlib import Path
 
 from cases import changed, disk, listing
-from ground import PYTHON, copied, from_on, held, log_of
+from ground import PYTHON, Ground, copied, from_on, held, log_of
 from kills import PLAN, Kills
 
 HOUR, DAY = 3600, 86400
@@ -53,7 +53,7 @@ class Office:
 
     def copy(self, *words, program=None):
         path = {"wrapped": ["env", f"PATH={program.parent}:{self.ground.program.parent}:/usr/sbin:/usr/bin:/sbin:/bin"]} if program else {}
-        return self.ground.run(PYTHON, self.ground.scripts / "acd-copy", "--file", self.file, "--folder", self.copies, *words, **path)
+        return self.ground.ran(PYTHON, self.ground.scripts / "acd-copy", "--file", self.file, "--folder", self.copies, *words, **path)
 
     def good(self, what, *words):
         """The folder of a good copy."""
@@ -340,7 +340,7 @@ class Places(Kills):
         # before they change places the other one may be half made, and can't be read
         places = [path for path in (archive, file.parent / "desk.db.carry/desk.db") if is_new and path.exists()]
         ground.expect(f"{what}: the old one is there", self.rows in (rows, *map(held, places)))
-        status, told, faults = ground.run(PYTHON, ground.scripts / "acd-copy", "--file", file, "--folder", file.parent / "copies")
+        status, told, faults = ground.ran(PYTHON, ground.scripts / "acd-copy", "--file", file, "--folder", file.parent / "copies")
         done = not (is_new and (file.parent / "desk.db.carry/desk.db.archive").exists())
         ground.expect(f"{what}: a copy {faults}", (status, "was broken off" in faults), (0, False) if done else (1, True))
         shutil.rmtree(file.parent / "copies", ignore_errors=True)
@@ -373,13 +373,15 @@ class Places(Kills):
                 self.ground.expect("the names as it is told", (exchanged, folders), (True, set()))
 
 
-def try_all(ground, case=None):
-    with ground.scratch() as folder:
-        Chains(ground, folder).all(case)
+class OfChains(Ground):
+    def try_chains(self):
+        with self.scratch() as folder:
+            Chains(self, folder).all(self.case)
 
 
-def try_places(ground):
-    with ground.scratch() as folder:
-        trial = Places(ground, folder)
-        trial.power()
-        print(f"{trial.all()} kills in its place", flush=True)
+class OfPlaces(Ground):
+    def try_places(self):
+        with self.scratch() as folder:
+            places = Places(self, folder)
+            places.power()
+            print(f"{places.all()} kills in its place", flush=True)

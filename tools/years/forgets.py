@@ -11,7 +11,7 @@ from pathlib import Path
 
 from cases import changed, listing
 from chains import DAY, HOUR, Office, note_of, sha256, text_of
-from ground import PYTHON, copied, held, joined, log_of
+from ground import PYTHON, Ground, copied, held, joined, log_of
 from kills import PLAN
 
 # who is forgotten: of 11 digits, whose integers have 6 bytes, of 15, whose integers have 8, and of 6, whose integers have 3 and may stand in bytes by chance
@@ -114,12 +114,12 @@ class Forgets:
 
     def forget(self, office, *words, named=None, wrapped=()):
         archives = [word for archive in (office.archives() if named is None else named) for word in ("--archive", archive)]
-        return self.ground.run(PYTHON, self.ground.scripts / "acd-forget", "--file", office.file, "--folder", office.copies, "--desk", self.ground.program,
+        return self.ground.ran(PYTHON, self.ground.scripts / "acd-forget", "--file", office.file, "--folder", office.copies, "--desk", self.ground.program,
                                *words, *archives, wrapped=wrapped)
 
     def calls(self, office):
         words = [word for archive in office.archives() for word in ("--archive", archive)]
-        return self.ground.run(PYTHON, self.ground.scripts / "acd-calls", "--file", office.file, *words, "--legs")[1]
+        return self.ground.ran(PYTHON, self.ground.scripts / "acd-calls", "--file", office.file, *words, "--legs")[1]
 
     def whole(self, office):
         """What the program's audit says of all as one file."""
@@ -186,7 +186,7 @@ class Forgets:
         away = sorted(office.folder.glob("put-away-*"))
         self.ground.expect("the archives of before, to the byte",
                            {path.name: path.read_bytes() for path in away[0].glob("desk.db-*")} == {path.name: data for path, data in before.items()})
-        status, told, faults = self.ground.run(PYTHON, self.ground.scripts / "acd-forget", "--confirm", "--file", office.file)
+        status, told, faults = self.ground.ran(PYTHON, self.ground.scripts / "acd-forget", "--confirm", "--file", office.file)
         self.ground.expect(f"confirmed: {faults}", (status, told.count("gone: "), list(office.folder.glob("put-away-*"))), (0, len(away), []))
 
     # what is refused
@@ -293,6 +293,7 @@ class Forgets:
             getattr(self, each)()
 
 
-def try_all(ground, case=None):
-    with ground.scratch() as folder:
-        Forgets(ground, folder).all(case)
+class OfForgets(Ground):
+    def try_forgets(self):
+        with self.scratch() as folder:
+            Forgets(self, folder).all(self.case)

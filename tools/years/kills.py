@@ -4,7 +4,7 @@ import re
 import shutil
 import signal
 
-from ground import PYTHON, copied, held, log_of
+from ground import PYTHON, Ground, copied, held, log_of
 
 CALLS = ("mkdir", "rmdir", "unlink", "unlinkat", "rename", "renameat", "renameat2", "link", "chmod", "fchmod", "write", "pwrite64", "ftruncate", "fsync", "fdatasync",
          "flock", "fcntl", "vfork", "clone", "clone3", "fork")
@@ -109,8 +109,9 @@ class Kills:
         self.ground.expect("the name as it is told", told, "synced")
 
 
-def try_all(ground):
-    with ground.scratch() as folder:
-        trial = Kills(ground, folder)
-        trial.power()
-        print(f"{trial.all()} kills", flush=True)
+class OfKills(Ground):
+    def try_kills(self):
+        with self.scratch() as folder:
+            kills = Kills(self, folder)
+            kills.power()
+            print(f"{kills.all()} kills", flush=True)

@@ -2,15 +2,14 @@
 and under load. A stand-in for systemd runs the units; tools/try-office has a systemd of its own."""
 import contextlib
 import fcntl
-import http.client
 import json
 import os
 import re
 import shutil
 import signal
-import socket
 import threading
 import time
+from http.client import HTTPException
 from pathlib import Path
 
 from cases import disk, listing
@@ -20,6 +19,7 @@ from disks import strace as strace_of_disks
 from ground import copied, held, joined
 from joined import knows_archives, stand_in
 from kills import CALLS, PLAN
+from trial import Connection, free_port
 from units import Carrying, Desk
 
 HOUR, DAY = 3600, 86400
@@ -30,12 +30,6 @@ TRACED = (*(name for name in CALLS if name not in ("fcntl", "flock")), "utimensa
 # of the calls of ExecStart those at which the power is cut, one of so many: `disks` has all of them
 ONE_OF = 4
 LIES = {"desk.db", "desk.db-wal", "desk.db-pair"}
-
-
-def free_port():
-    with socket.socket() as tried:
-        tried.bind(("127.0.0.1", 0))
-        return tried.getsockname()[1]
 
 
 def body(requester, invoke, service, **members):
@@ -106,15 +100,10 @@ class Service:
 
     def ask(self, how, path, text=None):
         """Status and reply; nothing where the desk isn't there."""
-        asked = http.client.HTTPConnection("127.0.0.1", self.port, timeout=5)
-        try:
-            asked.request(how, path, text)
-            told = asked.getresponse()
-            return told.status, told.read().decode()
-        except (OSError, http.client.HTTPException):
-            return None
-        finally:
-            asked.close()
+        with contextlib.suppress(OSError, HTTPException), Connection(self.port, seconds=5) as desk:
+            reply = desk.ask(how, path, text)
+            return reply.status, reply.text
+        return None
 
     def is_there(self, seconds=20):
         """Whether the desk answers within a time."""
@@ -390,7 +379,7 @@ class Service:
         self.ground.expect(f"at the end it was carried over: {ended}", "done" in ended)
         archives = sorted((path for path in self.place.glob("desk.db-????-??-??-*") if not path.name.endswith(".archive")), key=lambda path: int(path.name.rpartition("-")[2]))
         # which lays the log in
-        self.ground.run("acd", "report", "--file", self.file)
+        self.ground.ran("acd", "report", "--file", self.file)
         whole = joined(archives, self.file, self.folder / "whole.db")
         kept = [(invoke, status, text) for _, requester, invoke, _, _, status, text in (row[:7] for row in held(whole)["kept"]) if requester == "client"]
         self.ground.expect("each acted once, and as it was answered", [(number, status, text.strip()) for number, (status, text) in answered] == kept)
