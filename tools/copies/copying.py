@@ -10,18 +10,13 @@ import subprocess
 import time
 from pathlib import Path
 
-from ground import OTHER, PYTHON, Load, call, frames, free_port, kept, log_of, lost, spoil, sums
-from parts import Part
+from ground import OTHER, PYTHON, Load, Part, call, frames, kept, log_of, lost, spoil, sums
+from trial import free_port
 
 SOUND = r"sound: \S+/copies/\d{4}-\d\d-\d\dT\d{6}Z\n"
 
 
 class Copying(Part):
-    def try_all(self):
-        for case in (self.try_anywhere, self.try_modes, self.try_settings, self.try_torn, self.try_early, self.try_no_desk, self.try_fewer, self.try_damaged, self.try_busy, self.try_moved,
-                     self.try_moved_log, self.try_removed, self.try_moved_meanwhile, self.try_started_meanwhile, self.try_full_disk, self.try_one_second):
-            case()
-
     def good(self, what, office, *words, said=SOUND, **how):
         """A good copy, with nothing said but that."""
         told = office.copy(*words, **how)
@@ -162,11 +157,15 @@ class Copying(Part):
 
     def loaded(self):
         office = self.office()
-        desk, port = office.serve()
-        load = Load(port)
-        self.loads.append(load)
+        desk = office.serve()
+        load = self.load(desk)
         self.expect("there is a load", load.until(30))
-        return office, desk, load
+        return office, desk.process, load
+
+    def load(self, desk):
+        load = Load(desk.port)
+        self.addCleanup(load.stop)
+        return load
 
     def told(self, what, office, load, pattern):
         """What was moved is told, and what was answered by then is in a copy of what the desk has open; the desk goes on."""
@@ -194,8 +193,7 @@ class Copying(Part):
 
     def started_again(self, what, office, load):
         """All that was answered is known to a desk that is started now."""
-        _, port = office.serve()
-        self.expect(f"{what}: {len(load.answered)} answered, lost of them", lost(load, port), [])
+        self.expect(f"{what}: {len(load.answered)} answered, lost of them", lost(load, office.serve().port), [])
         office.end()
 
     def try_moved(self):
@@ -269,12 +267,11 @@ class Copying(Part):
     def try_full_disk(self):
         office = self.office()
         office.feed([call(number) for number in range(30, 40)], kills=True)
-        desk, port = office.serve()
+        desk = office.serve()
         with self.disk("24k") as full:
             status, said, faults = office.run(*office.words()[:-1], full / "copies")
             self.expect(f"a full disk: {faults}", (status, "no copy is kept" in faults, list((full / "copies").iterdir())), (1, True, []))
-        load = Load(port)
-        self.loads.append(load)
+        load = self.load(desk)
         self.expect("the desk goes on beside it", load.until(3))
         load.stop()
         self.good("another disk", office, said=r"the desk was halted for \d+ ms\n" + SOUND)

@@ -7,7 +7,7 @@ import tempfile
 from pathlib import Path
 
 from answers import CLOSED, COMMANDS, Answers
-from ground import Office, call, kept, log_of, sums
+from ground import Office, Part, call, kept, log_of, sums
 
 CALLS = ("rename", "renameat", "renameat2", "link", "linkat", "symlink", "symlinkat", "unlink", "unlinkat", "mkdir", "mkdirat", "rmdir", "fsync", "write",
          "pwrite64", "sendfile", "copy_file_range", "ftruncate", "chmod", "fchmod", "fchmodat", "chown", "fchown", "lchown", "fchownat", "utimensat", "fcntl", "flock")
@@ -30,16 +30,15 @@ def lies(file):
     return sums(file, log_of(file), *(file.with_name(f"{file.name}{part}") for part in ARCHIVES))
 
 
-class Kills:
-    """Over one way in which file, log and copy may lie there."""
+class Kills(Part):
+    """Over one way in which file, log and copy may lie there: at each call, or at those that change names."""
 
-    def __init__(self, cases, folder, program, script, way):
-        self.cases, self.folder, self.program, self.script, self.way = cases, folder, program, script, way
-        self.answers, self.kills, self.states = Answers(), 0, set()
-        self.first = self.lying()
+    def __init__(self, way, some):
+        super().__init__("try_way")
+        self.way, self.some, self.answers, self.kills, self.states = way, some, Answers(), 0, set()
 
-    def expect(self, what, has, wanted=True):
-        self.cases.expect(f"{self.way}, {what}", has, wanted)
+    def expect(self, what, found, wanted=True):
+        super().expect(f"{self.way}, {what}", found, wanted)
 
     # what there is before
 
@@ -135,12 +134,12 @@ class Kills:
         self.kills += 1
         return said
 
-    def each(self, counts, some):
-        return [(name, number) for name, count in counts.items() if not some or name in FEW for number in range(1, count + 1)]
+    def each(self, counts):
+        return [(name, number) for name, count in counts.items() if not self.some or name in FEW for number in range(1, count + 1)]
 
-    def of_restores(self, some):
+    def of_restores(self):
         office = self.made()
-        for name, number in self.each(self.counts(office, "--restore", office.moment), some):
+        for name, number in self.each(self.counts(office, "--restore", office.moment)):
             what = f"restore killed at {name} {number}"
             for again in (True, False):
                 office = self.made()
@@ -163,8 +162,8 @@ class Kills:
         office.feed([call(99)], kills=True)
         return office
 
-    def of_undos(self, some):
-        for name, number in self.each(self.counts(self.restored(), "--undo"), some):
+    def of_undos(self):
+        for name, number in self.each(self.counts(self.restored(), "--undo")):
             office, what = self.restored(), f"undo killed at {name} {number}"
             said = self.killed(office, ("--undo",), name, number)
             self.look(office, what, more=1)
@@ -176,20 +175,13 @@ class Kills:
             self.expect(f"{what}: what was in place is kept", [sum(key.startswith("x ") for key in kept(one / office.file.name)) for one in taken], [self.numbers()[0] + 1])
             shutil.rmtree(office.folder)
 
-    def all(self, some=False):
-        self.of_restores(some)
-        self.of_undos(some)
+    def try_way(self):
+        self.first = self.lying()
+        self.of_restores()
+        self.of_undos()
         wanted = {CLOSED, str(self.numbers()[0])} | (set() if self.way in ("no file", "neither file nor log") else {str(self.numbers()[1])})
         self.expect("what was answered of in all", wanted <= self.states)
         print(f"    {self.way}: {self.kills} kills", flush=True)
 
 
 WAYS = ("file and log", "a copy without a log", "a copy whose log has callers", "no log", "no file", "neither file nor log", "archives of after the copy")
-
-
-def try_kills(cases, folder, program, script, ways=WAYS, some=False):
-    """At each call over the first way, and over the others at those that change names."""
-    for way in ways:
-        scratch = Path(tempfile.mkdtemp(dir=folder))
-        Kills(cases, scratch, program, script, way).all(some or way != WAYS[0])
-        shutil.rmtree(scratch)
