@@ -6,7 +6,7 @@ import tempfile
 import time
 from pathlib import Path
 
-from trial.machines import HERE, LINE, Machines, run
+from machines import HERE, LINE, OfMachines, run
 
 OPERATING = HERE.parent / "tools/operating"
 DAY = 86400
@@ -14,23 +14,20 @@ DAY = 86400
 OLD, NEW = 1500, 400
 
 
-def carried(program, folder, encrypted, count, chance):
-    """Requests of four days; the machines are carried over; more requests: answers and events are those of a desk that keeps all."""
-    machines = Machines(program, folder, encrypted, count)
-    try:
-        machines.start()
+class Carried(OfMachines):
+    def try_carried(self):
+        """Requests of four days; the machines are carried over; more requests: answers and events are those of a desk that keeps all."""
+        machines, chance = self.begin(), self.chance
         put_old_days(machines, chance)
         told, again = [], []
         requests_of_today(machines, "08", chance, told)
-        place, log = carry_over(machines, program)
+        place, log = carry_over(machines, self.program)
         for it in list(told):
             machines.ask_until_answered(it.body, chance, again)
-        machines.see("a repeat of these days has its first reply", [(it.status, it.reply) for it in again] == [(it.status, it.reply) for it in told], again[:1])
+        self.see("a repeat of these days has its first reply", [(it.status, it.reply) for it in again] == [(it.status, it.reply) for it in told], again[:1])
         requests_of_today(machines, "09", chance, told)
-        machines.see("the places and digests are one behind it", machines.wait_until_equal(), machines.places())
-        look(machines, program, told, log + machines.log(place + 1))
-    finally:
-        machines.stop()
+        self.see("the places and digests are one behind it", machines.wait_until_equal(), machines.places())
+        look(machines, self.program, told, log + machines.log(place + 1))
 
 
 def put_old_days(machines, chance):

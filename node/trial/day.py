@@ -12,7 +12,7 @@ import tempfile
 import threading
 import time
 
-from trial.machines import HERE, LINE, Machines, wait_until
+from machines import HERE, LINE, OfMachines, wait_until
 
 CLOCK = "clock-abcdefghijkl"
 # Bytes, and requests of a thousand bytes a second: from the moment on that nearly all of the quota is used the nodes need a second to see it.
@@ -65,25 +65,22 @@ def three_tickers(machines, chance, many=5, step=2):
         machines.ask_until_answered('{"requester":"ticks","invoke":999,"service":"setAgentState","agent":"9","requested":"loggedOff"}', random.Random(n), [], [n])
 
 
-def small_quota(program, folder, encrypted, count, chance):
-    """A day that would pass etcd's quota, were nothing forgotten; alarms that are ended; machines that were away, and one that was gone too long."""
-    machines = Machines(program, folder, encrypted, count, names=True, quota=QUOTA)
-    try:
-        machines.start()
+class Quota(OfMachines):
+    def try_small_quota(self):
+        """A day that would pass etcd's quota, were nothing forgotten; alarms that are ended; machines that were away, and one that was gone too long."""
+        machines, chance = self.begin(names=True, quota=QUOTA), self.chance
         load(machines, "day", 2 * QUOTA // 1000, chance)
-        machines.see("behind twice the quota etcd isn't full", not is_full(machines))
-        machines.see("the places and digests are one", machines.wait_until_equal(), machines.places())
+        self.see("behind twice the quota etcd isn't full", not is_full(machines))
+        self.see("the places and digests are one", machines.wait_until_equal(), machines.places())
         away_in_silence(machines, chance)
         nothing_forgotten(machines, chance)
         come_back(machines, chance, (3,), by_timer)
         come_back(machines, chance, (2, 3), by_hand)
         load(machines, "behind", QUOTA // 1000, chance)
-        machines.see("and all goes on, with one digest", not is_full(machines) and machines.wait_until_equal(), machines.places())
+        self.see("and all goes on, with one digest", not is_full(machines) and machines.wait_until_equal(), machines.places())
         gone_and_back(machines, chance)
         told = count_of(machines, "desk/line/digest/")
-        machines.see("old digests are deleted", 3 <= told <= 3 * 12, told)
-    finally:
-        machines.stop()
+        self.see("old digests are deleted", 3 <= told <= 3 * 12, told)
 
 
 def load(machines, requester, many, chance, nodes=(1, 2, 3)):

@@ -6,7 +6,8 @@ import ssl
 import subprocess
 import time
 
-from trial.machines import HERE, is_entry, run, wait_until
+from machines import HERE, is_entry, run, wait_until
+from trial import bytes_back
 
 TOKEN = b"00000000000000000000000000000bad"
 TICK = b'{"requester":"vandal","invoke":1,"service":"tick"}'
@@ -54,16 +55,7 @@ def bad_bodies(machines):
 
 def send(machines, n, sent, context=None):
     """What a machine answers to these bytes."""
-    context, found = context or machines.context, b""
-    try:
-        with socket.create_connection(("127.0.0.1", machines.ports[n]), timeout=10) as plain:
-            with context.wrap_socket(plain, server_hostname="127.0.0.1") if context else plain as connection:
-                connection.sendall(sent)
-                while part := connection.recv(65536):
-                    found += part
-    except OSError:
-        pass
-    return found
+    return bytes_back(machines.ports[n], sent, context or machines.context, seconds=10)
 
 
 def strangers(machines):
