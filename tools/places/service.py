@@ -92,7 +92,7 @@ after("crates/acd_services/src/serving.rt", ("use crate::monitor_stop::monitor_s
 
 CODEC = "crates/acd_codec/"
 as_variant(CODEC + "specs/Reading.antt", ("command_in service.ChangeAgent d = at_agent ChangeAgent d\n", "command_in service.ParkHere d = at_connection ParkHere d\n"))
-as_variant(CODEC + "specs/RequestTexts.antt", ("request_members q i (ChangeAgent agent name) = at_agent q i service.ChangeAgent agent name\n", "request_members q i (ParkHere call device) = at_connection q i service.ParkHere call device\n"))
+as_variant(CODEC + "specs/RequestTexts.antt", ("request_members q i (ChangeAgent agent name) = at_agent (q, i) service.ChangeAgent agent name\n", "request_members q i (ParkHere call device) = at_connection (q, i) service.ParkHere call device\n"))
 as_variant(CODEC + "specs/Services.antt", ("service_name ChangeAgent = codes \"changeAgent\"\n", "service_name ParkHere = codes \"parkHere\"\n"), ("∷ ChangeGroup ∷ ChangeAgent", " ∷ ParkHere"),
            ("service_of_command (command.ChangeAgent agent name) = ChangeAgent\n", "service_of_command (command.ParkHere call device) = ParkHere\n"))
 as_variant(CODEC + "specs/Formed.antt", ("IsCommand (ChangeAgent agent name) = IsAgent agent × IsName name\n", "IsCommand (ParkHere call device) = IsSerial call × IsDevice device\n"))

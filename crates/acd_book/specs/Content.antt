@@ -55,10 +55,14 @@ is_at_after device number e = is_at device e && nat_lt number e.number
 abbrev pub events_after : List Event → ℕ → ℕ → List Event
 events_after events number limit = take limit (filter (λ (e : Event). nat_lt number e.number) events)
 
+-- the first of these events at a device above a number
+abbrev pub device_page : ℕ → ℕ → ℕ → List Event → List Event
+device_page device number limit events = take limit (filter (is_at_after (Some device) number) events)
+
 -- the first events at its device above a number and above the last one before the monitor was started
 abbrev pub watched_by : Option MonitorRecord → List Event → ℕ → ℕ → List Event
 watched_by None events number limit = []
-watched_by (Some w) events number limit = take limit (filter (is_at_after (Some w.device) (max number w.after_event)) events)
+watched_by (Some w) events number limit = device_page w.device (max number w.after_event) limit events
 
 -- none where the monitor isn't running
 abbrev pub events_of_monitor : Content → ℕ → ℕ → ℕ → List Event
@@ -99,6 +103,38 @@ FollowsBy changes events kept c = Follows (rows_by changes events kept c) events
 
 abbrev pub committed_by : List Change → List Event → Kept → Content → Content
 committed_by changes events kept c = committed (rows_by changes events kept c) events kept c
+
+-- ---- of a content, what a book is asked
+
+-- the record that is kept under a key
+abbrev pub kept_under : List ℕ → ℕ → Content → Option Kept
+kept_under requester invoke c = kept_of c.kept requester invoke
+
+-- this is the kept record of the least greater stamp
+abbrev pub IsNextKept : ℕ → Content → Option Kept → Type 0
+IsNextKept stamp c found = IsKeptAfter c.kept stamp found
+
+-- a page of the kept records, of the events, and of those of a running monitor: the first ones above a stamp or a number
+abbrev pub records_page : ℕ → ℕ → Content → List Kept
+records_page stamp limit c = records_after c.kept stamp limit
+
+abbrev pub events_page : ℕ → ℕ → Content → List Event
+events_page number limit c = events_after c.events number limit
+
+abbrev pub monitor_page : ℕ → ℕ → ℕ → Content → List Event
+monitor_page monitor number limit c = events_of_monitor c monitor number limit
+
+-- what a commit asks of the content before it, and what it makes of one that it follows
+pub record Commit : Type 1 where
+  pub Follows : Content → Type 0
+  pub after : Content → Content
+
+-- a commit of whole tables, and one of changes
+abbrev pub commit_of : Rows → List Event → Kept → Commit
+commit_of rows events kept = record { Follows = Follows rows events kept; after = committed rows events kept }
+
+abbrev pub commit_by : List Change → List Event → Kept → Commit
+commit_by changes events kept = record { Follows = FollowsBy changes events kept; after = committed_by changes events kept }
 
 -- nothing that a reopening may find is new
 abbrev pub Within : (Content → Type 0) → (Content → Type 0) → Type 0

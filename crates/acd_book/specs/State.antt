@@ -1,6 +1,6 @@
 -- The state of a book, and what its calls leave of it.
-use Rattle.std.specs.Prelude.{◌≡◌, ◌⊎◌, ⊤, ℕ, ◌≤◌, Result, IfOk, OnOk, OnErr, IsErrOf}
-use Rattle.acd_book.specs.Content.{Content, Within, HasRisen}
+use Rattle.std.specs.Prelude.{◌≡◌, ◌⊎◌, ⊤, ℕ, ◌≤◌, List, Vec, Result, IfOk, OnOk, OnErr, IsErrOf}
+use Rattle.acd_book.specs.Content.{Content, Commit, Within, HasRisen}
 use Rattle.acd_book.specs.declared.fault.BookFault.{BookFault}
 use Rattle.acd_book.specs.declared.fault.BookFault.TheVariants.{Store}
 
@@ -55,6 +55,24 @@ pub record Commits (old new : BookState) (result : Result (Unit {0}) BookFault) 
   pub undone : IfHonest old new (new.is_open → OnErr result (old.is_open × (new.content ≡ old.content)))
   pub stops : IfHonest old new ((c : Content) → new.stops c → old.stops c ⊎ (old.is_open × (Follows old.content → c ≡ after old.content)))
   pub cause : IsErrOf result Store → HasRisen old.failures new.failures
+
+-- ---- of a call of a book, by what a book says of itself
+
+-- it reads, where `IsAnswer c found` says that this is found in that content
+abbrev pub BookReads : {B A : Type 0} → (B → BookState) → B → B → Result A BookFault → (Content → A → Type 0) → Type 0
+BookReads state old new result IsAnswer = Reads (state old) (state new) result IsAnswer
+
+-- it finds just this of the content
+abbrev pub BookFinds : {B A : Type 0} → (B → BookState) → B → B → Result A BookFault → (Content → A) → Type 0
+BookFinds {A = A} state old new result answer = Reads (state old) (state new) result (λ (c : Content) (found : A). found ≡ answer c)
+
+-- it finds just this list
+abbrev pub BookLists : {B T Z : Type 0} → (B → BookState) → B → B → Result (Vec T Z) BookFault → (Content → List T) → Type 0
+BookLists {T = T} {Z = Z} state old new result answer = Reads (state old) (state new) result (λ (c : Content) (found : Vec T Z). found.items ≡ answer c)
+
+-- it commits
+abbrev pub BookCommits : {B : Type 0} → (B → BookState) → B → B → Result (Unit {0}) BookFault → Commit → Type 0
+BookCommits state old new result commit = Commits (state old) (state new) result commit.Follows commit.after
 
 -- a book whose store never fails
 abbrev pub unfailing : Content → BookState

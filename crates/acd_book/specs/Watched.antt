@@ -1,5 +1,5 @@
 -- The numbers of the events at watched devices.
-use Rattle.std.specs.Prelude.{◌≡◌, ◌⊎◌, ℕ, ◌+◌, ◌-◌, ◌≤◌, ◌==◌, ◌++◌, ◌∷◌, [], Bool, false, List, map, filter, take, Option, None, Some, IfSome, option_map, if◌then◌else◌}
+use Rattle.std.specs.Prelude.{◌≡◌, ◌⊎◌, ℕ, ◌+◌, ◌-◌, ◌≤◌, ◌==◌, ◌++◌, ◌∷◌, [], Bool, false, List, map, filter, nat_lt, Option, None, Some, IfSome, option_map, if◌then◌else◌}
 use Rattle.std.specs.List.{sum_by}
 use Rattle.std.specs.HashMap.{get_by, values}
 use base.Stored.{coded_ℕ, coded_list, Coded-set}
@@ -8,7 +8,7 @@ use Rattle.acd_terms.specs.declared.event.Event.{Event}
 use Rattle.acd_terms.specs.declared.record.MonitorRecord.{MonitorRecord}
 use Rattle.acd_model.specs.declared.moves.Change.{Change}
 use Rattle.acd_model.specs.declared.moves.Change.TheVariants.{PutMonitor, RemoveMonitor}
-use Rattle.acd_book.specs.Content.{is_at_after}
+use Rattle.acd_book.specs.Content.{is_at_after, device_page}
 use Rattle.acd_book.specs.Memory.{number_of}
 use Rattle.acd_book.specs.declared.numbers.Numbers.{Numbers}
 use Rattle.acd_book.specs.declared.watched.Watched.{Watched}
@@ -16,6 +16,10 @@ use Rattle.acd_book.specs.declared.watched.Watched.{Watched}
 -- all events at the device above the number from which they are listed, and no others
 abbrev pub IsListed : List Event → ℕ → Numbers → Type 0
 IsListed events device l = l.numbers.items ≡ map number_of (filter (is_at_after (Some device) l.above) events)
+
+-- a number more is listed, where it is above that one
+abbrev pub AddsIfAbove : Numbers → Numbers → ℕ → Type 0
+AddsIfAbove old new number = new.numbers.items ≡ old.numbers.items ++ filter (nat_lt old.above) (number ∷ [])
 
 pub listed_prop : (events : List Event) (device : ℕ) (l : Numbers) → IsProp (IsListed events device l)
 listed_prop events device l = Coded-set (coded_list coded_ℕ) _ _
@@ -41,7 +45,7 @@ WatchesMore more old new = (events : List Event) → ListsEvents events old → 
 
 -- the numbers of the first events at a device above a number
 abbrev pub IsPage : Watched → ℕ → ℕ → ℕ → List ℕ → Type 0
-IsPage w device number limit found = (events : List Event) → ListsEvents events w → found ≡ map number_of (take limit (filter (is_at_after (Some device) number) events))
+IsPage w device number limit found = (events : List Event) → ListsEvents events w → found ≡ map number_of (device_page device number limit events)
 
 -- ---- nothing is kept of a monitor that was stopped
 

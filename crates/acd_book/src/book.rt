@@ -1,8 +1,8 @@
 //! The operations that a desk needs of a store.
 
 ghost use Rattle.std.specs.Prelude.{◌≡◌};
-ghost use Rattle.acd_book.specs.Content.{Content, committed, kept_of, IsKeptAfter, records_after, events_after, events_of_monitor, Follows, FollowsBy, committed_by};
-ghost use Rattle.acd_book.specs.State.{BookState, Reads, Commits};
+ghost use Rattle.acd_book.specs.Content.{Content, kept_under, IsNextKept, records_page, events_page, monitor_page, commit_of, commit_by};
+ghost use Rattle.acd_book.specs.State.{BookState, BookReads, BookFinds, BookLists, BookCommits};
 
 use crate::fault::BookFault;
 use crate::kept::Kept;
@@ -23,32 +23,27 @@ pub trait Book {
 
     /// The limits under which the book was made.
     fn limits(&mut self) -> Result<Limits, BookFault>
-        ensures { Reads (state self.old) (state self.new) result
-            (λ c found. found ≡ c.rows.limits) };
+        ensures { BookFinds state self.old self.new result (λ c. c.rows.limits) };
 
     /// The limits, the tables and the counters.
     fn rows(&mut self) -> Result<Rows, BookFault>
-        ensures { Reads (state self.old) (state self.new) result (λ c found. found ≡ c.rows) };
+        ensures { BookFinds state self.old self.new result (λ c. c.rows) };
 
     /// The record kept under a key.
     fn kept(&mut self, requester: &Requester, invoke: Invoke) -> Result<Option<Kept>, BookFault>
-        ensures { Reads (state self.old) (state self.new) result
-            (λ c found. found ≡ kept_of c.kept requester.now invoke) };
+        ensures { BookFinds state self.old self.new result (kept_under requester.now invoke) };
 
     /// The kept record of the least greater stamp.
     fn kept_after(&mut self, stamp: u64) -> Result<Option<Kept>, BookFault>
-        ensures { Reads (state self.old) (state self.new) result
-            (λ c found. IsKeptAfter c.kept stamp found) };
+        ensures { BookReads state self.old self.new result (IsNextKept stamp) };
 
     /// The first `limit` kept records above a stamp.
     fn requests_after(&mut self, stamp: u64, limit: usize) -> Result<Vec<Kept>, BookFault>
-        ensures { Reads (state self.old) (state self.new) result
-            (λ c found. found.items ≡ records_after c.kept stamp limit) };
+        ensures { BookLists state self.old self.new result (records_page stamp limit) };
 
     /// The first `limit` events above a number.
     fn events_after(&mut self, number: u64, limit: usize) -> Result<Vec<Event>, BookFault>
-        ensures { Reads (state self.old) (state self.new) result
-            (λ c found. found.items ≡ events_after c.events number limit) };
+        ensures { BookLists state self.old self.new result (events_page number limit) };
 
     /// The first `limit` events of a running monitor above a number.
     fn events_of_monitor(
@@ -57,15 +52,13 @@ pub trait Book {
         number: u64,
         limit: usize,
     ) -> Result<Vec<Event>, BookFault>
-        ensures { Reads (state self.old) (state self.new) result
-            (λ c found. found.items ≡ events_of_monitor c monitor number limit) };
+        ensures { BookLists state self.old self.new result (monitor_page monitor number limit) };
 
     /// Replaces the tables, and adds the events and the kept record, all or none. Its new content is defined for a
     /// record that follows the kept ones.
     fn commit(&mut self, rows: &Rows, events: &[Event], kept: &Kept) -> Result<(), BookFault>
-        ensures { Commits (state self.old) (state self.new) result
-            (Follows rows.now events.now kept.now)
-            (committed rows.now events.now kept.now) };
+        ensures { BookCommits state self.old self.new result
+            (commit_of rows.now events.now kept.now) };
 
     /// The same with the tables that changes make of those that it holds, one after the other, with the
     /// counters that the kept record and the events give.
@@ -75,9 +68,8 @@ pub trait Book {
         events: &[Event],
         kept: &Kept,
     ) -> Result<(), BookFault>
-        ensures { Commits (state self.old) (state self.new) result
-            (FollowsBy changes.now events.now kept.now)
-            (committed_by changes.now events.now kept.now) };
+        ensures { BookCommits state self.old self.new result
+            (commit_by changes.now events.now kept.now) };
 
     // While it is open, its content is the one stop.
     ghost settled: { (book : Self) (c : Content) → (state book).is_clean → (state book).is_sound

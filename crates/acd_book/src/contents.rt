@@ -1,8 +1,8 @@
 //! The content of a book in memory, and how a commit changes it: whole or not at all.
 
-ghost use Rattle.std.specs.Prelude.{◌≡◌, ◌≤◌, ◌<◌, ◌+◌, Some, IfOk, OnOk, OnErr, take, length};
-ghost use Rattle.acd_model.specs.Scans.{monitor_of};
-ghost use Rattle.acd_book.specs.Content.{empty_content, kept_of, IsKeptAfter, records_after, events_after, events_of_monitor, committed, committed_by};
+ghost use Rattle.std.specs.Prelude.{◌≡◌, ◌≤◌, ◌<◌, ◌+◌, IfOk, OnOk, OnErr, take, length};
+ghost use Rattle.acd_book.specs.Content.{empty_content, kept_under, IsNextKept, records_page, events_page, monitor_page, commit_of, commit_by};
+ghost use Rattle.acd_book.specs.Giving.{GivesList};
 
 use crate::kept::Kept;
 use crate::ledger::Ledger;
@@ -22,7 +22,7 @@ pub(crate) struct Contents {
 }
 
 impl Contents {
-    ghost use Rattle.acd_book.specs.Held.{content_of, waiting};
+    ghost use Rattle.acd_book.specs.Held.{content_of, waiting, HasMade};
 
     pub(crate) fn new(alloc: Global, limits: Limits) -> Contents
         ensures empty { content_of result ≡ empty_content limits }
@@ -43,7 +43,7 @@ impl Contents {
         invoke: Invoke,
     ) -> Result<Option<Kept>, AllocError>
         ensures { IfOk result
-            (λ found. found ≡ kept_of (content_of self.now).kept requester.now invoke) }
+            (λ found. found ≡ kept_under requester.now invoke (content_of self.now)) }
     {
         match self.replies.under(requester, invoke) {
             Some(kept) => Ok(Some(kept.clone()?)),
@@ -53,7 +53,7 @@ impl Contents {
 
     /// The kept record of the least greater stamp.
     pub(crate) fn kept_after(&self, stamp: u64) -> Result<Option<Kept>, AllocError>
-        ensures { IfOk result (λ found. IsKeptAfter (content_of self.now).kept stamp found) }
+        ensures { IfOk result (IsNextKept stamp (content_of self.now)) }
     {
         match self.replies.after(stamp) {
             Some(kept) => Ok(Some(kept.clone()?)),
@@ -62,15 +62,13 @@ impl Contents {
     }
 
     pub(crate) fn requests_after(&self, stamp: u64, limit: usize) -> Result<Vec<Kept>, AllocError>
-        ensures { IfOk result
-            (λ found. found.items ≡ records_after (content_of self.now).kept stamp limit) }
+        ensures { GivesList result (records_page stamp limit (content_of self.now)) }
     {
         first_kept(self.alloc, self.replies.all_after(stamp), limit)
     }
 
     pub(crate) fn events_after(&self, number: u64, limit: usize) -> Result<Vec<Event>, AllocError>
-        ensures { IfOk result
-            (λ found. found.items ≡ events_after (content_of self.now).events number limit) }
+        ensures { GivesList result (events_page number limit (content_of self.now)) }
     {
         first(self.alloc, self.log.all_after(number), limit)
     }
@@ -82,8 +80,8 @@ impl Contents {
         number: u64,
         limit: usize,
     ) -> Result<Vec<Event>, AllocError>
-        ensures found { IfOk result
-            (λ found. found.items ≡ events_of_monitor (content_of self.old) monitor number limit) }
+        ensures found { GivesList result
+            (monitor_page monitor number limit (content_of self.old)) }
         ensures same { content_of self.new ≡ content_of self.old }
         ensures no_longer { waiting self.new ≤ waiting self.old }
     {
@@ -101,7 +99,7 @@ impl Contents {
         kept: &Kept,
     ) -> Result<(), AllocError>
         ensures ok { OnOk result
-            (content_of self.new ≡ committed rows.now events.now kept.now (content_of self.old)) }
+            (HasMade (commit_of rows.now events.now kept.now) self.old self.new) }
         ensures err { OnErr result (content_of self.new ≡ content_of self.old) }
         ensures no_longer { waiting self.new ≤ waiting self.old }
     {
@@ -126,8 +124,7 @@ impl Contents {
         kept: &Kept,
     ) -> Result<(), AllocError>
         ensures ok { OnOk result
-            (content_of self.new
-            ≡ committed_by changes.now events.now kept.now (content_of self.old)) }
+            (HasMade (commit_by changes.now events.now kept.now) self.old self.new) }
         ensures err { OnErr result (content_of self.new ≡ content_of self.old) }
         ensures bounded { OnOk result (waiting self.new < 256 + length changes.now) }
         ensures no_longer { OnErr result (waiting self.new ≤ waiting self.old) }
@@ -151,7 +148,7 @@ impl Contents {
 
 // The first of these.
 fn first(alloc: Global, events: &[Event], limit: usize) -> Result<Vec<Event>, AllocError>
-    ensures { IfOk result (λ found. found.items ≡ take limit events.now) }
+    ensures { GivesList result (take limit events.now) }
 {
     let end = limit.min(events.len());
     events[..end].to_vec(alloc)
@@ -159,7 +156,7 @@ fn first(alloc: Global, events: &[Event], limit: usize) -> Result<Vec<Event>, Al
 
 // The same of kept records.
 fn first_kept(alloc: Global, records: &[Kept], limit: usize) -> Result<Vec<Kept>, AllocError>
-    ensures { IfOk result (λ found. found.items ≡ take limit records.now) }
+    ensures { GivesList result (take limit records.now) }
 {
     let end = limit.min(records.len());
     records[..end].to_vec(alloc)

@@ -1,9 +1,10 @@
 //! The event reports of a book in memory.
 
-ghost use Rattle.std.specs.Prelude.{◌≡◌, ◌+◌, ◌≤◌, ◌++◌, [], Some, true, drop, filter, length, take, vec_len, vec_capacity, IfOk, OnOk};
+ghost use Rattle.std.specs.Prelude.{◌≡◌, ◌+◌, ◌≤◌, ◌++◌, [], Some, true, drop, filter, length, take, vec_len, vec_capacity, OnOk};
 ghost use Rattle.std.specs.List.{cons_option, filter_map};
 ghost use Rattle.std.proofs.Props.{props};
-ghost use Rattle.acd_book.specs.Content.{is_at, is_at_after};
+ghost use Rattle.acd_book.specs.Content.{is_at, device_page};
+ghost use Rattle.acd_book.specs.Giving.{GivesList};
 ghost use Rattle.acd_book.specs.Memory.{event_at, is_numbered, number_of};
 ghost use Rattle.acd_book.specs.Watched.{KeepsWatched, ListsEvents, listed_prop};
 
@@ -50,8 +51,7 @@ impl Log {
 
     // The events of these numbers.
     fn events_at(&self, alloc: Global, numbers: &[u64]) -> Result<Vec<Event>, AllocError>
-        ensures { IfOk result
-            (λ found. found.items ≡ filter_map (event_at self.now.events.items) numbers.now) }
+        ensures { GivesList result (filter_map (event_at self.now.events.items) numbers.now) }
     {
         let mut found = Vec::with_capacity(alloc, numbers.len())?;
         for number in numbers {
@@ -69,9 +69,7 @@ impl Log {
         number: u64,
         limit: usize,
     ) -> Result<Vec<Event>, AllocError>
-        ensures { IfOk result
-            (λ found. found.items
-            ≡ take limit (filter (is_at_after (Some device) number) self.now.events.items)) }
+        ensures { GivesList result (device_page device number limit self.now.events.items) }
     {
         match self.watched.numbers(device, number, limit) {
             Some(numbers) => self.events_at(alloc, numbers),
@@ -146,8 +144,7 @@ fn first_at(
     device: DeviceId,
     limit: usize,
 ) -> Result<Vec<Event>, AllocError>
-    ensures { IfOk result
-        (λ found. found.items ≡ take limit (filter (is_at (Some device)) events.now)) }
+    ensures { GivesList result (take limit (filter (is_at (Some device)) events.now)) }
 {
     let mut found = Vec::new(alloc);
     for event in events {

@@ -17,6 +17,8 @@ pub(crate) struct Numbers {
 }
 
 impl Numbers {
+    ghost use Rattle.acd_book.specs.Watched.{AddsIfAbove};
+
     pub(crate) fn new(alloc: Global, above: u64) -> Numbers
         ensures above { result.above ≡ above }
         ensures none { result.numbers.items ≡ [] }
@@ -49,9 +51,7 @@ impl Numbers {
     pub(crate) fn add(&mut self, number: u64) -> Result<(), AllocError>
         ensures above { self.new.above ≡ self.old.above }
         ensures counts { self.new.monitors ≡ self.old.monitors }
-        ensures added { OnOk result
-            (self.new.numbers.items
-            ≡ self.old.numbers.items ++ filter (nat_lt self.old.above) (number ∷ [])) }
+        ensures added { OnOk result (AddsIfAbove self.old self.new number) }
     {
         if number <= self.above {
             return Ok(());

@@ -7,16 +7,14 @@ use Rattle.std.proofs.lemmas.Bool.{and_parts}
 use Rattle.std.proofs.Math.Bool.{and-true}
 use Rattle.std.proofs.lemmas.Bool.Decides.{nat_tests}
 use Rattle.json.specs.declared.value.Value.{Value}
-use Rattle.json.specs.Value.{items_view}
-use Rattle.serde_json.specs.Read.{of_items}
 use Rattle.acd_terms.specs.Lists.{is_less, ascends, put_by}
 use Rattle.acd_terms.proofs.Numbers.{cmp_equal, less_is, eqb_self, eqb_swap, tail_ascends}
 use Rattle.acd_terms.specs.Groups.{most_groups, is_one_of, are_groups, is_choice, with_one_more, with_all, some_of}
-use Rattle.acd_codec.specs.MemberReading.{devices_of, are_distinct, ascending, choice_of}
+use Rattle.acd_codec.specs.MemberReading.{devices_of, devices_named, are_distinct, ascending, choice_of}
 
 -- these groups, with those that the items name
 abbrev pub with_named : {A : Type 0} → List ℕ → List (Value A) → Option (List ℕ)
-with_named gs vs = option_and_then (with_all gs) (option_and_then devices_of (of_items (items_view vs)))
+with_named gs vs = option_and_then (with_all gs) (devices_named vs)
 
 -- a device in its place among others
 abbrev placed : ℕ → List ℕ → List ℕ

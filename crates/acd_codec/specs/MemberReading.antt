@@ -3,6 +3,7 @@ use Rattle.std.specs.Prelude.{ℕ, nat_le, Bool, true, not, ◌&&◌, List, [], 
 use Rattle.std.specs.Ordering.{nat_cmp}
 use Rattle.std.specs.Option.{ok_or, is_some}
 use Rattle.std.specs.Result.{result_ok}
+use Rattle.json.specs.declared.value.Value.{Value}
 use Rattle.serde_json.specs.Data.{Data, Items, no_items, item}
 use Rattle.serde_json.specs.Find.{get, as_str, as_number, as_u64, as_array}
 use Rattle.acd_terms.specs.Forms.{device_digits, agent_digits, read_id, read_text, is_name_byte, is_requester_byte, number_between}
@@ -13,23 +14,28 @@ use Rattle.acd_codec.specs.declared.member.Member.TheVariants as member
 use Rattle.acd_codec.specs.declared.service.RequestedState.{RequestedState}
 use Rattle.acd_codec.specs.declared.service.Service.{Service}
 use Rattle.acd_codec.specs.Members.{member_name}
+use Rattle.acd_codec.specs.Documents.{items_data}
 use Rattle.acd_codec.specs.Services.{service_of, requested_state_of}
+
+-- the value of a member
+abbrev pub member_in : Member → Data → Option Data
+member_in m d = get (member_name m) d
 
 -- a member that is a text
 abbrev pub text_in : Member → Data → Option (List ℕ)
-text_in m d = option_and_then as_str (get (member_name m) d)
+text_in m d = option_and_then as_str (member_in m d)
 
 -- a member that is a whole number, written with no fraction, exponent or sign
 abbrev pub number_in : Member → Data → Option ℕ
-number_in m d = option_and_then as_u64 (option_and_then as_number (get (member_name m) d))
+number_in m d = option_and_then as_u64 (option_and_then as_number (member_in m d))
 
 -- a member that is a list
 abbrev pub list_in : Member → Data → Option Items
-list_in m d = option_and_then as_array (get (member_name m) d)
+list_in m d = option_and_then as_array (member_in m d)
 
 -- there is a member of this name, whatever it is
 abbrev pub is_there : Member → Data → Bool
-is_there m d = is_some (get (member_name m) d)
+is_there m d = is_some (member_in m d)
 
 -- the member's text as this reader reads it, or the member as faulty
 abbrev pub read_in : {A : Type 0} → (List ℕ → Option A) → Member → Data → Result A Member
@@ -86,6 +92,10 @@ requested_state_in d = read_in requested_state_of member.Requested d
 abbrev pub devices_of : Items → Option (List ℕ)
 devices_of no_items = Some []
 devices_of (item d ds) = option_and_then (λ (n : ℕ). option_map (λ (ns : List ℕ). n ∷ ns) (devices_of ds)) (option_and_then device_of (as_str d))
+
+-- those of values that were read
+abbrev pub devices_named : {A : Type 0} → List (Value A) → Option (List ℕ)
+devices_named vs = option_and_then devices_of (items_data vs)
 
 -- none of them occurs there twice
 abbrev pub are_distinct : List ℕ → Bool

@@ -61,12 +61,16 @@ party_parts extent c =
 abbrev pub party_data : Extent → ConnectionRecord → Data
 party_data extent c = object_of (party_parts extent c)
 
+-- the connections of a call
+abbrev pub parties_part : Extent → List ConnectionRecord → Part
+parties_part extent cs = list_part (codes "connections") (items_of (party_data extent) cs)
+
 abbrev pub call_parts : Extent → CallRecord → List ConnectionRecord → List Part
 call_parts extent r cs =
     number_part (codes "call") (Some r.call)
     ∷ digits_part (codes "called") (Some r.called)
     ∷ digits_part (codes "caller") (Some r.caller)
-    ∷ list_part (codes "connections") (items_of (party_data extent) cs)
+    ∷ parties_part extent cs
     ∷ number_part (codes "since") (Some r.since) ∷ []
 
 -- a call and its connections

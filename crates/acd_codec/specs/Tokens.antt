@@ -1,5 +1,5 @@
 -- Members and items that are written as tokens.
-use Rattle.std.specs.Prelude.{◌≡◌, List, [], ◌∷◌, ◌++◌, Some, None, Result, OnOk}
+use Rattle.std.specs.Prelude.{◌≡◌, ℕ, List, [], ◌∷◌, ◌++◌, Some, None, Result, OnOk}
 use Rattle.json.specs.Token.{Token, key, begin_object}
 use Rattle.json.specs.Tree.{json_tokens}
 use Rattle.json.specs.Written.{Written}
@@ -37,6 +37,26 @@ Added old new ts = (new.before ≡ old.before) × (new.tokens ≡ old.tokens ++ 
 -- the same, unless memory ran out
 abbrev pub AddsTokens : {E : Type 0} → Result (Unit {0}) E → Written → Written → List Token → Type 0
 AddsTokens r old new ts = OnOk r (Added old new ts)
+
+-- the tokens of a value are written after the others, unless memory ran out
+abbrev pub AddsData : {E : Type 0} → Result (Unit {0}) E → Written → Written → Data → Type 0
+AddsData r old new d = AddsTokens r old new (data_tokens d)
+
+-- those of members
+abbrev pub AddsMembers : {E : Type 0} → Result (Unit {0}) E → Written → Written → Members → Type 0
+AddsMembers r old new ms = AddsTokens r old new (tokens_of ms)
+
+-- those of one member: its name and its value
+abbrev pub AddsMember : {E : Type 0} → Result (Unit {0}) E → Written → Written → List ℕ → Data → Type 0
+AddsMember r old new name d = AddsMembers r old new (member name d no_members)
+
+-- those of a member that may be missing
+abbrev pub AddsPart : {E : Type 0} → Result (Unit {0}) E → Written → Written → Part → Type 0
+AddsPart r old new p = AddsTokens r old new (part_tokens p)
+
+-- those of several of them
+abbrev pub AddsParts : {E : Type 0} → Result (Unit {0}) E → Written → Written → List Part → Type 0
+AddsParts r old new ps = AddsTokens r old new (parts_tokens ps)
 
 -- an object begins in an empty buffer
 abbrev pub Begun : Written → Type 0

@@ -1,16 +1,15 @@
 //! The JSON of a request, looked up in place.
 
-ghost use Rattle.std.specs.Prelude.{◌≡◌, ◌<◌, ◌^◌, ◌==◌, ◌&&◌, length, slice_index, nat_lt, nat_le, true, false, Some, None, option_map, option_and_then, is_some, IfOk, IfErr, IsTrue};
+ghost use Rattle.std.specs.Prelude.{◌≡◌, ◌<◌, ◌==◌, ◌&&◌, length, slice_index, true, false, Some, option_map, option_and_then, is_some, IfOk, IfErr, IsTrue};
 ghost use Rattle.json.specs.Json.{if_last};
 ghost use Rattle.json.specs.Find.{as_array};
 ghost use Rattle.json.specs.Value.{value_view, items_view, members_view};
 ghost use Rattle.serde_json.specs.Data.{Members as DataMembers};
-ghost use Rattle.fast_float.specs.Text.{minus, digits_of};
-ghost use Rattle.serde_json.specs.Read.{read, of_json, of_items, of_members, number_of, number_from, is_integer};
-ghost use Rattle.serde_json.specs.Find.{get, as_object, as_number, as_u64};
-ghost use Rattle.acd_codec.specs.Members.{member_name};
-ghost use Rattle.acd_codec.specs.Documents.{json_of, data_of};
-ghost use Rattle.acd_codec.specs.MemberReading.{text_in, number_in, list_in, is_there};
+ghost use Rattle.fast_float.specs.Text.{minus};
+ghost use Rattle.serde_json.specs.Read.{read, of_json, of_members, number_of, number_from};
+ghost use Rattle.serde_json.specs.Find.{as_object, as_number, as_u64};
+ghost use Rattle.acd_codec.specs.Documents.{json_of, data_of, value_data, items_data, is_below_zero};
+ghost use Rattle.acd_codec.specs.MemberReading.{text_in, number_in, list_in, is_there, member_in};
 ghost use Rattle.acd_codec.specs.Reading.{IsReadFault, request_from, reads_as};
 
 use crate::fault::ReadFault;
@@ -89,7 +88,7 @@ impl<'a> Document<'a> {
     // The member, the last one of its name.
     fn find(&self, member: Member) -> Option<&Value<'a>>
         ensures { option_and_then of_json (option_map (λ v. value_view v.now) result)
-            ≡ get (member_name member) (data_of self.now) }
+            ≡ member_in member (data_of self.now) }
     {
         self.value.get(member.name())
     }
@@ -116,7 +115,7 @@ impl<'a> Document<'a> {
 
     /// The member, if it is a list.
     pub(crate) fn list(&self, member: Member) -> Option<&[Value<'a>]>
-        ensures { option_and_then (λ vs. of_items (items_view vs.now)) result
+        ensures { option_and_then (λ vs. items_data vs.now) result
             ≡ list_in member (data_of self.now) }
     {
         match self.find(member) {
@@ -172,7 +171,7 @@ fn if_last<'a>(value: Value<'a>, reader: &mut Reader<'a>) -> Option<Value<'a>>
 // No number is too large for a float.
 #[cycle(is_in_range)]
 fn is_in_range(value: &Value<'_>) -> bool
-    ensures { result ≡ is_some (of_json (value_view value.now)) }
+    ensures { result ≡ is_some (value_data value.now) }
 {
     match value {
         Value::Null | Value::Bool(_) | Value::String(_) => true,
@@ -184,7 +183,7 @@ fn is_in_range(value: &Value<'_>) -> bool
 
 #[cycle(is_in_range)]
 fn are_items_in_range(items: &Vec<Value<'_>>) -> bool
-    ensures { result ≡ is_some (of_items (items_view items.now.items)) }
+    ensures { result ≡ is_some (items_data items.now.items) }
 {
     for item in items {
         if !is_in_range(item) {
@@ -209,8 +208,7 @@ fn are_members_in_range(members: &Vec<(&str, Value<'_>)>) -> bool
 
 // A number with no point, exponent or sign, that fits.
 fn whole_number(value: &Value<'_>) -> Option<u64>
-    ensures { result ≡ option_and_then as_u64
-        (option_and_then as_number (of_json (value_view value.now))) }
+    ensures { result ≡ option_and_then as_u64 (option_and_then as_number (value_data value.now)) }
 {
     match value.as_number() {
         None => None,
@@ -268,8 +266,7 @@ fn is_negative_in_range(numeral: &Numeral<'_>) -> bool
 
 // A whole number below zero that fits.
 fn is_below_zero(numeral: &Numeral<'_>) -> bool
-    ensures { result ≡ (is_integer numeral.now && nat_lt 0 (digits_of numeral.now)
-        && nat_le (digits_of numeral.now) (2 ^ 63)) }
+    ensures { result ≡ is_below_zero numeral.now }
 {
     numeral.to_i64(true).is_some_and(|n| n < 0)
 }

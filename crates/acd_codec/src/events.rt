@@ -1,7 +1,7 @@
 //! Event reports as JSON.
 
 ghost use Rattle.std.specs.Prelude.{◌≡◌, IfOk, string_bytes};
-ghost use Rattle.acd_codec.specs.Tokens.{parts_tokens, AddsTokens};
+ghost use Rattle.acd_codec.specs.Tokens.{AddsParts};
 ghost use Rattle.acd_codec.specs.EventTexts.{subject_parts, further_parts, event_parts, event_text, page_parts, page_text};
 
 use crate::writing::{
@@ -17,7 +17,7 @@ const ROOM: usize = 192;
 
 // Writes what the report is about.
 fn put_subject(out: &mut Writer, columns: &Columns) -> Result<(), AllocError>
-    ensures { AddsTokens result out.old out.new (parts_tokens (subject_parts columns.now)) }
+    ensures { AddsParts result out.old out.new (subject_parts columns.now) }
 {
     put_agent(out, "agent", columns.agent)?;
     put_number_if(out, "call", columns.call)?;
@@ -33,8 +33,7 @@ fn put_further(
     moment: u32,
     columns: &Columns,
 ) -> Result<(), AllocError>
-    ensures { AddsTokens result out.old out.new
-        (parts_tokens (further_parts number moment columns.now)) }
+    ensures { AddsParts result out.old out.new (further_parts number moment columns.now) }
 {
     put_device(out, "group", columns.group)?;
     put_number(out, "moment", u64::from(moment))?;
@@ -44,7 +43,7 @@ fn put_further(
 }
 
 fn put_event(out: &mut Writer, event: &Event) -> Result<(), AllocError>
-    ensures { AddsTokens result out.old out.new (parts_tokens (event_parts event.now)) }
+    ensures { AddsParts result out.old out.new (event_parts event.now) }
 {
     let columns = event.report.columns();
     put_subject(out, &columns)?;
@@ -78,7 +77,7 @@ pub fn event_text(alloc: Global, event: &Event) -> Result<String, AllocError>
 }
 
 fn put_page(out: &mut Writer, events: &[Event], last: u64) -> Result<(), AllocError>
-    ensures { AddsTokens result out.old out.new (parts_tokens (page_parts events.now last)) }
+    ensures { AddsParts result out.old out.new (page_parts events.now last) }
 {
     put_list::<Reports>(out, "events", events)?;
     put_number(out, "last", last)

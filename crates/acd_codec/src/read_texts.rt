@@ -1,9 +1,8 @@
 //! Agents, calls, devices and queues as JSON.
 
-ghost use Rattle.std.specs.Prelude.{◌≡◌, codes, IfOk, string_bytes};
-ghost use Rattle.acd_codec.specs.Parts.{list_part, items_of};
-ghost use Rattle.acd_codec.specs.Tokens.{part_tokens, parts_tokens, AddsTokens};
-ghost use Rattle.acd_codec.specs.ReadTexts.{connection_state_name, in_full, distributed_from, agent_parts, agent_text, party_parts, party_data, call_parts, call_text, group_parts_first, group_parts_last, group_parts, group_text, line_parts, station_parts, station_text, device_text, waiting_parts, queue_parts, queue_text, quoted, above_0};
+ghost use Rattle.std.specs.Prelude.{◌≡◌, IfOk, string_bytes};
+ghost use Rattle.acd_codec.specs.Tokens.{AddsPart, AddsParts};
+ghost use Rattle.acd_codec.specs.ReadTexts.{connection_state_name, in_full, distributed_from, agent_parts, agent_text, party_parts, party_data, call_parts, call_text, group_parts_first, group_parts_last, group_parts, group_text, line_parts, station_parts, station_text, device_text, waiting_parts, queue_parts, queue_text, quoted, above_0, parties_part};
 
 use crate::writing::{
     Form, begun, ended, put_agent, put_device, put_groups, put_list, put_number, put_number_if,
@@ -73,7 +72,7 @@ pub(crate) fn put_agent_members(
     extent: Extent,
     agent: &AgentRecord,
 ) -> Result<(), AllocError>
-    ensures { AddsTokens result out.old out.new (parts_tokens (agent_parts extent agent.now)) }
+    ensures { AddsParts result out.old out.new (agent_parts extent agent.now) }
 {
     put_agent(out, "agent", Some(agent.agent))?;
     put_device(out, "device", agent.station)?;
@@ -111,7 +110,7 @@ fn put_party(
     extent: Extent,
     connection: &ConnectionRecord,
 ) -> Result<(), AllocError>
-    ensures { AddsTokens result out.old out.new (parts_tokens (party_parts extent connection.now)) }
+    ensures { AddsParts result out.old out.new (party_parts extent connection.now) }
 {
     put_device(out, "device", Some(connection.device))?;
     put_device(out, "group", distributed_from(connection))?;
@@ -170,9 +169,7 @@ fn put_parties(
     extent: Extent,
     connections: &[ConnectionRecord],
 ) -> Result<(), AllocError>
-    ensures { AddsTokens result out.old out.new
-        (part_tokens (list_part (codes "connections")
-        (items_of (party_data extent) connections.now))) }
+    ensures { AddsPart result out.old out.new (parties_part extent connections.now) }
 {
     match extent {
         Extent::Brief => put_list::<Parties>(out, "connections", connections),
@@ -186,8 +183,7 @@ pub(crate) fn put_call_members(
     call: &CallRecord,
     connections: &[ConnectionRecord],
 ) -> Result<(), AllocError>
-    ensures { AddsTokens result out.old out.new
-        (parts_tokens (call_parts extent call.now connections.now)) }
+    ensures { AddsParts result out.old out.new (call_parts extent call.now connections.now) }
 {
     put_number(out, "call", call.call)?;
     put_device(out, "called", Some(call.called))?;
@@ -220,8 +216,7 @@ fn above_0(priority: Priority) -> Option<u64>
 
 // Writes the members of a group up to what it is.
 fn put_group_first(out: &mut Writer, extent: Extent, group: &GroupRecord) -> Result<(), AllocError>
-    ensures { AddsTokens result out.old out.new
-        (parts_tokens (group_parts_first extent group.now)) }
+    ensures { AddsParts result out.old out.new (group_parts_first extent group.now) }
 {
     put_number_if(
         out,
@@ -240,7 +235,7 @@ fn put_group_first(out: &mut Writer, extent: Extent, group: &GroupRecord) -> Res
 
 // Writes the members whose names follow.
 fn put_group_last(out: &mut Writer, extent: Extent, group: &GroupRecord) -> Result<(), AllocError>
-    ensures { AddsTokens result out.old out.new (parts_tokens (group_parts_last extent group.now)) }
+    ensures { AddsParts result out.old out.new (group_parts_last extent group.now) }
 {
     put_number_if(out, "moved", in_full(extent, Some(group.figures.moved)))?;
     put_text(out, "name", group.name.as_str())?;
@@ -255,7 +250,7 @@ pub(crate) fn put_group_members(
     extent: Extent,
     group: &GroupRecord,
 ) -> Result<(), AllocError>
-    ensures { AddsTokens result out.old out.new (parts_tokens (group_parts extent group.now)) }
+    ensures { AddsParts result out.old out.new (group_parts extent group.now) }
 {
     put_group_first(out, extent, group)?;
     put_group_last(out, extent, group)
@@ -271,7 +266,7 @@ fn group_text(alloc: Global, group: &GroupRecord) -> Result<String, AllocError>
 }
 
 fn put_line(out: &mut Writer, connection: &ConnectionRecord) -> Result<(), AllocError>
-    ensures { AddsTokens result out.old out.new (parts_tokens (line_parts connection.now)) }
+    ensures { AddsParts result out.old out.new (line_parts connection.now) }
 {
     put_number(out, "call", connection.call)?;
     put_text(out, "state", state_name(connection.state))
@@ -298,7 +293,7 @@ pub(crate) fn put_station_members(
     out: &mut Writer,
     station: &PlannedStation,
 ) -> Result<(), AllocError>
-    ensures { AddsTokens result out.old out.new (parts_tokens (station_parts station.now)) }
+    ensures { AddsParts result out.old out.new (station_parts station.now) }
 {
     put_agent(out, "agent", station.agent)?;
     put_list::<Lines>(out, "connections", station.connections.as_slice())?;
@@ -327,7 +322,7 @@ pub fn device_text(alloc: Global, device: &PlannedDevice) -> Result<String, Allo
 }
 
 fn put_waiting(out: &mut Writer, connection: &ConnectionRecord) -> Result<(), AllocError>
-    ensures { AddsTokens result out.old out.new (parts_tokens (waiting_parts connection.now)) }
+    ensures { AddsParts result out.old out.new (waiting_parts connection.now) }
 {
     put_number(out, "call", connection.call)?;
     put_number_if(out, "place", connection.place)?;
@@ -372,8 +367,7 @@ fn put_queue_members(
     waiting: &[ConnectionRecord],
     ready: &[AgentId],
 ) -> Result<(), AllocError>
-    ensures { AddsTokens result out.old out.new
-        (parts_tokens (queue_parts group waiting.now ready.now)) }
+    ensures { AddsParts result out.old out.new (queue_parts group waiting.now ready.now) }
 {
     put_list::<Waiting>(out, "calls", waiting)?;
     put_device(out, "group", Some(group))?;

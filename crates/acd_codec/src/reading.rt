@@ -1,13 +1,11 @@
 //! Requests out of JSON.
 
-ghost use Rattle.std.specs.Prelude.{◌≡◌, [], Some, option_map, option_and_then, IfOk, IfErr};
-ghost use Rattle.json.specs.Value.{value_view, items_view};
+ghost use Rattle.std.specs.Prelude.{◌≡◌, [], Some, option_and_then};
 ghost use Rattle.serde_json.specs.Find.{as_str};
-ghost use Rattle.serde_json.specs.Read.{of_json, of_items};
 ghost use Rattle.acd_terms.specs.Groups.{with_all};
-ghost use Rattle.acd_codec.specs.Documents.{data_of};
-ghost use Rattle.acd_codec.specs.MemberReading.{device_of, device_in, agent_in, name_in, requester_in, invoke_in, seconds_in, priority_in, serial_in, service_in, requested_state_in, devices_of, choice_of, groups_in};
-ghost use Rattle.acd_codec.specs.Reading.{Gives, IsReadFault, at_group, at_agent, at_connection, at_device, at_devices, to_device, group_in, named_agent_in, monitor_stop_in, two_devices_in, connection_in, one_group_in, chosen_in, requested_in, set_agent_state_in, set_group_priority_in, command_in, request_in, request_from, reads_as};
+ghost use Rattle.acd_codec.specs.Documents.{data_of, value_data};
+ghost use Rattle.acd_codec.specs.MemberReading.{device_of, device_in, agent_in, name_in, requester_in, invoke_in, seconds_in, priority_in, serial_in, service_in, requested_state_in, choice_of, groups_in, devices_named};
+ghost use Rattle.acd_codec.specs.Reading.{Gives, at_group, at_agent, at_connection, at_device, at_devices, to_device, group_in, named_agent_in, monitor_stop_in, two_devices_in, connection_in, one_group_in, chosen_in, requested_in, set_agent_state_in, set_group_priority_in, command_in, request_in, request_from, reads_as};
 
 use crate::document::Document;
 use crate::fault::ReadFault;
@@ -124,8 +122,7 @@ fn requested_state_in(document: &Document<'_>) -> Result<RequestedState, Member>
 
 // The device that an item of a list names.
 fn device_of(item: &Value<'_>) -> Option<DeviceId>
-    ensures { let text = option_and_then as_str (of_json (value_view item.now)) in
-        result ≡ option_and_then device_of text }
+    ensures { result ≡ option_and_then device_of (option_and_then as_str (value_data item.now)) }
 {
     match item.as_str() {
         None => None,
@@ -135,8 +132,7 @@ fn device_of(item: &Value<'_>) -> Option<DeviceId>
 
 // The groups that a list names, in whatever order.
 fn groups_of(items: &[Value<'_>]) -> Option<Groups>
-    ensures { let devices = option_and_then devices_of (of_items (items_view items.now)) in
-        result ≡ option_and_then (with_all []) devices }
+    ensures { result ≡ option_and_then (with_all []) (devices_named items.now) }
 {
     let mut groups = Groups::none();
     for item in items {
@@ -147,8 +143,7 @@ fn groups_of(items: &[Value<'_>]) -> Option<Groups>
 
 // The same, where it names any.
 fn choice_of(items: &[Value<'_>]) -> Option<SomeGroups>
-    ensures { let devices = option_and_then devices_of (of_items (items_view items.now)) in
-        result ≡ option_and_then choice_of devices }
+    ensures { result ≡ option_and_then choice_of (devices_named items.now) }
 {
     match groups_of(items) {
         None => None,

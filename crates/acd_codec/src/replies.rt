@@ -1,11 +1,9 @@
 //! Replies as JSON.
 
 ghost use Rattle.std.specs.Prelude.{◌≡◌, codes, IfOk, string_bytes};
-ghost use Rattle.json.specs.Tree.{json_tokens};
-ghost use Rattle.serde_json.specs.Data.{object, member, no_members};
-ghost use Rattle.serde_json.specs.Written.{outline};
+ghost use Rattle.serde_json.specs.Data.{object, no_members};
 ghost use Rattle.acd_codec.specs.ReplyTexts.{outcome_status, rejected_code, rejected_name, rejected_status, result_of, error_of, error_data, reply_data, reply_text, rejected_text};
-ghost use Rattle.acd_codec.specs.Tokens.{tokens_of, AddsTokens};
+ghost use Rattle.acd_codec.specs.Tokens.{AddsData, AddsMembers, AddsMember};
 
 use crate::writing::{put_number, put_text, put_whom, text_of};
 use acd_terms::{Answer, Invoke, Outcome, Requester};
@@ -66,7 +64,7 @@ const ROOM: usize = 128;
 
 // Writes what a service answers.
 fn put_answer(out: &mut Writer, answer: Answer) -> Result<(), AllocError>
-    ensures { AddsTokens result out.old out.new (tokens_of (result_of answer)) }
+    ensures { AddsMembers result out.old out.new (result_of answer) }
 {
     match answer {
         Answer::Nothing => Ok(()),
@@ -81,8 +79,7 @@ fn put_answer(out: &mut Writer, answer: Answer) -> Result<(), AllocError>
 }
 
 fn put_result(out: &mut Writer, answer: Answer) -> Result<(), AllocError>
-    ensures { AddsTokens result out.old out.new
-        (tokens_of (member (codes "result") (object (result_of answer)) no_members)) }
+    ensures { AddsMember result out.old out.new (codes "result") (object (result_of answer)) }
 {
     out.key("result")?;
     out.begin_object()?;
@@ -91,7 +88,7 @@ fn put_result(out: &mut Writer, answer: Answer) -> Result<(), AllocError>
 }
 
 fn put_error(out: &mut Writer, code: u8, name: &str) -> Result<(), AllocError>
-    ensures { AddsTokens result out.old out.new (tokens_of (error_of code name.now no_members)) }
+    ensures { AddsMembers result out.old out.new (error_of code name.now no_members) }
 {
     out.key("error")?;
     out.begin_object()?;
@@ -108,8 +105,7 @@ fn write_error(
     requester: &Requester,
     invoke: Invoke,
 ) -> Result<(), AllocError>
-    ensures { AddsTokens result out.old out.new
-        (json_tokens (outline (error_data code name.now requester.now invoke))) }
+    ensures { AddsData result out.old out.new (error_data code name.now requester.now invoke) }
 {
     out.begin_object()?;
     put_error(out, code, name)?;
@@ -124,8 +120,8 @@ fn write_done(
     invoke: Invoke,
     answer: Answer,
 ) -> Result<(), AllocError>
-    ensures { AddsTokens result out.old out.new
-        (json_tokens (outline (reply_data requester.now invoke (Outcome.Done answer)))) }
+    ensures { AddsData result out.old out.new
+        (reply_data requester.now invoke (Outcome.Done answer)) }
 {
     out.begin_object()?;
     put_whom(out, requester, invoke)?;
@@ -139,8 +135,7 @@ fn write_reply(
     invoke: Invoke,
     outcome: Outcome,
 ) -> Result<(), AllocError>
-    ensures { AddsTokens result out.old out.new
-        (json_tokens (outline (reply_data requester.now invoke outcome))) }
+    ensures { AddsData result out.old out.new (reply_data requester.now invoke outcome) }
 {
     match outcome {
         Outcome::Done(answer) => write_done(out, requester, invoke, answer),

@@ -1,10 +1,10 @@
 //! Requests as JSON.
 
 ghost use Rattle.std.specs.Prelude.{◌≡◌, codes, IfOk, string_bytes};
-ghost use Rattle.serde_json.specs.Data.{string, member, no_members};
+ghost use Rattle.serde_json.specs.Data.{string, no_members};
 ghost use Rattle.acd_codec.specs.Services.{service_name};
-ghost use Rattle.acd_codec.specs.RequestTexts.{named, asked, at_group, at_agent, arrive_call, make_call, at_device, at_connection, to_device, set_agent_state, set_group_priority, monitor_stop, sent, request_members, request_text};
-ghost use Rattle.acd_codec.specs.Tokens.{tokens_of, AddsTokens};
+ghost use Rattle.acd_codec.specs.RequestTexts.{named, asked, at_group, at_agent, arrive_call, make_call, at_device, at_connection, to_device, set_agent_state, set_group_priority, monitor_stop, sent, request_text, members_of, whose};
+ghost use Rattle.acd_codec.specs.Tokens.{AddsMembers, AddsMember};
 
 use crate::service::{RequestedState, Service};
 use crate::writing::{
@@ -20,17 +20,14 @@ const ROOM: usize = 320;
 
 // Writes which service is asked for.
 fn put_service(out: &mut Writer, service: Service) -> Result<(), AllocError>
-    ensures { AddsTokens result out.old out.new
-        (tokens_of (member (codes "service") (string (service_name service)) no_members)) }
+    ensures { AddsMember result out.old out.new (codes "service") (string (service_name service)) }
 {
     put_text(out, "service", service.name())
 }
 
 // Writes what every request has, where no other member comes between.
 fn put_sent(out: &mut Writer, request: &Request, service: Service) -> Result<(), AllocError>
-    ensures { let r = request.now in
-        AddsTokens result out.old out.new
-        (tokens_of (sent r.requester r.invoke service no_members)) }
+    ensures { AddsMembers result out.old out.new (sent (whose request.now) service no_members) }
 {
     put_whom(out, &request.requester, request.invoke)?;
     put_service(out, service)
@@ -38,9 +35,7 @@ fn put_sent(out: &mut Writer, request: &Request, service: Service) -> Result<(),
 
 // Writes whose request it is, and the name between.
 fn put_named(out: &mut Writer, request: &Request, name: &Name) -> Result<(), AllocError>
-    ensures { let r = request.now in
-        AddsTokens result out.old out.new
-        (tokens_of (named r.requester r.invoke name.now no_members)) }
+    ensures { AddsMembers result out.old out.new (named (whose request.now) name.now no_members) }
 {
     put_invoke(out, request.invoke)?;
     put_text(out, "name", name.as_str())?;
@@ -56,9 +51,8 @@ fn put_at_group(
     ring: Seconds,
     wrap: Seconds,
 ) -> Result<(), AllocError>
-    ensures { let r = request.now in
-        AddsTokens result out.old out.new
-        (tokens_of (at_group r.requester r.invoke service device name.now ring wrap)) }
+    ensures { AddsMembers result out.old out.new
+        (at_group (whose request.now) service device name.now (ring, wrap)) }
 {
     put_device(out, "device", Some(device))?;
     put_named(out, request, name)?;
@@ -74,9 +68,8 @@ fn put_at_agent(
     agent: AgentId,
     name: &Name,
 ) -> Result<(), AllocError>
-    ensures { let r = request.now in
-        AddsTokens result out.old out.new
-        (tokens_of (at_agent r.requester r.invoke service agent name.now)) }
+    ensures { AddsMembers result out.old out.new
+        (at_agent (whose request.now) service agent name.now) }
 {
     put_agent(out, "agent", Some(agent))?;
     put_named(out, request, name)?;
@@ -89,9 +82,7 @@ fn put_at_device(
     service: Service,
     device: DeviceId,
 ) -> Result<(), AllocError>
-    ensures { let r = request.now in
-        AddsTokens result out.old out.new
-        (tokens_of (at_device r.requester r.invoke service device)) }
+    ensures { AddsMembers result out.old out.new (at_device (whose request.now) service device) }
 {
     put_device(out, "device", Some(device))?;
     put_sent(out, request, service)
@@ -104,9 +95,8 @@ fn put_at_connection(
     call: Serial,
     device: DeviceId,
 ) -> Result<(), AllocError>
-    ensures { let r = request.now in
-        AddsTokens result out.old out.new
-        (tokens_of (at_connection r.requester r.invoke service call device)) }
+    ensures { AddsMembers result out.old out.new
+        (at_connection (whose request.now) service call device) }
 {
     put_serial(out, "call", call)?;
     put_at_device(out, request, service, device)
@@ -120,9 +110,8 @@ fn put_to_device(
     device: DeviceId,
     to: DeviceId,
 ) -> Result<(), AllocError>
-    ensures { let r = request.now in
-        AddsTokens result out.old out.new
-        (tokens_of (to_device r.requester r.invoke service call device to)) }
+    ensures { AddsMembers result out.old out.new
+        (to_device (whose request.now) service call device to) }
 {
     put_at_connection(out, request, service, call, device)?;
     put_device(out, "to", Some(to))
@@ -134,9 +123,7 @@ fn put_arrive_call(
     caller: DeviceId,
     called: DeviceId,
 ) -> Result<(), AllocError>
-    ensures { let r = request.now in
-        AddsTokens result out.old out.new
-        (tokens_of (arrive_call r.requester r.invoke caller called)) }
+    ensures { AddsMembers result out.old out.new (arrive_call (whose request.now) caller called) }
 {
     put_device(out, "called", Some(called))?;
     put_device(out, "caller", Some(caller))?;
@@ -149,9 +136,7 @@ fn put_make_call(
     device: DeviceId,
     called: DeviceId,
 ) -> Result<(), AllocError>
-    ensures { let r = request.now in
-        AddsTokens result out.old out.new
-        (tokens_of (make_call r.requester r.invoke device called)) }
+    ensures { AddsMembers result out.old out.new (make_call (whose request.now) device called) }
 {
     put_device(out, "called", Some(called))?;
     put_at_device(out, request, Service::MakeCall, device)
@@ -159,8 +144,7 @@ fn put_make_call(
 
 // Writes whose request it is, what the agent is asked for between, and the service.
 fn put_asked(out: &mut Writer, request: &Request, state: RequestedState) -> Result<(), AllocError>
-    ensures { let r = request.now in
-        AddsTokens result out.old out.new (tokens_of (asked r.requester r.invoke state)) }
+    ensures { AddsMembers result out.old out.new (asked (whose request.now) state) }
 {
     put_invoke(out, request.invoke)?;
     put_text(out, "requested", state.name())?;
@@ -174,9 +158,8 @@ fn put_set_agent_state(
     agent: AgentId,
     requested: Requested,
 ) -> Result<(), AllocError>
-    ensures { let r = request.now in
-        AddsTokens result out.old out.new
-        (tokens_of (set_agent_state r.requester r.invoke agent requested)) }
+    ensures { AddsMembers result out.old out.new
+        (set_agent_state (whose request.now) agent requested) }
 {
     put_agent(out, "agent", Some(agent))?;
     match requested {
@@ -190,8 +173,7 @@ fn put_set_agent_state(
 }
 
 fn put_monitor_stop(out: &mut Writer, request: &Request, monitor: Serial) -> Result<(), AllocError>
-    ensures { let r = request.now in
-        AddsTokens result out.old out.new (tokens_of (monitor_stop r.requester r.invoke monitor)) }
+    ensures { AddsMembers result out.old out.new (monitor_stop (whose request.now) monitor) }
 {
     put_invoke(out, request.invoke)?;
     put_serial(out, "monitor", monitor)?;
@@ -205,9 +187,8 @@ fn put_set_group_priority(
     device: DeviceId,
     priority: Priority,
 ) -> Result<(), AllocError>
-    ensures { let r = request.now in
-        AddsTokens result out.old out.new
-        (tokens_of (set_group_priority r.requester r.invoke device priority)) }
+    ensures { AddsMembers result out.old out.new
+        (set_group_priority (whose request.now) device priority) }
 {
     put_device(out, "device", Some(device))?;
     put_invoke(out, request.invoke)?;
@@ -217,9 +198,7 @@ fn put_set_group_priority(
 }
 
 fn put_request(out: &mut Writer, request: &Request) -> Result<(), AllocError>
-    ensures { let r = request.now in
-        AddsTokens result out.old out.new
-        (tokens_of (request_members r.requester r.invoke r.command)) }
+    ensures { AddsMembers result out.old out.new (members_of request.now) }
 {
     let service = Service::of(&request.command);
     match &request.command {

@@ -1,7 +1,7 @@
 //! All that a desk has as one JSON text.
 
 ghost use Rattle.std.specs.Prelude.{◌≡◌, IfOk, string_bytes};
-ghost use Rattle.acd_codec.specs.Tokens.{parts_tokens, AddsTokens};
+ghost use Rattle.acd_codec.specs.Tokens.{AddsParts};
 ghost use Rattle.acd_codec.specs.SnapshotTexts.{monitor_parts, snapshot_parts, snapshot_text};
 
 use crate::read_texts::{
@@ -90,7 +90,7 @@ impl Form for Groups {
 }
 
 fn put_monitor(out: &mut Writer, monitor: &MonitorRecord) -> Result<(), AllocError>
-    ensures { AddsTokens result out.old out.new (parts_tokens (monitor_parts monitor.now)) }
+    ensures { AddsParts result out.old out.new (monitor_parts monitor.now) }
 {
     put_number(out, "after", monitor.after_event)?;
     put_device(out, "device", Some(monitor.device))?;
@@ -132,7 +132,7 @@ impl Form for Stations {
 }
 
 fn put_snapshot(out: &mut Writer, snapshot: &Snapshot) -> Result<(), AllocError>
-    ensures { AddsTokens result out.old out.new (parts_tokens (snapshot_parts snapshot.now)) }
+    ensures { AddsParts result out.old out.new (snapshot_parts snapshot.now) }
 {
     put_list::<Agents>(out, "agents", snapshot.agents.as_slice())?;
     put_list::<Calls>(out, "calls", snapshot.calls.as_slice())?;

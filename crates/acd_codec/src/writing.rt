@@ -4,10 +4,9 @@ ghost use Rattle.std.specs.Prelude.{◌≡◌, [], ◌∷◌, ◌++◌, codes, I
 ghost use Rattle.json.specs.Print.{print};
 ghost use Rattle.json.specs.Token.{end_object};
 ghost use Rattle.serde_json.specs.Data.{Data, string, number, unsigned, member, no_members};
-ghost use Rattle.acd_terms.specs.Forms.{digits_of};
-ghost use Rattle.acd_codec.specs.Parts.{text_part, number_part, list_part, groups_parts, items_of};
+ghost use Rattle.acd_codec.specs.Parts.{text_part, number_part, list_part, groups_parts, items_of, digits_part};
 ghost use Rattle.acd_codec.specs.ReplyTexts.{to_whom};
-ghost use Rattle.acd_codec.specs.Tokens.{Begun, data_tokens, tokens_of, part_tokens, parts_tokens, each_tokens, AddsTokens};
+ghost use Rattle.acd_codec.specs.Tokens.{Begun, each_tokens, AddsTokens, AddsData, AddsMembers, AddsMember, AddsPart, AddsParts};
 
 use acd_terms::{AgentId, DeviceId, Groups, Invoke, Priority, Requester, Seconds, Serial};
 use json::Writer;
@@ -21,13 +20,12 @@ pub(crate) trait Form {
 
     /// Writes one of them.
     fn write(out: &mut Writer, item: &Self::Item) -> Result<(), AllocError>
-        ensures { AddsTokens result out.old out.new (data_tokens (data_of item.now)) };
+        ensures { AddsData result out.old out.new (data_of item.now) };
 }
 
 /// Writes a member that is a text.
 pub(crate) fn put_text(out: &mut Writer, name: &str, text: &str) -> Result<(), AllocError>
-    ensures { AddsTokens result out.old out.new
-        (tokens_of (member name.now (string text.now) no_members)) }
+    ensures { AddsMember result out.old out.new name.now (string text.now) }
 {
     out.key(name)?;
     out.string(text)
@@ -35,8 +33,7 @@ pub(crate) fn put_text(out: &mut Writer, name: &str, text: &str) -> Result<(), A
 
 /// Writes a member that is a number.
 pub(crate) fn put_number(out: &mut Writer, name: &str, value: u64) -> Result<(), AllocError>
-    ensures { AddsTokens result out.old out.new
-        (tokens_of (member name.now (number (unsigned value)) no_members)) }
+    ensures { AddsMember result out.old out.new name.now (number (unsigned value)) }
 {
     out.key(name)?;
     out.u64(value)
@@ -44,16 +41,14 @@ pub(crate) fn put_number(out: &mut Writer, name: &str, value: u64) -> Result<(),
 
 /// Writes the number of a request among those of its requester.
 pub(crate) fn put_invoke(out: &mut Writer, invoke: Invoke) -> Result<(), AllocError>
-    ensures { AddsTokens result out.old out.new
-        (tokens_of (member (codes "invoke") (number (unsigned invoke)) no_members)) }
+    ensures { AddsMember result out.old out.new (codes "invoke") (number (unsigned invoke)) }
 {
     put_number(out, "invoke", u64::from(invoke.number()))
 }
 
 /// Writes who sends a request.
 pub(crate) fn put_requester(out: &mut Writer, requester: &Requester) -> Result<(), AllocError>
-    ensures { AddsTokens result out.old out.new
-        (tokens_of (member (codes "requester") (string requester.now) no_members)) }
+    ensures { AddsMember result out.old out.new (codes "requester") (string requester.now) }
 {
     put_text(out, "requester", requester.as_str())
 }
@@ -64,8 +59,7 @@ pub(crate) fn put_whom(
     requester: &Requester,
     invoke: Invoke,
 ) -> Result<(), AllocError>
-    ensures { AddsTokens result out.old out.new
-        (tokens_of (to_whom requester.now invoke no_members)) }
+    ensures { AddsMembers result out.old out.new (to_whom requester.now invoke no_members) }
 {
     put_invoke(out, invoke)?;
     put_requester(out, requester)
@@ -73,24 +67,21 @@ pub(crate) fn put_whom(
 
 /// Writes a time of a group.
 pub(crate) fn put_seconds(out: &mut Writer, name: &str, value: Seconds) -> Result<(), AllocError>
-    ensures { AddsTokens result out.old out.new
-        (tokens_of (member name.now (number (unsigned value)) no_members)) }
+    ensures { AddsMember result out.old out.new name.now (number (unsigned value)) }
 {
     put_number(out, name, u64::from(value.number()))
 }
 
 /// Writes the priority that a group is given.
 pub(crate) fn put_priority(out: &mut Writer, priority: Priority) -> Result<(), AllocError>
-    ensures { AddsTokens result out.old out.new
-        (tokens_of (member (codes "priority") (number (unsigned priority)) no_members)) }
+    ensures { AddsMember result out.old out.new (codes "priority") (number (unsigned priority)) }
 {
     put_number(out, "priority", u64::from(priority.number()))
 }
 
 /// Writes a call or a monitor as a request names it.
 pub(crate) fn put_serial(out: &mut Writer, name: &str, value: Serial) -> Result<(), AllocError>
-    ensures { AddsTokens result out.old out.new
-        (tokens_of (member name.now (number (unsigned value)) no_members)) }
+    ensures { AddsMember result out.old out.new name.now (number (unsigned value)) }
 {
     put_number(out, name, value.number())
 }
@@ -101,8 +92,8 @@ pub(crate) fn put_text_if(
     name: &str,
     text: Option<&str>,
 ) -> Result<(), AllocError>
-    ensures { AddsTokens result out.old out.new
-        (part_tokens (text_part name.now (option_map (λ t. t.now) text.entry))) }
+    ensures { AddsPart result out.old out.new
+        (text_part name.now (option_map (λ t. t.now) text.entry)) }
 {
     match text {
         None => Ok(()),
@@ -116,7 +107,7 @@ pub(crate) fn put_number_if(
     name: &str,
     value: Option<u64>,
 ) -> Result<(), AllocError>
-    ensures { AddsTokens result out.old out.new (part_tokens (number_part name.now value)) }
+    ensures { AddsPart result out.old out.new (number_part name.now value) }
 {
     match value {
         None => Ok(()),
@@ -130,8 +121,7 @@ pub(crate) fn put_device(
     name: &str,
     device: Option<DeviceId>,
 ) -> Result<(), AllocError>
-    ensures { AddsTokens result out.old out.new
-        (part_tokens (text_part name.now (option_map digits_of device))) }
+    ensures { AddsPart result out.old out.new (digits_part name.now device) }
 {
     match device {
         None => Ok(()),
@@ -145,8 +135,7 @@ pub(crate) fn put_agent(
     name: &str,
     agent: Option<AgentId>,
 ) -> Result<(), AllocError>
-    ensures { AddsTokens result out.old out.new
-        (part_tokens (text_part name.now (option_map digits_of agent))) }
+    ensures { AddsPart result out.old out.new (digits_part name.now agent) }
 {
     match agent {
         None => Ok(()),
@@ -170,8 +159,7 @@ pub(crate) fn put_list<F: Form>(
     name: &str,
     items: &[F::Item],
 ) -> Result<(), AllocError>
-    ensures { AddsTokens result out.old out.new
-        (part_tokens (list_part name.now (items_of F.data_of items.now))) }
+    ensures { AddsPart result out.old out.new (list_part name.now (items_of F.data_of items.now)) }
 {
     out.key(name)?;
     out.begin_array()?;
@@ -196,7 +184,7 @@ impl Form for Devices {
 
 /// Writes the groups of an agent: one by itself, more in a list.
 pub(crate) fn put_groups(out: &mut Writer, groups: &Groups) -> Result<(), AllocError>
-    ensures { AddsTokens result out.old out.new (parts_tokens (groups_parts groups.now)) }
+    ensures { AddsParts result out.old out.new (groups_parts groups.now) }
 {
     match groups.as_slice() {
         [] => Ok(()),

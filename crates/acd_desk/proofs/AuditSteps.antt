@@ -1,5 +1,5 @@
 -- The reads of an audit, and what the replay learns from them.
-use Rattle.std.proofs.Common.{◌≡◌, ℕ, ◌+◌, ◌<◌, ◌≤◌, Bool, true, false, ◌&&◌, cond, Option, Some, None, Result, Ok, IfSome, refl, sym, ap, subst, ◌∙◌, true≢false, take, arith, inl, inr, ◌⊎◌}
+use Rattle.std.proofs.Common.{◌≡◌, ℕ, ◌+◌, ◌<◌, ◌≤◌, Bool, true, false, ◌&&◌, cond, Option, Some, None, Result, Ok, refl, sym, ap, subst, ◌∙◌, true≢false, take, arith, inl, inr, ◌⊎◌}
 use Rattle.std.specs.Bool.{Decides}
 use Rattle.acd_terms.specs.Limits.{limits_fit}
 use Rattle.acd_terms.specs.Lists.{Every}
@@ -20,7 +20,7 @@ use Rattle.acd_desk.specs.Audit.{IsFirstDifference, IsAudit}
 use Rattle.acd_desk.specs.Firsts.{stepped}
 use Rattle.acd_desk.specs.KeyPlaces.{IsSeenKey}
 use Rattle.acd_desk.specs.Pages.{IsPageOf, ReadsIfOpen}
-use Rattle.acd_desk.specs.Replay.{again, rows_of, Replays, Knows, Goes, IsEnd, BeginsReplay, IsReplayed, IsStep, CountsOne, IsAll}
+use Rattle.acd_desk.specs.Replay.{again, rows_of, Replays, Goes, IsEnd, BeginsReplay, IsReplayed, IsStep, CountsOne, IsAll, Plays, StepsOn}
 use Rattle.acd_desk.proofs.Audits.{starts_replay, replay_unlike, replay_full, replay_sound, replay_rest}
 use Rattle.acd_desk.proofs.Courses.{knows_next, goes_next}
 use Rattle.acd_desk.proofs.Steps.{step_stamp, step_limits}
@@ -40,14 +40,6 @@ IsNext n c found = IsKeptAfter c.kept n found
 
 next_at : (c : Content) (n m : ℕ) (found known : Option Kept) → n ≡ m → found ≡ known → IsNext n c found → IsNext m c known
 next_at c n m found known from_last is next = subst (λ (o : Option Kept). IsNext m c o) is (subst (λ (x : ℕ). IsNext x c found) from_last next)
-
--- the switch after a replayed record
-abbrev StepsOn : Rows → Kept → Option Course → Type 0
-StepsOn s k played = IfSome played (λ (next : Course). rows_of next ≡ (stepped s (again k)).rows)
-
--- its result, where so much is known
-abbrev Plays : Course → Kept → Content → Option Course → Type 0
-Plays r k c found = Knows c r.keys r.page k → IsReplayed c r k found
 
 -- a read and what was known give what follows from both
 read_then_ok : {A C D : Type 0} {P : Content → A → Type 0} {Q : Content → C → Type 0} (R : Content → D → Type 0) (a b d : BookState) (x : A) (y : C) (z : D)

@@ -17,13 +17,11 @@ use Rattle.acd_desk.specs.Faults.{fault_of, left_by}
 use Rattle.acd_desk.specs.Pages.{ReadsIfOpen}
 use Rattle.acd_desk.specs.Standing.{Standing, InStep, switch_of, is_failed, Mirrors}
 use Rattle.acd_desk.specs.ReadDone.{ReadDone}
+use Rattle.acd_desk.specs.ReplayWith.{AuditsInOrder}
+use Rattle.acd_desk.specs.BookReading.{Anything}
 use Rattle.acd_desk.proofs.DeskSteps.{works}
-use Rattle.acd_desk.proofs.StepsWith.{WholeOf}
 use Rattle.acd_desk.proofs.ReadsDone.{stands, without_memory, store_failed}
 use Rattle.acd_terms.proofs.Results.{ok_err, same_error}
-
-abbrev Anything : {T : Type 0} → Content → T → Type 0
-Anything c found = Unit {0}
 
 -- the audit found it
 pub read_found : {T : Type 0} (b d : BookState) (w : Working) (x : T) → ReadsIfOpen {A = T} b d (Ok x) Anything → is_failed w ≡ false → ReadDone {A = T} (stands b w) (stands d w) (Ok x) Anything
@@ -59,6 +57,6 @@ archive_neither a e b d (pair.Current f) P read = read.archive
 archive_neither a e b d (pair.Archive f) P read = read.archive
 
 -- the audit is that of both contents
-pub audited_both : (a e b d : BookState) (found : Audit) → ReadsBoth a e b d (Ok found) WholeOf → IsAuditedWith a e b d (Ok found)
+pub audited_both : (a e b d : BookState) (found : Audit) → ReadsBoth a e b d (Ok found) AuditsInOrder → IsAuditedWith a e b d (Ok found)
 audited_both a e b d found read = λ clean sound current_clean current_sound opened current_opened stands ordered.
     read.value clean sound current_clean current_sound opened current_opened (record { archive = stands; current = ordered })

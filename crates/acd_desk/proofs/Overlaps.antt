@@ -22,7 +22,8 @@ use Rattle.acd_desk.specs.Sharing.{IsSplit, Begins, cut_before}
 use Rattle.acd_desk.specs.Carried.{Archive}
 use Rattle.acd_desk.specs.WithArchive.{IsCut}
 use Rattle.acd_desk.specs.AuditWith.{HoldsArchive, StandsInTime}
-use Rattle.acd_desk.specs.Overlap.{AreInOrder, cut_stamp, cut_number, KeepsArchive, ReportsArchive, IsNextOf, IsNextRecord, IsOtherPlace, listed, IsOther, IsOtherUpTo, IsFirstUpTo, IsCleanCut, IsLast, earlier}
+use Rattle.acd_desk.specs.Overlap.{AreInOrder, cut_stamp, cut_number, KeepsArchive, ReportsArchive, IsNextOf, IsNextRecord, IsOtherPlace, listed, IsOther, IsOtherUpTo, IsFirstUpTo, IsCleanCut, earlier, FindsRecord, FindsEvent, IsNextEvent, ReadsNextEvent, FindsMoment, FindsAbove, FindsPlace}
+use Rattle.acd_desk.specs.BookReading.{Anything}
 use Rattle.acd_desk.proofs.BothReads.{both_known, both_current, both_ok, both_then, both_then_fault}
 use Rattle.acd_desk.proofs.ReadsAhead.{by_read, read_ok, read_nothing, read_twice}
 use Rattle.acd_desk.proofs.SharedLists.{within, Shares, shares_nothing, cut_rises, cut_within, next_shares, other_shares, other_low, over_first, reached, split_at, split_there, split_once, next_above, next_left}
@@ -33,9 +34,6 @@ use Rattle.acd_desk.proofs.NextRecords.{none_left, next_left as record_left}
 -- so far both have the same records, at least as many as the loop has come past
 abbrev pub SharesRecords : ℕ → ℕ → ℕ → ℕ → Content → Content → Unit {0} → Type 0
 SharesRecords above last count stamp a c u = AreInOrder a c → last ≡ a.rows.last_stamp → above ≡ cut_stamp a c → Shares stamp_of (cut_stamp a c) stamp a.kept c.kept × (count ≤ stamp)
-
-abbrev pub FindsRecord : ℕ → ℕ → Content → Content → Option ℕ → Type 0
-FindsRecord above last a c found = AreInOrder a c → last ≡ a.rows.last_stamp → above ≡ cut_stamp a c → IsOtherUpTo last (KeepsArchive a c) found
 
 -- the next record, as it is looked for in the list
 next_listed : (n : ℕ) (xs : List Kept) (found : Option Kept) → Rises stamp_of 0 xs → IsKeptAfter xs n found → records_after xs n 1 ≡ listed found
@@ -125,15 +123,6 @@ ArePagesOf a c pages = IsPageOf a pages.archive × IsPageOf c pages.current
 abbrev pub SharesEvents : ℕ → ℕ → ℕ → ℕ → Pages → Content → Content → Unit {0} → Type 0
 SharesEvents above last count number pages a c u =
     ArePagesOf a c pages × (AreInOrder a c → last ≡ a.rows.last_event → above ≡ cut_number a c → Shares number_of (cut_number a c) number a.events c.events × (count ≤ number))
-
-abbrev pub FindsEvent : ℕ → ℕ → Content → Content → Option ℕ → Type 0
-FindsEvent above last a c found = AreInOrder a c → last ≡ a.rows.last_event → above ≡ cut_number a c → IsOther (ReportsArchive a c) found
-
-abbrev pub IsNextEvent : ℕ → Content → Content → Next → Type 0
-IsNextEvent number a c found = IsNextOf number_of (events_after a.events number 1) (events_after c.events number 1) found
-
-abbrev pub ReadsNextEvent : ℕ → Pages → Pages → Content → Content → Next → Type 0
-ReadsNextEvent number old new a c found = IsPageOf a old.archive → IsPageOf c old.current → IsPageOf a new.archive × IsPageOf c new.current × IsNextEvent number a c found
 
 pub events_start : (a c : BookState) (above last : ℕ) (pages : Pages) → ((x : Content) → IsPageOf x pages.archive) → ((x : Content) → IsPageOf x pages.current) → ReadsBoth a a c c (Ok tt) (SharesEvents above last above above pages)
 events_start a c above last pages archive current =
@@ -241,9 +230,6 @@ holds_clean a c order h past carried left reported kept_two events_two =
 
 -- ---- reads of the archive alone, whatever they find ----
 
-abbrev Anything : {T : Type 0} → Content → T → Type 0
-Anything c found = Unit {0}
-
 pub read_on : {T S : Type 0} {P : Content → T → Type 0} (a b d : BookState) (x : T) (y : S) → ReadsIfOpen {A = Unit {0}} a b (Ok tt) (λ (c : Content) (u : Unit {0}). Unit {0}) → Reads b d (Ok x) P
     → ReadsIfOpen {A = S} a d (Ok y) (λ (c : Content) (z : S). Unit {0})
 read_on {T = T} {S = S} {P = P} a b d x y one two =
@@ -258,9 +244,6 @@ fault_on {T = T} {S = S} {P = P} a b d f r one two is =
 
 abbrev pub DecidesClean : ℕ → ℕ → Content → Content → Bool → Type 0
 DecidesClean stamp number a c clean = StandsInTime a → number ≤ a.rows.last_event → Decides clean (IsCleanCut a stamp number)
-
-abbrev pub FindsMoment : Cut → ℕ → Content → Content → Option ℕ → Type 0
-FindsMoment cut last a c found = AreInOrder a c → last ≡ a.rows.last_event → cut.number ≡ cut_number a c → IsOther (IsCleanCut a cut.stamp cut.number × ReportsArchive a c) found
 
 number_within : (a c : Content) (n : ℕ) → n ≡ cut_number a c → n ≤ a.rows.last_event
 number_within a c n is = subst (λ (m : ℕ). m ≤ a.rows.last_event) (sym is) (cut_within number_of a.rows.last_event c.events)
@@ -280,12 +263,6 @@ moment_clean a b e c d f cut last clean result is read events =
     both_then (FindsMoment cut last) a b e c d f clean result read events
     (λ x z decides y holds order is_last is_cut.
     clean_and (IsCleanCut x cut.stamp cut.number) (ReportsArchive x z) y ((decides order.archive (number_within x z cut.number is_cut)).0 is) (holds order is_last is_cut))
-
-abbrev pub FindsAbove : Cut → Cut → Content → Content → Option ℕ → Type 0
-FindsAbove cut last a c found = AreInOrder a c → IsLast a last → (cut.stamp ≡ cut_stamp a c) × (cut.number ≡ cut_number a c) → IsOtherUpTo last.stamp (HoldsArchive a c) found
-
-abbrev pub FindsPlace : Cut → Content → Content → Option ℕ → Type 0
-FindsPlace last a c found = AreInOrder a c → IsLast a last → IsOtherUpTo last.stamp (HoldsArchive a c) found
 
 clean_at : (a c : Content) (cut : Cut) → (cut.stamp ≡ cut_stamp a c) × (cut.number ≡ cut_number a c) → IsCleanCut a cut.stamp cut.number → IsCleanCut a (cut_stamp a c) (cut_number a c)
 clean_at a c cut is clean = subst (λ (n : ℕ). IsCleanCut a n (cut_number a c)) is.0 (subst (λ (n : ℕ). IsCleanCut a cut.stamp n) is.1 clean)

@@ -1,5 +1,5 @@
 -- A replay from an archive on: the results of its steps, and what they read.
-use Rattle.std.proofs.Common.{◌≡◌, ℕ, ◌+◌, ◌<◌, ◌≤◌, Bool, true, false, cond, List, [], ◌∷◌, ◌++◌, length, drop, Option, Some, None, is_some, Result, Ok, IfSome, refl, sym, ap, subst, ◌∙◌, arith, true≢false, inl, inr, ◌⊎◌}
+use Rattle.std.proofs.Common.{◌≡◌, ℕ, ◌+◌, ◌<◌, ◌≤◌, Bool, true, false, cond, List, [], ◌∷◌, ◌++◌, length, drop, Option, Some, None, is_some, Result, Ok, refl, sym, ap, subst, ◌∙◌, arith, true≢false, inl, inr, ◌⊎◌}
 use Rattle.std.specs.Bool.{Decides}
 use Rattle.acd_terms.specs.Lists.{Every}
 use Rattle.acd_terms.specs.declared.rows.Rows.{Rows}
@@ -23,19 +23,18 @@ use Rattle.acd_desk.specs.declared.replay.Step.{Step}
 use Rattle.acd_desk.specs.declared.replay.Step.TheVariants as step
 use Rattle.acd_desk.specs.Firsts.{stepped, executed}
 use Rattle.acd_desk.specs.KeyPlaces.{IsSeenKey}
-use Rattle.acd_desk.specs.Replay.{again, rows_of, IsFirstOfKey, IsEnd, IsAll, FindsFirst, Knows, GoesOn, IsReplayed, CountsOne}
+use Rattle.acd_desk.specs.Replay.{again, rows_of, IsFirstOfKey, IsEnd, IsAll, FindsFirst, Knows, GoesOn, IsReplayed, CountsOne, StepsOn}
 use Rattle.acd_desk.specs.WithArchive.{IsSoundWith}
-use Rattle.acd_desk.specs.AuditWith.{HoldsArchive, RunsOn, RunsTo, MatchesWith, IsNewerDifference, IsDifferenceWith, IsAuditWith}
-use Rattle.acd_desk.specs.Overlap.{AreInOrder, IsLast, IsOtherUpTo}
+use Rattle.acd_desk.specs.AuditWith.{HoldsArchive, RunsOn, RunsTo, MatchesWith, IsNewerDifference, IsDifferenceWith}
+use Rattle.acd_desk.specs.Overlap.{AreInOrder, IsLast, IsOtherUpTo, FindsPlace}
 use Rattle.acd_desk.specs.Pairs.{ReadsBoth}
 use Rattle.acd_desk.specs.Pages.{IsPageOf}
-use Rattle.acd_desk.specs.ReplayWith.{KnowsWith, GoesWith, BeginsWith, IsReplayedWith, IsStepWith}
+use Rattle.acd_desk.specs.ReplayWith.{KnowsWith, GoesWith, BeginsWith, IsReplayedWith, IsStepWith, PlaysWith, AuditsFrom, AuditsInOrder}
 use Rattle.acd_desk.proofs.Audits.{none_of}
 use Rattle.acd_desk.proofs.BothReads.{both_known, both_ok, both_then}
 use Rattle.acd_desk.proofs.Courses.{seen_one_more}
 use Rattle.acd_desk.proofs.NewerRuns.{sound_holds, runs_start, runs_next, runs_sound, runs_above, sound_matches, sound_ends, carried_rows, newer_first}
 use Rattle.acd_desk.proofs.NextRecords.{none_left, next_left}
-use Rattle.acd_desk.proofs.Overlaps.{FindsPlace}
 use Rattle.acd_desk.proofs.SharedLists.{not_both, cons_not_nil}
 
 -- ---- what is next ----
@@ -159,12 +158,6 @@ knows_newer a c r k g at =
 abbrev pub IsNextCurrent : ℕ → Content → Content → Option Kept → Type 0
 IsNextCurrent n a c found = IsKeptAfter c.kept n found
 
-abbrev pub PlaysWith : Course → Kept → Content → Content → Option Course → Type 0
-PlaysWith r k a c found = KnowsWith a c r.keys r.page k → IsReplayedWith a c r k found
-
-abbrev pub StepsOn : Rows → Kept → Option Course → Type 0
-StepsOn s k played = IfSome played (λ (next : Course). rows_of next ≡ (stepped s (again k)).rows)
-
 abbrev pub StepOf : Course → Content → Content → Step → Type 0
 StepOf r a c found = IsStepWith a c r found
 
@@ -245,33 +238,30 @@ pub newer_more : (a b e c d f : BookState) (first r : Course) (taken : Step) (ne
 newer_more a b e c d f first r taken next is seen read =
     both_then_ok (SeenWith first next) a b e c d f tt taken tt seen read (λ p q before goes_on begins. subst (IsStepWith p q r) is goes_on (before begins))
 
-abbrev pub AuditOf : Course → Content → Content → Audit → Type 0
-AuditOf first a c found = BeginsWith a c first → IsAuditWith a c found
-
 pub newer_differs : (a b e c d f : BookState) (first r : Course) (taken : Step) (count : ℕ) → taken ≡ step.Differs → (rows_of r).last_stamp ≡ count → ReadsBoth a b c d (Ok tt) (SeenWith first r) → ReadsBoth b e d f (Ok taken) (StepOf r)
-    → ReadsBoth a e c f (Ok (Differs (count + 1))) (AuditOf first)
+    → ReadsBoth a e c f (Ok (Differs (count + 1))) (AuditsFrom first)
 newer_differs a b e c d f first r taken count is stamp seen read =
-    both_then_ok (AuditOf first) a b e c d f tt taken (Differs (count + 1)) seen read
+    both_then_ok (AuditsFrom first) a b e c d f tt taken (Differs (count + 1)) seen read
     (λ p q before goes_on begins. subst (λ (n : ℕ). IsDifferenceWith p q (n + 1)) stamp (subst (IsStepWith p q r) is goes_on (before begins)))
 
 pub newer_ended : (a b e c d f : BookState) (first r : Course) (taken : Step) → taken ≡ step.Ended → ReadsBoth a b c d (Ok tt) (SeenWith first r) → ReadsBoth b e d f (Ok taken) (StepOf r)
-    → ReadsBoth a e c f (Ok Sound) (AuditOf first)
+    → ReadsBoth a e c f (Ok Sound) (AuditsFrom first)
 newer_ended a b e c d f first r taken is seen read =
-    both_then_ok (AuditOf first) a b e c d f tt taken Sound seen read (λ p q before goes_on begins. subst (IsStepWith p q r) is goes_on (before begins))
+    both_then_ok (AuditsFrom first) a b e c d f tt taken Sound seen read (λ p q before goes_on begins. subst (IsStepWith p q r) is goes_on (before begins))
 
 -- the limit of executed requests is reached
 pub newer_all : (a b e c d f : BookState) (first r : Course) (s : Rows) (all : Bool) → s ≡ rows_of r → all ≡ true → ReadsBoth a b c d (Ok tt) (SeenWith first r) → ReadsBoth b e d f (Ok all) (λ (p q : Content) (w : Bool). IsAll q s w)
-    → ReadsBoth a e c f (Ok Sound) (AuditOf first)
+    → ReadsBoth a e c f (Ok Sound) (AuditsFrom first)
 newer_all a b e c d f first r s all same is seen read =
-    both_then_ok (AuditOf first) a b e c d f tt all Sound seen read
+    both_then_ok (AuditsFrom first) a b e c d f tt all Sound seen read
     (λ p q before holds begins.
     let whole : IsAll q (rows_of r) true = subst (λ (x : Rows). IsAll q x true) same (subst (IsAll q s) is holds) in
     newer_sound p q r (before begins) whole.0 whole.1)
 
 pub newer_left : (a b e c d f : BookState) (first r : Course) (s : Rows) (all : Bool) (n : ℕ) → s ≡ rows_of r → all ≡ false → n ≡ (rows_of r).last_stamp + 1 → (rows_of r).limits.requests ≤ (rows_of r).last_stamp
-    → ReadsBoth a b c d (Ok tt) (SeenWith first r) → ReadsBoth b e d f (Ok all) (λ (p q : Content) (w : Bool). IsAll q s w) → ReadsBoth a e c f (Ok (Differs n)) (AuditOf first)
+    → ReadsBoth a b c d (Ok tt) (SeenWith first r) → ReadsBoth b e d f (Ok all) (λ (p q : Content) (w : Bool). IsAll q s w) → ReadsBoth a e c f (Ok (Differs n)) (AuditsFrom first)
 newer_left a b e c d f first r s all n same is place full seen read =
-    both_then_ok (AuditOf first) a b e c d f tt all (Differs n) seen read
+    both_then_ok (AuditsFrom first) a b e c d f tt all (Differs n) seen read
     (λ p q before holds begins.
     let rest : IsAll q (rows_of r) false = subst (λ (x : Rows). IsAll q x false) same (subst (IsAll q s) is holds) in
     subst (IsDifferenceWith p q) (sym place)
@@ -290,16 +280,13 @@ differs_older a c n le none = record {
   newer = λ above. absurd (not_both a.rows.last_stamp n above le);
 }
 
-abbrev pub WholeOf : Content → Content → Audit → Type 0
-WholeOf a c found = AreInOrder a c → IsAuditWith a c found
-
 abbrev pub IsLoaded : Rows → Content → Content → Unit {0} → Type 0
 IsLoaded s a c u = s ≡ a.rows
 
 pub whole_differs : (a b e c d f : BookState) (s : Rows) (last : Cut) (found : Option ℕ) (place : ℕ) → last.stamp ≡ s.last_stamp → last.number ≡ s.last_event → found ≡ Some place → ReadsBoth a b c d (Ok tt) (IsLoaded s)
-    → ReadsBoth b e d f (Ok found) (FindsPlace last) → ReadsBoth a e c f (Ok (Differs place)) WholeOf
+    → ReadsBoth b e d f (Ok found) (FindsPlace last) → ReadsBoth a e c f (Ok (Differs place)) AuditsInOrder
 whole_differs a b e c d f s last found place stamp number is one two =
-    both_then_ok WholeOf a b e c d f tt found (Differs place) one two
+    both_then_ok AuditsInOrder a b e c d f tt found (Differs place) one two
     (λ p q rows holds order.
     let is_last : IsLast p last = record { stamp = stamp ∙ ap (λ (x : Rows). x.last_stamp) rows; number = number ∙ ap (λ (x : Rows). x.last_event) rows } in
     let other = subst (IsOtherUpTo last.stamp (HoldsArchive p q)) is (holds order is_last) in
@@ -307,9 +294,9 @@ whole_differs a b e c d f s last found place stamp number is one two =
 
 -- all is as the archive's up to its last stamp, and the rest is replayed
 pub whole_newer : (a b e g c d f h : BookState) (s : Rows) (last : Cut) (found : Option ℕ) (first : Course) (result : Result Audit PairFault) → last.stamp ≡ s.last_stamp → last.number ≡ s.last_event → found ≡ None → rows_of first ≡ s
-    → ((x : Content) → IsPageOf x first.page) → ReadsBoth a b c d (Ok tt) (IsLoaded s) → ReadsBoth b e d f (Ok found) (FindsPlace last) → ReadsBoth e g f h result (AuditOf first) → ReadsBoth a g c h result WholeOf
+    → ((x : Content) → IsPageOf x first.page) → ReadsBoth a b c d (Ok tt) (IsLoaded s) → ReadsBoth b e d f (Ok found) (FindsPlace last) → ReadsBoth e g f h result (AuditsFrom first) → ReadsBoth a g c h result AuditsInOrder
 whole_newer a b e g c d f h s last found first result stamp number is rows page one two three =
-    both_then WholeOf a e g c f h tt result
+    both_then AuditsInOrder a e g c f h tt result
     (both_then_ok (λ (p q : Content) (u : Unit {0}). AreInOrder p q → BeginsWith p q first) a b e c d f tt found tt one two
     (λ p q loaded found_holds order.
     let is_last : IsLast p last = record { stamp = stamp ∙ ap (λ (x : Rows). x.last_stamp) loaded; number = number ∙ ap (λ (x : Rows). x.last_event) loaded } in

@@ -402,34 +402,34 @@ module _ (q : List ℕ) (i : ℕ) (hq : IsRequester q) (hi : IsBetween 1 9999999
   takes_last : (s : Service) → Takes 34 (text m.Service (service_name s) no_members)
   takes_last s = takes_service s no_members 1 34 none_takes (omega arith)
 
-  takes_sent : (s : Service) (more : Members) (b : ℕ) → Takes b more → Takes (102 + b) (sent q i s more)
+  takes_sent : (s : Service) (more : Members) (b : ℕ) → Takes b more → Takes (102 + b) (sent (q, i) s more)
   takes_sent s more b rest =
       takes_invoke _ (80 + b) (102 + b) (takes_requester _ (33 + b) (80 + b) (takes_service s more b (33 + b) rest (omega arith)) (omega arith)) (omega arith)
 
-  takes_named : (t : List ℕ) → IsName t → (more : Members) (b : ℕ) → Takes b more → Takes (164 + b) (named q i t more)
+  takes_named : (t : List ℕ) → IsName t → (more : Members) (b : ℕ) → Takes b more → Takes (164 + b) (named (q, i) t more)
   takes_named t ht more b rest =
       takes_invoke _ (142 + b) (164 + b) (takes_name t ht _ (47 + b) (142 + b) (takes_requester more b (47 + b) rest (omega arith)) (omega arith)) (omega arith)
 
-  takes_at_device : (s : Service) (d : ℕ) → IsDevice d → Takes 133 (at_device q i s d)
+  takes_at_device : (s : Service) (d : ℕ) → IsDevice d → Takes 133 (at_device (q, i) s d)
   takes_at_device s d hd = takes_device m.Device d hd _ 103 133 (takes_sent s no_members 1 none_takes) (omega arith)
 
-  takes_at_connection : (s : Service) (c d : ℕ) → IsSerial c → IsDevice d → Takes 156 (at_connection q i s c d)
+  takes_at_connection : (s : Service) (c d : ℕ) → IsSerial c → IsDevice d → Takes 156 (at_connection (q, i) s c d)
   takes_at_connection s c d hc hd = takes_serial m.Call c hc _ 133 156 (takes_at_device s d hd) (omega arith)
 
-  takes_to_device : (s : Service) (c d t : ℕ) → IsSerial c → IsDevice d → IsDevice t → Takes 186 (to_device q i s c d t)
+  takes_to_device : (s : Service) (c d t : ℕ) → IsSerial c → IsDevice d → IsDevice t → Takes 186 (to_device (q, i) s c d t)
   takes_to_device s c d t hc hd ht =
       takes_serial m.Call c hc _ 163 186 (takes_device m.Device d hd _ 133 163 (takes_sent s _ 31 (takes_device m.To t ht no_members 1 31 none_takes (omega arith))) (omega arith)) (omega arith)
 
-  takes_at_agent : (s : Service) (a : ℕ) (t : List ℕ) → IsAgent a → IsName t → Takes 222 (at_agent q i s a t)
+  takes_at_agent : (s : Service) (a : ℕ) (t : List ℕ) → IsAgent a → IsName t → Takes 222 (at_agent (q, i) s a t)
   takes_at_agent s a t ha ht = takes_agent a ha _ 198 222 (takes_named t ht _ 34 (takes_last s)) (omega arith)
 
-  takes_at_group : (s : Service) (d : ℕ) (t : List ℕ) (ring wrap : ℕ) → IsDevice d → IsName t → IsSeconds ring → IsSeconds wrap → Takes 262 (at_group q i s d t ring wrap)
+  takes_at_group : (s : Service) (d : ℕ) (t : List ℕ) (ring wrap : ℕ) → IsDevice d → IsName t → IsSeconds ring → IsSeconds wrap → Takes 262 (at_group (q, i) s d t (ring, wrap))
   takes_at_group s d t ring wrap hd ht hr hw =
       takes_device m.Device d hd _ 232 262 (takes_named t ht _ 68
       (takes_seconds m.Ring ring hr _ 51 68 (takes_service s _ 18 51 (takes_seconds m.Wrap wrap hw no_members 1 18 none_takes (omega arith)) (omega arith)) (omega arith)))
       (omega arith)
 
-  takes_asked : (r : RequestedState) → Takes 134 (asked q i r)
+  takes_asked : (r : RequestedState) → Takes 134 (asked (q, i) r)
   takes_asked r =
       takes_invoke _ 112 134 (takes _ _ _ 18 81 112 (member_short m.Requested) (requested_short r)
       (takes_requester _ 34 81 (takes_last service.SetAgentState) (omega arith)) (omega arith)) (omega arith)
@@ -442,7 +442,7 @@ module _ (q : List ℕ) (i : ℕ) (hq : IsRequester q) (hi : IsBetween 1 9999999
       let e = groups_short (g ∷ h ∷ gs) false hg in
       takes _ _ more 146 134 293 groups_key (omega (arith, few, e)) rest (omega arith)
 
-  takes_state : (a : ℕ) (r : Requested) → IsAgent a → IsRequested r → Takes 347 (set_agent_state q i a r)
+  takes_state : (a : ℕ) (r : Requested) → IsAgent a → IsRequested r → Takes 347 (set_agent_state (q, i) a r)
   takes_state a (requested.LoggedOn d gs) ha hr =
       takes_agent a ha _ 323 347 (takes_device m.Device d hr.0 _ 293 323 (takes_groups gs hr.1 hr.2 _ (takes_asked requested_state.LoggedOn)) (omega arith)) (omega arith)
   takes_state a (requested.State p) ha hr = takes_agent a ha _ 134 347 (takes_asked (requested_state.State p)) (omega arith)

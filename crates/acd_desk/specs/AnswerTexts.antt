@@ -8,6 +8,8 @@ use Rattle.acd_codec.specs.declared.replies.Rejected.TheVariants as rejections
 use Rattle.acd_codec.specs.declared.fault.FixedAnswer.{FixedAnswer}
 use Rattle.acd_codec.specs.declared.fault.FixedAnswer.TheVariants as fixed
 use Rattle.acd_codec.specs.ReplyTexts.{malformed_text, fixed_status, fixed_text, rejected_status, rejected_text}
+use Rattle.acd_book.specs.declared.book.Book.{Ghosts}
+use Rattle.acd_desk.specs.declared.desk.Desk.{Desk}
 use Rattle.acd_desk.specs.declared.answer_text.AnswerText.{AnswerText}
 use Rattle.acd_desk.specs.declared.answer_text.AnswerText.TheVariants.{Made, Fixed}
 use Rattle.acd_desk.specs.declared.fault.DeskFault.{DeskFault}
@@ -15,7 +17,7 @@ use Rattle.acd_desk.specs.declared.fault.DeskFault.TheVariants as fault
 use Rattle.acd_desk.specs.declared.taken.Taken.{Taken}
 use Rattle.acd_desk.specs.declared.taken.Taken.TheVariants as taken
 use Rattle.acd_desk.specs.Accepted.{is_rejection}
-use Rattle.acd_desk.specs.Ran.{Standing, Took, Ran}
+use Rattle.acd_desk.specs.Ran.{Standing, standing, Took, Ran}
 use Rattle.acd_desk.specs.ReadAnswers.{text_read}
 
 -- the text for a client
@@ -38,6 +40,10 @@ malformed_said member = record { status = 400; body = malformed_text member }
 
 abbrev pub rejected_said : Request → Rejected → Said
 rejected_said r why = record { status = rejected_status why; body = rejected_text r.requester r.invoke why }
+
+-- the answer is this rejection, or its text finds no memory
+abbrev pub IsRejection : Request → Rejected → Said → Type 0
+IsRejection r why out = (out ≡ rejected_said r why) ⊎ (out ≡ fixed_said fixed.NoMemory)
 
 -- the answer of the desk to a request
 abbrev pub taken_said : Request → Taken → Said
@@ -69,3 +75,7 @@ pub record SaysOf (old : Standing) (a : Arrival) (out : Said) (new : Standing) :
   pub says : out ≡ taken_said a.request answer
   pub took : Took old a answer new
   pub ran : Ran old (a ∷ []) (answer ∷ []) new
+
+-- the same of a desk over a book, by the words of that book
+abbrev pub DeskSays : {B : Type 0} → Ghosts B → Desk B → Arrival → Said → Desk B → Type 0
+DeskSays book old a out new = SaysOf (standing book old) a out (standing book new)

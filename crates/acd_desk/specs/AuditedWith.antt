@@ -1,7 +1,8 @@
 -- The answer of a desk to an audit with an archive.
 use Rattle.std.specs.Prelude.{Result, Ok, Err, IfOk}
+use Rattle.acd_book.specs.Content.{Content}
 use Rattle.acd_book.specs.Order.{IsOrdered}
-use Rattle.acd_book.specs.State.{BookState, IfHonest}
+use Rattle.acd_book.specs.State.{BookState}
 use Rattle.acd_book.specs.declared.fault.BookFault.{BookFault}
 use Rattle.acd_book.specs.declared.fault.BookFault.TheVariants as book
 use Rattle.acd_desk.specs.declared.audit.Audit.{Audit}
@@ -14,7 +15,7 @@ use Rattle.acd_desk.specs.declared.pair.PairFault.TheVariants as pair
 use Rattle.acd_desk.specs.declared.working.Working.{Working}
 use Rattle.acd_desk.specs.AuditWith.{StandsInTime, IsAuditWith}
 use Rattle.acd_desk.specs.Faults.{fault_of, left_by}
-use Rattle.acd_desk.specs.Pairs.{by_opening}
+use Rattle.acd_desk.specs.Pairs.{by_opening, IfBothOpen}
 
 -- the desk's part: where the archive answered nothing, the desk has read no fault of its store
 abbrev pub desk_part : {T : Type 0} → Result T AuditFault → Result T DeskFault
@@ -37,8 +38,10 @@ abbrev pub left_by_pair : PairFault → Working → Working
 left_by_pair (pair.Current fault) w = left_by fault w
 left_by_pair (pair.Archive fault) w = w
 
+-- the audit of a content with its archive's: where this one stands in time, and the content in order
+abbrev pub AuditsInTime : Content → Content → Audit → Type 0
+AuditsInTime a c found = StandsInTime a → IsOrdered c → IsAuditWith a c found
+
 -- an answer is the audit of the open book's content, with that of the open archive: an archive that keeps to time, and a content in order
 abbrev pub IsAuditedWith : BookState → BookState → BookState → BookState → Result Audit AuditFault → Type 0
-IsAuditedWith old_archive new_archive old new result =
-    IfHonest old_archive new_archive (IfHonest old new (old_archive.is_open → old.is_open
-    → IfOk result (λ (found : Audit). StandsInTime old_archive.content → IsOrdered old.content → IsAuditWith old_archive.content old.content found)))
+IsAuditedWith old_archive new_archive old new result = IfBothOpen old_archive new_archive old new (IfOk result (AuditsInTime old_archive.content old.content))

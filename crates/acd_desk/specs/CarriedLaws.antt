@@ -50,7 +50,12 @@ pub record RanTogether (p : Archive) (start : Content) (arrivals : List Arrival)
   pub stops : (c : Content) → new.stops c → StopsAt (together p start) (accepted arrivals answers) (maybe_last arrivals answers) (together p c)
   pub sound_stops : (c : Content) → new.stops c → IsSound (together p c)
 
--- where a book leads from such a content by a run, it is kept
+-- where a run leads from such a content, that is kept
+abbrev pub LeadsTogether : Archive → Content → List Arrival → List Taken → BookState → Type 0
+LeadsTogether p start arrivals answers new =
+    Leads start arrivals answers new → IsSound (together p start) → NoneSentAgain p arrivals → RanTogether p start arrivals answers new
+
+-- so it is by each run of a book
 abbrev pub CarriedRuns : {B : Type 0} → Ghosts B → Type 0
 CarriedRuns {B} book = (p : Archive) (start : Content) (arrivals : List Arrival) (answers : List Taken) (new : B)
-    → Leads start arrivals answers (book.state new) → IsSound (together p start) → NoneSentAgain p arrivals → RanTogether p start arrivals answers (book.state new)
+    → LeadsTogether p start arrivals answers (book.state new)

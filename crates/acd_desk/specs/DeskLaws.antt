@@ -30,11 +30,15 @@ EmptyIsSound = (limits : Limits) → limits_fit limits ≡ true → IsSound (emp
 abbrev pub StaysSound : Type 0
 StaysSound = (c : Content) (a : Arrival) → IsSound c → IsSound (after c a)
 
+-- the first arrivals of the list that was kept at the start, followed by these
+abbrev pub firsts_after : Content → List Arrival → List Arrival
+firsts_after start list = firsts start.rows.limits.requests (arrivals_of start.kept ++ list)
+
 -- a run keeps the first arrivals of the list, each at its executed moment
 abbrev pub KeepsFirsts : Type 0
 KeepsFirsts = (start : Content) (list : List Arrival)
     → arrivals_of (ran_after start list).kept
-    ≡ raised_from (empty_content start.rows.limits) (firsts start.rows.limits.requests (arrivals_of start.kept ++ list))
+    ≡ raised_from (empty_content start.rows.limits) (firsts_after start list)
 
 -- the events of a sound content are in ascending number
 abbrev pub EventsInOrder : Type 0

@@ -18,8 +18,13 @@ AgainAddsNothing = (limit : ℕ) (a b c : List Arrival) → firsts limit (a ++ b
 abbrev pub FedHoldsTheLog : Type 0
 FedHoldsTheLog = (limits : Limits) (log : List Arrival) (reached : ℕ) (fed : List Arrival) → IsFed log reached fed → run limits fed ≡ run limits (take reached log)
 
--- two desks that were fed one log give the same answer to the request at each place that both have reached
+-- desks that were fed these give the same answer to the request at each place of the log that both have reached
+abbrev pub AnswerAlike : Limits → List Arrival → ℕ → ℕ → List Arrival → List Arrival → Type 0
+AnswerAlike limits log here there mine yours =
+    (before : List Arrival) (a : Arrival) (rest : List Arrival) → log ≡ before ++ a ∷ rest → length before < here → length before < there
+    → reply_to limits mine a.request ≡ reply_to limits yours a.request
+
+-- so do two desks that were fed one log
 abbrev pub DesksAgree : Type 0
 DesksAgree = (limits : Limits) (log : List Arrival) (here there : ℕ) (mine yours : List Arrival) → IsFed log here mine → IsFed log there yours
-    → (before : List Arrival) (a : Arrival) (rest : List Arrival) → log ≡ before ++ a ∷ rest → length before < here → length before < there
-    → reply_to limits mine a.request ≡ reply_to limits yours a.request
+    → AnswerAlike limits log here there mine yours

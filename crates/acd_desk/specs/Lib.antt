@@ -31,6 +31,7 @@ pub mod Rebuilding
 pub mod PageSizes
 pub mod GroupStates
 pub mod Pages
+pub mod BookReading
 pub mod KeyPlaces
 pub mod NameLaws
 pub mod CarriedLaws

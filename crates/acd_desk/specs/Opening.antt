@@ -1,17 +1,19 @@
 -- Opening a desk over a book: what it leaves.
-use Rattle.std.specs.Prelude.{◌≡◌, false, Some}
+use Rattle.std.specs.Prelude.{◌≡◌, false, Some, Result, MatchResult}
 use Rattle.acd_model.specs.Rules.First.{first_broken, BreaksNoRule}
 use Rattle.acd_switch.specs.declared.row_fault.RowFault.{RowFault}
 use Rattle.acd_switch.specs.declared.row_fault.RowFault.TheVariants as row
 use Rattle.acd_book.specs.declared.fault.BookFault.{BookFault}
 use Rattle.acd_book.specs.declared.fault.BookFault.TheVariants as book
+use Rattle.acd_book.specs.declared.book.Book.{Ghosts}
 use Rattle.acd_book.specs.Content.{IsCounted, Within, HasRisen}
 use Rattle.acd_book.specs.State.{BookState, IfHonest, BookStep, Unchanged}
 use Rattle.acd_desk.specs.declared.open_fault.OpenFault.{OpenFault}
 use Rattle.acd_desk.specs.declared.open_fault.OpenFault.TheVariants as fault
+use Rattle.acd_desk.specs.declared.desk.Desk.{Desk}
 use Rattle.acd_desk.specs.Stands.{IsSound}
 use Rattle.acd_desk.specs.Carried.{Archive, together}
-use Rattle.acd_desk.specs.Standing.{Standing, InStep, StartsWith}
+use Rattle.acd_desk.specs.Standing.{Standing, InStep, StartsWith, standing}
 
 -- a desk with the rows of its book, which break no rule
 pub record Opened (old : BookState) (new : Standing) : Type 0 where
@@ -59,3 +61,9 @@ pub record Refused (old : BookState) (why : OpenFault) (new : BookState) : Type 
   pub well : (p : Archive) → IfHonest old new (IsSound (together p old.content) → IsNoRule why)
   -- a failure was counted where the store has failed
   pub cause : why ≡ fault.Store → HasRisen old.failures new.failures
+
+-- a desk over the book; or none, and the book comes back
+abbrev pub Opens : {B : Type 0} → Ghosts B → B → Result (Desk B) (OpenFault × B) → Type 0
+Opens {B} words old result = MatchResult result
+    (λ (desk : Desk B). Opened (words.state old) (standing words desk))
+    (λ refused. Refused (words.state old) refused.0 (words.state refused.1))

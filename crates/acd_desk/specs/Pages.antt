@@ -1,5 +1,6 @@
 -- Events that were read ahead.
-use Rattle.std.specs.Prelude.{◌≡◌, ◌⊎◌, ℕ, ◌≤◌, ◌<◌, length, Result, IfOk, OnOk, IsErrOf}
+use Rattle.std.specs.Prelude.{◌≡◌, ◌⊎◌, ℕ, ◌≤◌, ◌<◌, length, Vec, Result, IfOk, OnOk, IsErrOf}
+use Rattle.acd_terms.specs.declared.event.Event.{Event}
 use Rattle.acd_book.specs.Content.{Content, events_after, Within, HasRisen}
 use Rattle.acd_book.specs.State.{BookState, IfHonest, BookStep, Unchanged}
 use Rattle.acd_book.specs.declared.fault.BookFault.{BookFault}
@@ -27,3 +28,11 @@ pub record ReadsIfOpen {A : Type 0} (old new : BookState) (result : Result A Boo
 -- a page of this content that has the first events above a number, so many
 abbrev pub Has : Content → Page → ℕ → ℕ → Type 0
 Has c p number count = IsPageOf c p × (events_after p.events.items number count ≡ events_after c.events number count)
+
+-- where the page is of the content, it comes to have them
+abbrev pub Extends : Page → Page → ℕ → ℕ → Content → Unit {0} → Type 0
+Extends old new number count c done = IsPageOf c old → Has c new number count
+
+-- where the page is of the content, they are given, and it stays a page of the content
+abbrev pub GivesEvents : {Z : Type 0} → Page → Page → ℕ → ℕ → Content → Vec Event Z → Type 0
+GivesEvents old new number count c found = IsPageOf c old → (found.items ≡ events_after c.events number count) × IsPageOf c new

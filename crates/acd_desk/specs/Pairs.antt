@@ -42,8 +42,26 @@ archive_part (Ok found) = Ok found
 archive_part (Err (Current fault)) = Err book.NoMemory
 archive_part {T = T} (Err (Archive fault)) = by_opening {T = T} (Err fault)
 
+-- it is said where both are honest over a call, and open before it
+abbrev pub IfBothOpen : BookState → BookState → BookState → BookState → Type 0 → Type 0
+IfBothOpen old_archive new_archive old new P = IfHonest old_archive new_archive (IfHonest old new (old_archive.is_open → old.is_open → P))
+
 -- reads of both, the archive first, where `IsAnswer a c found` says that this is found in the contents a and c
 pub record ReadsBoth {T : Type 0} (old_archive new_archive old new : BookState) (result : Result T PairFault) (IsAnswer : Content → Content → T → Type 0) : Type 0 where
   pub archive : ReadsIfOpen old_archive new_archive (archive_part result) (λ (a : Content) (found : T). Unit {0})
   pub current : ReadsIfOpen old new (current_part result) (λ (c : Content) (found : T). Unit {0})
-  pub value : IfHonest old_archive new_archive (IfHonest old new (old_archive.is_open → old.is_open → IfOk result (IsAnswer old_archive.content old.content)))
+  pub value : IfBothOpen old_archive new_archive old new (IfOk result (IsAnswer old_archive.content old.content))
+
+-- ---- of two books, by what each says of itself
+
+-- what a book says of itself before a call, and after it
+pub record BookCall : Type 1 where
+  pub old : BookState
+  pub new : BookState
+
+abbrev pub across : {B : Type 0} → (B → BookState) → B → B → BookCall
+across state old new = record { old = state old; new = state new }
+
+-- reads of the archive and the book
+abbrev pub BothRead : {T : Type 0} → BookCall → BookCall → Result T PairFault → (Content → Content → T → Type 0) → Type 0
+BothRead archive current result IsAnswer = ReadsBoth archive.old archive.new current.old current.new result IsAnswer

@@ -6,6 +6,7 @@ use Rattle.acd_terms.specs.declared.command.Arrival.{Arrival}
 use Rattle.acd_model.specs.Changes.{rows_made}
 use Rattle.acd_model.specs.Rules.First.{BreaksNoRule}
 use Rattle.acd_model.specs.declared.moves.Change.{Change}
+use Rattle.acd_switch.specs.declared.switch.Executed.{Executed}
 use Rattle.acd_book.specs.declared.kept.Kept.{Kept}
 use Rattle.acd_desk.specs.Firsts.{stepped, record_of}
 
@@ -16,3 +17,7 @@ pub record Prepared (rows : Rows) (a : Arrival) (changes : List Change) (events 
   pub events_are : events ≡ (stepped rows a).events
   pub kept_is : kept ≡ record_of rows a
   pub rules : BreaksNoRule next
+
+-- the same, by what the switch executed and the record that is to be kept
+abbrev pub HasExecuted : Rows → Arrival → Rows → Executed × Kept → Type 0
+HasExecuted rows a next done = Prepared rows a done.0.changes.items done.0.events.items done.1 next

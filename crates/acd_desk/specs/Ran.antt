@@ -13,7 +13,7 @@ use Rattle.acd_desk.specs.Replies.{answer_in, after}
 use Rattle.acd_desk.specs.Accepted.{is_fault, is_reply, accepted, maybe_last, sent}
 use Rattle.acd_desk.specs.Stands.{IsSound, ran_after, replies, StopsAt}
 pub use Rattle.acd_desk.specs.Standing.{Standing, standing}
-use Rattle.acd_desk.specs.Standing.{InStep, Starts}
+use Rattle.acd_desk.specs.Standing.{InStep, Starts, with_new_key}
 use Rattle.acd_desk.specs.Laws.{KeepsLaws}
 use Rattle.acd_desk.specs.Leads.{Leads}
 
@@ -112,6 +112,10 @@ pub record Ran (old : Standing) (arrivals : List Arrival) (answers : List Taken)
 
 abbrev pub DeskTook : {B : Type 0} → Ghosts B → Desk B → Arrival → Taken → Desk B → Type 0
 DeskTook book old a t new = Took (standing book old) a t (standing book new)
+
+-- the same of a request with a new key
+abbrev pub TookNew : {B : Type 0} → Ghosts B → Desk B → Arrival → Taken → Desk B → Type 0
+TookNew book old a t new = Took (with_new_key (standing book old) a.request) a t (standing book new)
 
 abbrev pub DeskRan : {B : Type 0} → Ghosts B → Desk B → List Arrival → List Taken → Desk B → Type 0
 DeskRan book old arrivals answers new = Ran (standing book old) arrivals answers (standing book new)

@@ -1,8 +1,8 @@
 -- The reads of a desk as functions of its content: a text, or none where there is no such thing.
-use Rattle.std.specs.Prelude.{ℕ, ◌<◌, List, [], ◌∷◌, map, filter, max, nat_lt, Bool, true, false, Option, Some, None, is_some, option_map, String, string_bytes, if◌then◌else◌}
+use Rattle.std.specs.Prelude.{◌≡◌, ℕ, ◌<◌, List, [], ◌∷◌, ◌++◌, length, map, filter, max, nat_lt, Bool, true, false, Option, Some, None, is_some, option_map, String, string_bytes, if◌then◌else◌}
 use Rattle.std.specs.declared.cmp.Ordering.{Ordering}
 use Rattle.acd_terms.specs.Lists.{put_by}
-use Rattle.acd_terms.specs.Numbers.{Device, Agent, CallId, MonitorId, Moment, EventNumber}
+use Rattle.acd_terms.specs.Numbers.{Device, Agent, CallId, MonitorId, Moment, Stamp, EventNumber}
 use Rattle.acd_terms.specs.declared.rows.Rows.{Rows}
 use Rattle.acd_terms.specs.declared.record.GroupRecord.{GroupRecord}
 use Rattle.acd_terms.specs.declared.record.StationRecord.{StationRecord}
@@ -10,7 +10,8 @@ use Rattle.acd_terms.specs.declared.record.AgentRecord.{AgentRecord}
 use Rattle.acd_terms.specs.declared.record.CallRecord.{CallRecord}
 use Rattle.acd_terms.specs.declared.record.ConnectionRecord.{ConnectionRecord}
 use Rattle.acd_terms.specs.declared.event.Event.{Event}
-use Rattle.acd_model.specs.Scans.{group_of, agent_of, call_of, monitor_of, is_group, is_station, agent_at, connections_of, waiting_in, eligible_in}
+use Rattle.std.specs.List.{filter_map}
+use Rattle.acd_model.specs.Scans.{group_of, agent_of, call_of, connection_of, monitor_of, is_group, is_station, agent_at, connections_of, waiting_in, eligible_in}
 use Rattle.acd_model.specs.Choice.{waiting_pair, ready_pair}
 use Rattle.acd_tables.specs.Indexed.{pair_cmp}
 use Rattle.acd_tables.specs.AtDevice.{connections_at}
@@ -26,6 +27,7 @@ use Rattle.acd_reports.specs.QueueReport.{queue_report}
 use Rattle.acd_reports.specs.Export.{events_csv, records_text}
 use Rattle.acd_book.specs.declared.kept.Kept.{Kept}
 use Rattle.acd_book.specs.Content.{Content, events_after, records_after, events_of_monitor}
+use Rattle.acd_desk.specs.Stands.{IsSound}
 use Rattle.acd_desk.specs.RequestPages.{requests_text}
 use Rattle.acd_desk.specs.declared.question.Question.{Question}
 use Rattle.acd_desk.specs.declared.question.Question.TheVariants as ask
@@ -68,6 +70,10 @@ by_place x y = pair_cmp (waiting_pair x) (waiting_pair y)
 
 unfoldable pub queue_in : Rows → Device → List ConnectionRecord
 queue_in s group = in_order by_place (waiting_in s group)
+
+-- the connections in a group of these calls, each by its place and its number
+abbrev pub connections_in : Rows → Device → List (Stamp × CallId) → List ConnectionRecord
+connections_in s group places = filter_map (λ (p : Stamp × CallId). connection_of s p.1 group) places
 
 -- its eligible agents, by stamp and then by number
 abbrev pub by_stamp : AgentRecord → AgentRecord → Ordering
@@ -164,6 +170,14 @@ is_plain (ask.Requests after) = false
 is_plain ask.Report = true
 is_plain ask.Snapshot = false
 
+-- the number of the last event, where the monitor is running
+abbrev pub last_event_for : MonitorId → Content → Option EventNumber
+last_event_for monitor c = if is_some (monitor_of c.rows monitor) then Some c.rows.last_event else None
+
+-- the number of the kept records of a sound content
+abbrev pub CountsKept : Content → ℕ → Type 0
+CountsKept c count = IsSound c → count ≡ length c.kept
+
 -- all events in CSV
 abbrev pub export_read : Content → Option (List ℕ)
 export_read c = Some (events_csv c.events)
@@ -181,3 +195,12 @@ above events number = filter (λ (e : Event). nat_lt number e.number) events
 abbrev pub records_left : List Event → Option EventNumber → List ℕ
 records_left events None = []
 records_left events (Some last) = records_text (above events last)
+
+-- a page is written: with the records above its last one the text is as before, followed by all records above the number
+abbrev pub WritesPage : {Z : Type 0} → String Z → String Z → EventNumber → Content → Option EventNumber → Type 0
+WritesPage old new after c last =
+    Rise 0 c.events → string_bytes new ++ records_left c.events last ≡ string_bytes old ++ records_text (above c.events after)
+
+-- the text is the export of all events, where they stand in ascending number
+abbrev pub IsExport : {Z : Type 0} → Content → Option (String Z) → Type 0
+IsExport c text = Rise 0 c.events → text_read text ≡ export_read c

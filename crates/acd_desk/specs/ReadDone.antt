@@ -1,13 +1,15 @@
 -- A read of a desk: what it leaves.
-use Rattle.std.specs.Prelude.{◌≡◌, ℕ, true, false, List, Option, None, Result, Err, IfOk, OnOk, IsErrOf, String}
+use Rattle.std.specs.Prelude.{◌≡◌, ℕ, true, false, List, Vec, Option, None, Result, Err, IfOk, OnOk, IsErrOf, MatchResult, String}
 use Rattle.acd_book.specs.declared.book.Book.{Ghosts}
 use Rattle.acd_book.specs.Content.{Content}
 use Rattle.acd_book.specs.State.{IfHonest, BookStep, Unchanged}
 use Rattle.acd_desk.specs.declared.fault.DeskFault.{DeskFault}
 use Rattle.acd_desk.specs.declared.fault.DeskFault.TheVariants.{StoreFault}
 use Rattle.acd_desk.specs.declared.desk.Desk.{Desk}
-use Rattle.acd_desk.specs.Standing.{Standing, InStep, standing}
+use Rattle.acd_desk.specs.declared.working.LoadedSwitch.{LoadedSwitch}
+use Rattle.acd_desk.specs.Standing.{Standing, InStep, standing, holding}
 use Rattle.acd_desk.specs.Ran.{DeskStep}
+use Rattle.acd_desk.specs.Reread.{Reread}
 use Rattle.acd_desk.specs.ReadAnswers.{text_read}
 
 -- a read, where `IsAnswer c found` says that this is the answer of that content
@@ -35,6 +37,22 @@ ReadFailed old fault new = ReadDone {A = Unit {0}} old new (Err fault) (λ c fou
 abbrev pub DeskRead : {B A : Type 0} → Ghosts B → Desk B → Desk B → Result A DeskFault → (Content → A → Type 0) → Type 0
 DeskRead book old new result IsAnswer = ReadDone (standing book old) (standing book new) result IsAnswer
 
+-- it finds just this of the content
+abbrev pub DeskFinds : {B A : Type 0} → Ghosts B → Desk B → Desk B → Result A DeskFault → (Content → A) → Type 0
+DeskFinds {A = A} book old new result answer = DeskRead book old new result (λ (c : Content) (found : A). found ≡ answer c)
+
+-- it finds just this list
+abbrev pub DeskLists : {B T Z : Type 0} → Ghosts B → Desk B → Desk B → Result (Vec T Z) DeskFault → (Content → List T) → Type 0
+DeskLists {T = T} {Z = Z} book old new result answer = DeskRead book old new result (λ (c : Content) (found : Vec T Z). found.items ≡ answer c)
+
 -- a text, or none where there is no such thing
 abbrev pub DeskReadText : {B Z : Type 0} → Ghosts B → Desk B → Desk B → Result (Option (String Z)) DeskFault → (Content → Option (List ℕ)) → Type 0
 DeskReadText {B} {Z} book old new result read = DeskRead book old new result (λ (c : Content) (text : Option (String Z)). text_read text ≡ read c)
+
+-- a switch with the book's rows is taken out of the desk, or read of the book
+abbrev pub HasTaken : {B : Type 0} → Ghosts B → Desk B → Desk B → LoadedSwitch → Type 0
+HasTaken book old new taken = Reread (standing book old) (holding (standing book new) taken.switch.value)
+
+-- it is, or the read fails
+abbrev pub TakesSwitch : {B : Type 0} → Ghosts B → Desk B → Result LoadedSwitch DeskFault → Desk B → Type 0
+TakesSwitch book old result new = MatchResult result (HasTaken book old new) (λ (fault : DeskFault). ReadFailed (standing book old) fault (standing book new))

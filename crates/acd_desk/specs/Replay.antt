@@ -1,5 +1,6 @@
 -- How far the replay of a content has come.
-use Rattle.std.specs.Prelude.{◌≡◌, ◌⊎◌, ◌+◌, take, Bool, true, false, List, [], ◌++◌, length, Option, Some, None, option_map}
+use Rattle.std.specs.Prelude.{◌≡◌, ◌⊎◌, ℕ, ◌+◌, ◌≤◌, take, Bool, true, false, List, [], ◌++◌, length, Option, Some, None, IfSome, option_map}
+use Rattle.std.specs.Bool.{Decides}
 use Rattle.acd_terms.specs.Limits.{limits_fit}
 use Rattle.acd_terms.specs.declared.rows.Rows.{Rows}
 use Rattle.acd_terms.specs.declared.event.Event.{Event}
@@ -52,9 +53,17 @@ pub record Replays (c : Content) (s : Rows) : Type 0 where
 abbrev pub IsFirstOfKey : Content → Kept → Type 0
 IsFirstOfKey c k = option_map stamp_of (kept_of c.kept k.request.requester k.request.invoke) ≡ Some k.stamp
 
--- the events above the last one are first of all these
+-- the events above a number are first of all these
+abbrev pub ComeNext : Content → ℕ → List Event → Type 0
+ComeNext c last events = events_after c.events last (length events) ≡ events
+
+-- so are those above the last one
 abbrev pub HasNext : Content → Rows → List Event → Type 0
-HasNext c s events = events_after c.events s.last_event (length events) ≡ events
+HasNext c s events = ComeNext c s.last_event events
+
+-- a record is the one that is expected, the first of its key, and these events come above a number
+abbrev pub IsExpected : Kept → Kept → ℕ → List Event → Content → Type 0
+IsExpected k expected last events c = (k ≡ expected) × IsFirstOfKey c k × ComeNext c last events
 
 -- a record is the one that a step from these rows keeps of its request, and the step's events are there
 pub record Matches (c : Content) (s : Rows) (k : Kept) : Type 0 where
@@ -80,6 +89,18 @@ pub record Knows (c : Content) (keys : SeenKeys) (p : Page) (k : Kept) : Type 0 
   pub finds : FindsFirst c keys k
   pub page : IsPageOf c p
 
+-- where the notes tell it of each record that isn't noted, it is found whether this one is the first of its key
+abbrev pub DecidesFirst : SeenKeys → Kept → Content → Bool → Type 0
+DecidesFirst keys k c found = FindsFirst c keys k → Decides found (IsFirstOfKey c k)
+
+-- where the page is of the content, it is found whether these events come above a number, and it stays a page of the content
+abbrev pub DecidesNext : Page → Page → ℕ → List Event → Content → Bool → Type 0
+DecidesNext old new last events c found = IsPageOf c old → IsPageOf c new × Decides found (ComeNext c last events)
+
+-- where so much is known before, it is found whether this holds, and the page stays one of the content
+abbrev pub DecidesKnown : SeenKeys → Page × Page → Kept → (Content → Type 0) → Content → Bool → Type 0
+DecidesKnown keys pages k P c found = Knows c keys pages.0 k → IsPageOf c pages.1 × Decides found (P c)
+
 -- its switch replays the first records, it has seen their keys, and its page is of the content
 pub record Goes (c : Content) (r : Course) : Type 0 where
   pub replays : Replays c (rows_of r)
@@ -101,6 +122,18 @@ pub record GoesOn (c : Content) (r : Course) (k : Kept) (next : Course) : Type 0
 abbrev pub IsReplayed : Content → Course → Kept → Option Course → Type 0
 IsReplayed c r k None = ¬ Matches c (rows_of r) k
 IsReplayed c r k (Some next) = Matches c (rows_of r) k × GoesOn c r k next
+
+-- the same where so much is known before
+abbrev pub Plays : Course → Kept → Content → Option Course → Type 0
+Plays r k c found = Knows c r.keys r.page k → IsReplayed c r k found
+
+-- the switch made one step more, where the record was replayed
+abbrev pub StepsOn : Rows → Kept → Option Course → Type 0
+StepsOn s k played = IfSome played (λ (next : Course). rows_of next ≡ (stepped s (again k)).rows)
+
+-- a course that begins has replayed nothing, and its limit of requests is one that fits
+abbrev pub BeginsEmpty : Option Course → Type 0
+BeginsEmpty found = IfSome found (λ (first : Course). ((rows_of first).last_stamp ≡ 0) × ((rows_of first).limits.requests ≤ 1000000000))
 
 -- the result of a step of the replay from there
 abbrev pub IsStep : Content → Course → Step → Type 0

@@ -1,5 +1,5 @@
 -- A session over a book: a desk is opened, runs and is closed.
-use Rattle.std.specs.Prelude.{◌≡◌, false, List, [], ◌∷◌, length}
+use Rattle.std.specs.Prelude.{◌≡◌, false, List, [], ◌∷◌, length, Vec}
 use Rattle.std.specs.List.{Contains}
 use Rattle.acd_terms.specs.declared.command.Arrival.{Arrival}
 use Rattle.acd_model.specs.Rules.First.{BreaksNoRule}
@@ -13,7 +13,8 @@ use Rattle.acd_desk.specs.declared.session.SessionFault.{SessionFault}
 use Rattle.acd_desk.specs.declared.session.SessionFault.TheVariants as session
 use Rattle.acd_desk.specs.Accepted.{is_fault, accepted, maybe_last, sent}
 use Rattle.acd_desk.specs.Stands.{IsSound, replies, StopsAt}
-use Rattle.acd_desk.specs.Ran.{EndsIn, Holds}
+use Rattle.acd_desk.specs.Ran.{EndsIn, IsStoreFault, Holds}
+use Rattle.acd_desk.specs.Opening.{Refused}
 use Rattle.acd_desk.specs.Leads.{Leads}
 
 -- this is said where the book was honest and its content sound
@@ -57,3 +58,13 @@ refusal session.NoRoom = fault.NoMemory
 -- a reopening finds what an open book held, and nothing else
 abbrev pub LeavesContent : BookState → BookState → Type 0
 LeavesContent old new = IfHonest old new (old.is_open → (c : Content) → new.stops c → c ≡ old.content)
+
+-- ---- of a session over a book, by what the book says of itself
+
+-- it gives the answers and the book
+abbrev pub RanOver : {B Z : Type 0} → (B → BookState) → B → List Arrival → Vec Taken Z × B → Type 0
+RanOver state old arrivals done = Session IsStoreFault (state old) arrivals done.0.items (state done.1)
+
+-- or why it executed nothing, and the book
+abbrev pub RefusedOver : {B : Type 0} → (B → BookState) → B → SessionFault × B → Type 0
+RefusedOver state old refused = Refused (state old) (refusal refused.0) (state refused.1)

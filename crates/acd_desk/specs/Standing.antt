@@ -7,6 +7,7 @@ use Rattle.acd_book.specs.declared.book.Book.{Ghosts}
 use Rattle.acd_book.specs.Content.{IsCounted}
 use Rattle.acd_book.specs.State.{BookState}
 use Rattle.acd_desk.specs.declared.desk.Desk.{Desk}
+use Rattle.acd_desk.specs.declared.working.LoadedSwitch.{LoadedSwitch}
 use Rattle.acd_desk.specs.declared.working.Working.{Working}
 use Rattle.acd_desk.specs.declared.working.Working.TheVariants.{Loaded, Unloaded, Failed}
 use Rattle.acd_desk.specs.Stands.{IsNew, IsSound}
@@ -32,6 +33,10 @@ is_failed Failed = true
 -- by the words of its book
 abbrev pub standing : {B : Type 0} → Ghosts B → Desk B → Standing
 standing book d = record { book = book.state d.book; switch = switch_of d.working; failed = is_failed d.working }
+
+-- the same desk with this switch in memory
+abbrev pub with_switch : {B : Type 0} → Desk B → LoadedSwitch → Desk B
+with_switch d loaded = record d { working = Loaded loaded }
 
 abbrev pub book_of : {B : Type 0} → Desk B → B
 book_of d = d.book

@@ -8,10 +8,14 @@ use Rattle.acd_desk.specs.Stands.{arrivals_of, IsSound}
 use Rattle.acd_desk.specs.Leads.{led}
 use Rattle.acd_desk.specs.Carried.{Archive, together, joined, NoneSentAgain}
 
+-- each of these events is before each of these records
+abbrev pub ComeBefore : List Event → List Kept → Type 0
+ComeBefore events kept = Every (λ (e : Event). Every (λ (k : Kept). e.moment < k.moment) kept) events
+
 -- the archive in two: the part left there, and the part carried over, with all events of its requests
 pub record IsCut (a : Content) (left : Archive) (carried : Content) : Type 0 where
   pub whole : a ≡ together left carried
-  pub events : Every (λ (e : Event). Every (λ (k : Kept). e.moment < k.moment) carried.kept) left.events
+  pub events : ComeBefore left.events carried.kept
 
 -- the content has the archive's last records as they are, and what its newer requests make of the archive's rows, counters and keys
 pub record IsSoundWith (a c : Content) : Type 0 where

@@ -1,9 +1,8 @@
 //! Answers in text.
 
-ghost use Rattle.std.specs.Prelude.{◌≡◌, ◌⊎◌};
+ghost use Rattle.std.specs.Prelude.{◌≡◌};
 ghost use Rattle.acd_desk.specs.Arrived.{at};
-ghost use Rattle.acd_desk.specs.Standing.{standing};
-ghost use Rattle.acd_desk.specs.AnswerTexts.{rejected_said, fixed_said, said, IsSaid, SaysOf};
+ghost use Rattle.acd_desk.specs.AnswerTexts.{said, IsRejection, IsSaid, DeskSays};
 
 use crate::desk::Desk;
 use crate::fault::DeskFault;
@@ -82,8 +81,7 @@ impl AnswerText {
 
 // The text takes memory, and where there is none the answer is noMemory.
 fn rejected(alloc: Global, request: &Request, why: Rejected) -> AnswerText
-    ensures { (said result ≡ rejected_said request.now why)
-        ⊎ (said result ≡ fixed_said FixedAnswer.NoMemory) }
+    ensures { IsRejection request.now why (said result) }
 {
     match rejected_text(alloc, &request.requester, request.invoke, why) {
         Ok(body) => AnswerText::Made {
@@ -111,8 +109,7 @@ impl<B: Book> Desk<B> {
     /// Executes one arrival, as [`Desk::take`] does, and answers it in text. Where the text of a rejection finds no
     /// memory the answer is noMemory.
     pub fn take_text(&mut self, moment: u32, request: &Request) -> AnswerText
-        ensures { SaysOf (standing B.Book self.old) (at moment request.now) (said result)
-            (standing B.Book self.new) }
+        ensures { DeskSays B.Book self.old (at moment request.now) (said result) self.new }
     {
         let taken = self.take(moment, request);
         text_of(self.alloc, request, taken)

@@ -3,7 +3,7 @@
 ghost use Rattle.acd_desk.specs.Standing.{book_of};
 ghost use Rattle.acd_desk.specs.ReadDone.{DeskRead};
 ghost use Rattle.acd_desk.specs.Audit.{IsAudited, FindsSound};
-ghost use Rattle.acd_desk.specs.Pages.{ReadsIfOpen};
+ghost use Rattle.acd_desk.specs.BookReading.{Anything, MayRead};
 ghost use Rattle.std.specs.Prelude.{◌≡◌};
 ghost use Rattle.acd_desk.specs.AuditedWith.{desk_part, archive_part, audit_fault, left_by_pair, IsAuditedWith};
 
@@ -42,7 +42,7 @@ impl<B: Book> Desk<B> {
     /// Runs the kept requests again, each at the moment that its record holds, and compares what they give
     /// with what the book holds. It changes nothing, and its memory doesn't grow with the number of requests.
     pub fn audit(&mut self) -> Result<Audit, DeskFault>
-        ensures read { DeskRead B.Book self.old self.new result (λ c found. Unit {0}) }
+        ensures read { DeskRead B.Book self.old self.new result Anything }
         ensures audited { IsAudited (B.state (book_of self.old))
             (B.state (book_of self.new)) result }
         ensures sound { FindsSound (B.state (book_of self.old))
@@ -61,9 +61,8 @@ impl<B: Book> Desk<B> {
     /// its records have to be those of the archive, and the newer ones are run again from the archive's state on. It
     /// changes nothing in either.
     pub fn audit_with<A: Book>(&mut self, archive: &mut A) -> Result<Audit, AuditFault>
-        ensures read { DeskRead B.Book self.old self.new (desk_part result) (λ c found. Unit {0}) }
-        ensures archive { ReadsIfOpen (A.state archive.old) (A.state archive.new)
-            (archive_part result) (λ a found. Unit {0}) }
+        ensures read { DeskRead B.Book self.old self.new (desk_part result) Anything }
+        ensures archive { MayRead A.state archive.old archive.new (archive_part result) Anything }
         ensures audited { IsAuditedWith (A.state archive.old) (A.state archive.new)
             (B.state (book_of self.old)) (B.state (book_of self.new)) result }
     {

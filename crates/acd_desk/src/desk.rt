@@ -1,14 +1,13 @@
 //! A desk over a book.
 
-ghost use Rattle.std.specs.Prelude.{◌≡◌, [], ◌∷◌, OnOk, OnErr, IfOk, MatchResult};
+ghost use Rattle.std.specs.Prelude.{◌≡◌, [], ◌∷◌, OnOk, OnErr, IfOk};
 ghost use Rattle.acd_desk.specs.Arrived.{at};
-ghost use Rattle.acd_desk.specs.Standing.{standing, book_of, holding, with_new_key};
+ghost use Rattle.acd_desk.specs.Standing.{standing, book_of, with_switch};
 ghost use Rattle.acd_terms.specs.Lists.{Every};
-ghost use Rattle.acd_desk.specs.Ran.{Took, DeskTook, DeskRan, HasFailed, EndsIn, IsStoreFault};
-ghost use Rattle.acd_desk.specs.Reread.{Reread};
-ghost use Rattle.acd_desk.specs.ReadDone.{ReadFailed};
+ghost use Rattle.acd_desk.specs.Ran.{TookNew, DeskTook, DeskRan, HasFailed, EndsIn, IsStoreFault};
+ghost use Rattle.acd_desk.specs.ReadDone.{TakesSwitch};
 ghost use Rattle.acd_desk.specs.Faults.{answer_to, fault_of, left_by};
-ghost use Rattle.acd_desk.specs.Opening.{Opened, Refused};
+ghost use Rattle.acd_desk.specs.Opening.{Opens};
 ghost use Rattle.acd_desk.specs.Replies.{answer_of};
 
 use crate::executing::{executed, loaded};
@@ -57,10 +56,7 @@ impl<B: Book> Desk<B> {
     fn load(&mut self) -> Result<LoadedSwitch, DeskFault>
         requires { self.old.working ≡ Working.Unloaded }
         ensures out { OnOk result (self.new.working ≡ Working.Unloaded) }
-        ensures loaded { MatchResult result
-            (λ taken. Reread (standing B.Book self.old)
-            (holding (standing B.Book self.new) taken.switch.value))
-            (λ fault. ReadFailed (standing B.Book self.old) fault (standing B.Book self.new)) }
+        ensures loaded { TakesSwitch B.Book self.old result self.new }
     {
         let rows = match self.book.rows() {
             Ok(rows) => rows,
@@ -75,10 +71,7 @@ impl<B: Book> Desk<B> {
     // Moves the switch out of memory, or loads it. Where it isn't put back, the desk is unloaded.
     pub(crate) fn switch_out(&mut self) -> Result<LoadedSwitch, DeskFault>
         ensures out { OnOk result (self.new.working ≡ Working.Unloaded) }
-        ensures loaded { MatchResult result
-            (λ taken. Reread (standing B.Book self.old)
-            (holding (standing B.Book self.new) taken.switch.value))
-            (λ fault. ReadFailed (standing B.Book self.old) fault (standing B.Book self.new)) }
+        ensures loaded { TakesSwitch B.Book self.old result self.new }
     {
         match mem::replace(&mut self.working, Working::Unloaded) {
             Working::Loaded(loaded) => Ok(loaded),
@@ -90,9 +83,8 @@ impl<B: Book> Desk<B> {
     // The key isn't kept, and the switch is out of the desk.
     fn execute_on(&mut self, loaded: LoadedSwitch, moment: u32, request: &Request) -> Taken
         requires { self.old.working ≡ Working.Unloaded }
-        ensures { Took
-            (with_new_key (holding (standing B.Book self.old) loaded.switch.value) request.now)
-            (at moment request.now) result (standing B.Book self.new) }
+        ensures { TookNew B.Book (with_switch self.old loaded) (at moment request.now) result
+            self.new }
     {
         let LoadedSwitch { mut switch } = loaded;
         if switch.is_full() {
@@ -113,8 +105,7 @@ impl<B: Book> Desk<B> {
 
     // The key isn't kept.
     fn execute(&mut self, moment: u32, request: &Request) -> Taken
-        ensures { Took (with_new_key (standing B.Book self.old) request.now)
-            (at moment request.now) result (standing B.Book self.new) }
+        ensures { TookNew B.Book self.old (at moment request.now) result self.new }
     {
         match self.switch_out() {
             Ok(loaded) => self.execute_on(loaded, moment, request),
@@ -152,8 +143,8 @@ impl<B: Book> Desk<B> {
     /// Executes the arrivals in turn. Where there is no room for the answers, nothing was executed. After a storeFault
     /// nothing else is answered.
     pub fn run(&mut self, arrivals: &[Arrival]) -> Result<Vec<Taken>, AllocError>
-        ensures ran { IfOk result (λ answers.
-            DeskRan B.Book self.old arrivals.now answers.items self.new) }
+        ensures ran { IfOk result
+            (λ taken. DeskRan B.Book self.old arrivals.now taken.items self.new) }
         ensures later { IfOk result (λ answers. EndsIn IsStoreFault answers.items) }
         ensures shut { IfOk result (λ answers.
             HasFailed B.Book self.old → Every IsStoreFault answers.items) }
@@ -169,9 +160,7 @@ impl<B: Book> Desk<B> {
 
     /// A desk over a book whose rows break no rule. It changes nothing.
     pub fn open(alloc: Global, mut book: B) -> Result<Desk<B>, (OpenFault, B)>
-        ensures { MatchResult result
-            (λ desk. Opened (B.state book) (standing B.Book desk))
-            (λ fault. Refused (B.state book) fault.0 (B.state fault.1)) }
+        ensures { Opens B.Book book result }
     {
         let rows = match book.rows() {
             Ok(rows) => rows,

@@ -4,7 +4,7 @@ ghost use Rattle.std.specs.Prelude.{◌≡◌, ◌<◌, IfOk, IfErr};
 ghost use Rattle.acd_model.specs.Rules.First.{BreaksNoRule};
 ghost use Rattle.acd_desk.specs.Arrived.{at};
 ghost use Rattle.acd_desk.specs.Firsts.{kept_at};
-ghost use Rattle.acd_desk.specs.Prepared.{Prepared};
+ghost use Rattle.acd_desk.specs.Prepared.{HasExecuted};
 
 use crate::working::LoadedSwitch;
 use acd_book::{BookFault, Kept, Text};
@@ -34,9 +34,7 @@ pub(crate) fn executed(
 ) -> Result<(Executed, Kept), AllocError>
     requires rules { BreaksNoRule switch.old }
     requires room { switch.old.last_stamp < switch.old.limits.requests }
-    ensures { IfOk result
-        (λ r. Prepared switch.old (at moment request.now) r.0.changes.items r.0.events.items r.1
-        switch.new) }
+    ensures { IfOk result (HasExecuted switch.old (at moment request.now) switch.new) }
 {
     let done = switch.step_with_changes(moment, &request.command)?;
     let body = reply_text(alloc, &request.requester, request.invoke, done.outcome)?;

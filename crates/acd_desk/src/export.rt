@@ -1,9 +1,8 @@
 //! The export of a desk's events, read page by page.
 
-ghost use Rattle.std.specs.Prelude.{◌≡◌, ◌++◌, string_bytes};
-ghost use Rattle.acd_reports.specs.Export.{records_text};
+ghost use Rattle.acd_desk.specs.BookReading.{Anything};
 ghost use Rattle.acd_desk.specs.ReadDone.{DeskRead};
-ghost use Rattle.acd_desk.specs.ReadAnswers.{text_read, export_read, Rise, above, records_left};
+ghost use Rattle.acd_desk.specs.ReadAnswers.{WritesPage, IsExport};
 
 use crate::desk::Desk;
 use crate::fault::DeskFault;
@@ -17,7 +16,7 @@ const PAGE: usize = 1000;
 impl<B: Book> Desk<B> {
     // It hasn't failed.
     fn still_works(&mut self) -> Result<(), DeskFault>
-        ensures { DeskRead B.Book self.old self.new result (λ c found. Unit {0}) }
+        ensures { DeskRead B.Book self.old self.new result Anything }
     {
         if let Working::Failed = self.working {
             return Err(DeskFault::StoreFault);
@@ -28,9 +27,8 @@ impl<B: Book> Desk<B> {
     // Writes the records of the first events above a number, and gives the number of the last one. Where it gives
     // none, there are no more.
     fn export_page(&mut self, export: &mut String, after: u64) -> Result<Option<u64>, DeskFault>
-        ensures { DeskRead B.Book self.old self.new result (λ c last. Rise 0 c.events
-            → string_bytes export.new ++ records_left c.events last
-            ≡ string_bytes export.old ++ records_text (above c.events after)) }
+        ensures { DeskRead B.Book self.old self.new result
+            (WritesPage export.old export.new after) }
     {
         let events = self.first_events(after, PAGE)?;
         let last = match events.last() {
@@ -44,8 +42,7 @@ impl<B: Book> Desk<B> {
     /// All events in CSV, in ascending number. There always is an export. Beside its text it holds a page of the
     /// events at a time.
     pub fn export(&mut self) -> Result<Option<String>, DeskFault>
-        ensures { DeskRead B.Book self.old self.new result (λ c text.
-            Rise 0 c.events → text_read text ≡ export_read c) }
+        ensures { DeskRead B.Book self.old self.new result IsExport }
     {
         self.still_works()?;
         let mut export = String::from_str(self.alloc, export_header())?;

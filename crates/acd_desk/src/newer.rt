@@ -1,15 +1,11 @@
 //! The requests of a book that are newer than its archive run again, from the archive's state on.
 
-ghost use Rattle.std.specs.Prelude.{◌≡◌, ◌+◌, ◌<◌, is_some, IfOk, IfSome};
-ghost use Rattle.acd_book.specs.Content.{kept_of};
-ghost use Rattle.acd_book.specs.State.{Reads};
-ghost use Rattle.acd_desk.specs.Firsts.{stepped};
-ghost use Rattle.acd_desk.specs.Pages.{ReadsIfOpen};
-ghost use Rattle.acd_desk.specs.Pairs.{ReadsBoth, by_opening};
-ghost use Rattle.acd_desk.specs.AuditWith.{IsAuditWith};
-ghost use Rattle.acd_desk.specs.Overlap.{AreInOrder};
-ghost use Rattle.acd_desk.specs.Replay.{again, CountsOne};
-ghost use Rattle.acd_desk.specs.ReplayWith.{KnowsWith, BeginsWith, IsReplayedWith, IsStepWith};
+ghost use Rattle.std.specs.Prelude.{◌≡◌, ◌+◌, ◌<◌, IfOk};
+ghost use Rattle.acd_book.specs.State.{BookFinds};
+ghost use Rattle.acd_desk.specs.BookReading.{MayRead};
+ghost use Rattle.acd_desk.specs.Pairs.{BothRead, across, by_opening};
+ghost use Rattle.acd_desk.specs.Replay.{CountsOne, StepsOn};
+ghost use Rattle.acd_desk.specs.ReplayWith.{is_kept, IsSwitchOf, PlaysWith, IsStepWith, AuditsFrom, AuditsInOrder};
 
 use crate::audit::Audit;
 use crate::open_fault::OpenFault;
@@ -22,9 +18,7 @@ use std::alloc::Global;
 
 // Whether the archive has a record of this key.
 fn is_known<A: Book>(archive: &mut A, kept: &Kept) -> Result<bool, BookFault>
-    ensures { Reads (A.state archive.old) (A.state archive.new) result
-        (λ a found. found ≡ is_some (kept_of a.kept kept.now.request.requester
-        kept.now.request.invoke)) }
+    ensures { BookFinds A.state archive.old archive.new result (is_kept kept.now.request) }
 {
     let found = archive.kept(&kept.request.requester, kept.request.invoke)?;
     Ok(found.is_some())
@@ -39,11 +33,9 @@ fn replayed_with<A: Book, B: Book>(
     kept: &Kept,
 ) -> Result<Option<Course>, PairFault>
     requires { course.loaded.switch.value.last_stamp < course.loaded.switch.value.limits.requests }
-    ensures read { ReadsBoth (A.state archive.old) (A.state archive.new) (B.state book.old)
-        (B.state book.new) result (λ a c found. KnowsWith a c course.keys course.page kept.now
-        → IsReplayedWith a c course kept.now found) }
-    ensures stepped { IfOk result (λ found. IfSome found (λ next.
-        next.loaded.switch.value ≡ (stepped course.loaded.switch.value (again kept.now)).rows)) }
+    ensures read { BothRead (across A.state archive.old archive.new)
+        (across B.state book.old book.new) result (PlaysWith course kept.now) }
+    ensures stepped { IfOk result (StepsOn course.loaded.switch.value kept.now) }
 {
     let known = of_archive(is_known(archive, kept))?;
     if known {
@@ -60,8 +52,8 @@ fn next_newer<A: Book, B: Book>(
     course: Course,
 ) -> Result<Step, PairFault>
     requires { course.loaded.switch.value.last_stamp < course.loaded.switch.value.limits.requests }
-    ensures read { ReadsBoth (A.state archive.old) (A.state archive.new) (B.state book.old)
-        (B.state book.new) result (λ a c found. IsStepWith a c course found) }
+    ensures read { BothRead (across A.state archive.old archive.new)
+        (across B.state book.old book.new) result (λ a c found. IsStepWith a c course found) }
     ensures counts { IfOk result (CountsOne course.loaded.switch.value) }
 {
     let Some(kept) = of_current(book.kept_after(course.loaded.switch.last_stamp()))? else {
@@ -88,8 +80,8 @@ fn audited_newer<A: Book, B: Book>(
     book: &mut B,
     first: Course,
 ) -> Result<Audit, PairFault>
-    ensures { ReadsBoth (A.state archive.old) (A.state archive.new) (B.state book.old)
-        (B.state book.new) result (λ a c found. BeginsWith a c first → IsAuditWith a c found) }
+    ensures { BothRead (across A.state archive.old archive.new)
+        (across B.state book.old book.new) result (AuditsFrom first) }
 {
     let start = first.loaded.switch.last_stamp();
     let most = first.loaded.switch.tables().limits().requests;
@@ -111,8 +103,7 @@ fn audited_newer<A: Book, B: Book>(
 
 // A switch of the archive's rows, which break no rule.
 fn archive_switch<A: Book>(alloc: Global, archive: &mut A) -> Result<LoadedSwitch, OpenFault>
-    ensures { ReadsIfOpen (A.state archive.old) (A.state archive.new) (by_opening result)
-        (λ a loaded. loaded.switch.value ≡ a.rows) }
+    ensures { MayRead A.state archive.old archive.new (by_opening result) IsSwitchOf }
 {
     let rows = match archive.rows() {
         Ok(rows) => rows,
@@ -142,8 +133,8 @@ pub(crate) fn audited_with<A: Book, B: Book>(
     archive: &mut A,
     book: &mut B,
 ) -> Result<Audit, PairFault>
-    ensures { ReadsBoth (A.state archive.old) (A.state archive.new) (B.state book.old)
-        (B.state book.new) result (λ a c found. AreInOrder a c → IsAuditWith a c found) }
+    ensures { BothRead (across A.state archive.old archive.new)
+        (across B.state book.old book.new) result AuditsInOrder }
 {
     let loaded = of_opening(archive_switch(alloc, archive))?;
     let other = other_place(alloc, archive, book, last_of(&loaded))?;

@@ -1,16 +1,13 @@
 //! The records that a book has in common with the archive that it continues.
 
-ghost use Rattle.std.specs.Prelude.{◌≡◌, ◌<◌, ◌≤◌, ◌∷◌, [], IfOk, IfSome, is_some};
+ghost use Rattle.std.specs.Prelude.{◌≡◌, ◌≤◌, ◌∷◌, [], IfOk, IfSome, is_some};
 ghost use Rattle.std.specs.Bool.{Decides};
-ghost use Rattle.acd_book.specs.Content.{Content, records_after, events_after};
 ghost use Rattle.acd_book.specs.Memory.{stamp_of, number_of};
-ghost use Rattle.acd_book.specs.Order.{IsOrdered};
-ghost use Rattle.acd_book.specs.State.{Reads};
-ghost use Rattle.acd_desk.specs.Pages.{IsPageOf, ReadsIfOpen};
-ghost use Rattle.acd_desk.specs.Pairs.{ReadsBoth};
+ghost use Rattle.acd_book.specs.State.{BookReads};
+ghost use Rattle.acd_desk.specs.BookReading.{Anything, IfOrdered, MayRead};
+ghost use Rattle.acd_desk.specs.Pairs.{BothRead, across};
 ghost use Rattle.acd_desk.specs.Sharing.{cut_before};
-ghost use Rattle.acd_desk.specs.AuditWith.{StandsInTime, HoldsArchive};
-ghost use Rattle.acd_desk.specs.Overlap.{AreInOrder, cut_stamp, cut_number, KeepsArchive, ReportsArchive, IsNextOf, IsNextRecord, IsOtherPlace, listed, IsOther, IsOtherUpTo, IsCleanCut, IsBefore, IsFirstUpTo, IsLast, earlier};
+ghost use Rattle.acd_desk.specs.Overlap.{IsCutStamp, IsCutNumber, IsCutOf, DecidesCleanCut, IsNextOf, IsNextRecord, ReadsNextEvent, IsOtherPlace, listed, IsBefore, IsFirstUpTo, IsRecordUpTo, IsEventUpTo, FindsRecord, FindsEvent, FindsMoment, FindsAbove, FindsPlace, earlier};
 
 use crate::page::Page;
 use crate::pair::{PairFault, of_archive, of_current};
@@ -61,8 +58,7 @@ fn number_before(events: &[Event], last: u64) -> u64
 
 // The last stamp that was left in the archive.
 fn cut_stamp<B: Book>(book: &mut B, last: u64) -> Result<u64, BookFault>
-    ensures { Reads (B.state book.old) (B.state book.new) result
-        (λ c found. IsOrdered c → found ≡ cut_before stamp_of last c.kept) }
+    ensures { BookReads B.state book.old book.new result (IfOrdered (IsCutStamp last)) }
 {
     let first = book.requests_after(0, 1)?;
     Ok(stamp_before(&first, last))
@@ -70,8 +66,7 @@ fn cut_stamp<B: Book>(book: &mut B, last: u64) -> Result<u64, BookFault>
 
 // The last event number that was left in the archive.
 fn cut_number<B: Book>(book: &mut B, last: u64) -> Result<u64, BookFault>
-    ensures { Reads (B.state book.old) (B.state book.new) result
-        (λ c found. IsOrdered c → found ≡ cut_before number_of last c.events) }
+    ensures { BookReads B.state book.old book.new result (IfOrdered (IsCutNumber last)) }
 {
     let first = book.events_after(0, 1)?;
     Ok(number_before(&first, last))
@@ -89,9 +84,7 @@ fn is_before(events: &[Event], number: u64, moment: u32) -> bool
 
 // Whether the last event left in the archive is before the first record that was carried over.
 fn is_clean_cut<A: Book>(archive: &mut A, stamp: u64, number: u64) -> Result<bool, BookFault>
-    ensures { Reads (A.state archive.old) (A.state archive.new) result
-        (λ a found. StandsInTime a → number ≤ a.rows.last_event
-        → Decides found (IsCleanCut a stamp number)) }
+    ensures { BookReads A.state archive.old archive.new result (DecidesCleanCut stamp number) }
 {
     let Some(first) = archive.kept_after(stamp)? else {
         return Ok(true);
@@ -131,8 +124,8 @@ fn next_record<A: Book, B: Book>(
     book: &mut B,
     stamp: u64,
 ) -> Result<Next, PairFault>
-    ensures { ReadsBoth (A.state archive.old) (A.state archive.new) (B.state book.old)
-        (B.state book.new) result (IsNextRecord stamp) }
+    ensures { BothRead (across A.state archive.old archive.new)
+        (across B.state book.old book.new) result (IsNextRecord stamp) }
 {
     let archived = of_archive(archive.kept_after(stamp))?;
     let current = of_current(book.kept_after(stamp))?;
@@ -152,9 +145,7 @@ fn stamp_up_to(records: &[Kept], last: u64) -> Option<u64>
 
 // The stamp of the book's next record, where it isn't above the last one.
 fn record_up_to<B: Book>(book: &mut B, stamp: u64, last: u64) -> Result<Option<u64>, BookFault>
-    ensures { Reads (B.state book.old) (B.state book.new) result
-        (λ c found. IsFirstUpTo stamp_of last (records_after c.kept stamp 1) found
-        × IfSome found (λ place. place ≤ last)) }
+    ensures { BookReads B.state book.old book.new result (IsRecordUpTo stamp last) }
 {
     let next = book.requests_after(stamp, 1)?;
     Ok(stamp_up_to(&next, last))
@@ -167,9 +158,8 @@ fn other_record<A: Book, B: Book>(
     above: u64,
     last: u64,
 ) -> Result<Option<u64>, PairFault>
-    ensures { ReadsBoth (A.state archive.old) (A.state archive.new) (B.state book.old)
-        (B.state book.new) result (λ a c found. AreInOrder a c → last ≡ a.rows.last_stamp
-        → above ≡ cut_stamp a c → IsOtherUpTo last (KeepsArchive a c) found) }
+    ensures { BothRead (across A.state archive.old archive.new)
+        (across B.state book.old book.new) result (FindsRecord above last) }
 {
     let mut stamp = above;
     for _ in above..last {
@@ -210,12 +200,9 @@ fn next_event<A: Book, B: Book>(
     pages: &mut Pages,
     number: u64,
 ) -> Result<Next, PairFault>
-    ensures { ReadsBoth (A.state archive.old) (A.state archive.new) (B.state book.old)
-        (B.state book.new) result
-        (λ a c found. IsPageOf a pages.old.archive → IsPageOf c pages.old.current
-        → IsPageOf a pages.new.archive × IsPageOf c pages.new.current
-        × IsNextOf number_of (events_after a.events number 1) (events_after c.events number 1)
-        found) }
+    ensures { BothRead (across A.state archive.old archive.new)
+        (across B.state book.old book.new) result
+        (ReadsNextEvent number pages.old pages.new) }
 {
     let archived = of_archive(pages.archive.events_after(alloc, archive, number, 1))?;
     let current = of_current(pages.current.events_after(alloc, book, number, 1))?;
@@ -234,8 +221,7 @@ fn moment_up_to(events: &[Event], last: u64) -> Option<u64>
 
 // The moment of the book's next event, where its number isn't above the last one.
 fn event_up_to<B: Book>(book: &mut B, number: u64, last: u64) -> Result<Option<u64>, BookFault>
-    ensures { Reads (B.state book.old) (B.state book.new) result
-        (λ c found. IsFirstUpTo number_of last (events_after c.events number 1) found) }
+    ensures { BookReads B.state book.old book.new result (IsEventUpTo number last) }
 {
     let next = book.events_after(number, 1)?;
     Ok(moment_up_to(&next, last))
@@ -249,9 +235,8 @@ fn other_event<A: Book, B: Book>(
     above: u64,
     last: u64,
 ) -> Result<Option<u64>, PairFault>
-    ensures { ReadsBoth (A.state archive.old) (A.state archive.new) (B.state book.old)
-        (B.state book.new) result (λ a c found. AreInOrder a c → last ≡ a.rows.last_event
-        → above ≡ cut_number a c → IsOther (ReportsArchive a c) found) }
+    ensures { BothRead (across A.state archive.old archive.new)
+        (across B.state book.old book.new) result (FindsEvent above last) }
 {
     let mut pages = Pages {
         archive: Page::empty(alloc),
@@ -270,8 +255,7 @@ fn other_event<A: Book, B: Book>(
 
 // The stamp of the archive's first record above this one that isn't before a moment, or the last one.
 fn stamp_at<A: Book>(archive: &mut A, above: u64, last: u64, moment: u64) -> Result<u64, BookFault>
-    ensures read { ReadsIfOpen (A.state archive.old) (A.state archive.new) result
-        (λ a found. Unit {0}) }
+    ensures read { MayRead A.state archive.old archive.new result Anything }
     ensures within { IfOk result (λ found. found ≤ last) }
 {
     let mut stamp = above;
@@ -298,10 +282,8 @@ fn other_moment<A: Book, B: Book>(
     cut: Cut,
     last: u64,
 ) -> Result<Option<u64>, PairFault>
-    ensures { ReadsBoth (A.state archive.old) (A.state archive.new) (B.state book.old)
-        (B.state book.new) result (λ a c found. AreInOrder a c → last ≡ a.rows.last_event
-        → cut.number ≡ cut_number a c
-        → IsOther (IsCleanCut a cut.stamp cut.number × ReportsArchive a c) found) }
+    ensures { BothRead (across A.state archive.old archive.new)
+        (across B.state book.old book.new) result (FindsMoment cut last) }
 {
     let clean = of_archive(is_clean_cut(archive, cut.stamp, cut.number))?;
     if !clean {
@@ -317,8 +299,7 @@ fn stamp_of_moment<A: Book>(
     last: u64,
     moment: Option<u64>,
 ) -> Result<Option<u64>, BookFault>
-    ensures read { ReadsIfOpen (A.state archive.old) (A.state archive.new) result
-        (λ a found. Unit {0}) }
+    ensures read { MayRead A.state archive.old archive.new result Anything }
     ensures same { IfOk result (λ found. is_some found ≡ is_some moment) }
     ensures within { IfOk result (λ found. IfSome found (λ stamp. stamp ≤ last)) }
 {
@@ -341,9 +322,7 @@ fn earlier(first: Option<u64>, second: Option<u64>) -> Option<u64>
 
 // The place where the archive was cut, by the first records of the book.
 fn cut_of<B: Book>(book: &mut B, stamp: u64, number: u64) -> Result<Cut, BookFault>
-    ensures { Reads (B.state book.old) (B.state book.new) result (λ c found. IsOrdered c
-        → (found.stamp ≡ cut_before stamp_of stamp c.kept)
-        × (found.number ≡ cut_before number_of number c.events)) }
+    ensures { BookReads B.state book.old book.new result (IfOrdered (IsCutOf stamp number)) }
 {
     let stamp = cut_stamp(book, stamp)?;
     let number = cut_number(book, number)?;
@@ -358,10 +337,8 @@ fn other_above<A: Book, B: Book>(
     cut: Cut,
     last: Cut,
 ) -> Result<Option<u64>, PairFault>
-    ensures { ReadsBoth (A.state archive.old) (A.state archive.new) (B.state book.old)
-        (B.state book.new) result (λ a c found. AreInOrder a c → IsLast a last
-        → (cut.stamp ≡ cut_stamp a c) × (cut.number ≡ cut_number a c)
-        → IsOtherUpTo last.stamp (HoldsArchive a c) found) }
+    ensures { BothRead (across A.state archive.old archive.new)
+        (across B.state book.old book.new) result (FindsAbove cut last) }
 {
     let kept = other_record(archive, book, cut.stamp, last.stamp)?;
     let moment = other_moment(alloc, archive, book, cut, last.number)?;
@@ -377,9 +354,8 @@ pub(crate) fn other_place<A: Book, B: Book>(
     book: &mut B,
     last: Cut,
 ) -> Result<Option<u64>, PairFault>
-    ensures { ReadsBoth (A.state archive.old) (A.state archive.new) (B.state book.old)
-        (B.state book.new) result (λ a c found. AreInOrder a c → IsLast a last
-        → IsOtherUpTo last.stamp (HoldsArchive a c) found) }
+    ensures { BothRead (across A.state archive.old archive.new)
+        (across B.state book.old book.new) result (FindsPlace last) }
 {
     let cut = of_current(cut_of(book, last.stamp, last.number))?;
     other_above(alloc, archive, book, cut, last)

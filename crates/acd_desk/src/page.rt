@@ -2,8 +2,9 @@
 
 ghost use Rattle.std.specs.Prelude.{◌≡◌, ◌≤◌, length, true, IfOk};
 ghost use Rattle.acd_book.specs.Content.{Content, events_after};
-ghost use Rattle.acd_book.specs.State.{Reads};
-ghost use Rattle.acd_desk.specs.Pages.{Has, IsPageOf, Reaches, ReadsIfOpen};
+ghost use Rattle.acd_book.specs.State.{BookReads};
+ghost use Rattle.acd_desk.specs.Pages.{IsPageOf, Reaches, Extends, GivesEvents};
+ghost use Rattle.acd_desk.specs.BookReading.{MayRead};
 ghost use Rattle.acd_desk.specs.ReadAnswers.{above};
 
 use acd_book::{Book, BookFault};
@@ -43,8 +44,8 @@ impl Page {
 
     // Reads the next page, where this one doesn't reach so far.
     fn reach<B: Book>(&mut self, book: &mut B, number: u64, count: usize) -> Result<(), BookFault>
-        ensures { ReadsIfOpen (B.state book.old) (B.state book.new) result
-            (λ c _. IsPageOf c self.old → Has c self.new number count) }
+        ensures { MayRead B.state book.old book.new result
+            (Extends self.old self.new number count) }
     {
         if self.reaches(number, count) {
             return Ok(());
@@ -61,9 +62,8 @@ impl Page {
         number: u64,
         count: usize,
     ) -> Result<Vec<Event>, BookFault>
-        ensures { ReadsIfOpen (B.state book.old) (B.state book.new) result
-            (λ c found. IsPageOf c self.old
-            → (found.items ≡ events_after c.events number count) × IsPageOf c self.new) }
+        ensures { MayRead B.state book.old book.new result
+            (GivesEvents self.old self.new number count) }
     {
         self.reach(book, number, count)?;
         Ok(first_after(alloc, &self.events, number, count)?)
@@ -71,8 +71,7 @@ impl Page {
 }
 
 fn read_page<B: Book>(book: &mut B, above: u64, limit: usize) -> Result<Page, BookFault>
-    ensures page { Reads (B.state book.old) (B.state book.new) result
-        (λ c found. IsPageOf c found) }
+    ensures page { BookReads B.state book.old book.new result (λ c found. IsPageOf c found) }
     ensures at { IfOk result (λ found. (found.above ≡ above) × (found.limit ≡ limit)) }
 {
     let events = book.events_after(above, limit)?;

@@ -1,15 +1,13 @@
 //! The reads of a desk.
 
-ghost use Rattle.std.specs.Prelude.{◌≡◌, Ok, length, Some, None, is_some, if◌then◌else◌};
+ghost use Rattle.std.specs.Prelude.{Ok};
 ghost use Rattle.std.specs.Fn.{FnOnceTakesAt, FnOnceReturnsAt};
 ghost use Rattle.acd_terms.specs.declared.rows.Rows.{Rows};
 ghost use Rattle.acd_model.specs.Rules.First.{BreaksNoRule};
-ghost use Rattle.acd_model.specs.Scans.{monitor_of};
-ghost use Rattle.acd_book.specs.Content.{events_after, events_of_monitor};
-ghost use Rattle.acd_desk.specs.Stands.{IsSound};
+ghost use Rattle.acd_book.specs.Content.{events_page, monitor_page};
 ghost use Rattle.acd_desk.specs.Standing.{standing};
-ghost use Rattle.acd_desk.specs.ReadDone.{DeskRead, DeskReadText};
-ghost use Rattle.acd_desk.specs.ReadAnswers.{text_read, agent_read, call_read, device_read, queue_read, report_read, snapshot_read, page_read, events_read, history_read, monitor_read, page_size, requests_page, requests_read, question_read};
+ghost use Rattle.acd_desk.specs.ReadDone.{DeskRead, DeskFinds, DeskLists, DeskReadText};
+ghost use Rattle.acd_desk.specs.ReadAnswers.{text_read, agent_read, call_read, device_read, queue_read, report_read, snapshot_read, page_read, events_read, history_read, monitor_read, page_size, requests_page, requests_read, question_read, last_event_for, CountsKept};
 
 use crate::desk::Desk;
 use crate::fault::DeskFault;
@@ -119,32 +117,29 @@ impl<B: Book> Desk<B> {
 impl<B: Book> Desk<B> {
     // The number of the last event.
     fn last_event(&mut self) -> Result<u64, DeskFault>
-        ensures { DeskRead B.Book self.old self.new result (λ c last. last ≡ c.rows.last_event) }
+        ensures { DeskFinds B.Book self.old self.new result (λ c. c.rows.last_event) }
     {
         self.look(|tables| tables.last_event())
     }
 
     // The stamp of the last executed request.
     fn last_stamp(&mut self) -> Result<u64, DeskFault>
-        ensures { DeskRead B.Book self.old self.new result (λ c last. last ≡ c.rows.last_stamp) }
+        ensures { DeskFinds B.Book self.old self.new result (λ c. c.rows.last_stamp) }
     {
         self.look(|tables| tables.last_stamp())
     }
 
     /// How many requests were executed. A sound book keeps as many records, unless an archive has some.
     pub fn executed(&mut self) -> Result<u64, DeskFault>
-        ensures kept { DeskRead B.Book self.old self.new result (λ c count.
-            IsSound c → count ≡ length c.kept) }
-        ensures last { DeskRead B.Book self.old self.new result (λ c count.
-            count ≡ c.rows.last_stamp) }
+        ensures kept { DeskRead B.Book self.old self.new result CountsKept }
+        ensures last { DeskFinds B.Book self.old self.new result (λ c. c.rows.last_stamp) }
     {
         self.last_stamp()
     }
 
     // The number of the last event, where the monitor is running.
     fn last_event_for(&mut self, monitor: u64) -> Result<Option<u64>, DeskFault>
-        ensures { DeskRead B.Book self.old self.new result (λ c last.
-            last ≡ (if is_some (monitor_of c.rows monitor) then Some c.rows.last_event else None)) }
+        ensures { DeskFinds B.Book self.old self.new result (last_event_for monitor) }
     {
         self.look(|tables| if tables.monitor(monitor).is_some() {
             Some(tables.last_event())
@@ -155,8 +150,7 @@ impl<B: Book> Desk<B> {
 
     // The first events above a number.
     pub(crate) fn first_events(&mut self, after: u64, limit: usize) -> Result<Vec<Event>, DeskFault>
-        ensures { DeskRead B.Book self.old self.new result (λ c found.
-            found.items ≡ events_after c.events after limit) }
+        ensures { DeskLists B.Book self.old self.new result (events_page after limit) }
     {
         if let Working::Failed = self.working {
             return Err(DeskFault::StoreFault);
@@ -169,8 +163,8 @@ impl<B: Book> Desk<B> {
 
     // The first events of a running monitor above a number.
     fn first_watched(&mut self, monitor: u64, after: u64) -> Result<Vec<Event>, DeskFault>
-        ensures { DeskRead B.Book self.old self.new result (λ c found.
-            found.items ≡ events_of_monitor c monitor after page_size) }
+        ensures { DeskLists B.Book self.old self.new result
+            (monitor_page monitor after page_size) }
     {
         if let Working::Failed = self.working {
             return Err(DeskFault::StoreFault);
@@ -183,8 +177,7 @@ impl<B: Book> Desk<B> {
 
     // The first executed requests above a stamp.
     fn first_requests(&mut self, after: u64) -> Result<Vec<Kept>, DeskFault>
-        ensures { DeskRead B.Book self.old self.new result (λ c found.
-            found.items ≡ requests_page c after) }
+        ensures { DeskLists B.Book self.old self.new result (λ c. requests_page c after) }
     {
         if let Working::Failed = self.working {
             return Err(DeskFault::StoreFault);
@@ -244,8 +237,8 @@ impl<B: Book> Desk<B> {
     /// The answer to a question at a moment (in seconds), which counts for a report alone. None where there is no such
     /// thing.
     pub fn read(&mut self, moment: u32, question: Question) -> Result<Option<String>, DeskFault>
-        ensures { DeskReadText B.Book self.old self.new
-            result (λ c. question_read c moment question) }
+        ensures { DeskReadText B.Book self.old self.new result
+            (λ c. question_read c moment question) }
     {
         match question {
             Question::Agent(agent) => self.agent(agent),

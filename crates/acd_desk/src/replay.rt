@@ -1,19 +1,18 @@
 //! The kept requests of a book run again, and compared with what it holds.
 
-ghost use Rattle.std.specs.Prelude.{◌≡◌, ◌<◌, ◌≤◌, cond, true, [], Some, length, option_map, IfOk, IfSome, OnOk};
+ghost use Rattle.std.specs.Prelude.{◌≡◌, ◌<◌, cond, true, [], Some, option_map, IfOk, OnOk};
 ghost use Rattle.std.specs.Bool.{Decides};
 ghost use Rattle.acd_book.specs.Content.{Content, events_after};
 ghost use Rattle.acd_book.specs.Memory.{stamp_of};
-ghost use Rattle.acd_book.specs.Order.{IsOrdered};
-ghost use Rattle.acd_book.specs.State.{Reads};
+ghost use Rattle.acd_book.specs.State.{BookReads};
 ghost use Rattle.acd_terms.specs.Limits.{limits_fit};
 ghost use Rattle.acd_terms.specs.Rows.{empty_rows};
 ghost use Rattle.acd_model.specs.Rules.First.{BreaksNoRule};
 ghost use Rattle.acd_desk.specs.Firsts.{stepped};
 ghost use Rattle.acd_desk.specs.Audit.{IsAudit};
-ghost use Rattle.acd_desk.specs.KeyPlaces.{IsSeenKey};
-ghost use Rattle.acd_desk.specs.Pages.{IsPageOf, ReadsIfOpen};
-ghost use Rattle.acd_desk.specs.Replay.{again, IsFirstOfKey, Matches, IsEnd, BeginsReplay, IsReplayed, IsStep, CountsOne, IsAll, Knows, FindsFirst};
+ghost use Rattle.acd_desk.specs.Pages.{IsPageOf};
+ghost use Rattle.acd_desk.specs.BookReading.{MayRead, BookDecides, IfOrdered};
+ghost use Rattle.acd_desk.specs.Replay.{again, IsFirstOfKey, DecidesFirst, DecidesNext, DecidesKnown, IsExpected, Matches, IsEnd, BeginsReplay, BeginsEmpty, Plays, StepsOn, IsStep, CountsOne, IsAll};
 
 use crate::audit::Audit;
 use crate::executing::executed;
@@ -58,8 +57,7 @@ fn has_stamp(found: Option<Kept>, stamp: u64) -> bool
 
 // Whether no earlier record has its key.
 fn is_first_of_key<B: Book>(book: &mut B, kept: &Kept) -> Result<bool, BookFault>
-    ensures { Reads (B.state book.old) (B.state book.new) result
-        (λ c found. Decides found (IsFirstOfKey c kept.now)) }
+    ensures { BookDecides B.state book.old book.new result (λ c. IsFirstOfKey c kept.now) }
 {
     let first = book.kept(&kept.request.requester, kept.request.invoke)?;
     Ok(has_stamp(first, kept.stamp))
@@ -67,8 +65,7 @@ fn is_first_of_key<B: Book>(book: &mut B, kept: &Kept) -> Result<bool, BookFault
 
 // The same. The book is asked where the key may have been seen.
 fn is_new_key<B: Book>(book: &mut B, keys: &SeenKeys, kept: &Kept) -> Result<bool, BookFault>
-    ensures { ReadsIfOpen (B.state book.old) (B.state book.new) result
-        (λ c found. FindsFirst c keys.now kept.now → Decides found (IsFirstOfKey c kept.now)) }
+    ensures { MayRead B.state book.old book.new result (DecidesFirst keys.now kept.now) }
 {
     if !keys.has(&kept.request) {
         return Ok(true);
@@ -84,9 +81,8 @@ fn has_events<B: Book>(
     last: u64,
     events: &[Event],
 ) -> Result<bool, BookFault>
-    ensures { ReadsIfOpen (B.state book.old) (B.state book.new) result
-        (λ c found. IsPageOf c page.old → IsPageOf c page.new
-        × Decides found (events_after c.events last (length events.now) ≡ events.now)) }
+    ensures { MayRead B.state book.old book.new result
+        (DecidesNext page.old page.new last events.now) }
 {
     let found = page.events_after(alloc, book, last, events.len())?;
     Ok(are_same_events(&found, events))
@@ -103,10 +99,9 @@ fn is_as_kept<B: Book>(
     expected: &Kept,
     events: &[Event],
 ) -> Result<bool, BookFault>
-    ensures { ReadsIfOpen (B.state book.old) (B.state book.new) result
-        (λ c found. Knows c keys.now page.old kept.now → IsPageOf c page.new
-        × Decides found ((kept.now ≡ expected.now) × IsFirstOfKey c kept.now
-        × (events_after c.events last (length events.now) ≡ events.now))) }
+    ensures { MayRead B.state book.old book.new result
+        (DecidesKnown keys.now (page.old, page.new) kept.now
+        (IsExpected kept.now expected.now last events.now)) }
 {
     if !is_same_kept(kept, expected) {
         return Ok(false);
@@ -129,9 +124,9 @@ fn replays_as_kept<B: Book>(
 ) -> Result<bool, BookFault>
     requires rules { BreaksNoRule switch.old }
     requires room { switch.old.last_stamp < switch.old.limits.requests }
-    ensures read { ReadsIfOpen (B.state book.old) (B.state book.new) result
-        (λ c found. Knows c keys.now page.old kept.now
-        → IsPageOf c page.new × Decides found (Matches c switch.old kept.now)) }
+    ensures read { MayRead B.state book.old book.new result
+        (DecidesKnown keys.now (page.old, page.new) kept.now
+        (λ c. Matches c switch.old kept.now)) }
     ensures stepped { OnOk result (switch.new ≡ (stepped switch.old (again kept.now)).rows) }
     ensures rules { OnOk result (BreaksNoRule switch.new) }
 {
@@ -149,10 +144,8 @@ pub(crate) fn replayed<B: Book>(
     kept: &Kept,
 ) -> Result<Option<Course>, BookFault>
     requires { course.loaded.switch.value.last_stamp < course.loaded.switch.value.limits.requests }
-    ensures read { ReadsIfOpen (B.state book.old) (B.state book.new) result
-        (λ c found. Knows c course.keys course.page kept.now → IsReplayed c course kept.now found) }
-    ensures stepped { IfOk result (λ found. IfSome found (λ next.
-        next.loaded.switch.value ≡ (stepped course.loaded.switch.value (again kept.now)).rows)) }
+    ensures read { MayRead B.state book.old book.new result (Plays course kept.now) }
+    ensures stepped { IfOk result (StepsOn course.loaded.switch.value kept.now) }
 {
     let Course {
         loaded,
@@ -171,8 +164,8 @@ pub(crate) fn replayed<B: Book>(
 
 // Whether no event is left after a number.
 fn has_ended<B: Book>(book: &mut B, last: u64) -> Result<bool, BookFault>
-    ensures { Reads (B.state book.old) (B.state book.new) result
-        (λ c found. Decides found (events_after c.events last 1 ≡ [])) }
+    ensures { BookDecides B.state book.old book.new result
+        (λ c. events_after c.events last 1 ≡ []) }
 {
     let surplus = book.events_after(last, 1)?;
     Ok(surplus.is_empty())
@@ -180,8 +173,7 @@ fn has_ended<B: Book>(book: &mut B, last: u64) -> Result<bool, BookFault>
 
 // Whether the tables are those of the replay.
 fn has_tables<B: Book>(book: &mut B, switch: &Switch) -> Result<bool, BookFault>
-    ensures { Reads (B.state book.old) (B.state book.new) result
-        (λ c found. Decides found (c.rows ≡ switch.now)) }
+    ensures { BookDecides B.state book.old book.new result (λ c. c.rows ≡ switch.now) }
 {
     let rows = book.rows()?;
     let replayed = switch.rows()?;
@@ -190,8 +182,7 @@ fn has_tables<B: Book>(book: &mut B, switch: &Switch) -> Result<bool, BookFault>
 
 /// Whether no event is left after a replay, and the tables are those of the replay.
 pub(crate) fn is_whole<B: Book>(book: &mut B, switch: &Switch) -> Result<bool, BookFault>
-    ensures { Reads (B.state book.old) (B.state book.new) result
-        (λ c found. Decides found (IsEnd c switch.now)) }
+    ensures { BookDecides B.state book.old book.new result (λ c. IsEnd c switch.now) }
 {
     if has_ended(book, switch.tables().last_event())? {
         has_tables(book, switch)
@@ -210,8 +201,7 @@ pub(crate) fn last_step(is_whole: bool) -> Step
 // Replays the next record, where one is left.
 fn next_step<B: Book>(alloc: Global, book: &mut B, course: Course) -> Result<Step, BookFault>
     requires { course.loaded.switch.value.last_stamp < course.loaded.switch.value.limits.requests }
-    ensures read { Reads (B.state book.old) (B.state book.new) result
-        (λ c found. IsStep c course found) }
+    ensures read { BookReads B.state book.old book.new result (λ c found. IsStep c course found) }
     ensures counts { IfOk result (CountsOne course.loaded.switch.value) }
 {
     let Some(kept) = book.kept_after(course.loaded.switch.last_stamp())? else {
@@ -225,8 +215,7 @@ fn next_step<B: Book>(alloc: Global, book: &mut B, course: Course) -> Result<Ste
 
 /// Whether a replay has come past all that is kept.
 pub(crate) fn is_all<B: Book>(book: &mut B, switch: &Switch) -> Result<bool, BookFault>
-    ensures { Reads (B.state book.old) (B.state book.new) result
-        (λ c found. IsAll c switch.now found) }
+    ensures { BookReads B.state book.old book.new result (λ c found. IsAll c switch.now found) }
 {
     let Some(_) = book.kept_after(switch.last_stamp())? else {
         return is_whole(book, switch);
@@ -265,11 +254,8 @@ fn uncoursed(alloc: Global, limits: Limits) -> Result<Course, AllocError>
 
 // A course under the limits of the book, where they fit.
 fn begun<B: Book>(alloc: Global, book: &mut B) -> Result<Option<Course>, BookFault>
-    ensures read { Reads (B.state book.old) (B.state book.new) result
-        (λ c found. BeginsReplay c found) }
-    ensures empty { IfOk result (λ found. IfSome found (λ first.
-        (first.loaded.switch.value.last_stamp ≡ 0)
-        × (first.loaded.switch.value.limits.requests ≤ 1000000000))) }
+    ensures read { BookReads B.state book.old book.new result BeginsReplay }
+    ensures empty { IfOk result BeginsEmpty }
 {
     let limits = book.limits()?;
     if limits.fits() {
@@ -283,8 +269,7 @@ fn begun<B: Book>(alloc: Global, book: &mut B) -> Result<Option<Course>, BookFau
 /// Beside the tables it has one record and a page of events in memory at a time, and a record of the keys seen that has
 /// the same size however many there are.
 pub(crate) fn audited<B: Book>(alloc: Global, book: &mut B) -> Result<Audit, BookFault>
-    ensures { Reads (B.state book.old) (B.state book.new) result
-        (λ c found. IsOrdered c → IsAudit c found) }
+    ensures { BookReads B.state book.old book.new result (IfOrdered IsAudit) }
 {
     let Some(first) = begun(alloc, book)? else {
         return Ok(Audit::Differs(1));

@@ -1,8 +1,8 @@
 //! Executed requests as JSON.
 
-ghost use Rattle.std.specs.Prelude.{◌≡◌, ◌++◌, codes, IfOk, OnOk, string_bytes};
+ghost use Rattle.std.specs.Prelude.{◌≡◌, codes, IfOk, OnOk, string_bytes};
 ghost use Rattle.std.specs.List.{join_by};
-ghost use Rattle.acd_desk.specs.RequestPages.{executed_text, further_texts, requests_text};
+ghost use Rattle.acd_desk.specs.RequestPages.{executed_text, further_texts, requests_text, Writes};
 
 use acd_book::Kept;
 use acd_codec::request_text;
@@ -12,8 +12,7 @@ use std::fmt::Write;
 // Writes a request, with its reply as it is kept.
 #[tactic(auto, unfolding(crate::specs::RequestPages::executed_text))]
 fn put_executed(alloc: Global, page: &mut String, kept: &Kept) -> Result<(), AllocError>
-    ensures { OnOk result
-        (string_bytes page.new ≡ string_bytes page.old ++ executed_text kept.now) }
+    ensures { OnOk result (Writes page.old page.new (executed_text kept.now)) }
 {
     let request = request_text(alloc, &kept.request)?;
     write!(
@@ -29,8 +28,7 @@ fn put_executed(alloc: Global, page: &mut String, kept: &Kept) -> Result<(), All
 
 // Writes requests after another.
 fn put_further(alloc: Global, page: &mut String, kept: &[Kept]) -> Result<(), AllocError>
-    ensures { OnOk result
-        (string_bytes page.new ≡ string_bytes page.old ++ further_texts kept.now) }
+    ensures { OnOk result (Writes page.old page.new (further_texts kept.now)) }
 {
     for next in kept {
         page.push_str(",")?;
@@ -40,8 +38,8 @@ fn put_further(alloc: Global, page: &mut String, kept: &[Kept]) -> Result<(), Al
 }
 
 fn put_all(alloc: Global, page: &mut String, kept: &[Kept]) -> Result<(), AllocError>
-    ensures { OnOk result (string_bytes page.new
-        ≡ string_bytes page.old ++ join_by executed_text (codes ",") kept.now) }
+    ensures { OnOk result
+        (Writes page.old page.new (join_by executed_text (codes ",") kept.now)) }
 {
     match kept {
         [] => Ok(()),

@@ -1,9 +1,7 @@
 //! A whole session over a book: it is opened, run and closed.
 
 ghost use Rattle.std.specs.Prelude.{◌≡◌, IfOk, IfErr};
-ghost use Rattle.acd_desk.specs.Opening.{Refused};
-ghost use Rattle.acd_desk.specs.Ran.{IsStoreFault};
-ghost use Rattle.acd_desk.specs.Session.{Session, refusal, LeavesContent};
+ghost use Rattle.acd_desk.specs.Session.{RanOver, RefusedOver, LeavesContent};
 
 use crate::desk::Desk;
 use crate::open_fault::OpenFault;
@@ -32,10 +30,8 @@ impl<B: Book> Desk<B> {
         book: B,
         arrivals: &[Arrival],
     ) -> Result<(Vec<Taken>, B), (SessionFault, B)>
-        ensures ran { IfOk result (λ done.
-            Session IsStoreFault (B.state book) arrivals.now done.0.items (B.state done.1)) }
-        ensures refused { IfErr result (λ fault.
-            Refused (B.state book) (refusal fault.0) (B.state fault.1)) }
+        ensures ran { IfOk result (RanOver B.state book arrivals.now) }
+        ensures refused { IfErr result (RefusedOver B.state book) }
         ensures unmoved { IfErr result (λ fault. LeavesContent (B.state book) (B.state fault.1)) }
     {
         let mut desk = match Desk::open(alloc, book) {

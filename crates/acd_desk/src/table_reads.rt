@@ -1,12 +1,12 @@
 //! Reads of the tables of a desk.
 
 ghost use Rattle.std.specs.Prelude.{◌≡◌, ◌++◌, [], ◌∷◌, map, IfOk, OnOk};
-ghost use Rattle.std.specs.List.{cons_option, filter_map};
+ghost use Rattle.std.specs.List.{cons_option};
 ghost use Rattle.std.specs.List.Sorted.{IsStrictlySortedBy};
-ghost use Rattle.acd_model.specs.Scans.{connection_of, connections_of};
+ghost use Rattle.acd_model.specs.Scans.{connections_of};
 ghost use Rattle.acd_model.specs.Rules.First.{BreaksNoRule};
 ghost use Rattle.acd_tables.specs.Indexed.{pair_cmp};
-ghost use Rattle.acd_desk.specs.ReadAnswers.{text_read, agent_read, call_read, station_in, device_in, device_read, queue_read, report_read, live_call, snapshot_of, snapshot_read};
+ghost use Rattle.acd_desk.specs.ReadAnswers.{text_read, agent_read, call_read, station_in, device_in, device_read, connections_in, queue_read, report_read, live_call, snapshot_of, snapshot_read};
 
 use crate::group_states::group_states;
 use acd_codec::{
@@ -127,7 +127,7 @@ fn waiting_in(
     queue: &BTreeSet<(u64, u64)>,
 ) -> Result<Vec<ConnectionRecord>, AllocError>
     ensures waiting { IfOk result
-        (λ v. v.items ≡ filter_map (λ p. connection_of tables.now p.1 group) queue.now.keys) }
+        (λ v. v.items ≡ connections_in tables.now group queue.now.keys) }
     ensures sorted { IsStrictlySortedBy pair_cmp queue.now.keys }
 {
     let mut waiting = Vec::new(alloc);

@@ -1,5 +1,5 @@
 -- The part of a reply that is sent.
-use Rattle.std.proofs.Common.{◌≡◌, ℕ, List, [], ◌++◌, Bool, cond, length, Option, Some, Result, Ok, Err, IfErr, inl, inr, refl, sym, ap, ◌∙◌, subst}
+use Rattle.std.proofs.Common.{◌≡◌, ℕ, List, [], ◌++◌, Bool, cond, length, Result, Ok, Err, IfErr, inl, inr, refl, sym, ap, ◌∙◌, subst}
 use Rattle.std.specs.Io.KnownBytes.{Appends}
 use Rattle.acd_codec.specs.declared.fault.FixedAnswer.TheVariants as fixed
 use Rattle.acd_desk.specs.Ran.{Standing}
@@ -14,7 +14,7 @@ use Rattle.acd_http.specs.declared.asked.Unknown.TheVariants as unknown
 use Rattle.acd_http.specs.declared.exchanging.ExchangeFault.{ExchangeFault}
 use Rattle.acd_http.specs.declared.exchanging.ExchangeFault.TheVariants.{Write}
 use Rattle.acd_http.specs.Asking.{IsAsked, IsUnknown, is_bodiless}
-use Rattle.acd_http.specs.Exchanging.{Answered, Exchanged, ExchangeDone, StoppedBy, Replies, fixed_reply, reply_out}
+use Rattle.acd_http.specs.Exchanging.{Exchanged, ExchangeDone, StoppedBy, Replies, fixed_reply, reply_out}
 
 -- the bytes of a reply are its head and its body
 pub in_two : (bodiless : Bool) (r : Reply) (head sent body : List ℕ) (status : ℕ) → head ≡ head_text status r.kind (length body) r.allow → status ≡ (said r.answer).status → body ≡ (said r.answer).body → sent ≡ cond bodiless [] body
@@ -33,10 +33,9 @@ module _ {D : Type 0} (stands : D → Standing) (moment : ℕ) where
   sent io d e (Err fault) text all out is = record { whole = tt; cause = subst (StoppedBy stands moment io d e) (sym is) (all (Breaks io.old_output io.new_output) out) }
 
   -- the question was answered
-  pub reply_sent : (io : Streams) (d e : D) (asked : Asked) (answered : Option Reply) (reply : Reply) (bodiless : Bool) (r : Result (Unit {0}) ExchangeFault) → IsAsked io.old_input asked → Answered stands moment d asked answered e → answered ≡ Some reply → bodiless ≡ is_bodiless asked
+  pub reply_sent : (io : Streams) (d e : D) (asked : Asked) (reply : Reply) (bodiless : Bool) (r : Result (Unit {0}) ExchangeFault) → IsAsked io.old_input asked → Replies stands moment d asked (reply_out (is_bodiless asked) reply) e → bodiless ≡ is_bodiless asked
       → WasSent r io.old_output io.new_output (reply_out bodiless reply) → IfErr r (λ fault. fault ≡ Write) → ExchangeDone stands moment io d e r
-  reply_sent io d e asked answered reply bodiless r h done is same out fault =
-      let replies : Replies stands moment d asked (reply_out (is_bodiless asked) reply) e = subst (λ (o : Option Reply). Answered stands moment d asked o e) is done in
+  reply_sent io d e asked reply bodiless r h replies same out fault =
       sent io d e r (reply_out bodiless reply)
       (λ WentOut went. record { input = h.0; asked = asked; reply = reply_out bodiless reply; is = h.1; asks = h.2; answers = inl (subst (λ (b : Bool). Replies stands moment d asked (reply_out b reply) e) (sym same) replies); out = went }) out fault
 

@@ -5,8 +5,6 @@ use Rattle.acd_terms.specs.declared.command.Arrival.{Arrival}
 use Rattle.acd_book.specs.Content.{Content}
 use Rattle.acd_desk.specs.declared.taken.Taken.{Taken}
 use Rattle.acd_desk.specs.Arrived.{at}
-use Rattle.acd_desk.specs.Accepted.{accepted}
-use Rattle.acd_desk.specs.Leads.{led}
 use Rattle.acd_desk.specs.Ran.{Standing}
 use Rattle.acd_desk.proofs.Leading.{sound_led}
 use Rattle.acd_desk.specs.Attended.{Attended}
@@ -21,7 +19,7 @@ use Rattle.acd_desk.proofs.ReadsDone.{read_seen, read_no_memory}
 use Rattle.acd_codec.specs.declared.fault.FixedAnswer.TheVariants as fixed
 use Rattle.acd_lines.specs.Answers.{fixed_line}
 use Rattle.acd_lines.specs.Input.{no_moment, too_long, faulty, arrival, text_of}
-use Rattle.acd_http.specs.ReadingLines.{ReadingLine, plain, get, reading_line_of, found_line, AnswersRead, IsReadAnswer, ReadingAnswers, asked_by, all_asked, AnswersReads, arrivals_of, answers_of, LinesLeadToTheRun, ReadsAnswerByTheContent, ReadsAnswerByTheRun}
+use Rattle.acd_http.specs.ReadingLines.{ReadingLine, plain, get, reading_line_of, found_line, AnswersRead, IsReadAnswer, ReadingAnswers, asked_by, all_asked, AnswersReads, ReadAfterLines, accepted_before, led_before, IsReadFrom, IfOpen, LinesLeadToTheRun, ReadsAnswerByTheContent, ReadsAnswerByTheRun}
 
 -- the desk's answer, or noMemory in its place
 pub answers_look : {D Z : Type 0} (stands : D → Standing) (d e : D) (moment : ℕ) (question : Question) (as_text : Bool) (found : Result (Option (String Z)) DeskFault) (out : List ℕ) → as_text ≡ is_plain question
@@ -87,18 +85,20 @@ module _ {D : Type 0} (stands : D → Standing) (settles : (d : D) → Settles (
   found_answers c moment question out (Err fault.NoMemory) is h = inr (inl is)
   found_answers c moment question out (Err fault.StoreFault) is h = inr (inr is)
 
-  pub reads_answer_by_the_content : ReadsAnswerByTheContent stands
-  reads_answer_by_the_content d e f pieces outs h moment question out (inl a) = λ clean sound first step opened. inr (inl a.0)
-  reads_answer_by_the_content d e f pieces outs h moment question out (inr a) =
-      let run = lines_lead_to_the_run d e pieces outs h in
+  by_the_content : (d f : D) (r : ReadAfterLines stands d f) → ReadingAnswers stands r.between (get r.moment (Ok r.question)) r.out f → IfOpen stands d f r (IsReadFrom stands d f r (led_before stands d f r))
+  by_the_content d f r (inl a) = λ clean sound first step opened. inr (inl a.0)
+  by_the_content d f r (inr a) =
+      let run = lines_lead_to_the_run d r.between r.pieces r.outs r.lines in
       λ clean sound first step opened.
       let before = a.2.step.clean clean in
-      found_answers (led (stands d).book.content (accepted (arrivals_of stands d pieces outs e h) (answers_of stands d pieces outs e h))) moment question out a.0 a.1
-      (subst (λ (c : Content). IfOk a.0 (λ (text : Option (List ℕ)). text ≡ question_read c moment question)) ((run.leads before sound first step).content opened)
+      found_answers (led_before stands d f r) r.moment r.question r.out a.0 a.1
+      (subst (λ (c : Content). IfOk a.0 (λ (text : Option (List ℕ)). text ≡ question_read c r.moment r.question)) ((run.leads before sound first step).content opened)
       (a.2.value clean (run.sound before sound) (run.in_step before sound step) opened))
 
+  pub reads_answer_by_the_content : ReadsAnswerByTheContent stands
+  reads_answer_by_the_content d f r = by_the_content d f r r.read
+
   pub reads_answer_by_the_run : ReadsAnswerByTheRun stands
-  reads_answer_by_the_run d e f pieces outs h moment question out answer = λ clean starts opened.
-      subst (λ (c : Content). IsReadAnswer c moment question out)
-      (sound_led (stands d).book.content (accepted (arrivals_of stands d pieces outs e h) (answers_of stands d pieces outs e h)) starts.3)
-      (reads_answer_by_the_content d e f pieces outs h moment question out answer clean starts.0 starts.1 starts.2 opened)
+  reads_answer_by_the_run d f r = λ clean starts opened.
+      subst (IsReadFrom stands d f r) (sound_led (stands d).book.content (accepted_before stands d f r) starts.3)
+      (reads_answer_by_the_content d f r clean starts.0 starts.1 starts.2 opened)

@@ -23,6 +23,10 @@ abbrev pub body_asks : Result Request Member → Asked
 body_asks (Ok request) = Arrival request
 body_asks (Err member) = Refused (refused.Body member) false
 
+-- for private clauses: the question of a body, as it was read, or that there was no memory to read it
+abbrev pub IsBodyAsked : List ℕ → Result Asked Unknown → Type 0
+IsBodyAsked body result = MatchResult result (λ (asked : Asked). asked ≡ body_asks (reads_as body)) (λ (why : Unknown). why ≡ unknown.NoMemory false)
+
 -- so many bytes of what follows the head are the body
 abbrev pub body_in : ℕ → List ℕ → Asked
 body_in len rest = if nat_le len (length rest) then body_asks (reads_as (take len rest)) else Truncated
@@ -92,3 +96,7 @@ IsUnknown known left (unknown.NoMemory bodiless) = (asked : Asked) × (asked ≢
 -- the question of a reader's bytes, as far as they were read
 abbrev pub IsSeen : Option (List ℕ) → Option (List ℕ) → Result Asked Unknown → Type 0
 IsSeen known left result = MatchResult result (IsAsked known) (IsUnknown known left)
+
+-- for private clauses: the same where these of its bytes were read before, whatever it held first
+abbrev pub IsSeenAfter : List ℕ → Option (List ℕ) × Option (List ℕ) → Result Asked Unknown → Type 0
+IsSeenAfter input left result = (first : Option (List ℕ)) → Consumes first left.0 input → IsSeen first left.1 result

@@ -34,6 +34,12 @@ module _ {D : Type 0} (stands : D → Standing) where
   all_posted d [] e h = []
   all_posted d (x ∷ xs) e h = posted_by d x h.0 h.1 ++ all_posted h.0 xs e h.2
 
+  -- the requests among these, and the answers
+  abbrev pub requests_posted : (d : D) (xs : List Outcome) (e : D) → AnsweredEach stands d xs e → List Arrival
+  requests_posted d xs e h = map (λ (p : Arrival × Taken). p.0) (all_posted d xs e h)
+
+  abbrev pub answers_posted : (d : D) (xs : List Outcome) (e : D) → AnsweredEach stands d xs e → List Taken
+  answers_posted d xs e h = map (λ (p : Arrival × Taken). p.1) (all_posted d xs e h)
+
   abbrev pub LeadsToTheRun : Type 0
-  LeadsToTheRun = (d e : D) (xs : List Outcome) (h : AnsweredEach stands d xs e)
-      → Attended (stands d) (map (λ (p : Arrival × Taken). p.0) (all_posted d xs e h)) (map (λ (p : Arrival × Taken). p.1) (all_posted d xs e h)) (stands e)
+  LeadsToTheRun = (d e : D) (xs : List Outcome) (h : AnsweredEach stands d xs e) → Attended (stands d) (requests_posted d xs e h) (answers_posted d xs e h) (stands e)

@@ -3,13 +3,15 @@ use Rattle.std.specs.Prelude.{◌≡◌, ◌≢◌, ◌⊎◌, ℕ, List, [], �
 use Rattle.acd_terms.specs.declared.command.Request.{Request}
 use Rattle.acd_codec.specs.declared.fault.FixedAnswer.{FixedAnswer}
 use Rattle.acd_codec.specs.declared.fault.FixedAnswer.TheVariants as fixed
+use Rattle.acd_book.specs.declared.book.Book.{Ghosts}
 use Rattle.acd_book.specs.Content.{Content}
+use Rattle.acd_desk.specs.declared.desk.Desk.{Desk}
 use Rattle.acd_desk.specs.declared.fault.DeskFault.{DeskFault}
 use Rattle.acd_desk.specs.declared.taken.Taken.{Taken}
 use Rattle.acd_desk.specs.declared.question.Question.{Question}
 use Rattle.acd_desk.specs.AnswerTexts.{Said, said, fixed_said, taken_said, found_said}
 use Rattle.acd_desk.specs.Arrived.{at}
-use Rattle.acd_desk.specs.Ran.{Standing, Took, Ran}
+use Rattle.acd_desk.specs.Ran.{Standing, standing, Took, Ran}
 use Rattle.acd_desk.specs.ReadDone.{ReadDone}
 use Rattle.acd_desk.specs.ReadAnswers.{question_read, is_plain}
 use Rattle.std.specs.Io.KnownBytes.{Appends}
@@ -63,12 +65,16 @@ abbrev pub reply_out : Bool → Reply → List ℕ
 reply_out bodiless r = reply_bytes bodiless (said r.answer).status r.kind r.allow (said r.answer).body
 
 module _ {D : Type 0} (stands : D → Standing) (moment : ℕ) where
+  -- the desk was read for the answer to a question, and gave this
+  abbrev pub HasRead : D → Question → Result (Option (List ℕ)) DeskFault → D → Type 0
+  HasRead d question found e = ReadDone (stands d) (stands e) found (λ (c : Content) (text : Option (List ℕ)). text ≡ question_read c moment question)
+
   -- the desk, what was asked, the reply to it, and the desk after it
   abbrev pub Replies : D → Asked → List ℕ → D → Type 0
   Replies d ask.Truncated out e = ⊥
   Replies d (ask.Refused why bodiless) out e = (out ≡ refused_reply bodiless why) × (e ≡ d)
   Replies d (ask.Look question bodiless) out e =
-      (found : Result (Option (List ℕ)) DeskFault) × (out ≡ found_reply bodiless (kind_of question) found) × ReadDone (stands d) (stands e) found (λ (c : Content) (text : Option (List ℕ)). text ≡ question_read c moment question)
+      (found : Result (Option (List ℕ)) DeskFault) × (out ≡ found_reply bodiless (kind_of question) found) × HasRead d question found e
   Replies d (ask.Arrival r) out e =
       (t : Taken) × (out ≡ taken_reply r t) × Took (stands d) (at moment r) t (stands e) × Ran (stands d) (at moment r ∷ []) (t ∷ []) (stands e)
 
@@ -102,7 +108,21 @@ module _ {D : Type 0} (stands : D → Standing) (moment : ℕ) where
     pub whole : OnOk result (Exchanged io.old_input d e (Appends io.old_output io.new_output))
     pub cause : IfErr result (StoppedBy io d e)
 
-  -- for private clauses
-  abbrev pub Answered : D → Asked → Option Reply → D → Type 0
-  Answered d asked None e = (asked ≡ ask.Truncated) × (e ≡ d)
-  Answered d asked (Some r) e = Replies d asked (reply_out (is_bodiless asked) r) e
+-- ---- of a desk over a book, by the words of that book
+
+-- how an exchange at a moment ended, over the desk before it and after it
+abbrev pub ExchangeDoneAt : {B : Type 0} → Ghosts B → ℕ → Streams → Desk B × Desk B → Result (Unit {0}) ExchangeFault → Type 0
+ExchangeDoneAt book moment io desks result = ExchangeDone (standing book) moment io desks.0 desks.1 result
+
+-- for private clauses: at a moment this was asked, and this is the reply to it
+abbrev pub RepliesWith : {B : Type 0} → Ghosts B → ℕ × Asked → Desk B → Reply → Desk B → Type 0
+RepliesWith book asked d reply e = Replies (standing book) asked.0 d asked.1 (reply_out (is_bodiless asked.1) reply) e
+
+-- the same of a read, whether it is asked with the body or without
+abbrev pub RepliesToRead : {B : Type 0} → Ghosts B → ℕ × Question → Desk B → Reply → Desk B → Type 0
+RepliesToRead book asked d reply e = (bodiless : Bool) → RepliesWith book (asked.0, ask.Look asked.1 bodiless) d reply e
+
+-- the same, or none where the input ended before something was asked
+abbrev pub Answered : {B : Type 0} → Ghosts B → ℕ × Asked → Desk B → Option Reply → Desk B → Type 0
+Answered book asked d None e = (asked.1 ≡ ask.Truncated) × (e ≡ d)
+Answered book asked d (Some reply) e = RepliesWith book asked d reply e

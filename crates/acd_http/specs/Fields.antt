@@ -3,12 +3,18 @@ use Rattle.std.specs.Prelude.{ℕ, List, map, Bool, true, false, not, ◌&&◌, 
 use Rattle.std.specs.List.{count_by}
 use Rattle.std.specs.Char.{to_ascii_lowercase}
 use Rattle.std.specs.Str.{bytes_eq}
+use Rattle.httparse.specs.Spans.{header_bytes}
+use Rattle.httparse.specs.declared.spans.HeaderSpan.{HeaderSpan}
 use Rattle.acd_io.specs.Digits.{number_up_to}
 use Rattle.acd_http.specs.declared.fields.Length.{Length}
 use Rattle.acd_http.specs.declared.fields.Length.TheVariants.{Absent, Faulty, Given, TooLarge}
 use Rattle.acd_http.specs.declared.refused.Refused.{Refused}
 use Rattle.acd_http.specs.declared.refused.Refused.TheVariants as refused
 use Rattle.acd_http.specs.declared.refused.Part.TheVariants as part
+
+-- the names and values of some fields, which lie in these bytes
+abbrev pub fields_in : List ℕ → List HeaderSpan → List (List ℕ × List ℕ)
+fields_in bytes headers = map (header_bytes bytes) headers
 
 -- the field has this name, whatever the case
 abbrev pub is_named : List ℕ → List ℕ × List ℕ → Bool
@@ -48,9 +54,20 @@ is_faulty Faulty = true
 is_faulty (Given n) = false
 is_faulty TooLarge = false
 
+-- a head's Host fields are not as its version wants them
+abbrev pub has_wrong_host : ℕ → List (List ℕ × List ℕ) → Bool
+has_wrong_host minor fields = not (is_host_fine minor (count_named (codes "host") fields))
+
+-- its body comes in a transfer coding
+abbrev pub is_coded : List (List ℕ × List ℕ) → Bool
+is_coded fields = nat_lt 0 (count_named (codes "transfer-encoding") fields)
+
+-- the last of the tests that every request passes: its length can be read
+abbrev pub length_refused : List (List ℕ × List ℕ) → Option Refused
+length_refused fields = if is_faulty (length_in fields) then Some (refused.Malformed part.ContentLength) else None
+
 -- the first of these tests that a request fails
 unfoldable pub fields_refused : ℕ → List (List ℕ × List ℕ) → Option Refused
 fields_refused minor fields =
-    if not (is_host_fine minor (count_named (codes "host") fields)) then Some (refused.Malformed part.Host)
-    else (if nat_lt 0 (count_named (codes "transfer-encoding") fields) then Some refused.NotImplemented
-    else (if is_faulty (length_in fields) then Some (refused.Malformed part.ContentLength) else None))
+    if has_wrong_host minor fields then Some (refused.Malformed part.Host)
+    else (if is_coded fields then Some refused.NotImplemented else length_refused fields)

@@ -14,3 +14,4 @@ pub mod Laws
 pub mod Listening
 pub mod Attending
 pub mod ReadingLines
+pub mod Routed

@@ -1,6 +1,10 @@
 -- The state after connections were answered, one after another.
 use Rattle.std.specs.Prelude.{◌≡◌, ◌⊎◌, ℕ, suc, length, true, false, List, [], ◌∷◌, ◌++◌, Option, Some, None, Result, Ok, Err, codes, decimal}
-use Rattle.acd_desk.specs.Ran.{Standing}
+use Rattle.acd_book.specs.declared.book.Book.{Ghosts}
+use Rattle.acd_desk.specs.declared.desk.Desk.{Desk}
+use Rattle.acd_desk.specs.Ran.{Standing, standing}
+use Rattle.acd_io.specs.declared.sending.Stopped.{Stopped}
+use Rattle.acd_io.specs.Sent.{WasSent}
 use Rattle.acd_http.specs.declared.asked.Asked.{Asked}
 use Rattle.acd_http.specs.declared.exchanging.ExchangeFault.{ExchangeFault}
 use Rattle.acd_http.specs.declared.exchanging.ExchangeFault.TheVariants.{Truncated, Read, Write, NoMemory}
@@ -26,6 +30,11 @@ outcome_line number (Err fault) = codes "acd: connection " ++ decimal number ++ 
 unfoldable pub outcome_lines : ℕ → List Outcome → List ℕ
 outcome_lines number [] = []
 outcome_lines number (x ∷ xs) = outcome_line number x ++ outcome_lines (suc number) xs
+
+-- for private clauses: after lines that were sent as `before` says, the line of a connection was sent, as `result` says
+abbrev pub PrintsLine : ℕ → Outcome → Result (Unit {0}) Stopped → Option (List ℕ) × Option (List ℕ) → Result (Unit {0}) Stopped → Type 0
+PrintsLine number outcome before output result =
+    (first : Option (List ℕ)) (text : List ℕ) → WasSent before first output.0 text → WasSent result first output.1 (text ++ outcome_line number outcome)
 
 module _ {D : Type 0} (stands : D → Standing) where
   -- something was asked at some moment, and answered
@@ -78,3 +87,7 @@ module _ {D : Type 0} (stands : D → Standing) where
   abbrev pub AnsweredFor : Option ℕ → D → D → (List ℕ → Type 0) → Type 0
   AnsweredFor (Some many) d e WentOut = AnsweredAll many d e WentOut
   AnsweredFor None d e WentOut = AnsweredUntilFailed d e WentOut
+
+-- connections were answered until the desk of a book failed
+abbrev pub UntilFailed : {B : Type 0} → Ghosts B → Desk B → Desk B → (List ℕ → Type 0) → Type 0
+UntilFailed book d e WentOut = AnsweredUntilFailed (standing book) d e WentOut

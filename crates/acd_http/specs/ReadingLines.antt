@@ -17,14 +17,16 @@ use Rattle.acd_desk.specs.Leads.{led}
 use Rattle.acd_desk.specs.Standing.{InStep}
 use Rattle.acd_desk.specs.Ran.{Standing, standing, IfStarted}
 use Rattle.acd_desk.specs.Attended.{Attended}
-use Rattle.acd_desk.specs.ReadDone.{ReadDone}
 use Rattle.acd_desk.specs.ReadAnswers.{question_read, is_plain}
 use Rattle.acd_desk.specs.declared.question.Question.{Question}
+use Rattle.acd_desk.specs.declared.answer_text.AnswerText.{AnswerText}
 use Rattle.acd_desk.specs.AnswerTexts.{found_said}
 use Rattle.acd_lines.specs.Input.{Line, no_moment, too_long, faulty, arrival, request_read, asked, text_of}
-use Rattle.acd_lines.specs.Answers.{Answers, line_text, fixed_line}
+use Rattle.acd_lines.specs.Answers.{Answers, line_text, answered_text, fixed_line}
+use Rattle.acd_lines.specs.Lines.{Manner}
 use Rattle.acd_lines.specs.Parts.{AnswersEach, InTurn}
 use Rattle.acd_http.specs.declared.refused.Refused.{Refused}
+use Rattle.acd_http.specs.Exchanging.{HasRead}
 use Rattle.acd_http.specs.Refusing.{refused_said}
 use Rattle.acd_http.specs.Lookups.{target_looked}
 
@@ -60,16 +62,26 @@ json_found as_text (Err why) = Err why
 abbrev pub found_line : Bool → Result (Option (List ℕ)) DeskFault → List ℕ
 found_line as_text found = line_text (found_said (json_found as_text found))
 
+-- for private clauses: an answer is this line, or says that there was no memory
+abbrev pub Says : AnswerText → List ℕ → Type 0
+Says answer line = answered_text answer ≡ line
+
+abbrev pub SaysNoMemory : AnswerText → Type 0
+SaysNoMemory answer = answered_text answer ≡ fixed_line fixed.NoMemory
+
 -- the answer of a content to a read, or that it can't be given
 abbrev pub IsReadAnswer : Content → ℕ → Question → List ℕ → Type 0
 IsReadAnswer c moment question out = (out ≡ found_line (is_plain question) (Ok (question_read c moment question))) ⊎ (out ≡ fixed_line fixed.NoMemory) ⊎ (out ≡ fixed_line fixed.StoreFault)
 
 module _ {D : Type 0} (stands : D → Standing) where
+  -- the answer line to what was found
+  abbrev pub AnswersFound : D → ℕ → Question → List ℕ → D → Type 0
+  AnswersFound d moment question out e = (found : Result (Option (List ℕ)) DeskFault) × (out ≡ found_line (is_plain question) found) × HasRead stands moment d question found e
+
   -- a read changes nothing; there may be no memory to see what it asks
   abbrev pub AnswersRead : D → ℕ → Result Question Refused → List ℕ → D → Type 0
   AnswersRead d moment (Err why) out e = ((out ≡ refused_line why) ⊎ (out ≡ fixed_line fixed.NoMemory)) × (e ≡ d)
-  AnswersRead d moment (Ok question) out e = ((out ≡ fixed_line fixed.NoMemory) × (e ≡ d))
-      ⊎ ((found : Result (Option (List ℕ)) DeskFault) × (out ≡ found_line (is_plain question) found) × ReadDone (stands d) (stands e) found (λ (c : Content) (text : Option (List ℕ)). text ≡ question_read c moment question))
+  AnswersRead d moment (Ok question) out e = ((out ≡ fixed_line fixed.NoMemory) × (e ≡ d)) ⊎ AnswersFound d moment question out e
 
   -- the desk, a line, what is written for it, and the desk after it
   abbrev pub ReadingAnswers : D → ReadingLine → List ℕ → D → Type 0
@@ -106,17 +118,54 @@ module _ {D : Type 0} (stands : D → Standing) where
   LinesLeadToTheRun = (d e : D) (pieces outs : List (List ℕ)) (h : AnswersReads d pieces outs e)
       → Attended (stands d) (arrivals_of d pieces outs e h) (answers_of d pieces outs e h) (stands e)
 
+  -- lines were answered, and after them a read
+  pub record ReadAfterLines (d f : D) : Type 0 where
+    pub pieces : List (List ℕ)
+    pub outs : List (List ℕ)
+    -- the desk that the lines left
+    pub between : D
+    pub lines : AnswersReads d pieces outs between
+    pub moment : ℕ
+    pub question : Question
+    pub out : List ℕ
+    -- the read was answered by it
+    pub read : ReadingAnswers between (get moment (Ok question)) out f
+
+  -- the requests among the lines that were kept and accepted
+  abbrev pub accepted_before : (d f : D) → ReadAfterLines d f → List Arrival
+  accepted_before d f r = accepted (arrivals_of d r.pieces r.outs r.between r.lines) (answers_of d r.pieces r.outs r.between r.lines)
+
+  -- what these made of the content before them, and their run from it
+  abbrev pub led_before : (d f : D) → ReadAfterLines d f → Content
+  led_before d f r = led (stands d).book.content (accepted_before d f r)
+
+  abbrev pub run_before : (d f : D) → ReadAfterLines d f → Content
+  run_before d f r = ran_after (stands d).book.content (accepted_before d f r)
+
+  -- the read was answered from this content
+  abbrev pub IsReadFrom : (d f : D) → ReadAfterLines d f → Content → Type 0
+  IsReadFrom d f r c = IsReadAnswer c r.moment r.question r.out
+
+  -- this is said where the book was open before the lines, in step with its desk, and is open at the read
+  abbrev pub IfOpen : (d f : D) → ReadAfterLines d f → Type 0 → Type 0
+  IfOpen d f r P = IfHonest (stands d).book (stands f).book ((stands d).book.is_open → InStep (stands d) → (stands r.between).book.is_open → P)
+
   -- a read after lines gives what the requests among them made of the content, where the book is open, or answers a fault
   abbrev pub ReadsAnswerByTheContent : Type 0
-  ReadsAnswerByTheContent = (d e f : D) (pieces outs : List (List ℕ)) (h : AnswersReads d pieces outs e) (moment : ℕ) (question : Question) (out : List ℕ) → ReadingAnswers e (get moment (Ok question)) out f
-      → IfHonest (stands d).book (stands f).book ((stands d).book.is_open → InStep (stands d) → (stands e).book.is_open
-      → IsReadAnswer (led (stands d).book.content (accepted (arrivals_of d pieces outs e h) (answers_of d pieces outs e h))) moment question out)
+  ReadsAnswerByTheContent = (d f : D) (r : ReadAfterLines d f) → IfOpen d f r (IsReadFrom d f r (led_before d f r))
 
   -- which is their run, where it was sound
   abbrev pub ReadsAnswerByTheRun : Type 0
-  ReadsAnswerByTheRun = (d e f : D) (pieces outs : List (List ℕ)) (h : AnswersReads d pieces outs e) (moment : ℕ) (question : Question) (out : List ℕ) → ReadingAnswers e (get moment (Ok question)) out f
-      → IfStarted (stands d) (stands f) ((stands e).book.is_open → IsReadAnswer (ran_after (stands d).book.content (accepted (arrivals_of d pieces outs e h) (answers_of d pieces outs e h))) moment question out)
+  ReadsAnswerByTheRun = (d f : D) (r : ReadAfterLines d f) → IfStarted (stands d) (stands f) ((stands r.between).book.is_open → IsReadFrom d f r (run_before d f r))
 
 -- lines and the reads among them were answered in turn, from one desk over a book to another
 abbrev pub ReadInTurn : {B : Type 0} → Ghosts B → Desk B → Desk B → List (List ℕ) → List (List ℕ) → Type 0
 ReadInTurn book d e = InTurn reading_line_of (ReadingAnswers (standing book)) d e
+
+-- they are answered so
+abbrev pub by_reads : {B : Type 0} → Ghosts B → Bool → Manner (Desk B)
+by_reads book ends = record { stands = standing book; Answered = ReadInTurn book; ends = ends }
+
+-- for private clauses: at a moment this was asked, of a desk over a book, and this is the answer
+abbrev pub AnswersReadWith : {B : Type 0} → Ghosts B → ℕ × Result Question Refused → Desk B → AnswerText → Desk B → Type 0
+AnswersReadWith book asked d answer e = AnswersRead (standing book) d asked.0 asked.1 (answered_text answer) e

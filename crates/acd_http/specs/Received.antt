@@ -4,10 +4,15 @@ use Rattle.std.specs.Io.KnownBytes.{Consumes, IsAtEnd, Keeps}
 use Rattle.acd_io.specs.declared.sending.Stopped.{Stopped}
 use Rattle.acd_http.specs.Head.{head_len}
 
--- bytes were read once more, none at the end of the input alone; or reading stopped, and nothing was
-abbrev pub Filled : List ℕ → List ℕ → Option (List ℕ) → Option (List ℕ) → Result Bool Stopped → Type 0
-Filled was now old new result =
-    MatchResult result (λ more. (bytes : List ℕ) × Consumes old new bytes × (now ≡ was ++ bytes) × (more ≡ false → IsAtEnd new × (bytes ≡ []))) (λ _. (now ≡ was) × Keeps old new)
+-- `seen` are the bytes read before a call and after it, `left` what the reader has left before and after
+
+-- bytes were read once more, none at the end of the input alone
+abbrev pub ReadMore : List ℕ × List ℕ → Option (List ℕ) × Option (List ℕ) → Bool → Type 0
+ReadMore seen left more = (bytes : List ℕ) × Consumes left.0 left.1 bytes × (seen.1 ≡ seen.0 ++ bytes) × (more ≡ false → IsAtEnd left.1 × (bytes ≡ []))
+
+-- they were, or reading stopped, and nothing was
+abbrev pub Filled : List ℕ × List ℕ → Option (List ℕ) × Option (List ℕ) → Result Bool Stopped → Type 0
+Filled seen left result = MatchResult result (λ more. ReadMore seen left more) (λ _. (seen.1 ≡ seen.0) × Keeps left.0 left.1)
 
 -- the length of a head in what was read; where none has ended, so much was read as a head may have, or all
 abbrev pub HeadIn : Option ℕ → List ℕ → Option (List ℕ) → Type 0
@@ -30,8 +35,8 @@ pub record StopsInHead (now : List ℕ) (old new : Option (List ℕ)) : Type 0 w
   pub short : length now < 8192
 
 -- the result of reading a head
-abbrev pub HeadRead : List ℕ → Option (List ℕ) → Option (List ℕ) → Result (Option ℕ) Stopped → Type 0
-HeadRead now old new result = MatchResult result (λ found. Found found now old new) (λ _. StopsInHead now old new)
+abbrev pub HeadRead : List ℕ → Option (List ℕ) × Option (List ℕ) → Result (Option ℕ) Stopped → Type 0
+HeadRead now left result = MatchResult result (λ found. Found found now left.0 left.1) (λ _. StopsInHead now left.0 left.1)
 
 pub record BodyFound (whole : Bool) (len : ℕ) (was now : List ℕ) (old new : Option (List ℕ)) : Type 0 where
   pub more : List ℕ
@@ -47,5 +52,5 @@ pub record StopsInBody (len : ℕ) (was now : List ℕ) (old new : Option (List 
   pub short : length now < len
 
 -- the result of reading a body
-abbrev pub BodyRead : ℕ → List ℕ → List ℕ → Option (List ℕ) → Option (List ℕ) → Result Bool Stopped → Type 0
-BodyRead len was now old new result = MatchResult result (λ whole. BodyFound whole len was now old new) (λ _. StopsInBody len was now old new)
+abbrev pub BodyRead : ℕ → List ℕ × List ℕ → Option (List ℕ) × Option (List ℕ) → Result Bool Stopped → Type 0
+BodyRead len seen left result = MatchResult result (λ whole. BodyFound whole len seen.0 seen.1 left.0 left.1) (λ _. StopsInBody len seen.0 seen.1 left.0 left.1)

@@ -1,25 +1,35 @@
 -- The bytes of a reply (RFC 9112, section 2.1).
-use Rattle.std.specs.Prelude.{ℕ, List, [], ◌++◌, length, Bool, ◌==◌, if◌then◌else◌, cond, codes, decimal, Option, Some, None}
+use Rattle.std.specs.Prelude.{ℕ, List, [], ◌∷◌, ◌++◌, length, Bool, ◌==◌, if◌then◌else◌, cond, codes, decimal, Option, Some, None}
 use Rattle.acd_http.specs.declared.reply.Kind.{Kind}
 use Rattle.acd_http.specs.declared.reply.Kind.TheVariants.{Json, Plain}
 use Rattle.acd_http.specs.declared.refused.Allow.{Allow}
 use Rattle.acd_http.specs.declared.refused.Allow.TheVariants.{Reads, Posts}
 
--- the phrases of the statuses that the desk answers
+-- the statuses that the desk answers, each with its phrase
+abbrev pub phrases : List (ℕ × List ℕ)
+phrases =
+    (200, codes "OK")
+    ∷ (400, codes "Bad Request")
+    ∷ (404, codes "Not Found")
+    ∷ (405, codes "Method Not Allowed")
+    ∷ (409, codes "Conflict")
+    ∷ (411, codes "Length Required")
+    ∷ (413, codes "Payload Too Large")
+    ∷ (422, codes "Unprocessable Entity")
+    ∷ (431, codes "Request Header Fields Too Large")
+    ∷ (501, codes "Not Implemented")
+    ∷ (503, codes "Service Unavailable")
+    ∷ (507, codes "Insufficient Storage")
+    ∷ []
+
+-- the phrase of a number in such a list
+abbrev pub phrase_in : List (ℕ × List ℕ) → ℕ → List ℕ
+phrase_in [] n = []
+phrase_in (p ∷ ps) n = if n == p.0 then p.1 else phrase_in ps n
+
+-- the phrase of a status
 unfoldable pub phrase_of : ℕ → List ℕ
-phrase_of n =
-    if n == 200 then codes "OK" else (
-    if n == 400 then codes "Bad Request" else (
-    if n == 404 then codes "Not Found" else (
-    if n == 405 then codes "Method Not Allowed" else (
-    if n == 409 then codes "Conflict" else (
-    if n == 411 then codes "Length Required" else (
-    if n == 413 then codes "Payload Too Large" else (
-    if n == 422 then codes "Unprocessable Entity" else (
-    if n == 431 then codes "Request Header Fields Too Large" else (
-    if n == 501 then codes "Not Implemented" else (
-    if n == 503 then codes "Service Unavailable" else (
-    if n == 507 then codes "Insufficient Storage" else [])))))))))))
+phrase_of n = phrase_in phrases n
 
 abbrev pub kind_text : Kind → List ℕ
 kind_text Json = codes "application/json"

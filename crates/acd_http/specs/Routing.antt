@@ -1,5 +1,5 @@
 -- The routes.
-use Rattle.std.specs.Prelude.{ℕ, List, [], codes, Bool, true, false, if◌then◌else◌, Option, None, option_map, Result, Ok, Err}
+use Rattle.std.specs.Prelude.{ℕ, List, [], ◌∷◌, codes, Bool, true, false, if◌then◌else◌, Option, None, option_map, Result, Ok, Err}
 use Rattle.std.specs.Str.{is_utf8}
 use Rattle.matchit.specs.Rows.{RowsOf}
 use Rattle.matchit.specs.Route.{Scan, parse_route}
@@ -32,20 +32,30 @@ scanned (Err e) value old = old
 abbrev pub add : List ℕ → Route → RowsOf (RouteOf Route) → RowsOf (RouteOf Route)
 add text value old = scanned (parse_route text) value old
 
--- all routes
+-- with some routes more, the last of which is added first
+abbrev pub add_all : List (List ℕ × Route) → RowsOf (RouteOf Route) → RowsOf (RouteOf Route)
+add_all [] old = old
+add_all (p ∷ ps) old = add p.0 p.1 (add_all ps old)
+
+-- all routes, each with its path
+abbrev pub paths : List (List ℕ × Route)
+paths =
+    (codes "/requests", Requests)
+    ∷ (codes "/history", History)
+    ∷ (codes "/snapshot", Snapshot)
+    ∷ (codes "/reports/queues", Report)
+    ∷ (codes "/monitors/{id}/events", MonitorEvents)
+    ∷ (codes "/events", Events)
+    ∷ (codes "/queues/{id}", Queue)
+    ∷ (codes "/devices/{id}", Device)
+    ∷ (codes "/calls/{id}", Call)
+    ∷ (codes "/agents/{id}", Agent)
+    ∷ (codes "/csta", Services)
+    ∷ []
+
+-- as matchit holds them
 unfoldable pub table : RowsOf (RouteOf Route)
-table =
-    add (codes "/requests") Requests
-    (add (codes "/history") History
-    (add (codes "/snapshot") Snapshot
-    (add (codes "/reports/queues") Report
-    (add (codes "/monitors/{id}/events") MonitorEvents
-    (add (codes "/events") Events
-    (add (codes "/queues/{id}") Queue
-    (add (codes "/devices/{id}") Device
-    (add (codes "/calls/{id}") Call
-    (add (codes "/agents/{id}") Agent
-    (add (codes "/csta") Services []))))))))))
+table = add_all paths []
 
 -- the route of a path, as matchit matches it
 abbrev pub matched : List ℕ → Option Route

@@ -1,5 +1,5 @@
 -- The request of a head that has come whole.
-use Rattle.std.specs.Prelude.{◌≡◌, ℕ, ◌≤◌, List, [], length, map, Bool, true, false, if◌then◌else◌, codes, Option, Some, None, Result, Ok, Err, MatchResult}
+use Rattle.std.specs.Prelude.{◌≡◌, ℕ, ◌≤◌, List, [], length, map, Bool, true, false, if◌then◌else◌, codes, Option, Some, None, Result, Ok, Err, OnErr, MatchResult}
 use Rattle.std.specs.Str.{bytes_eq}
 use Rattle.httparse.specs.Grammar.{RequestHead, ReadsRequest}
 use Rattle.httparse.specs.Spans.{name_and_value}
@@ -87,6 +87,10 @@ abbrev pub is_body : Wanted → Bool
 is_body (want.Refused why) = false
 is_body (want.Look lookup) = false
 is_body (want.Body n) = true
+
+-- for private clauses: where there was no memory to read a request, it is one that asks for no body
+abbrev pub AsksNoBody : Result Wanted AllocError → Wanted → Type 0
+AsksNoBody result wanted = OnErr result (is_body wanted ≡ false)
 
 -- a body that is asked for has at most 4096 bytes
 abbrev pub IsSmall : Wanted → Type 0

@@ -1,10 +1,9 @@
 //! The reply to what was asked.
 
-ghost use Rattle.std.specs.Prelude.{◌≡◌, Bool, false};
-ghost use Rattle.acd_desk.specs.Ran.{standing};
+ghost use Rattle.std.specs.Prelude.{◌≡◌, Bool};
 ghost use Rattle.acd_desk.specs.AnswerTexts.{said};
 ghost use Rattle.acd_http.specs.declared.asked.Asked.{Asked};
-ghost use Rattle.acd_http.specs.Exchanging.{reply_out, json_reply, fixed_reply, refused_reply, Replies, Answered};
+ghost use Rattle.acd_http.specs.Exchanging.{reply_out, json_reply, fixed_reply, refused_reply, RepliesWith, Answered};
 
 use crate::asked::Asked;
 use crate::reads::found_reply;
@@ -53,15 +52,14 @@ fn refused(why: Refused) -> Reply
 }
 
 fn arrival<B: Book>(desk: &mut Desk<B>, moment: u32, request: &Request) -> Reply
-    ensures { Replies (standing B.Book) moment desk.old (Asked.Arrival request.now)
-        (reply_out false result) desk.new }
+    ensures { RepliesWith B.Book (moment, Asked.Arrival request.now) desk.old result desk.new }
 {
     in_json(desk.take_text(moment, request))
 }
 
 /// The reply to what was asked; none where the input ended before.
 pub(crate) fn answered<B: Book>(desk: &mut Desk<B>, moment: u32, asked: Asked) -> Option<Reply>
-    ensures { Answered (standing B.Book) moment desk.old asked result desk.new }
+    ensures { Answered B.Book (moment, asked) desk.old result desk.new }
 {
     match asked {
         Asked::Truncated => None,

@@ -1,9 +1,8 @@
 //! The question that the bytes of a connection ask.
 
-ghost use Rattle.std.specs.Prelude.{◌≡◌, ℕ, List, [], false, MatchResult, Option};
-ghost use Rattle.std.specs.Io.KnownBytes.{Consumes};
-ghost use Rattle.acd_http.specs.Asking.{IsHeadOf, IsSeen, body_asks, headless};
-ghost use Rattle.acd_codec.specs.Reading.{reads_as};
+ghost use Rattle.std.specs.Prelude.{◌≡◌, []};
+ghost use Rattle.acd_io.specs.Read.{across};
+ghost use Rattle.acd_http.specs.Asking.{IsBodyAsked, IsHeadOf, IsSeen, IsSeenAfter, headless};
 
 use crate::input::Input;
 use crate::receive::{LONGEST_HEAD, read_head, read_up_to};
@@ -70,8 +69,7 @@ fn headless(len: usize) -> Asked
 
 // The question of a body that has come whole.
 fn body_asked(alloc: Global, body: &[u8]) -> Result<Asked, Unknown>
-    ensures { MatchResult result (λ asked. asked ≡ body_asks (reads_as body.now))
-        (λ unknown. unknown ≡ Unknown.NoMemory false) }
+    ensures { IsBodyAsked body.now result }
 {
     match read_request(alloc, body) {
         Ok(request) => Ok(Asked::Arrival(request)),
@@ -90,8 +88,7 @@ fn asked_after_head<R: Read>(
     len: usize,
 ) -> Result<Asked, Unknown>
     requires { IsHeadOf len input.old }
-    ensures { (first : Option (List ℕ)) → Consumes first (R.remaining reader.old) input.old
-        → IsSeen first (R.remaining reader.new) result }
+    ensures { IsSeenAfter input.old (across R.remaining reader.old reader.new) result }
 {
     let (bodiless, wanted) = head_asked(alloc, routes, &input.as_slice()[..len]);
     match wanted {

@@ -1,10 +1,9 @@
 //! One request, and its reply.
 
 ghost use Rattle.std.specs.Prelude.{◌≡◌, IfErr, ◌++◌, cond, []};
-ghost use Rattle.acd_io.specs.Sent.{WasSent};
-ghost use Rattle.acd_desk.specs.Ran.{standing};
+ghost use Rattle.acd_io.specs.Sent.{Sends};
 ghost use Rattle.acd_lines.specs.Lines.{streams};
-ghost use Rattle.acd_http.specs.Exchanging.{reply_out, ExchangeDone};
+ghost use Rattle.acd_http.specs.Exchanging.{reply_out, ExchangeDoneAt};
 
 use crate::answer::{Reply, answered, fixed};
 use crate::asked::{Unknown, asked_by};
@@ -50,8 +49,7 @@ fn send_both<W: Write>(
     head: &mut HeadText,
     body: &[u8],
 ) -> Result<(), Stopped>
-    ensures { WasSent result (W.contents writer.old) (W.contents writer.new)
-        (head.old ++ body.now) }
+    ensures { Sends W.contents writer.old writer.new result (head.old ++ body.now) }
 {
     if body.len() <= head.room() {
         head.push(body);
@@ -63,8 +61,7 @@ fn send_both<W: Write>(
 
 // Writes a reply.
 fn respond<W: Write>(writer: &mut W, bodiless: bool, reply: &Reply) -> Result<(), ExchangeFault>
-    ensures sent { WasSent result (W.contents writer.old) (W.contents writer.new)
-        (reply_out bodiless reply.now) }
+    ensures sent { Sends W.contents writer.old writer.new result (reply_out bodiless reply.now) }
     ensures fault { IfErr result (λ fault. fault ≡ ExchangeFault.Write) }
 {
     let mut calls = most_calls();
@@ -88,9 +85,9 @@ pub fn exchange<B: Book, R: Read, W: Write>(
     reader: &mut R,
     writer: &mut W,
 ) -> Result<(), ExchangeFault>
-    ensures { ExchangeDone (standing B.Book) moment
+    ensures { ExchangeDoneAt B.Book moment
         (streams R.remaining W.contents (reader.old, reader.new) (writer.old, writer.new))
-        desk.old desk.new result }
+        (desk.old, desk.new) result }
 {
     let mut input = match Input::new(alloc) {
         Ok(input) => input,

@@ -3,8 +3,8 @@
 ghost use Rattle.std.specs.Prelude.{◌≡◌, length, map, All, option_map};
 ghost use Rattle.std.specs.Char.{to_ascii_lowercase};
 ghost use Rattle.std.specs.Str.{bytes_eq};
-ghost use Rattle.httparse.specs.Spans.{header_bytes, IsHeaderWithin};
-ghost use Rattle.acd_http.specs.Fields.{count_named, first_named, is_host_fine, length_by, length_in, fields_refused};
+ghost use Rattle.httparse.specs.Spans.{IsHeaderWithin};
+ghost use Rattle.acd_http.specs.Fields.{fields_in, count_named, first_named, is_host_fine, length_by, length_in, fields_refused};
 
 use crate::refused::{Part, Refused};
 use acd_io::number_up_to;
@@ -49,7 +49,7 @@ fn is_named(name: &[u8], wanted: &[u8]) -> bool
 
 fn count_named(buf: &[u8], headers: &[HeaderSpan], wanted: &[u8]) -> usize
     requires { All (IsHeaderWithin (length buf.now)) headers.now }
-    ensures { result ≡ count_named wanted.now (map (header_bytes buf.now) headers.now) }
+    ensures { result ≡ count_named wanted.now (fields_in buf.now headers.now) }
 {
     let mut count = 0;
     for header in headers {
@@ -63,7 +63,7 @@ fn count_named(buf: &[u8], headers: &[HeaderSpan], wanted: &[u8]) -> usize
 fn first_named<'b>(buf: &'b [u8], headers: &[HeaderSpan], wanted: &[u8]) -> Option<&'b [u8]>
     requires { All (IsHeaderWithin (length buf.now)) headers.now }
     ensures { option_map (λ v. v.now) result
-        ≡ first_named wanted.now (map (header_bytes buf.now) headers.now) }
+        ≡ first_named wanted.now (fields_in buf.now headers.now) }
 {
     for header in headers {
         if is_named(header.name.of(buf), wanted) {
@@ -101,7 +101,7 @@ fn length_by(value: &[u8]) -> Length
 #[tactic(auto, unfolding(crate::specs::Fields::length_in))]
 pub(crate) fn length_in(buf: &[u8], headers: &[HeaderSpan]) -> Length
     requires { All (IsHeaderWithin (length buf.now)) headers.now }
-    ensures { result ≡ length_in (map (header_bytes buf.now) headers.now) }
+    ensures { result ≡ length_in (fields_in buf.now headers.now) }
 {
     if count_named(buf, headers, b"content-length") > 1 {
         return Length::Faulty;
@@ -116,7 +116,7 @@ pub(crate) fn length_in(buf: &[u8], headers: &[HeaderSpan]) -> Length
 #[tactic(auto, unfolding(crate::specs::Fields::fields_refused), using(std::proofs::lemmas::Bool::Decides::nat_tests))]
 pub(crate) fn fields_refused(minor: u8, buf: &[u8], headers: &[HeaderSpan]) -> Option<Refused>
     requires { All (IsHeaderWithin (length buf.now)) headers.now }
-    ensures { result ≡ fields_refused minor (map (header_bytes buf.now) headers.now) }
+    ensures { result ≡ fields_refused minor (fields_in buf.now headers.now) }
 {
     if !is_host_fine(minor, count_named(buf, headers, b"host")) {
         return Some(Refused::Malformed(Part::Host));

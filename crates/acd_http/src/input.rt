@@ -1,6 +1,7 @@
 //! The bytes read of a connection.
 
 ghost use Rattle.std.specs.Prelude.{◌≡◌, ◌<◌, ◌≤◌, ◌+◌, ◌++◌, [], length, IfOk, OnOk};
+ghost use Rattle.acd_io.specs.Read.{across};
 ghost use Rattle.acd_http.specs.Received.{Filled};
 
 use acd_io::{Stopped, retried};
@@ -62,7 +63,7 @@ pub(crate) fn fill<R: Read>(
     input: &mut Input,
 ) -> Result<bool, Stopped>
     requires { length input.old ≤ 12288 }
-    ensures read { Filled input.old input.new (R.remaining reader.old) (R.remaining reader.new)
+    ensures read { Filled (input.old, input.new) (across R.remaining reader.old reader.new)
         result }
     ensures called { OnOk result (calls.new < calls.old) }
 {

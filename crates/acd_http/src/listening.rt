@@ -1,9 +1,11 @@
 //! Connections of a listener, answered one after the other.
 
-ghost use Rattle.std.specs.Prelude.{◌≡◌, ◌≢◌, ◌≤◌, ℕ, List, ◌++◌, min, length, Option, Err};
-ghost use Rattle.acd_io.specs.Sent.{WasSent};
+ghost use Rattle.std.specs.Prelude.{◌≡◌, ◌≤◌, min, length, Err};
+ghost use Rattle.acd_io.specs.Read.{across};
+ghost use Rattle.acd_io.specs.Sent.{Sends};
 ghost use Rattle.acd_desk.specs.Ran.{standing};
-ghost use Rattle.acd_http.specs.Listening.{AnsweredOne, AnsweredAll, AnsweredUntilFailed, fault_text, outcome_line};
+ghost use Rattle.acd_http.specs.Listening.{AnsweredOne, AnsweredAll, UntilFailed, PrintsLine, fault_text, outcome_line};
+ghost use Rattle.acd_http.specs.Routed.{IfRouted, IfUnrouted};
 
 use crate::exchanging::{ExchangeFault, exchange};
 use crate::head_text::HeadText;
@@ -132,8 +134,7 @@ fn print_outcome<E: Write>(
     number: u64,
     outcome: Result<(), ExchangeFault>,
 ) -> Result<(), Stopped>
-    ensures { WasSent result (E.contents errors.old) (E.contents errors.new)
-        (outcome_line number outcome) }
+    ensures { Sends E.contents errors.old errors.new result (outcome_line number outcome) }
 {
     match outcome {
         Ok(()) => Ok(()),
@@ -152,9 +153,7 @@ fn print_next<E: Write>(
     number: u64,
     outcome: Result<(), ExchangeFault>,
 ) -> Result<(), Stopped>
-    ensures { (first : Option (List ℕ)) (text : List ℕ)
-        → WasSent printed first (E.contents errors.old) text
-        → WasSent result first (E.contents errors.new) (text ++ outcome_line number outcome) }
+    ensures { PrintsLine number outcome printed (across E.contents errors.old errors.new) result }
 {
     printed?;
     print_outcome(errors, number, outcome)
@@ -172,11 +171,10 @@ pub fn serve_on<B: Book, C: Clock, E: Write>(
     errors: &mut E,
 ) -> Result<(), ServeFault>
     // the lines were written or, where one of them could not be, a beginning of them and not all
-    ensures answered { result ≢ Err ServeFault.NoMemory
-        → AnsweredAll (standing B.Book) connections desk.old desk.new
-        (WasSent result (E.contents errors.old) (E.contents errors.new)) }
-    ensures memory { result ≡ Err ServeFault.NoMemory
-        → (desk.new ≡ desk.old) × (errors.new ≡ errors.old) }
+    ensures answered { IfRouted result
+        (AnsweredAll (standing B.Book) connections desk.old desk.new
+        (Sends E.contents errors.old errors.new result)) }
+    ensures memory { IfUnrouted result ((desk.new ≡ desk.old) × (errors.new ≡ errors.old)) }
 {
     let Ok(routes) = Routes::new(alloc) else {
         return Err(ServeFault::NoMemory);
@@ -201,8 +199,8 @@ fn answer_while_well<B: Book, C: Clock, E: Write>(
     desk: &mut Desk<B>,
     errors: &mut E,
 ) -> Result<(), Stopped>
-    ensures { AnsweredUntilFailed (standing B.Book) desk.old desk.new
-        (WasSent result (E.contents errors.old) (E.contents errors.new)) }
+    ensures { UntilFailed B.Book desk.old desk.new
+        (Sends E.contents errors.old errors.new result) }
 {
     let mut printed = Ok(());
     for before in 0..u64::MAX {
@@ -225,11 +223,9 @@ pub fn serve_until_failed<B: Book, C: Clock, E: Write>(
     errors: &mut E,
 ) -> Result<(), ServeFault>
     // the lines were written or, where one of them could not be, a beginning of them and not all
-    ensures answered { result ≢ Err ServeFault.NoMemory
-        → AnsweredUntilFailed (standing B.Book) desk.old desk.new
-        (WasSent result (E.contents errors.old) (E.contents errors.new)) }
-    ensures memory { result ≡ Err ServeFault.NoMemory
-        → (desk.new ≡ desk.old) × (errors.new ≡ errors.old) }
+    ensures answered { IfRouted result
+        (UntilFailed B.Book desk.old desk.new (Sends E.contents errors.old errors.new result)) }
+    ensures memory { IfUnrouted result ((desk.new ≡ desk.old) × (errors.new ≡ errors.old)) }
 {
     let Ok(routes) = Routes::new(alloc) else {
         return Err(ServeFault::NoMemory);

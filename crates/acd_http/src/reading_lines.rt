@@ -1,12 +1,10 @@
 //! Lines that ask what a GET asks, beside those that ask for a service.
 
 ghost use Rattle.std.specs.Prelude.{◌≡◌, ◌⊎◌, IfOk, OnErr, Ok, Some, string_bytes};
-ghost use Rattle.acd_desk.specs.Ran.{standing};
 ghost use Rattle.acd_desk.specs.AnswerTexts.{seen};
-ghost use Rattle.acd_lines.specs.Answers.{answered_text, fixed_line};
-ghost use Rattle.acd_lines.specs.Lines.{LinesDone, streams};
+ghost use Rattle.acd_lines.specs.Lines.{LinesDoneBy, streams};
 ghost use Rattle.acd_http.specs.Lookups.{target_looked};
-ghost use Rattle.acd_http.specs.ReadingLines.{is_read, as_json, found_line, AnswersRead, ReadInTurn};
+ghost use Rattle.acd_http.specs.ReadingLines.{is_read, as_json, found_line, Says, SaysNoMemory, AnswersReadWith, by_reads};
 
 use crate::routes::Routes;
 use acd_book::Book;
@@ -29,8 +27,8 @@ fn as_json(alloc: Global, is_plain: bool, text: String) -> Result<String, AllocE
 
 // The text of a report as JSON takes memory, and where there is none the answer is noMemory.
 fn text_line(alloc: Global, is_plain: bool, text: String) -> AnswerText
-    ensures { (answered_text result ≡ found_line is_plain (Ok (Some (string_bytes text))))
-        ⊎ (answered_text result ≡ fixed_line FixedAnswer.NoMemory) }
+    ensures { Says result (found_line is_plain (Ok (Some (string_bytes text))))
+        ⊎ SaysNoMemory result }
 {
     match as_json(alloc, is_plain, text) {
         Ok(body) => AnswerText::found(Ok(Some(body))),
@@ -39,8 +37,8 @@ fn text_line(alloc: Global, is_plain: bool, text: String) -> AnswerText
 }
 
 fn found_line(alloc: Global, is_plain: bool, found: Result<Option<String>, DeskFault>) -> AnswerText
-    ensures { (answered_text result ≡ found_line is_plain (seen found))
-        ⊎ (OnErr found ⊥ × (answered_text result ≡ fixed_line FixedAnswer.NoMemory)) }
+    ensures { Says result (found_line is_plain (seen found))
+        ⊎ (OnErr found ⊥ × SaysNoMemory result) }
 {
     match found {
         Ok(Some(text)) => text_line(alloc, is_plain, text),
@@ -50,8 +48,7 @@ fn found_line(alloc: Global, is_plain: bool, found: Result<Option<String>, DeskF
 }
 
 fn look<B: Book>(alloc: Global, desk: &mut Desk<B>, moment: u32, question: Question) -> AnswerText
-    ensures { AnswersRead (standing B.Book) desk.old moment (Ok question) (answered_text result)
-        desk.new }
+    ensures { AnswersReadWith B.Book (moment, Ok question) desk.old result desk.new }
 {
     let is_plain = question.is_plain();
     let found = desk.read(moment, question);
@@ -66,8 +63,7 @@ fn answer_read<B: Book>(
     moment: u32,
     target: &[u8],
 ) -> AnswerText
-    ensures { AnswersRead (standing B.Book) desk.old moment (target_looked target.now)
-        (answered_text result) desk.new }
+    ensures { AnswersReadWith B.Book (moment, target_looked target.now) desk.old result desk.new }
 {
     match routes.look_up(alloc, target) {
         Ok(Ok(question)) => look(alloc, desk, moment, question),
@@ -151,7 +147,7 @@ pub fn lines_with_reads<B: Book, R: Read, W: Write>(
     reader: &mut R,
     writer: &mut W,
 ) -> Result<(), LinesFault>
-    ensures { LinesDone (standing B.Book) (ReadInTurn B.Book) ends
+    ensures { LinesDoneBy (by_reads B.Book ends)
         (streams R.remaining W.contents (reader.old, reader.new) (writer.old, writer.new))
         desk.old desk.new result }
 {

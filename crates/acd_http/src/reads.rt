@@ -1,10 +1,8 @@
 //! The reply to a read.
 
 ghost use Rattle.std.specs.Prelude.{◌≡◌, Bool};
-ghost use Rattle.acd_desk.specs.Ran.{standing};
 ghost use Rattle.acd_desk.specs.AnswerTexts.{seen};
-ghost use Rattle.acd_http.specs.declared.asked.Asked.{Asked};
-ghost use Rattle.acd_http.specs.Exchanging.{reply_out, kind_found, found_reply, Replies};
+ghost use Rattle.acd_http.specs.Exchanging.{reply_out, kind_found, found_reply, RepliesToRead};
 
 use crate::answer::Reply;
 use crate::reply::Kind;
@@ -35,9 +33,7 @@ fn reply_to(kind: Kind, found: Result<Option<String>, DeskFault>) -> Reply
 
 /// The reply to a read.
 pub(crate) fn found_reply<B: Book>(desk: &mut Desk<B>, moment: u32, question: Question) -> Reply
-    ensures { (bodiless : Bool)
-        → Replies (standing B.Book) moment desk.old (Asked.Look question bodiless)
-        (reply_out bodiless result) desk.new }
+    ensures { RepliesToRead B.Book (moment, question) desk.old result desk.new }
 {
     let kind = Kind::of(&question);
     let found = desk.read(moment, question);

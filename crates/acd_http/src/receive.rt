@@ -1,6 +1,7 @@
 //! A head and a body that are read as they come.
 
 ghost use Rattle.std.specs.Prelude.{◌≡◌, ◌≤◌, [], take};
+ghost use Rattle.acd_io.specs.Read.{across};
 ghost use Rattle.acd_http.specs.Head.{head_len};
 ghost use Rattle.acd_http.specs.Received.{BodyRead, HeadRead};
 
@@ -30,7 +31,7 @@ pub(crate) fn read_head<R: Read>(
     input: &mut Input,
 ) -> Result<Option<usize>, Stopped>
     requires { input.old ≡ [] }
-    ensures { HeadRead input.new (R.remaining reader.old) (R.remaining reader.new) result }
+    ensures { HeadRead input.new (across R.remaining reader.old reader.new) result }
 {
     while input.as_slice().len() < LONGEST_HEAD {
         match front_len(input.as_slice()) {
@@ -52,7 +53,7 @@ pub(crate) fn read_up_to<R: Read>(
     len: usize,
 ) -> Result<bool, Stopped>
     requires { len ≤ 12288 }
-    ensures { BodyRead len input.old input.new (R.remaining reader.old) (R.remaining reader.new)
+    ensures { BodyRead len (input.old, input.new) (across R.remaining reader.old reader.new)
         result }
 {
     while input.as_slice().len() < len {

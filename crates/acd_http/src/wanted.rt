@@ -1,10 +1,10 @@
 //! The request of a head.
 
-ghost use Rattle.std.specs.Prelude.{◌≡◌, ℕ, ◌≤◌, length, map, All, IfOk, OnErr, false};
+ghost use Rattle.std.specs.Prelude.{◌≡◌, ℕ, ◌≤◌, length, All, IfOk};
 ghost use Rattle.httparse.specs.Grammar.{RequestHead};
-ghost use Rattle.httparse.specs.Spans.{header_bytes, IsHeaderWithin};
-ghost use Rattle.acd_http.specs.Fields.{fields_refused, length_in};
-ghost use Rattle.acd_http.specs.Wanting.{is_head, looked, by_length, posted, by_method, wants, is_body, IsHeadRead};
+ghost use Rattle.httparse.specs.Spans.{IsHeaderWithin};
+ghost use Rattle.acd_http.specs.Fields.{fields_in, fields_refused, length_in};
+ghost use Rattle.acd_http.specs.Wanting.{is_head, looked, by_length, posted, by_method, wants, AsksNoBody, IsHeadRead};
 ghost use Rattle.acd_http.specs.Asking.{IsHeadAsked};
 
 use crate::fields::{Length, fields_refused, length_in};
@@ -71,7 +71,7 @@ fn by_method(
     length: Length,
 ) -> Result<Wanted, AllocError>
     ensures ok { IfOk result (λ w. w ≡ by_method method target.now length) }
-    ensures err { OnErr result (is_body (by_method method target.now length) ≡ false) }
+    ensures err { AsksNoBody result (by_method method target.now length) }
 {
     match method {
         None => Ok(Wanted::Refused(Refused::NotImplemented)),
@@ -99,9 +99,9 @@ fn wants(
 ) -> Result<Wanted, AllocError>
     requires { All (IsHeaderWithin (length buf.now)) headers.now }
     ensures ok { IfOk result
-        (λ w. w ≡ wants minor method target.now (map (header_bytes buf.now) headers.now)) }
-    ensures err { OnErr result
-        (is_body (wants minor method target.now (map (header_bytes buf.now) headers.now)) ≡ false) }
+        (λ w. w ≡ wants minor method target.now (fields_in buf.now headers.now)) }
+    ensures err { AsksNoBody result
+        (wants minor method target.now (fields_in buf.now headers.now)) }
 {
     match fields_refused(minor, buf, headers) {
         Some(refused) => Ok(Wanted::Refused(refused)),

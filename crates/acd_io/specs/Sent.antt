@@ -26,3 +26,7 @@ pub record Breaks (old new : Option (List ℕ)) (text : List ℕ) : Type 0 where
 -- all of text was written or, where the writer stopped, a beginning of it and not all
 abbrev pub WasSent : {E : Type 0} → Result (Unit {0}) E → Option (List ℕ) → Option (List ℕ) → List ℕ → Type 0
 WasSent result old new text = MatchResult result (λ _. Appends old new text) (λ _. Breaks old new text)
+
+-- the same of a writer, as it was before a call and as it is after
+abbrev pub Sends : {W E : Type 0} → (W → Option (List ℕ)) → W → W → Result (Unit {0}) E → List ℕ → Type 0
+Sends contents old new result text = WasSent result (contents old) (contents new) text

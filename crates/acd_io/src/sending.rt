@@ -1,6 +1,6 @@
 //! Bytes that are written whole.
 
-ghost use Rattle.acd_io.specs.Sent.{WasSent};
+ghost use Rattle.acd_io.specs.Sent.{Sends};
 
 use crate::retry::retried;
 use std::io::Write;
@@ -14,7 +14,7 @@ pub struct Stopped;
 /// Writes all of the bytes. Each call of the writer takes one off `calls`; a call that is interrupted is made
 /// again.
 pub fn send<W: Write>(writer: &mut W, calls: &mut u64, bytes: &[u8]) -> Result<(), Stopped>
-    ensures { WasSent result (W.contents writer.old) (W.contents writer.new) bytes.now }
+    ensures { Sends W.contents writer.old writer.new result bytes.now }
 {
     let mut done = 0;
     while done < bytes.len() {

@@ -1,7 +1,6 @@
 -- All laws of a state and of the events up to it, together.
-use Rattle.std.specs.Prelude.{◌≡◌, ◌<◌, ◌≤◌, true, List, ◌++◌, length}
+use Rattle.std.specs.Prelude.{◌≡◌, ◌<◌, ◌≤◌, true, List, length}
 use Rattle.acd_terms.specs.Limits.{limits_fit}
-use Rattle.acd_terms.specs.Rows.{empty_rows}
 use Rattle.acd_terms.specs.Numbers.{Moment}
 use Rattle.acd_terms.specs.declared.rows.Rows.{Rows}
 use Rattle.acd_terms.specs.declared.rows.Limits.{Limits}
@@ -11,8 +10,8 @@ use Rattle.acd_model.specs.Placed.{IsPlaced}
 use Rattle.acd_model.specs.OneOffer.{HasOneOffer}
 use Rattle.acd_model.specs.Watched.{IsWatched}
 use Rattle.acd_model.specs.Rules.First.{BreaksNoRule}
-use Rattle.acd_model.specs.Step.{step}
-use Rattle.acd_model.specs.Run.{TimedCommand, run}
+use Rattle.acd_model.specs.Run.{TimedCommand}
+use Rattle.acd_laws.specs.Forms.{AfterStep, AfterRun}
 use Rattle.acd_laws.specs.PlacedLaws.{NamesNoLaterCall}
 use Rattle.acd_laws.specs.BalanceLaws.{IsBalanced}
 use Rattle.acd_laws.specs.OfferLaws.{LeavesNoOffer}
@@ -40,9 +39,9 @@ pub record LawsHold (s : Rows) (events : List Event) : Type 0 where
 -- a step keeps them all, while a request more is allowed
 abbrev pub StepKeepsLaws : Type 0
 StepKeepsLaws = (s : Rows) (events : List Event) (moment : Moment) (command : Command) → s.last_stamp < s.limits.requests → LawsHold s events
-    → LawsHold (step s moment command).rows (events ++ (step s moment command).events)
+    → AfterStep LawsHold s events moment command
 
 -- they all hold of every run of no more requests than are allowed
 abbrev pub RunKeepsLaws : Type 0
 RunKeepsLaws = (limits : Limits) (commands : List TimedCommand) → limits_fit limits ≡ true → length commands ≤ limits.requests
-    → LawsHold (run (empty_rows limits) commands).rows (run (empty_rows limits) commands).events
+    → AfterRun LawsHold limits commands

@@ -1,17 +1,12 @@
 -- Each call that entered a group's queue waits, rings, was answered, was abandoned or was moved.
-use Rattle.std.specs.Prelude.{◌≡◌, ◌+◌, List, ◌++◌}
+use Rattle.std.specs.Prelude.{◌≡◌, ◌+◌, List}
 use Rattle.acd_terms.specs.Lists.{count}
-use Rattle.acd_terms.specs.Rows.{empty_rows}
-use Rattle.acd_terms.specs.Numbers.{Device, Moment}
+use Rattle.acd_terms.specs.Numbers.{Device}
 use Rattle.acd_terms.specs.declared.rows.Rows.{Rows}
-use Rattle.acd_terms.specs.declared.rows.Limits.{Limits}
-use Rattle.acd_terms.specs.declared.command.Command.{Command}
 use Rattle.acd_terms.specs.declared.event.Event.{Event}
 use Rattle.acd_model.specs.Figures.{figures_of}
-use Rattle.acd_model.specs.Step.{step}
-use Rattle.acd_model.specs.Run.{TimedCommand, run}
 use Rattle.acd_model.specs.Rules.Occupied.{waits_in, rings_from}
-use Rattle.acd_model.specs.Rules.First.{BreaksNoRule}
+use Rattle.acd_laws.specs.Forms.{StepKeeps, EachRunEnds}
 
 -- entered is what waits, rings, was answered, abandoned and moved, all counted from all events; of what is no group all are 0
 abbrev pub IsBalanced : Rows → List Event → Type 0
@@ -21,9 +16,8 @@ IsBalanced s events = (group : Device) → (figures_of group events).entered
 
 -- rows that break no rule go on to balanced ones
 abbrev pub StepBalances : Type 0
-StepBalances = (s : Rows) (events : List Event) (moment : Moment) (command : Command) → BreaksNoRule s → IsBalanced s events
-    → IsBalanced (step s moment command).rows (events ++ (step s moment command).events)
+StepBalances = StepKeeps IsBalanced
 
 -- every run is balanced
 abbrev pub RunIsBalanced : Type 0
-RunIsBalanced = (limits : Limits) (commands : List TimedCommand) → IsBalanced (run (empty_rows limits) commands).rows (run (empty_rows limits) commands).events
+RunIsBalanced = EachRunEnds IsBalanced

@@ -1,18 +1,15 @@
 -- The place of each call, how often it was cleared, and which calls events name.
-use Rattle.std.specs.Prelude.{◌≡◌, ℕ, ◌<◌, ◌≤◌, ◌&&◌, nat_le, List, ◌++◌, Option, Some, None, is_none, if◌then◌else◌}
+use Rattle.std.specs.Prelude.{◌≡◌, ℕ, ◌<◌, ◌≤◌, ◌&&◌, nat_le, List, Option, Some, None, is_none, if◌then◌else◌}
 use Rattle.acd_terms.specs.Lists.{Every}
-use Rattle.acd_terms.specs.Rows.{empty_rows}
 use Rattle.acd_terms.specs.Columns.{columns_of}
 use Rattle.acd_terms.specs.Numbers.{CallId, Moment}
 use Rattle.acd_terms.specs.declared.rows.Rows.{Rows}
-use Rattle.acd_terms.specs.declared.rows.Limits.{Limits}
 use Rattle.acd_terms.specs.declared.command.Command.{Command}
 use Rattle.acd_terms.specs.declared.event.Event.{Event}
 use Rattle.acd_model.specs.Scans.{call_of}
 use Rattle.acd_model.specs.Placed.{cleared_by, IsCleared, IsWaiting, IsAtDevices, IsPlaced}
-use Rattle.acd_model.specs.Step.{step}
-use Rattle.acd_model.specs.Run.{TimedCommand, run}
 use Rattle.acd_model.specs.Rules.First.{BreaksNoRule}
+use Rattle.acd_laws.specs.Forms.{AfterStep, StepLeads, StepKeeps, EachRunEnds}
 
 -- the call that may be named isn't above the last
 abbrev pub IsUpTo : CallId → Option CallId → Type 0
@@ -32,30 +29,31 @@ abbrev pub KeepsClearings : Rows → List Event → Type 0
 KeepsClearings s events = (call : CallId) → 0 < call → cleared_by call events ≡ clearings s call
 
 abbrev pub StepNamesNoLaterCall : Type 0
-StepNamesNoLaterCall = (s : Rows) (events : List Event) (moment : Moment) (command : Command) → BreaksNoRule s → NamesNoLaterCall s events
-    → NamesNoLaterCall (step s moment command).rows (events ++ (step s moment command).events)
+StepNamesNoLaterCall = StepKeeps NamesNoLaterCall
 
 abbrev pub RunNamesNoLaterCall : Type 0
-RunNamesNoLaterCall = (limits : Limits) (commands : List TimedCommand) → NamesNoLaterCall (run (empty_rows limits) commands).rows (run (empty_rows limits) commands).events
+RunNamesNoLaterCall = EachRunEnds NamesNoLaterCall
 
 abbrev pub StepKeepsClearings : Type 0
-StepKeepsClearings = (s : Rows) (events : List Event) (moment : Moment) (command : Command) → BreaksNoRule s → KeepsClearings s events
-    → KeepsClearings (step s moment command).rows (events ++ (step s moment command).events)
+StepKeepsClearings = StepKeeps KeepsClearings
 
 -- from rows that break no rule, where each call was cleared as often as it has ended
 abbrev pub StepPlaces : Type 0
-StepPlaces = (s : Rows) (events : List Event) (moment : Moment) (command : Command) → BreaksNoRule s → KeepsClearings s events
-    → IsPlaced (step s moment command).rows (events ++ (step s moment command).events)
+StepPlaces = StepLeads KeepsClearings IsPlaced
 
 -- where each call is in one of the three places, and no event names a later call, each is in one of them after a step, with its events added
 abbrev pub StepKeepsPlaces : Type 0
 StepKeepsPlaces = (s : Rows) (events : List Event) (moment : Moment) (command : Command) → BreaksNoRule s → NamesNoLaterCall s events → IsPlaced s events
-    → IsPlaced (step s moment command).rows (events ++ (step s moment command).events)
+    → AfterStep IsPlaced s events moment command
 
 abbrev pub RunIsPlaced : Type 0
-RunIsPlaced = (limits : Limits) (commands : List TimedCommand) → IsPlaced (run (empty_rows limits) commands).rows (run (empty_rows limits) commands).events
+RunIsPlaced = EachRunEnds IsPlaced
+
+-- no two of three facts hold together
+abbrev pub ExcludeOneAnother : Type 0 → Type 0 → Type 0 → Type 0
+ExcludeOneAnother P Q R = (P → Q → ⊥) × (P → R → ⊥) × (Q → R → ⊥)
 
 -- the three places in which a call may be exclude one another, so that just one of them holds
 abbrev pub PlacesExclude : Type 0
-PlacesExclude = (s : Rows) (events : List Event) (call : CallId) → (IsCleared s events call → IsWaiting s events call → ⊥)
-    × (IsCleared s events call → IsAtDevices s events call → ⊥) × (IsWaiting s events call → IsAtDevices s events call → ⊥)
+PlacesExclude =
+    (s : Rows) (events : List Event) (call : CallId) → ExcludeOneAnother (IsCleared s events call) (IsWaiting s events call) (IsAtDevices s events call)

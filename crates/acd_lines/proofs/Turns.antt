@@ -9,7 +9,7 @@ use Rattle.acd_io.specs.Read.{IsInput}
 use Rattle.acd_io.proofs.Inputs.{input_begun}
 use Rattle.acd_io.specs.declared.sending.Stopped.{Stopped}
 use Rattle.acd_io.specs.Sent.{Passes, Breaks, Begins}
-use Rattle.acd_lines.specs.Outgoing.{Outgoing}
+use Rattle.acd_lines.specs.Outgoing.{Step}
 use Rattle.acd_lines.specs.Parts.{FirstAnswered, Reached, AnsweredSoFar, LineDone, LineStops, Feeds, Stops, FeedStops, Finishes, FinishStops, InTurn, AnsweredAs, AnswerPushed, text_kept}
 use Rattle.acd_io.proofs.Sends.{breaks_front, passes_same_front, passes_nothing, passes_then, breaks_then, passes_out, breaks_out, begins_so, passes_whole}
 use Rattle.acd_lines.specs.Output.{whole_lines}
@@ -83,8 +83,8 @@ module _ {S L : Type 0} (asks : List ℕ → L) (by_front : ByFront asks) (A : S
       subst (λ (l : List ℕ). Reached asks A s l [] (earlier ++ (h.answers ++ out)) t) (sym (up_to_feed seen end)) (subst (λ (w : List ℕ). Reached asks A s ((seen ++ end) ++ 10 ∷ []) [] w t) (append_assoc earlier h.answers out) reached)
 
   -- the same line
-  pub pushed_same : (s : S) (line line' : L) (t : S) (r : Result (Unit {0}) Stopped) (out : Outgoing) → line ≡ line' → AnswerPushed A s line t r out → AnswerPushed A s line' t r out
-  pushed_same s line line' t r out e h = (h.0, subst (λ (l : L). A s l h.0 t) e h.1, h.2)
+  pub pushed_same : (line line' : L) (over : Step S) (r : Result (Unit {0}) Stopped) → line ≡ line' → AnswerPushed A line over r → AnswerPushed A line' over r
+  pushed_same line line' over r e h = (h.0, subst (λ (l : L). A over.old l h.0 over.new) e h.1, h.2)
 
   -- a line ended, and was answered
   pub step_line : (m : ℕ) (s : S) (seen kept kept' earlier before waiting waiting' : List ℕ) (mid t : S) (a b c : Option (List ℕ)) (end : List ℕ) → 4107 < m → AnsweredSoFar asks A (m + 1) s seen kept earlier before waiting mid a b → has_none 10 end ≡ true

@@ -31,6 +31,10 @@ answered_text a = line_text (said a)
 abbrev pub taken_line : Request → Taken → List ℕ
 taken_line r t = line_text (taken_said r t)
 
+-- what was asked of a desk got this answer, where `Answers` says which line may be written for it
+abbrev pub GetsAnswer : {D L : Type 0} → (D → L → List ℕ → D → Type 0) → D → L → AnswerText → D → Type 0
+GetsAnswer Answers d asked answer e = Answers d asked (answered_text answer) e
+
 module _ {D : Type 0} (stands : D → Standing) where
   -- the desk, a line, what is written for it, and the desk after it
   abbrev pub Answers : D → Line → List ℕ → D → Type 0
@@ -41,4 +45,4 @@ module _ {D : Type 0} (stands : D → Standing) where
 
   -- the same where that is the line of an answer
   abbrev pub AnsweredBy : D → Line → AnswerText → D → Type 0
-  AnsweredBy d line answer e = Answers d line (answered_text answer) e
+  AnsweredBy d line answer e = GetsAnswer Answers d line answer e

@@ -1,5 +1,5 @@
 -- An input is lines, and a line is a moment, a space and a request.
-use Rattle.std.specs.Prelude.{ℕ, List, [], ◌∷◌, length, map, Bool, not, ◌&&◌, ◌==◌, nat_lt, nat_le, if◌then◌else◌, Option, Some, None, option_map, Result, Ok, Err}
+use Rattle.std.specs.Prelude.{◌≡◌, ℕ, List, [], ◌∷◌, ◌++◌, length, map, Bool, true, not, ◌&&◌, ◌==◌, nat_lt, nat_le, if◌then◌else◌, Option, Some, None, option_map, Result, Ok, Err}
 use Rattle.std.specs.List.{list_all, position_or_len, before_first, after_first}
 use Rattle.std.specs.Char.{is_ascii_digit}
 use Rattle.std.specs.Str.Parse.{digits_value}
@@ -27,6 +27,13 @@ text_of piece = if ends_with_byte 10 piece then strip_last 13 (strip_last 10 pie
 -- no such byte
 abbrev pub has_none : ℕ → List ℕ → Bool
 has_none byte text = list_all (λ x. not (x == byte)) text
+
+abbrev pub HasNone : ℕ → List ℕ → Type 0
+HasNone byte text = has_none byte text ≡ true
+
+-- front is the part of a text before its first such byte, and rest the part after it
+abbrev pub IsSplit : ℕ → List ℕ → List ℕ → List ℕ → Type 0
+IsSplit byte text front rest = (text ≡ front ++ byte ∷ rest) × HasNone byte front
 
 -- the part before the first such byte, and the part after it
 abbrev pub split_once : ℕ → List ℕ → Option (List ℕ × List ℕ)

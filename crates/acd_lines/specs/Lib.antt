@@ -4,4 +4,5 @@ pub mod Output
 pub mod Outgoing
 pub mod Lines
 pub mod Parts
+pub mod Questions
 pub mod Laws

@@ -8,7 +8,7 @@ use Rattle.acd_book.specs.declared.book.Book.{Ghosts}
 use Rattle.acd_desk.specs.declared.desk.Desk.{Desk}
 use Rattle.acd_desk.specs.declared.taken.Taken.{Taken}
 use Rattle.acd_desk.specs.Arrived.{at}
-use Rattle.acd_desk.specs.Ran.{DeskRan, Standing}
+use Rattle.acd_desk.specs.Ran.{DeskRan, Standing, standing}
 use Rattle.acd_lines.specs.declared.fault.LinesFault.{LinesFault}
 use Rattle.acd_lines.specs.declared.fault.LinesFault.TheVariants.{Read, Write, NoMemory}
 use Rattle.acd_lines.specs.Input.{cut, lines_of, arrivals_in}
@@ -65,11 +65,17 @@ HasRun book old new arrivals answers = DeskRan book old arrivals answers new
 abbrev pub RunInTurn : {B : Type 0} → Ghosts B → Desk B → Desk B → List (List ℕ) → List (List ℕ) → Type 0
 RunInTurn book old new = ArrivalsAnswered (HasRun book old new)
 
--- all requests of a plan were executed and all of their answers were written or, where the writer stopped, the first ones and not
--- all
-abbrev pub PlanAnswered : {E : Type 0} → (List Arrival → List Taken → Type 0) → List Request → Result (Unit {0}) E → Option (List ℕ) → Option (List ℕ) → Type 0
-PlanAnswered Said plan result old new =
-    MatchResult result (λ _. LinesAnswered (AllRequests plan) (RequestsAnswered Said) (Appends old new)) (λ _. LinesAnswered (FirstRequests plan) (RequestsAnswered Said) (Breaks old new))
+-- all requests of a plan were executed, and all of their answers were written
+abbrev pub PlanDone : (List Arrival → List Taken → Type 0) → List Request → Option (List ℕ) × Option (List ℕ) → Type 0
+PlanDone Said plan output = LinesAnswered (AllRequests plan) (RequestsAnswered Said) (Appends output.0 output.1)
+
+-- the first ones were, and not all of their answers were written
+abbrev pub PlanBegun : (List Arrival → List Taken → Type 0) → List Request → Option (List ℕ) × Option (List ℕ) → Type 0
+PlanBegun Said plan output = LinesAnswered (FirstRequests plan) (RequestsAnswered Said) (Breaks output.0 output.1)
+
+-- the one or, where the writer stopped, the other
+abbrev pub PlanAnswered : {E : Type 0} → (List Arrival → List Taken → Type 0) → List Request → Option (List ℕ) × Option (List ℕ) → Result (Unit {0}) E → Type 0
+PlanAnswered Said plan output result = MatchResult result (λ _. PlanDone Said plan output) (λ _. PlanBegun Said plan output)
 
 -- ---- how it ended
 
@@ -118,3 +124,22 @@ module _ {D : Type 0} (stands : D → Standing) (InTurn : D → D → List (List
     -- after a fault a beginning of the input was answered, and a beginning of the answers was written
     pub begun : OnErr result (LinesAnswered (FirstLines io.old_input) (InTurn d e) (Begins io.old_output io.new_output))
     pub cause : IfErr result (EndedBy InTurn io d e)
+
+-- ---- by the manner of answering
+
+-- how lines are answered
+pub record Manner (D : Type 0) : Type 1 where
+  -- what is seen of a desk
+  pub stands : D → Standing
+  -- these lines got these answers, from one desk to another
+  pub Answered : D → D → List (List ℕ) → List (List ℕ) → Type 0
+  -- a desk that has failed answers nothing more
+  pub ends : Bool
+
+-- the desk executes their requests, and nothing else is asked
+abbrev pub by_requests : {B : Type 0} → Ghosts B → Bool → Manner (Desk B)
+by_requests book ends = record { stands = standing book; Answered = RunInTurn book; ends = ends }
+
+-- so lines were answered, from one desk to another
+abbrev pub LinesDoneBy : {D : Type 0} → Manner D → Streams → D → D → Result (Unit {0}) LinesFault → Type 0
+LinesDoneBy manner io d e result = LinesDone manner.stands manner.Answered manner.ends io d e result

@@ -1,5 +1,5 @@
 -- The lines that were answered so far, by what their texts ask for, and by a relation of the desk, what is asked, what is written for it, and the desk after it.
-use Rattle.std.specs.Prelude.{◌≡◌, ℕ, List, [], ◌∷◌, ◌++◌, take, true, Option, Result, MatchResult}
+use Rattle.std.specs.Prelude.{◌≡◌, ℕ, List, [], ◌∷◌, ◌++◌, take, true, Option, Result}
 use Rattle.std.specs.List.{concat, list_all}
 use Rattle.std.specs.Io.BufRead.{ends_with_byte, strip_last}
 use Rattle.acd_terms.specs.declared.command.Request.{Request}
@@ -9,7 +9,7 @@ use Rattle.acd_desk.specs.Ran.{Standing, Ran}
 use Rattle.acd_lines.specs.Input.{has_none, text_of, cut}
 use Rattle.acd_io.specs.declared.sending.Stopped.{Stopped}
 use Rattle.acd_io.specs.Sent.{Passes, Breaks}
-use Rattle.acd_lines.specs.Outgoing.{Outgoing, Pushed}
+use Rattle.acd_lines.specs.Outgoing.{Step, Pushed}
 use Rattle.acd_lines.specs.Lines.{LinesAnswered, AllRequests, FirstRequests, RequestsAnswered}
 
 module _ {S L : Type 0} (Answers : S → L → List ℕ → S → Type 0) where
@@ -22,8 +22,8 @@ module _ {S L : Type 0} (Answers : S → L → List ℕ → S → Type 0) where
   LineStops s line t old new before = (out : List ℕ) × Answers s line out t × Breaks old new (before ++ out)
 
   -- a line was answered, and its answer was pushed: by how that ended, the one or the other
-  abbrev pub AnswerPushed : S → L → S → Result (Unit {0}) Stopped → Outgoing → Type 0
-  AnswerPushed s line t result out = (text : List ℕ) × Answers s line text t × Pushed result out text
+  abbrev pub AnswerPushed : L → Step S → Result (Unit {0}) Stopped → Type 0
+  AnswerPushed line over result = (text : List ℕ) × Answers over.old line text over.new × Pushed result over.out text
 
 module _ {S L : Type 0} (asks : List ℕ → L) (Answers : S → L → List ℕ → S → Type 0) where
   -- the lines are answered in order, each by the desk that the earlier ones left
@@ -77,11 +77,6 @@ module _ {S L : Type 0} (asks : List ℕ → L) (Answers : S → L → List ℕ 
   abbrev pub FeedStops : S → S → List ℕ → List ℕ → Option (List ℕ) → Option (List ℕ) → List ℕ → Type 0
   FeedStops mid t kept bytes old new before = (s : S) (seen part answers : List ℕ) → kept ≡ take 4109 part → Reached s seen part answers mid → Stops s (seen ++ bytes) answers t old new before
 
-  -- more bytes were used, and nothing waits; or the writer stopped
-  abbrev pub Fed : S → S → List ℕ → List ℕ → List ℕ → Result (Unit {0}) Stopped → Outgoing → Type 0
-  Fed mid t kept kept' bytes result out =
-      MatchResult result (λ _. (out.waits ≡ []) × Feeds mid t kept kept' bytes out.old_output out.new_output out.waited out.waits) (λ _. FeedStops mid t kept bytes out.old_output out.new_output out.waited)
-
   -- the input is at its end
   abbrev pub Finishes : S → S → List ℕ → Option (List ℕ) → Option (List ℕ) → List ℕ → Type 0
   Finishes mid t kept old new before = (s : S) (seen part answers : List ℕ) → kept ≡ take 4109 part → Reached s seen part answers mid
@@ -90,10 +85,6 @@ module _ {S L : Type 0} (asks : List ℕ → L) (Answers : S → L → List ℕ 
   abbrev pub FinishStops : S → S → List ℕ → Option (List ℕ) → Option (List ℕ) → List ℕ → Type 0
   FinishStops mid t kept old new before = (s : S) (seen part answers : List ℕ) → kept ≡ take 4109 part → Reached s seen part answers mid
       → (out : List ℕ) × AnsweredAs s (cut seen) (answers ++ out) t × Breaks old new (before ++ out)
-
-  -- it was answered to its end, or the writer stopped
-  abbrev pub Finished : S → S → List ℕ → Result (Unit {0}) Stopped → Outgoing → Type 0
-  Finished mid t kept result out = MatchResult result (λ _. Finishes mid t kept out.old_output out.new_output out.waited) (λ _. FinishStops mid t kept out.old_output out.new_output out.waited)
 
 module _ {D : Type 0} (stands : D → Standing) where
   -- a desk has run over the requests of a plan

@@ -5,7 +5,7 @@ ghost use Rattle.acd_codec.specs.declared.member.Member.TheVariants as members;
 ghost use Rattle.acd_codec.specs.declared.fault.FixedAnswer.TheVariants as fixes;
 ghost use Rattle.acd_desk.specs.declared.desk.Desk.{Desk as DeskOver};
 ghost use Rattle.acd_lines.specs.Input.{asked};
-ghost use Rattle.acd_lines.specs.Answers.{answered_text, malformed_line, fixed_line};
+ghost use Rattle.acd_lines.specs.Answers.{malformed_line, fixed_line, GetsAnswer};
 
 use crate::answer::read;
 use crate::moment::moment_of;
@@ -33,7 +33,7 @@ pub trait Answering<B: Book> {
 
     /// The answer to the text after a moment, in at most 4096 bytes.
     fn answer(&mut self, alloc: Global, desk: &mut Desk<B>, moment: u32, text: &[u8]) -> AnswerText
-        ensures { answers desk.old (read moment text.now) (answered_text result) desk.new };
+        ensures { GetsAnswer answers desk.old (read moment text.now) result desk.new };
 
     ghost needs_a_moment: { (d : DeskOver B)
         → answers d unmarked (malformed_line members.Moment) d };
@@ -49,7 +49,7 @@ pub(crate) fn answer_line<B: Book, A: Answering<B>>(
     desk: &mut Desk<B>,
     text: &[u8],
 ) -> AnswerText
-    ensures { A.answers desk.old (asked A.unmarked A.long A.read text.now) (answered_text result)
+    ensures { GetsAnswer A.answers desk.old (asked A.unmarked A.long A.read text.now) result
         desk.new }
 {
     let Some((moment, rest)) = moment_of(text) else {

@@ -1,11 +1,12 @@
 //! The requests of a plan, and their answer lines.
 
 ghost use Rattle.std.specs.Prelude.{◌≡◌, [], IfErr};
+ghost use Rattle.acd_io.specs.Read.{across};
 ghost use Rattle.acd_desk.specs.Ran.{standing};
 ghost use Rattle.acd_lines.specs.Input.{arrival};
 ghost use Rattle.acd_lines.specs.Answers.{Answers};
 ghost use Rattle.acd_lines.specs.Lines.{PlanAnswered, HasRun};
-ghost use Rattle.acd_lines.specs.Outgoing.{outgoing};
+ghost use Rattle.acd_lines.specs.Outgoing.{step};
 ghost use Rattle.acd_lines.specs.Parts.{AnswerPushed};
 
 use crate::answer::execute;
@@ -26,8 +27,9 @@ fn answer_request<B: Book, W: Write>(
     writer: &mut W,
     request: &Request,
 ) -> Result<(), Stopped>
-    ensures { AnswerPushed (Answers (standing B.Book)) desk.old (arrival 0 request.now) desk.new
-        result (outgoing W.contents writer.old writer.new outbox.old outbox.new) }
+    ensures { AnswerPushed (Answers (standing B.Book)) (arrival 0 request.now)
+        (step W.contents (desk.old, outbox.old, writer.old) (desk.new, outbox.new, writer.new))
+        result }
 {
     let answered = execute(desk, 0, request);
     push_answer(outbox, writer, &answered)
@@ -42,7 +44,7 @@ fn answer_requests<B: Book, W: Write>(
 ) -> Result<(), Stopped>
     requires { outbox.old.waiting.items ≡ [] }
     ensures { PlanAnswered (HasRun B.Book desk.old desk.new) requests.now
-        result (W.contents writer.old) (W.contents writer.new) }
+        (across W.contents writer.old writer.new) result }
 {
     for request in requests {
         answer_request(desk, outbox, writer, request)?;
@@ -62,7 +64,7 @@ pub fn import<B: Book, W: Write>(
     // one answer line for each request, and the desk has run over them; where the writer failed, over a beginning of
     // them, and not all of what was answered was written
     ensures answered { PlanAnswered (HasRun B.Book desk.old desk.new) requests.now
-        result (W.contents writer.old) (W.contents writer.new) }
+        (across W.contents writer.old writer.new) result }
     ensures fault { IfErr result (λ fault. fault ≡ LinesFault.Write) }
 {
     let mut outbox = match Outbox::new(alloc) {

@@ -3,9 +3,9 @@
 ghost use Rattle.std.specs.Prelude.{◌≡◌, [], OnOk};
 ghost use Rattle.std.specs.Io.BufRead.{strip_last};
 ghost use Rattle.acd_lines.specs.Answers.{answered_text};
-ghost use Rattle.acd_lines.specs.Input.{asked};
-ghost use Rattle.acd_lines.specs.Outgoing.{outgoing, Pushed};
-ghost use Rattle.acd_lines.specs.Parts.{AnswerPushed, Fed, Finished, text_kept};
+ghost use Rattle.acd_lines.specs.Outgoing.{outgoing, step, Pushed};
+ghost use Rattle.acd_lines.specs.Parts.{text_kept};
+ghost use Rattle.acd_lines.specs.Questions.{LineAnswered, Fed, Finished};
 
 use crate::answering::{Answering, answer_line};
 use crate::outbox::Outbox;
@@ -43,8 +43,9 @@ fn respond<B: Book, A: Answering<B>, W: Write>(
     writer: &mut W,
     text: &[u8],
 ) -> Result<(), Stopped>
-    ensures { AnswerPushed A.answers desk.old (asked A.unmarked A.long A.read text.now) desk.new
-        result (outgoing W.contents writer.old writer.new outbox.old outbox.new) }
+    ensures { LineAnswered A.Answering text.now
+        (step W.contents (desk.old, outbox.old, writer.old) (desk.new, outbox.new, writer.new))
+        result }
 {
     let answered = answer_line(lines, alloc, desk, text);
     push_answer(outbox, writer, &answered)
@@ -70,9 +71,9 @@ fn end_line<B: Book, A: Answering<B>, W: Write>(
     end: &[u8],
 ) -> Result<(), Stopped>
     ensures empty { OnOk result (partial.new ≡ []) }
-    ensures answered { AnswerPushed A.answers desk.old
-        (asked A.unmarked A.long A.read (text_kept partial.old end.now)) desk.new
-        result (outgoing W.contents writer.old writer.new outbox.old outbox.new) }
+    ensures answered { LineAnswered A.Answering (text_kept partial.old end.now)
+        (step W.contents (desk.old, outbox.old, writer.old) (desk.new, outbox.new, writer.new))
+        result }
 {
     if partial.is_empty() {
         return respond(alloc, lines, desk, outbox, writer, without_return(end));
@@ -100,9 +101,9 @@ pub(crate) fn feed<B: Book, A: Answering<B>, W: Write>(
     writer: &mut W,
     chunk: &[u8],
 ) -> Result<(), Stopped>
-    ensures { Fed (asked A.unmarked A.long A.read) A.answers desk.old desk.new
-        partial.old partial.new chunk.now
-        result (outgoing W.contents writer.old writer.new outbox.old outbox.new) }
+    ensures { Fed A.Answering (partial.old, partial.new) chunk.now
+        (step W.contents (desk.old, outbox.old, writer.old) (desk.new, outbox.new, writer.new))
+        result }
 {
     let mut rest = chunk;
     while let Some((end, new_rest)) = split_once(rest, b'\n') {
@@ -122,8 +123,9 @@ pub(crate) fn finish<B: Book, A: Answering<B>, W: Write>(
     outbox: &mut Outbox,
     writer: &mut W,
 ) -> Result<(), Stopped>
-    ensures { Finished (asked A.unmarked A.long A.read) A.answers desk.old desk.new partial.now
-        result (outgoing W.contents writer.old writer.new outbox.old outbox.new) }
+    ensures { Finished A.Answering partial.now
+        (step W.contents (desk.old, outbox.old, writer.old) (desk.new, outbox.new, writer.new))
+        result }
 {
     if partial.is_empty() {
         return outbox.flush(writer);

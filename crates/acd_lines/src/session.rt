@@ -1,10 +1,8 @@
 //! Lines in, answer lines out.
 
 ghost use Rattle.std.specs.Prelude.{true, false};
-ghost use Rattle.acd_desk.specs.Ran.{standing};
-ghost use Rattle.acd_lines.specs.Input.{asked};
-ghost use Rattle.acd_lines.specs.Lines.{LinesDone, RunInTurn, streams};
-ghost use Rattle.acd_lines.specs.Parts.{InTurn};
+ghost use Rattle.acd_lines.specs.Lines.{LinesDoneBy, by_requests, streams};
+ghost use Rattle.acd_lines.specs.Questions.{by_questions};
 
 use crate::answering::{Answering, Requests};
 use crate::fault::LinesFault;
@@ -30,8 +28,7 @@ pub fn answer_lines<B: Book, A: Answering<B>, R: Read, W: Write>(
     reader: &mut R,
     writer: &mut W,
 ) -> Result<(), LinesFault>
-    ensures { LinesDone (standing B.Book)
-        (InTurn (asked A.unmarked A.long A.read) A.answers) ends
+    ensures { LinesDoneBy (by_questions A.Answering B.Book ends)
         (streams R.remaining W.contents (reader.old, reader.new) (writer.old, writer.new))
         desk.old desk.new result }
 {
@@ -71,7 +68,7 @@ pub fn lines<B: Book, R: Read, W: Write>(
     reader: &mut R,
     writer: &mut W,
 ) -> Result<(), LinesFault>
-    ensures { LinesDone (standing B.Book) (RunInTurn B.Book) false
+    ensures { LinesDoneBy (by_requests B.Book false)
         (streams R.remaining W.contents (reader.old, reader.new) (writer.old, writer.new))
         desk.old desk.new result }
 {
@@ -93,7 +90,7 @@ pub fn lines_until_failed<B: Book, R: Read, W: Write>(
     reader: &mut R,
     writer: &mut W,
 ) -> Result<(), LinesFault>
-    ensures { LinesDone (standing B.Book) (RunInTurn B.Book) true
+    ensures { LinesDoneBy (by_requests B.Book true)
         (streams R.remaining W.contents (reader.old, reader.new) (writer.old, writer.new))
         desk.old desk.new result }
 {

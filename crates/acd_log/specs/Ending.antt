@@ -1,17 +1,29 @@
 -- How a log ends. Its form, and the store's test of a frame, are those of the kit.
 use Rattle.std.specs.Prelude.{◌≡◌, ◌≢◌, ◌↔◌, ℕ, ◌+◌, ◌-◌, ◌<◌, ◌≤◌, ◌==◌, Bool, false, List, length, slice_index}
 use Rattle.std.specs.List.{list_all}
-use Rattle.sqlite_wal.specs.Format.{part, commit_size, IsHeader}
+use Rattle.sqlite_wal.specs.Format.{part, be32, commit_size, IsSigned, IsFrame, IsHeader}
 use Rattle.sqlite_wal.specs.PageSize.{IsPageSize}
 use Rattle.sqlite_wal.specs.Recovery.{frame_at, header, frame, Passes}
 use Rattle.acd_log.specs.declared.ending.Ending.{Ending}
 use Rattle.acd_log.specs.declared.ending.Ending.TheVariants.{Early, Headless}
+
+-- for private clauses: the log is as long as one with a frame, and its head is a log's, of the version that is read
+abbrev pub HasHead : List ℕ → Type 0
+HasHead log = (56 ≤ length log) × IsSigned (header log) × (be32 (header log) 4 ≡ 3007000)
 
 -- the log is as long as one with a frame, and its head can be read: its pages are so long
 pub record IsReadable (page : ℕ) (log : List ℕ) : Type 0 where
   pub long : 56 ≤ length log
   pub head : IsHeader page (header log)
   pub size : IsPageSize page
+
+-- for private clauses: there is a whole frame here
+abbrev pub HasFrame : ℕ → List ℕ → ℕ → Type 0
+HasFrame page log at = at + (24 + page) ≤ length log
+
+-- for private clauses: there is one, and it passes the store's test after this checksum
+abbrev pub HasGoodFrame : ℕ → List ℕ → ℕ × ℕ → ℕ → Type 0
+HasGoodFrame page log before at = HasFrame page log at × IsFrame (header log) before (part log at (24 + page))
 
 -- frame i is whole in the log, and has the salt of its head
 pub record IsSalted (page : ℕ) (log : List ℕ) (i : ℕ) : Type 0 where

@@ -2,8 +2,8 @@
 
 ghost use Rattle.std.specs.Prelude.{◌≡◌, ◌≢◌, ◌+◌, ◌≤◌, ◌↔◌, ℕ, length, IsTrue};
 ghost use Rattle.sqlite_wal.specs.Format.{part, be32, IsFrame};
-ghost use Rattle.sqlite_wal.specs.Recovery.{header, frame_at};
-ghost use Rattle.acd_log.specs.Ending.{IsFirstBad, IsBeforeCommit, IsDamagedIn};
+ghost use Rattle.sqlite_wal.specs.Recovery.{frame_at};
+ghost use Rattle.acd_log.specs.Ending.{HasFrame, HasGoodFrame, IsFirstBad, IsBeforeCommit, IsDamagedIn};
 
 use crate::head::HEAD;
 use crate::words::{Sum, number_at, part_of, sum_at};
@@ -29,7 +29,7 @@ fn is_frame(head: &[u8], before: Sum, frame: &[u8]) -> bool
 // Whether there is a whole frame here.
 fn has_frame(log: &[u8], page: usize, at: usize) -> bool
     requires { page ≤ 65536 }
-    ensures { IsTrue result ↔ (at + (24 + page) ≤ length log.now) }
+    ensures { IsTrue result ↔ HasFrame page log.now at }
 {
     at <= log.len() && log.len() - at >= FRONT + page
 }
@@ -38,9 +38,7 @@ fn has_frame(log: &[u8], page: usize, at: usize) -> bool
 fn passes(log: &[u8], page: usize, before: Sum, at: usize) -> bool
     requires long { 32 ≤ length log.now }
     requires page { page ≤ 65536 }
-    ensures { IsTrue result
-        ↔ ((at + (24 + page) ≤ length log.now)
-        × IsFrame (header log.now) before (part log.now at (24 + page))) }
+    ensures { IsTrue result ↔ HasGoodFrame page log.now before at }
 {
     if !has_frame(log, page, at) {
         return false;

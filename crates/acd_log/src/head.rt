@@ -1,10 +1,9 @@
 //! The head of a log, which says how long its pages are.
 
-ghost use Rattle.std.specs.Prelude.{◌≡◌, ◌≤◌, ◌↔◌, ℕ, None, length, IsTrue, IfSome};
-ghost use Rattle.sqlite_wal.specs.Format.{be32, IsSigned};
+ghost use Rattle.std.specs.Prelude.{◌≡◌, ◌↔◌, ℕ, None, length, IsTrue, IfSome};
+ghost use Rattle.sqlite_wal.specs.Format.{IsSigned};
 ghost use Rattle.sqlite_wal.specs.PageSize.{bytes_of};
-ghost use Rattle.sqlite_wal.specs.Recovery.{header};
-ghost use Rattle.acd_log.specs.Ending.{IsReadable};
+ghost use Rattle.acd_log.specs.Ending.{HasHead, IsReadable};
 
 use crate::words::{number_at, part_of, sum_at};
 use sqlite_wal::{PageSize, checksum_of};
@@ -34,9 +33,7 @@ fn is_signed(head: &[u8]) -> bool
 
 // Whether the log is as long as one with a frame, and its head can be read, but for the length of a page.
 fn has_head(log: &[u8]) -> bool
-    ensures { IsTrue result
-        ↔ ((56 ≤ length log.now) × IsSigned (header log.now)
-        × (be32 (header log.now) 4 ≡ 3007000)) }
+    ensures { IsTrue result ↔ HasHead log.now }
 {
     if log.len() < SHORTEST {
         return false;

@@ -1,7 +1,7 @@
 //! How the log of a file ends, found in its bytes: nothing is opened for it, since an opening empties the log.
 //!
 //! ```ignore
-//! let told = ending_of(&fs::read(&rt, "desk.db-wal")?);
+//! let ending = ending_of(&fs::read(&rt, "desk.db-wal")?);
 //! ```
 #![tactic(auto)]
 

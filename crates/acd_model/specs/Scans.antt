@@ -83,13 +83,21 @@ other_of s x = find (λ y. y.call == x.call && not (y.device == x.device)) s.con
 unfoldable pub is_live_at : Rows → Device → Bool
 is_live_at s station = list_any (λ c. c.device == station && is_live c.state) s.connections
 
--- no connection at the station is one of these or on hold
-unfoldable pub is_idle : Rows → Device → Bool
-is_idle s station = not (list_any (λ c. c.device == station && is_occupying c.state) s.connections)
+-- the connection is at the station, and one of these or on hold
+abbrev pub occupies_station : Device → ConnectionRecord → Bool
+occupies_station station c = c.device == station && is_occupying c.state
 
--- a distributed connection is at the agent's station
+-- no connection at the station is one of them
+unfoldable pub is_idle : Rows → Device → Bool
+is_idle s station = not (list_any (occupies_station station) s.connections)
+
+-- the connection is distributed, and at the agent's station
+abbrev pub occupies_agent : AgentRecord → ConnectionRecord → Bool
+occupies_agent a c = has a.station c.device && is_distributed c
+
+-- there is such a connection
 unfoldable pub is_occupied : Rows → AgentRecord → Bool
-is_occupied s a = list_any (λ c. has a.station c.device && is_distributed c) s.connections
+is_occupied s a = list_any (occupies_agent a) s.connections
 
 -- the connections queued at a group
 unfoldable pub waiting_in : Rows → Device → List ConnectionRecord

@@ -12,6 +12,7 @@ use Rattle.acd_book.specs.State.{BookState}
 use Rattle.acd_book.proofs.BookSteps.{step_so, step_then}
 use Rattle.acd_desk.specs.declared.audit.AuditFault.{AuditFault}
 use Rattle.acd_desk.specs.AuditedWith.{archive_part, desk_part}
+use Rattle.acd_desk.specs.BookReading.{Anything}
 use Rattle.acd_desk.specs.AuditWith.{StandsInTime}
 use Rattle.acd_desk.specs.Opening.{Opened}
 use Rattle.acd_desk.specs.Pages.{ReadsIfOpen}
@@ -30,14 +31,13 @@ use Rattle.acd_program.specs.declared.auditing.Finding.{Finding}
 use Rattle.acd_program.specs.declared.auditing.Finding.TheVariants.{Sound, Counted, Differs}
 use Rattle.acd_program.specs.declared.desk.Done.{Done}
 use Rattle.acd_program.specs.declared.desk.Done.TheVariants as left
-use Rattle.acd_program.specs.WithArchive.{Anything, IsFindingWith, IsDeskFindingWith, IsFindingIn, IsFindingInOrder, IsFoundWithArchive, FindsWithArchive, WasRead, WereAsked, AskedWithArchive, BookAskedWithArchive, AuditsWithArchive, AuditedWithArchive}
+use Rattle.acd_program.specs.WithArchive.{IsFindingWith, IsDeskFindingWith, IsFindingIn, IsFindingInOrder, IsFoundWithArchive, FindsWithArchive, WasRead, WereAsked, AskedWithArchive, BookAskedWithArchive, AuditsWithArchive, AuditedWithArchive}
 use Rattle.acd_program.specs.Found.{HasCount, finding_line}
 use Rattle.acd_io.specs.Sent.{Begins}
-use Rattle.acd_program.specs.Ended.{IsOfDesk, IsOfClosing, PrintedOf, IsShut}
+use Rattle.acd_program.specs.Ended.{IsOfDesk, IsOfClosing, IsSomeFault, PrintedOf, IsShut}
 use Rattle.acd_program.specs.Over.{LeavesCanonical, Unserved}
 use Rattle.acd_program.specs.TasksEnded.{AuditCut, AuditWithArchiveEnded}
 use Rattle.acd_program.specs.declared.fault.Fault.{Fault}
-use Rattle.acd_program.specs.declared.fault.Fault.TheVariants.{Write}
 use Rattle.acd_program.proofs.Coming.{printed_late}
 use Rattle.acd_program.specs.InFiles.{IsLaidIn, IsOpenedFrom, InFile}
 use Rattle.acd_program.specs.Statuses.{finding_status}
@@ -197,15 +197,15 @@ module _ {D : Type 0} (disk : Ghosts D) (IsFresh : Bool → D → Type 0) where
       of_left : (x : Done) → AuditedWithArchive disk IsFresh counts ending (file_state conn) (file_state last) x → Appends old_output new_output (text_left x) → status ≡ status_left x → AuditedWith disk IsFresh counts whole old_output new_output status
       of_left left.Nothing h text outcome = absurd h
       of_left (left.Text text) h written outcome = absurd h
-      of_left (left.Audited found end) h text outcome = (
-        found,
-        ending,
-        h.0,
-        is,
-        record { conn = conn; last = last; opened = opened; done = h.1; closed = subst (λ (x : Result (Unit {0}) F). OnOk x (IsLaidIn last)) p.shut laid },
-        subst (λ (y : Ending). Appends old_output new_output (finding_line y found)) h.2 text,
-        outcome ∙ ap (λ (y : Ending). finding_status y found) h.2,
-      )
+      of_left (left.Audited found end) h text outcome = record {
+        found = found;
+        ending = ending;
+        counted = h.0;
+        read = is;
+        done = record { conn = conn; last = last; opened = opened; done = h.1; closed = subst (λ (x : Result (Unit {0}) F). OnOk x (IsLaidIn last)) p.shut laid };
+        printed = subst (λ (y : Ending). Appends old_output new_output (finding_line y found)) h.2 text;
+        outcome = outcome ∙ ap (λ (y : Ending). finding_status y found) h.2;
+      }
 
   pub with_archive_task : {F : Type 0} (r : Result ℕ F) (asked : Task) (io : Streams) (old_errors new_errors : Option (List ℕ)) (file archive : _) (counts whole : Bool) → asked ≡ task.AuditWithArchive file archive counts whole
       → IfOk r (λ (status : ℕ). AuditedWith disk IsFresh counts whole io.old_output io.new_output status) → IfOk r (λ (status : ℕ). TaskDone disk IsFresh asked io old_errors new_errors status)
@@ -230,7 +230,7 @@ module _ {D : Type 0} (disk : Ghosts D) (IsFresh : Bool → D → Type 0) where
   pub audit_ended : {A : Type 0} (r : Result A Fault) (counts whole : Bool) (ending : Ending) (conn last : Held (FileStore D disk)) (done : Result Done Fault) (closed : Result (Unit {0}) Fault) (old_output new_output : Option (List ℕ))
       (Unwritten : Type 0) → IsOpenedFrom disk IsFresh conn → IsReadEnding whole ending → IfOk done (AuditedWithArchive disk IsFresh counts ending (file_state conn) (file_state last))
       → Unserved false (file_state conn) (file_state last) → IsShut last → OnErr done Unwritten → OnErr r (PrintedOf done old_output new_output)
-      → IfErr r (λ (fault : Fault). (done ≡ Err fault) ⊎ ((fault ≡ Write) ⊎ (closed ≡ Err fault))) → IfErr closed IsOfClosing → IfErr r (AuditWithArchiveEnded disk IsFresh counts whole old_output new_output Unwritten)
+      → IfErr r (IsSomeFault done closed) → IfErr closed IsOfClosing → IfErr r (AuditWithArchiveEnded disk IsFresh counts whole old_output new_output Unwritten)
   audit_ended (Ok x) counts whole ending conn last done closed old_output new_output Unwritten opened is audited kept shut unwritten printed first known = tt
   audit_ended (Err fault) counts whole ending conn last (Err why) closed old_output new_output Unwritten opened is audited kept shut unwritten printed first known =
       inr (conn, opened, record { last = last; shut = shut; kept = kept; left = inl unwritten })

@@ -13,7 +13,7 @@ use Rattle.acd_lines.specs.declared.fault.LinesFault.{LinesFault}
 use Rattle.acd_lines.specs.declared.fault.LinesFault.TheVariants as lines
 use Rattle.acd_sql_schema.specs.declared.fault.AdoptFault.{AdoptFault}
 use Rattle.acd_sql_schema.specs.declared.fault.AdoptFault.TheVariants as adopt
-use Rattle.acd_program.specs.Ended.{IsOfDesk, IsOfClosing, EndsBy}
+use Rattle.acd_program.specs.Ended.{IsOfDesk, IsOfClosing, EndsBy, IsSomeFault}
 use Rattle.acd_program.specs.Faults.{adopt_fault, desk_fault, open_fault, lines_fault, command_result}
 use Rattle.acd_program.specs.LinesOver.{LinesOver}
 use Rattle.acd_program.specs.Statuses.{fault_status}
@@ -68,7 +68,7 @@ ended_late ended fault known (inl is) = subst (λ (x : Result (Unit {0}) Fault).
 ended_late ended fault known (inr closed) = closing_late fault closed.1
 
 -- of work, of printing and of closing
-pub printed_late : {A B : Type 0} (r : Result A Fault) (done : Result B Fault) (closed : Result (Unit {0}) Fault) → IfErr r (λ (fault : Fault). (done ≡ Err fault) ⊎ ((fault ≡ Write) ⊎ (closed ≡ Err fault)))
+pub printed_late : {A B : Type 0} (r : Result A Fault) (done : Result B Fault) (closed : Result (Unit {0}) Fault) → IfErr r (IsSomeFault done closed)
     → IfErr done IsOfDesk → IfErr closed IsOfClosing → IfErr r IsOfDesk
 printed_late (Ok x) done closed h known shut = tt
 printed_late {B = B} (Err fault) done closed (inl is) known shut = subst (λ (x : Result B Fault). IfErr x IsOfDesk) is known

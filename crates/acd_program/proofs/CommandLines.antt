@@ -25,7 +25,7 @@ use Rattle.clap.specs.declared.parser.matches.ArgMatches.{ArgMatches}
 use Rattle.clap.specs.declared.parser.matches.Found.{Found}
 use Rattle.clap.proofs.WalkLemmas.{first_value-rows, one_text-rows, find_row}
 use Rattle.acd_log.specs.declared.ending.Ending.TheVariants.{Plain}
-use Rattle.acd_program.specs.CommandLine.{HasApp, HasNone, HasRule, IsNumber, IsTaskWith, IsText, IsUntaken, acd, has_option, is_given, required}
+use Rattle.acd_program.specs.CommandLine.{HasApp, HasNone, HasRule, IsNumber, IsTaskWith, IsText, UntakenIfHelp, acd, has_option, is_given, required}
 use Rattle.acd_program.specs.Statuses.{IsDone, IsHelp}
 use Rattle.acd_program.specs.declared.asked.Task.{Task}
 use Rattle.acd_program.specs.declared.asked.Task.TheVariants.{AuditWhole, Read}
@@ -96,10 +96,10 @@ memory_is_no_help kind memory (inl help) = absurd (cc (sym memory ∙ help))
 memory_is_no_help kind memory (inr version) = absurd (cc (sym memory ∙ version))
 
 pub never_taken : {A : Type 0} (r : Result A Error) (e : Error) (a : App) (words : List Text) → IsErrAnd r (λ (x : Error). x ≡ e) → (takes a words ≡ true → kind_of e ≡ OutOfMemory) → a ≡ acd
-    → IfErr r (λ (x : Error). IsHelp (kind_of x) → IsUntaken words)
+    → UntakenIfHelp r words
 never_taken {A} r e a words failed passes is =
     let p = err_from_is_err_and r failed in
-    subst (λ (x : Result A Error). IfErr x (λ (y : Error). IsHelp (kind_of y) → IsUntaken words)) (sym (p.1 ∙ ap Err p.2))
+    subst (λ (x : Result A Error). UntakenIfHelp x words) (sym (p.1 ∙ ap Err p.2))
     (λ help taken. memory_is_no_help (kind_of e) (passes (subst (λ (x : App). takes x words ≡ true) (sym is) taken)) help)
 
 -- a status of at most 2 without a fault is 0
@@ -156,5 +156,5 @@ option_read f id b read = ap is_some (find_row f.entries.items id) ∙ same_some
 -- an audit without an archive
 pub audit_read : (options : List Row) (file : Bor Text) (counts whole : Bool) (asked : Task) → (whole ≡ true → asked ≡ AuditWhole file counts) → (whole ≡ false → asked ≡ Read file (kind.Audit counts Plain))
     → IsText (codes "file") options file → HasNone (codes "archive") options → counts ≡ is_given (codes "count") options → whole ≡ is_given (codes "whole") options → IsTaskWith (codes "audit") options asked
-audit_read options file counts true asked whole plain text none counted looked = subst (IsTaskWith (codes "audit") options) (sym (whole refl)) (refl, text, none, counted, looked)
+audit_read options file counts true asked whole plain text none counted looked = subst (IsTaskWith (codes "audit") options) (sym (whole refl)) ((refl, text, counted, looked), none)
 audit_read options file counts false asked whole plain text none counted looked = subst (IsTaskWith (codes "audit") options) (sym (plain refl)) (text, (refl, none, counted, looked, refl))

@@ -176,5 +176,5 @@ ended_in store remaining contents law makes ends reader writer given r conn (inr
 
 -- it was known that a new book may be made
 pub answered_made : {S : Type 0} (store : Ghosts S) (is_new makes reads ends : Bool) (io : Streams) (s : State) (conn : Held S) → (is_new ≡ true → makes ≡ true) → DatabaseAnswered store is_new reads ends io s conn → DatabaseAnswered store makes reads ends io s conn
-answered_made store is_new makes false ends io s conn may h = over_makes (λ (old_book new_book : BookState). AnswersOver ends old_book io.old_input io.old_output io.new_output new_book) is_new makes s (state store conn) may h
+answered_made store is_new makes false ends io s conn may h = over_makes (AnswersOver ends io) is_new makes s (state store conn) may h
 answered_made store is_new makes true ends io s conn may h = seen_made store _ is_new makes s conn may h

@@ -96,13 +96,14 @@ module _ {D : Type 0} (disk : Ghosts D) (IsFresh : Bool → D → Type 0) (old_o
       let t = file_state w.last in
       let P : BookState → BookState → Type 0 = λ old new. WorkDone IsFindingOf (book.Audit counts ending) old old_output w.between w.left new in
       let same = over_fact P (w.between ≡ old_output) false s t (λ old new p. p.1) w.done in
-      let found = found_left counts ending old_output w.between false s t w.left w.done in (
-        found.0,
-        found.2,
-        record { conn = h.0; last = w.last; opened = h.1; done = found.3; closed = w.closed },
-        subst (λ (a : Option (List ℕ)). Appends a new_output (finding_line ending found.0)) same (subst (λ (x : Done). Appends w.between new_output (text_left x)) found.1 w.printed),
-        w.outcome ∙ ap status_left found.1,
-      )
+      let found = found_left counts ending old_output w.between false s t w.left w.done in
+      record {
+        found = found.0;
+        counted = found.2;
+        done = record { conn = h.0; last = w.last; opened = h.1; done = found.3; closed = w.closed };
+        printed = subst (λ (a : Option (List ℕ)). Appends a new_output (finding_line ending found.0)) same (subst (λ (x : Done). Appends w.between new_output (text_left x)) found.1 w.printed);
+        outcome = w.outcome ∙ ap status_left found.1;
+      }
 
 -- where it was known whether the file was new
 pub worked_in : {D : Type 0} {g : Ghosts D} (is_new makes : Bool) (work : Work) (conn : Held (FileStore D g)) (old_output new_output : Option (List ℕ)) (status : ℕ) → (is_new ≡ true → makes ≡ true)

@@ -7,7 +7,7 @@ use Rattle.sqlite.specs.Held.{Held}
 use Rattle.sqlite.specs.Files.{over_files, file_state}
 use Rattle.acd_lines.specs.Lines.{Streams}
 use Rattle.acd_lines.specs.declared.fault.LinesFault.{LinesFault}
-use Rattle.acd_program.specs.Ended.{IsOfDesk, IsOfClosing, EndsBy, IsShut, WorkEnded}
+use Rattle.acd_program.specs.Ended.{IsOfDesk, IsOfClosing, EndsBy, IsFirstFault, IsShut, WorkEnded}
 use Rattle.acd_program.specs.Faults.{lines_fault}
 use Rattle.acd_program.specs.Serving.{ServeIn}
 use Rattle.acd_program.specs.Sessions.{DatabaseEnded, MemoryEnded}
@@ -23,7 +23,7 @@ use Rattle.acd_program.proofs.Coming.{lines_late, late_as, ended_late, never_els
 use Rattle.acd_program.proofs.Tasks.{err_from}
 
 -- a fault that ended the work comes before one of closing
-pub ends_by : (r done closed : Result (Unit {0}) Fault) → IfErr r (λ (fault : Fault). (done ≡ Err fault) ⊎ ((done ≡ Ok tt) × (closed ≡ Err fault))) → IfErr closed IsOfClosing → IfErr r (EndsBy done)
+pub ends_by : (r done closed : Result (Unit {0}) Fault) → IfErr r (IsFirstFault done closed) → IfErr closed IsOfClosing → IfErr r (EndsBy done)
 ends_by (Ok u) done closed h known = tt
 ends_by (Err fault) done closed (inl is) known = inl is
 ends_by (Err fault) done closed (inr is) known = inr (is.0, subst (λ (x : Result (Unit {0}) Fault). IfErr x IsOfClosing) is.1 known)

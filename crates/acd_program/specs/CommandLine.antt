@@ -1,17 +1,19 @@
 -- The commands with their options, and the task that the words of a command line name.
-use Rattle.std.specs.Prelude.{◌≡◌, ◌≢◌, ℕ, ◌∷◌, [], Bool, true, false, List, Option, Some, None, is_some, find, codes, option_map}
+use Rattle.std.specs.Prelude.{◌≡◌, ◌≢◌, ℕ, ◌∷◌, [], Bool, true, false, List, Option, Some, None, Result, IfOk, IfErr, IfSome, is_some, find, codes, option_map}
 use Rattle.std.specs.Option.{option_map_or}
 use Rattle.std.specs.Str.{bytes_eq}
 use Rattle.std.specs.Str.Parse.{IsNumeral, digits_value, without_leading_plus}
 use Rattle.std.specs.Borrow.{Bor}
 use Rattle.clap.specs.Simple.{new_shape}
-use Rattle.clap.specs.Words.{App, Row, Rule, Shape, Text, app_of, first_of, new_rule, one_of, rule_of, subcommand_of, takes}
+use Rattle.clap.specs.Words.{App, Row, Rule, Shape, Text, app_of, first_of, kind_of, new_rule, one_of, rule_of, subcommand_of, takes, with_subcommand}
 use Rattle.clap.specs.declared.builder.Arg.{Arg}
 use Rattle.clap.specs.declared.builder.Command.{Command}
 use Rattle.clap.specs.declared.builder.Command.TheViews.{out-Command as fields_of}
 use Rattle.clap.specs.declared.builder.action.ArgAction.TheVariants.{Set, SetTrue}
 use Rattle.clap.specs.declared.builder.value_parser.ValueParser.TheVariants.{Unsigned}
+use Rattle.clap.specs.declared.error.Error.{Error}
 use Rattle.acd_log.specs.declared.ending.Ending.TheVariants.{Plain}
+use Rattle.acd_program.specs.Statuses.{IsHelp}
 use Rattle.acd_program.specs.declared.desk.Work.{Work}
 use Rattle.acd_program.specs.declared.desk.Work.TheVariants as kind
 use Rattle.acd_program.specs.declared.desk.Printout.{Printout}
@@ -91,9 +93,17 @@ has_option name options = is_some (find (λ (r : Row). bytes_eq r.id name) optio
 abbrev pub is_given : Text → List Row → Bool
 is_given name options = option_map_or (λ (text : Text). bytes_eq text (codes "true")) (one_of name options) false
 
+-- so it was, or wasn't
+abbrev pub IsFlag : Text → List Row → Bool → Type 0
+IsFlag name options given = given ≡ is_given name options
+
 -- the option has this text
 abbrev pub IsText : Text → List Row → Bor Text → Type 0
 IsText name options text = first_of name options ≡ Some text.now
+
+-- the file, where one was given
+abbrev pub IsFileIfGiven : List Row → Option (Bor Text) → Type 0
+IsFileIfGiven options file = option_map (λ (f : Bor Text). f.now) file ≡ first_of (codes "file") options
 
 -- the option was not given
 abbrev pub HasNone : Text → List Row → Type 0
@@ -118,20 +128,22 @@ command_of Export = codes "export"
 abbrev pub IsWork : Text → List Row → Work → Type 0
 IsWork command options (kind.Print printout) = command ≡ command_of printout
 IsWork command options (kind.Audit counts ending) =
-    (command ≡ codes "audit") × HasNone (codes "archive") options × (counts ≡ is_given (codes "count") options) × (false ≡ is_given (codes "whole") options) × (ending ≡ Plain)
+    (command ≡ codes "audit") × HasNone (codes "archive") options × IsFlag (codes "count") options counts × IsFlag (codes "whole") options false × (ending ≡ Plain)
 IsWork command options (kind.Import requests) = ⊥
+
+-- the audit of a file, with a count or without, and with a look at its log or without
+abbrev pub IsAuditOf : Text → List Row → Bor Text → Bool → Bool → Type 0
+IsAuditOf command options file counts whole = (command ≡ codes "audit") × IsText (codes "file") options file × IsFlag (codes "count") options counts × IsFlag (codes "whole") options whole
 
 -- the task of a command with these options
 abbrev pub IsTaskWith : Text → List Row → Task → Type 0
 IsTaskWith command options (Lines file reads ends) =
-    (command ≡ codes "lines") × (option_map (λ (f : Bor Text). f.now) file ≡ first_of (codes "file") options) × (reads ≡ is_given (codes "reads") options) × (ends ≡ is_given (codes "end-on-store-fault") options)
+    (command ≡ codes "lines") × IsFileIfGiven options file × IsFlag (codes "reads") options reads × IsFlag (codes "end-on-store-fault") options ends
 IsTaskWith command options (Serve file port connections) =
     (command ≡ codes "serve") × IsText (codes "file") options file × IsNumber (codes "port") options port × IsSpan options connections
 IsTaskWith command options (Import file plan) = (command ≡ codes "import") × IsText (codes "file") options file × IsText (codes "plan") options plan
-IsTaskWith command options (AuditWhole file counts) =
-    (command ≡ codes "audit") × IsText (codes "file") options file × HasNone (codes "archive") options × (counts ≡ is_given (codes "count") options) × (true ≡ is_given (codes "whole") options)
-IsTaskWith command options (AuditWithArchive file archive counts whole) =
-    (command ≡ codes "audit") × IsText (codes "file") options file × IsText (codes "archive") options archive × (counts ≡ is_given (codes "count") options) × (whole ≡ is_given (codes "whole") options)
+IsTaskWith command options (AuditWhole file counts) = IsAuditOf command options file counts true × HasNone (codes "archive") options
+IsTaskWith command options (AuditWithArchive file archive counts whole) = IsAuditOf command options file counts whole × IsText (codes "archive") options archive
 IsTaskWith command options (Read file work) = IsText (codes "file") options file × IsWork command options work
 
 abbrev pub IsTaskIn : Option (Text × List Row) → Task → Type 0
@@ -145,3 +157,17 @@ IsTaskOf words = IsTaskIn (subcommand_of acd words)
 -- the words aren't a command line of the program
 abbrev pub IsUntaken : List Text → Type 0
 IsUntaken words = takes acd words ≢ true
+
+-- ---- of a call
+
+-- where a command and one to go below it were made, it is made of both
+abbrev pub AddsCommand : {F : Type 0} → Result Command F → Result Command F → Result Command F → Type 0
+AddsCommand command added result = (above below : App) → IfOk command (HasApp above) → IfOk added (HasApp below) → IfOk result (HasApp (with_subcommand above below.top))
+
+-- the task that was found, if one was, is that of the words
+abbrev pub NamesTask : List Text → Option Task → Type 0
+NamesTask words task = IfSome task (IsTaskOf words)
+
+-- help and the version are asked for only by words that aren't a command line
+abbrev pub UntakenIfHelp : {A : Type 0} → Result A Error → List Text → Type 0
+UntakenIfHelp result words = IfErr result (λ (error : Error). IsHelp (kind_of error) → IsUntaken words)

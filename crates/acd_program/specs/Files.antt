@@ -5,7 +5,7 @@ use Rattle.sqlite_disk.specs.declared.Files.{Files}
 use Rattle.sqlite_wal.specs.declared.page_size.PageSize.{PageSize}
 use Rattle.sqlite_wal.specs.Format.{be32}
 use Rattle.sqlite_wal.specs.PageSize.{IsPageSize, Names, bytes_of, size_in_file}
-use Rattle.sqlite_wal.specs.Reads.{AreClean, OnlyReads}
+use Rattle.sqlite_wal.specs.Reads.{IsClean, AreClean, OnlyReads}
 use Rattle.sqlite_wal.specs.Recovery.{IsCommitted, IsIgnored}
 use Rattle.sqlite_pager.specs.declared.pager.Options.{Options}
 use Rattle.sqlite_store.specs.declared.store.FileStore.{FileStore}
@@ -68,6 +68,10 @@ module _ {D : Type 0} (g : Ghosts D) where
   abbrev pub FindsWhether : {E : Type 0} → Files D → Result Bool E → Type 0 → Type 0
   FindsWhether pair result Fact = IfOk result (λ (found : Bool). IfClean pair (IsTrue found ↔ Fact))
 
+  -- the file has no more than a first page, where its disk didn't lie
+  abbrev pub IsSmall : D → D → Bool → Type 0
+  IsSmall old new found = IsClean g new → IsTrue found ↔ length (g.seen old) ≤ new_page
+
   -- the log holds a commit, and its file has no bytes
   abbrev pub IsLoneIn : Files D → Type 0
   IsLoneIn pair = IsLone (g.seen pair.log) (g.seen pair.db)
@@ -85,6 +89,14 @@ module _ {D : Type 0} (g : Ghosts D) where
   -- this is so of that length
   abbrev pub OfPage : Files D → Files D → (ℕ → Type 0) → Type 0
   OfPage old new P = (found : Option PageSize) × FindsPage old new found × P (page_of found)
+
+  -- so many pages of that length are kept in memory
+  abbrev pub KeepsPages : Files D → Files D → ℕ → Type 0
+  KeepsPages old new pages = OfPage old new (λ (page : ℕ). pages ≡ 8192000 / page)
+
+  -- pages of that length are treated so
+  abbrev pub AreTreated : Files D → Files D → ℕ → Options → Type 0
+  AreTreated old new seed options = OfPage old new (λ (page : ℕ). options ≡ treated page seed)
 
   -- they were handed to the store to make a database of no tables in them, which it did so
   pub record IsHanded (After : Unopened D g → Files D → Type 0) (old new : Files D) : Type 0 where

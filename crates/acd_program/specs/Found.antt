@@ -1,11 +1,14 @@
 -- The finding of an audit of a desk.
-use Rattle.std.specs.Prelude.{◌≡◌, ℕ, Bool, true, false, ⊤, List, ◌∷◌, [], ◌++◌, length, codes, decimal}
+use Rattle.std.specs.Prelude.{◌≡◌, ℕ, Bool, true, false, ⊤, List, ◌∷◌, [], ◌++◌, length, codes, decimal, Result, IfOk}
 use Rattle.acd_book.specs.Content.{Content}
 use Rattle.acd_book.specs.Order.{IsOrdered}
+use Rattle.acd_book.specs.State.{IfHonest}
+use Rattle.acd_book.specs.declared.book.Book.{Ghosts}
 use Rattle.acd_desk.specs.declared.audit.Audit.{Audit}
 use Rattle.acd_desk.specs.declared.audit.Audit.TheVariants as audit
 use Rattle.acd_desk.specs.Audit.{IsFirstDifference}
-use Rattle.acd_desk.specs.Standing.{Standing, InStep}
+use Rattle.acd_desk.specs.declared.desk.Desk.{Desk}
+use Rattle.acd_desk.specs.Standing.{Standing, InStep, standing}
 use Rattle.acd_desk.specs.Stands.{IsSound}
 use Rattle.acd_log.specs.declared.ending.Ending.{Ending}
 use Rattle.acd_log.specs.declared.ending.Ending.TheVariants.{Plain, Early, Headless}
@@ -22,6 +25,10 @@ abbrev pub IsFinding : Standing → Finding → Type 0
 IsFinding s Sound = IsOrdered s.book.content → IsSound s.book.content
 IsFinding s (Counted count) = IsOrdered s.book.content → IsSound s.book.content × (InStep s → count ≡ length s.book.content.kept)
 IsFinding s (Differs place) = IsOrdered s.book.content → IsFirstDifference s.book.content place
+
+-- an audit of a desk finds it
+abbrev pub AuditsDesk : {B F : Type 0} → Ghosts B → Desk B → Desk B → Result Finding F → Type 0
+AuditsDesk book old new result = IfHonest (standing book old).book (standing book new).book (IfOk result (λ (found : Finding). IsFinding (standing book old) found))
 
 -- the content is sound, with so many kept records; or it isn't, and this is the first difference
 abbrev pub IsFindingOf : Content → Finding → Type 0
@@ -46,3 +53,11 @@ abbrev pub finding_line : Ending → Finding → List ℕ
 finding_line ending Sound = sound_line ending
 finding_line ending (Counted count) = sound_line ending ++ (codes "executed " ++ (decimal count ++ 10 ∷ []))
 finding_line ending (Differs place) = codes "differs at request " ++ (decimal place ++ 10 ∷ [])
+
+-- a line that ends in a number
+abbrev pub number_line : List ℕ → ℕ → List ℕ
+number_line front number = front ++ (decimal number ++ 10 ∷ [])
+
+-- the lines of a sound content of which so many requests were executed
+abbrev pub counted_line : Ending → ℕ → List ℕ
+counted_line ending count = finding_line ending (Counted count)

@@ -1,5 +1,5 @@
 -- Work over a database in files, from the connection on to what is printed.
-use Rattle.std.specs.Prelude.{◌≡◌, ℕ, Bool, true, false, List, Option}
+use Rattle.std.specs.Prelude.{◌≡◌, ℕ, Bool, true, false, List, Option, Result, IfOk}
 use Rattle.std.specs.Io.KnownBytes.{Appends}
 use Rattle.sqlite_disk.specs.declared.Disk.{Ghosts}
 use Rattle.sqlite_disk.specs.declared.Files.{Files}
@@ -12,10 +12,15 @@ use Rattle.sqlite.specs.Closing.{IsCopied}
 use Rattle.acd_book.specs.State.{BookState}
 use Rattle.acd_program.specs.Found.{IsFindingOf}
 use Rattle.acd_program.specs.Files.{IsOpenedIn}
+use Rattle.acd_program.specs.Output.{Output}
 use Rattle.acd_program.specs.Over.{OverConnection}
 use Rattle.acd_program.specs.Work.{WorkDone, text_left, status_left}
 use Rattle.acd_program.specs.declared.desk.Work.{Work}
 use Rattle.acd_program.specs.declared.desk.Done.{Done}
+
+-- a connection to files
+abbrev pub OfFiles : {D : Type 0} → Ghosts D → Type 0
+OfFiles {D} disk = Held (FileStore D disk)
 
 module _ {D : Type 0} {g : Ghosts D} where
   -- the connection was closed: its last commit is whole in the database file, as that reads now and after a crash
@@ -36,6 +41,10 @@ module _ {D : Type 0} {g : Ghosts D} where
     pub closed : IsLaidIn last
     pub printed : Appends between new_output (text_left left)
     pub outcome : status ≡ status_left left
+
+  -- where no fault ended it, it was done so, with this status
+  abbrev pub WorksOn : {F : Type 0} → Held (FileStore D g) → Result ℕ F → Bool → Work → Output → Type 0
+  WorksOn conn result makes work out = IfOk result (λ (status : ℕ). WorkedOver makes work conn out.before out.after status)
 
 -- `IsFresh is_log file` says that a file is a log, or a database file, that was just opened
 module _ {D : Type 0} (disk : Ghosts D) (IsFresh : Bool → D → Type 0) where

@@ -1,3 +1,4 @@
+pub mod Output
 pub mod Faults
 pub mod Answered
 pub mod Statuses
@@ -8,6 +9,7 @@ pub mod Work
 pub mod InFiles
 pub mod WithArchive
 pub mod Files
+pub mod Plans
 pub mod Desks
 pub mod Seen
 pub mod Serving
@@ -18,3 +20,4 @@ pub mod Names
 pub mod CommandLine
 pub mod Ended
 pub mod TasksEnded
+pub mod FileTasks

@@ -1,5 +1,5 @@
 -- How lines over a book ended: over that of a database, of a file, or over a new one in memory. `InTurn d e` says how lines were answered from the desk d to the desk e.
-use Rattle.std.specs.Prelude.{◌≡◌, ◌⊎◌, ℕ, Bool, true, false, ◌&&◌, List, Result, Err}
+use Rattle.std.specs.Prelude.{◌≡◌, ◌⊎◌, ℕ, Bool, true, false, ◌&&◌, List, Result, Err, OnOk}
 use Rattle.std.specs.Io.KnownBytes.{Appends}
 use Rattle.sqlite.specs.State.{State}
 use Rattle.sqlite.specs.Held.{Held, state}
@@ -13,8 +13,8 @@ use Rattle.acd_desk.specs.declared.open_fault.OpenFault.{OpenFault}
 use Rattle.acd_desk.specs.Opening.{Refused}
 use Rattle.acd_desk.specs.Standing.{Standing, standing}
 use Rattle.acd_lines.specs.Answers.{Answers}
-use Rattle.acd_lines.specs.Input.{asked, line_of}
-use Rattle.acd_lines.specs.Lines.{LinesAnswered, AllLines, Streams, Untouched, LinesDone}
+use Rattle.acd_lines.specs.Input.{line_of}
+use Rattle.acd_lines.specs.Lines.{LinesAnswered, AllLines, Streams, Untouched, Manner, LinesDone}
 use Rattle.acd_lines.specs.Parts.{InTurn}
 use Rattle.acd_lines.specs.declared.fault.LinesFault.{LinesFault}
 use Rattle.acd_lines.specs.declared.fault.LinesFault.TheVariants.{NoMemory}
@@ -22,18 +22,14 @@ use Rattle.acd_http.specs.ReadingLines.{reading_line_of, ReadingAnswers}
 use Rattle.acd_program.specs.Answered.{in_memory}
 use Rattle.acd_program.specs.Desks.{OverDesk, OverNewDesk, OverDatabase, in_database}
 use Rattle.acd_program.specs.Faults.{open_fault, command_result}
-use Rattle.acd_program.specs.Over.{AnswersOver, OverConnection, Unserved}
-use Rattle.acd_program.specs.Seen.{Seen, InDatabase, SeenIn}
+use Rattle.acd_program.specs.Over.{AnswersOver, Database, OverConnection, Unserved}
+use Rattle.acd_program.specs.Seen.{SeenIn}
 use Rattle.acd_program.specs.declared.fault.Fault.{Fault}
 
 -- how the lines of a command are answered: requests alone or, where it `reads`, these and the reads among them
 abbrev pub in_turn : {D : Type 0} → Bool → (D → Standing) → D → D → List (List ℕ) → List (List ℕ) → Type 0
 in_turn true stands = InTurn reading_line_of (ReadingAnswers stands)
 in_turn false stands = InTurn line_of (Answers stands)
-
--- each line is answered in turn: one without a moment, one that is too long, and any other by its moment and its text
-abbrev pub each_by : {D L : Type 0} → L → L → (ℕ → List ℕ → L) → (D → L → List ℕ → D → Type 0) → D → D → List (List ℕ) → List (List ℕ) → Type 0
-each_by unmarked long read Answers = InTurn (asked unmarked long read) Answers
 
 module _ {D : Type 0} (stands : D → Standing) (AnsweredInTurn : D → D → List (List ℕ) → List (List ℕ) → Type 0) (ends : Bool) (io : Streams) where
   -- the whole input was answered, by a desk that hasn't failed where that was to end it
@@ -59,6 +55,14 @@ module _ {B : Type 0} (says : book.Ghosts B) (AnsweredInTurn : Desk B → Desk B
   abbrev pub LinesOver : BookState → Result (Unit {0}) Fault → B → Type 0
   LinesOver old result last = NoDesk old result last ⊎ OverDesk says (LinesEnded (standing says) AnsweredInTurn ends io result) old last
 
+-- lines over a desk ended so, where they are answered in this manner
+abbrev pub EndsOnDesk : {D : Type 0} → Manner D → Streams → D → D → Result (Unit {0}) Fault → Type 0
+EndsOnDesk manner io old new result = LinesEnded manner.stands manner.Answered manner.ends io result old new
+
+-- lines over a book did, with the book that came back
+abbrev pub EndsOnBook : {B : Type 0} → book.Ghosts B → B → Manner (Desk B) → Streams → Result (Unit {0}) Fault × B → Type 0
+EndsOnBook books given manner io result = LinesOver books manner.Answered manner.ends io (books.state given) result.0 result.1
+
 module _ {S : Type 0} (store : Ghosts S) (makes : Bool) (io : Streams) where
   -- there was no desk: nothing was read or written, and a crash leaves what it left before, or a new book
   pub record NoneMade (old : State) (result : Result (Unit {0}) Fault) (new : Held S) : Type 0 where
@@ -72,10 +76,18 @@ abbrev pub LinesIn : {S : Type 0} → (store : Ghosts S) → (Desk (BookView S) 
 LinesIn store AnsweredInTurn makes ends io old result new =
     NoneMade store makes io old result new ⊎ OverDatabase store makes (LinesEnded (standing (in_database store)) AnsweredInTurn ends io result) old new
 
+-- lines over a database that was handed in ended so, with the connection that came back, where a line leads from one desk to another so
+abbrev pub EndsEach : {S : Type 0} → Database S → (Desk (BookView S) → Desk (BookView S) → List (List ℕ) → List (List ℕ) → Type 0) → Bool → Streams → Result (Unit {0}) Fault × Held S → Type 0
+EndsEach db AnsweredInTurn ends io result = LinesIn db.store AnsweredInTurn db.makes ends io (state db.store db.conn) result.0 result.1
+
 -- the whole input was answered over the book of the database: where lines are requests alone, by a session; else each by the desk that the lines before it left
 abbrev pub DatabaseAnswered : {S : Type 0} → Ghosts S → Bool → Bool → Bool → Streams → State → Held S → Type 0
-DatabaseAnswered store makes false ends io old new = OverConnection (λ (old_book new_book : BookState). AnswersOver ends old_book io.old_input io.old_output io.new_output new_book) makes old (state store new)
-DatabaseAnswered {S} store makes true ends io old new = SeenIn store (λ (stands : Seen (InDatabase S) → Standing). Whole stands (in_turn true stands) ends io) makes old new
+DatabaseAnswered store makes false ends io old new = OverConnection (AnswersOver ends io) makes old (state store new)
+DatabaseAnswered store makes true ends io old new = SeenIn store (λ stands. Whole stands (in_turn true stands) ends io) makes old new
+
+-- lines over a database that was handed in were, where no fault ended them
+abbrev pub AnswersLines : {S : Type 0} → Database S → Bool → Bool → Streams → Result (Unit {0}) Fault × Held S → Type 0
+AnswersLines db reads ends io result = OnOk result.0 (DatabaseAnswered db.store db.makes reads ends io (state db.store db.conn) result.1)
 
 module _ (AnsweredInTurn : Desk Content → Desk Content → List (List ℕ) → List (List ℕ) → Type 0) (io : Streams) where
   -- lines over a new desk in memory, for which there may be no room

@@ -1,8 +1,10 @@
 -- The answers of lines over a book, and what they leave.
-use Rattle.std.specs.Prelude.{◌≡◌, ◌⊎◌, ℕ, Bool, true, List, Option, IsTrue, ⊤}
+use Rattle.std.specs.Prelude.{◌≡◌, ◌⊎◌, ℕ, Bool, true, List, IsTrue, ⊤}
 use Rattle.std.specs.List.{Contains}
 use Rattle.std.specs.Io.KnownBytes.{Appends}
 use Rattle.sqlite_trees.specs.Tree.{Trees}
+use Rattle.sqlite_trees.specs.declared.store.Store.{Ghosts}
+use Rattle.sqlite.specs.Held.{Held, state}
 use Rattle.sqlite.specs.State.{State, HasCleanDisk}
 use Rattle.acd_terms.specs.declared.command.Arrival.{Arrival}
 use Rattle.acd_book.specs.Content.{Content}
@@ -15,7 +17,7 @@ use Rattle.acd_desk.specs.declared.taken.Taken.{Taken}
 use Rattle.acd_desk.specs.declared.taken.Taken.TheVariants.{StoreFault}
 use Rattle.acd_desk.specs.Ran.{IsFault}
 use Rattle.acd_desk.specs.Session.{Session}
-use Rattle.acd_lines.specs.Lines.{LinesAnswered, AllLines, ArrivalsAnswered}
+use Rattle.acd_lines.specs.Lines.{LinesAnswered, AllLines, ArrivalsAnswered, Streams}
 use Rattle.acd_program.specs.Answered.{nothing}
 
 -- the answers to arrivals that are a session, from a book to what it is then
@@ -31,10 +33,20 @@ abbrev pub IsFailedSession : BookState → BookState → List Arrival → List T
 IsFailedSession old new arrivals answers = Session IsFault old arrivals answers new × Contains answers StoreFault
 
 -- the whole input, and one answer line for each of its lines; the arrivals among them are a session over the book, without a storeFault where one was to end them
-abbrev pub AnswersOver : Bool → BookState → Option (List ℕ) → Option (List ℕ) → Option (List ℕ) → BookState → Type 0
-AnswersOver ends old old_input old_output new_output new = LinesAnswered (AllLines old_input) (ArrivalsAnswered (IsSessionTo ends old new)) (Appends old_output new_output)
+abbrev pub AnswersOver : Bool → Streams → BookState → BookState → Type 0
+AnswersOver ends io old new = LinesAnswered (AllLines io.old_input) (ArrivalsAnswered (IsSessionTo ends old new)) (Appends io.old_output io.new_output)
 
 -- ---- over a connection
+
+-- a database as it is handed in: by its store, whether a book may be made in it, and the connection
+pub record Database (S : Type 0) : Type 1 where
+  pub store : Ghosts S
+  pub makes : Bool
+  pub conn : Held S
+
+-- it is made of these
+abbrev pub database : {S : Type 0} → Ghosts S → Bool → Held S → Database S
+database store makes conn = record { store = store; makes = makes; conn = conn }
 
 -- a database as a book: its tables give its content, and it is sound where their rows are canonical
 abbrev pub held : State → BookState
@@ -63,12 +75,18 @@ LeavesCanonical s = (db : Trees) → s.may_leave db → IsCanonicalAs version.Se
 abbrev pub left : State → ℕ → BookState
 left s failures = record (held s) { is_sound = LeavesCanonical s; failures = failures }
 
--- No desk was made: a crash leaves a database that it left before, or version 2 of the content that was held or, where the database had no tables and a book was to be made,
--- a new one with nothing in it.
+-- a database that a crash left before, or version 2 of the content that was held or, where the database had no tables and a book was to be made, a new one with nothing in it
+abbrev pub IsKeptOrNew : Bool → State → Trees → Type 0
+IsKeptOrNew makes old db = old.may_leave db ⊎ StandsFor db (content_of old.committed.trees) ⊎ ((makes ≡ true) × (old.now.schema ≡ no_schema) × StandsFor db nothing)
+
+-- no desk was made: a crash leaves such a one
 abbrev pub Unserved : Bool → State → State → Type 0
-Unserved makes old new =
-    HasCleanDisk new → IsCanonical old.now → (db : Trees) → new.may_leave db → old.may_leave db ⊎ StandsFor db (content_of old.committed.trees) ⊎ ((makes ≡ true) × (old.now.schema ≡ no_schema) × StandsFor db nothing)
+Unserved makes old new = HasCleanDisk new → IsCanonical old.now → (db : Trees) → new.may_leave db → IsKeptOrNew makes old db
 
 -- this holds of the book in the database or, where it had no tables and one was to be made, of the new one
 abbrev pub OverConnection : (BookState → BookState → Type 0) → Bool → State → State → Type 0
 OverConnection P makes old new = (failures : ℕ) × (P (held old) (left new failures) ⊎ ((makes ≡ true) × (old.now.schema ≡ no_schema) × P (unmade old) (left new failures)))
+
+-- this holds of the book of a database that was handed in, as this connection leaves it
+abbrev pub OverCall : {S : Type 0} → Database S → (BookState → BookState → Type 0) → Held S → Type 0
+OverCall db P new = OverConnection P db.makes (state db.store db.conn) (state db.store new)

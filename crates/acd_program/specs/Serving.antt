@@ -1,11 +1,12 @@
 -- Answering connections over the book of a database: what it leaves, and how that ended.
-use Rattle.std.specs.Prelude.{◌≡◌, ◌⊎◌, ℕ, Bool, false, List, [], ◌∷◌, ◌++◌, codes, decimal, Option, Some, None, Result, Ok, Err}
+use Rattle.std.specs.Prelude.{◌≡◌, ◌⊎◌, ℕ, Bool, false, List, [], ◌∷◌, ◌++◌, codes, decimal, Option, Some, None, Result, Ok, Err, OnOk}
 use Rattle.std.specs.Io.KnownBytes.{Appends}
 use Rattle.sqlite.specs.State.{State}
 use Rattle.sqlite.specs.Held.{Held, state}
 use Rattle.sqlite_trees.specs.declared.store.Store.{Ghosts as Stores}
 use Rattle.acd_book.specs.declared.book.Book.{Ghosts}
 use Rattle.acd_book.specs.State.{BookState}
+use Rattle.acd_desk.specs.declared.desk.Desk.{Desk}
 use Rattle.acd_desk.specs.declared.open_fault.OpenFault.{OpenFault}
 use Rattle.acd_desk.specs.Opening.{Refused}
 use Rattle.acd_desk.specs.Standing.{Standing, standing}
@@ -13,8 +14,9 @@ use Rattle.acd_io.specs.Sent.{Begins}
 use Rattle.acd_http.specs.Listening.{AnsweredFor}
 use Rattle.acd_program.specs.Desks.{OverDesk}
 use Rattle.acd_program.specs.Faults.{open_fault, command_result}
-use Rattle.acd_program.specs.Over.{Unserved}
-use Rattle.acd_program.specs.Seen.{Seen, InDatabase, SeenIn}
+use Rattle.acd_program.specs.Output.{Output}
+use Rattle.acd_program.specs.Over.{Database, Unserved}
+use Rattle.acd_program.specs.Seen.{Seen, InDatabase, SeenIn, SeenInCall}
 use Rattle.acd_program.specs.declared.fault.Fault.{Fault}
 
 -- connections were answered, one after another, so many or until the desk failed; the lines of their faults were written, or a beginning of them
@@ -84,3 +86,40 @@ module _ (span : Option ℕ) (old_errors new_errors : Option (List ℕ)) where
     abbrev pub ServeIn : {S : Type 0} → Stores S → Bool → State → Result (Unit {0}) Fault → Held S → Type 0
     ServeIn {S} store makes old result new =
         NoneMade store makes old result new ⊎ SeenIn store (λ (stands : Seen (InDatabase S) → Standing). ServeEnded stands result) makes old new
+
+-- ---- of a call
+
+-- what a service is to do, and where it writes: so many connections or no end of them, a port, the output, and the stream of errors
+pub record Service : Type 1 where
+  pub span : Option ℕ
+  pub port : ℕ
+  pub said : Output
+  pub errors : Output
+
+-- it is made of these
+abbrev pub service : Option ℕ → ℕ → Output → Output → Service
+service span port said errors = record { span = span; port = port; said = said; errors = errors }
+
+-- a desk answered connections, from what it was to what it is then
+abbrev pub EndsListening : {B : Type 0} → Ghosts B → Desk B × Desk B → Result (Unit {0}) Fault → Option ℕ → Output → Type 0
+EndsListening books desks result span errors = ListenEnded span errors.before errors.after (standing books) result desks.0 desks.1
+
+-- it did after the line that says where was written
+abbrev pub EndsService : {B : Type 0} → Ghosts B → Desk B × Desk B → Result (Unit {0}) Fault → Service → Type 0
+EndsService books desks result to_do =
+    ServeEnded to_do.span to_do.errors.before to_do.errors.after to_do.port to_do.said.before to_do.said.after (standing books) result desks.0 desks.1
+
+-- a desk over a book did, with the book that came back
+abbrev pub EndsServiceOver : {B : Type 0} → Ghosts B → B → Result (Unit {0}) Fault × B → Service → Type 0
+EndsServiceOver books given result to_do =
+    ServeOver to_do.span to_do.errors.before to_do.errors.after to_do.port to_do.said.before to_do.said.after books (books.state given) result.0 result.1
+
+-- a desk over a database that was handed in did, with the connection that came back
+abbrev pub EndsServiceIn : {S : Type 0} → Database S → Result (Unit {0}) Fault × Held S → Service → Type 0
+EndsServiceIn db result to_do =
+    ServeIn to_do.span to_do.errors.before to_do.errors.after to_do.port to_do.said.before to_do.said.after db.store db.makes (state db.store db.conn) result.0 result.1
+
+-- where no fault ended it, it answered connections as was asked for
+abbrev pub DoesServiceIn : {S : Type 0} → Database S → Result (Unit {0}) Fault × Held S → Option ℕ → Output → Type 0
+DoesServiceIn {S} db result span errors =
+    OnOk result.0 (SeenInCall db (λ (stands : Seen (InDatabase S) → Standing). ServeDone stands span errors.before errors.after) result.1)

@@ -10,13 +10,15 @@ use Rattle.acd_io.specs.Sent.{Begins}
 use Rattle.acd_lines.specs.Lines.{LinesAnswered, FirstLines, ArrivalsAnswered, Streams, streams, Untouched, LinesDone}
 use Rattle.acd_lines.specs.declared.fault.LinesFault.{LinesFault}
 use Rattle.acd_lines.specs.declared.fault.LinesFault.TheVariants.{NoMemory}
+use Rattle.acd_desk.specs.declared.desk.Desk.{Desk}
 use Rattle.acd_desk.specs.Standing.{Standing, standing}
+use Rattle.acd_sqlbook.specs.View.{BookView}
 use Rattle.acd_program.specs.Answered.{in_memory, AnsweredFromNothing, AnswersAll}
 use Rattle.acd_program.specs.Faults.{lines_fault}
 use Rattle.acd_program.specs.Desks.{OverDatabase, in_database}
 use Rattle.acd_program.specs.LinesOver.{in_turn, LinesEnded, LinesInMemory, NoneMade}
-use Rattle.acd_program.specs.Over.{IsSession, IsFailedSession, AnswersOver, OverConnection}
-use Rattle.acd_program.specs.Seen.{Seen, SeenNew, InDatabase, SeenIn}
+use Rattle.acd_program.specs.Over.{IsSession, IsFailedSession, AnswersOver, Database, OverConnection}
+use Rattle.acd_program.specs.Seen.{Seen, SeenNew, SeenIn}
 use Rattle.acd_program.specs.declared.fault.Fault.{Fault}
 use Rattle.acd_program.specs.declared.fault.Fault.TheVariants.{Store}
 
@@ -34,20 +36,31 @@ module _ (ends : Bool) (io : Streams) where
     pub session : LinesAnswered (FirstLines io.old_input) (ArrivalsAnswered (IsFailedSession old new)) (Appends io.old_output io.new_output)
 
   abbrev pub SessionEnded : Result (Unit {0}) Fault → BookState → BookState → Type 0
-  SessionEnded (Ok done) old new = AnswersOver ends old io.old_input io.old_output io.new_output new
+  SessionEnded (Ok done) old new = AnswersOver ends io old new
   SessionEnded (Err fault) old new = Stopped old new fault ⊎ Failed old new fault
+
+-- lines that are requests alone ended so, by a desk of the database
+abbrev pub RequestsEnded : {S : Type 0} → Ghosts S → Bool → Streams → Result (Unit {0}) Fault → Desk (BookView S) → Desk (BookView S) → Type 0
+RequestsEnded store ends io result = LinesEnded (standing (in_database store)) (in_turn false (standing (in_database store))) ends io result
+
+-- they ended as a session does
+abbrev pub EndAsSession : {S : Type 0} → Ghosts S → Bool → Bool → Streams → Type 0
+EndAsSession {S} store makes ends io = (result : Result (Unit {0}) Fault) (old new : Held S)
+    → OverDatabase store makes (RequestsEnded store ends io result) (state store old) new → OverConnection (SessionEnded ends io result) makes (state store old) (state store new)
 
 -- over any reader and any writer
 abbrev pub LinesAreSessions : {S R W : Type 0} → Ghosts S → (R → Option (List ℕ)) → (W → Option (List ℕ)) → Type 0
-LinesAreSessions {S} {R} {W} store remaining contents = (makes ends : Bool) (reader : R × R) (writer : W × W) (result : Result (Unit {0}) Fault) (old new : Held S)
-    → OverDatabase store makes (LinesEnded (standing (in_database store)) (in_turn false (standing (in_database store))) ends (streams remaining contents reader writer) result) (state store old) new
-    → OverConnection (SessionEnded ends (streams remaining contents reader writer) result) makes (state store old) (state store new)
+LinesAreSessions {R = R} {W = W} store remaining contents = (makes ends : Bool) (reader : R × R) (writer : W × W) → EndAsSession store makes ends (streams remaining contents reader writer)
 
 -- how lines over the database ended: where they are requests alone, by a session, whole or begun; else each of them by the desk that the lines before it left
 abbrev pub DatabaseEnded : {S : Type 0} → Ghosts S → Bool → Bool → Bool → Streams → State → Result (Unit {0}) Fault → Held S → Type 0
 DatabaseEnded store makes false ends io old result new = NoneMade store makes io old result new ⊎ OverConnection (SessionEnded ends io result) makes old (state store new)
-DatabaseEnded {S} store makes true ends io old result new =
-    NoneMade store makes io old result new ⊎ SeenIn store (λ (stands : Seen (InDatabase S) → Standing). LinesEnded stands (in_turn true stands) ends io result) makes old new
+DatabaseEnded store makes true ends io old result new =
+    NoneMade store makes io old result new ⊎ SeenIn store (λ stands. LinesEnded stands (in_turn true stands) ends io result) makes old new
+
+-- lines over a database that was handed in ended so, with the connection that came back
+abbrev pub EndsLines : {S : Type 0} → Database S → Bool → Bool → Streams → Result (Unit {0}) Fault × Held S → Type 0
+EndsLines db reads ends io result = DatabaseEnded db.store db.makes reads ends io (state db.store db.conn) result.0 result.1
 
 -- ---- in memory
 
@@ -56,10 +69,13 @@ abbrev pub AnswersEnded : Streams → Result (Unit {0}) LinesFault → Type 0
 AnswersEnded io (Ok done) = AnswersAll io.old_input io.old_output io.new_output
 AnswersEnded io (Err why) = LinesAnswered (FirstLines io.old_input) (ArrivalsAnswered AnsweredFromNothing) (Begins io.old_output io.new_output)
 
+-- lines over a new desk that are requests alone ended so
+abbrev pub EndsFromNothing : Streams → Result (Unit {0}) LinesFault → Type 0
+EndsFromNothing io result = LinesInMemory (in_turn false (standing in_memory)) io result → AnswersEnded io result
+
+-- over any reader and any writer
 abbrev pub LinesAreFromNothing : {R W : Type 0} → (R → Option (List ℕ)) → (W → Option (List ℕ)) → Type 0
-LinesAreFromNothing {R} {W} remaining contents = (reader : R × R) (writer : W × W) (result : Result (Unit {0}) LinesFault)
-    → LinesInMemory (in_turn false (standing in_memory)) (streams remaining contents reader writer) result
-    → AnswersEnded (streams remaining contents reader writer) result
+LinesAreFromNothing {R} {W} remaining contents = (reader : R × R) (writer : W × W) (result : Result (Unit {0}) LinesFault) → EndsFromNothing (streams remaining contents reader writer) result
 
 -- how lines over a new desk in memory ended by a fault: where they are requests alone, as the abstract desk answers a beginning of them; else each by the desk that the lines before it left
 abbrev pub MemoryEnded : Bool → Streams → LinesFault → Type 0

@@ -10,6 +10,7 @@ use Rattle.acd_program.specs.declared.auditing.Finding.TheVariants.{Sound, Count
 use Rattle.acd_program.specs.declared.fault.Fault.{Fault}
 use Rattle.acd_program.specs.declared.fault.Fault.TheVariants.{CannotOpen, OpenElsewhere, WrongVersion, BadRow, BadRows, NoMemory, Store, Plan, Read, Write, CannotListen}
 use Rattle.acd_http.specs.Listening.{Outcome, outcome_lines}
+use Rattle.acd_program.specs.Output.{Output}
 
 -- help or the version was asked for
 abbrev pub IsHelp : ErrorKind → Type 0
@@ -48,3 +49,15 @@ fault_status (CannotListen port) = 1
 -- the lines of the faults of connections were written, or a beginning of them
 abbrev pub PrintsConnectionFaults : Option (List ℕ) → Option (List ℕ) → Type 0
 PrintsConnectionFaults old_output new_output = (outcomes : List Outcome) × Begins old_output new_output (outcome_lines 1 outcomes)
+
+-- nothing was printed on the stream of errors but these, if anything
+abbrev pub PrintsAtMostFaults : Output → Type 0
+PrintsAtMostFaults errors = errors.unwritten ⊎ PrintsConnectionFaults errors.before errors.after
+
+-- and these only with status 0
+abbrev pub PrintsOnSuccess : Output → ℕ → Type 0
+PrintsOnSuccess errors status = errors.unwritten ⊎ ((status ≡ 0) × PrintsConnectionFaults errors.before errors.after)
+
+-- where another program has the file, the reader and the writer weren't touched
+abbrev pub UntouchedElsewhere : {R W : Type 0} → R → R → W → W → Fault → Type 0
+UntouchedElsewhere old_reader new_reader old_writer new_writer fault = fault_status fault ≡ 4 → (new_reader ≡ old_reader) × (new_writer ≡ old_writer)

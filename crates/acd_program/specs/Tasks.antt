@@ -3,19 +3,14 @@ use Rattle.std.specs.Prelude.{◌≡◌, ℕ, Bool, true, false, List, Option, S
 use Rattle.std.specs.Io.KnownBytes.{Appends}
 use Rattle.sqlite_disk.specs.declared.Disk.{Ghosts}
 use Rattle.sqlite_store.specs.declared.store.FileStore.{FileStore}
-use Rattle.sqlite.specs.Held.{Held}
 use Rattle.sqlite.specs.Files.{over_files, file_state}
 use Rattle.acd_terms.specs.declared.command.Request.{Request}
-use Rattle.acd_book.specs.Content.{Content}
-use Rattle.acd_book.specs.State.{BookState}
 use Rattle.acd_reports.specs.Plan.{plan_requests}
 use Rattle.acd_lines.specs.Lines.{Streams}
 use Rattle.acd_log.specs.declared.ending.Ending.{Ending}
 use Rattle.acd_log.specs.declared.ending.Ending.TheVariants.{Plain}
 use Rattle.acd_log.specs.Ending.{IsEndingOf}
-use Rattle.clap.specs.Words.{Text}
 use Rattle.acd_program.specs.WithArchive.{IsFindingIn, BookAskedWithArchive}
-use Rattle.acd_program.specs.CommandLine.{IsTaskOf}
 use Rattle.acd_program.specs.Answered.{AnswersAll}
 use Rattle.acd_desk.specs.Standing.{Standing}
 use Rattle.acd_program.specs.LinesOver.{in_turn, DatabaseAnswered, Whole}
@@ -23,7 +18,7 @@ use Rattle.acd_program.specs.Seen.{Seen, SeenNew, InDatabase, SeenIn}
 use Rattle.acd_program.specs.Found.{IsFindingOf, HasCount, finding_line}
 use Rattle.acd_program.specs.Statuses.{finding_status}
 use Rattle.acd_program.specs.Work.{WasAsked, IsTextOf, ImportsOver}
-use Rattle.acd_program.specs.InFiles.{IsLaidIn, WorkedOver, IsOpenedFrom, InFile}
+use Rattle.acd_program.specs.InFiles.{OfFiles, IsLaidIn, WorkedOver, IsOpenedFrom, InFile}
 use Rattle.acd_program.specs.Serving.{ServeDone}
 use Rattle.acd_program.specs.declared.auditing.Finding.{Finding}
 use Rattle.acd_program.specs.declared.desk.Work.{Work}
@@ -35,7 +30,7 @@ use Rattle.acd_program.specs.declared.asked.Task.TheVariants.{Lines, Serve, Impo
 -- the lines before it left
 abbrev pub MemoryAnswered : Bool → Streams → Type 0
 MemoryAnswered false io = AnswersAll io.old_input io.old_output io.new_output
-MemoryAnswered true io = SeenNew (λ (stands : Seen Content → Standing). Whole stands (in_turn true stands) false io)
+MemoryAnswered true io = SeenNew (λ stands. Whole stands (in_turn true stands) false io)
 
 -- some log ends so
 abbrev pub IsSomeEnding : Ending → Type 0
@@ -48,30 +43,27 @@ IsReadEnding false ending = ending ≡ Plain
 
 -- `IsFresh is_log file` says that a file is a log, or a database file, that was just opened
 module _ {D : Type 0} (disk : Ghosts D) (IsFresh : Bool → D → Type 0) where
-  abbrev pub OfFiles : Type 0
-  OfFiles = Held (FileStore D disk)
-
   -- the work was done over a connection to files
   abbrev pub WorkedIn : Bool → Work → Option (List ℕ) → Option (List ℕ) → ℕ → Type 0
-  WorkedIn makes work old_output new_output status = (conn : OfFiles) × IsOpenedFrom disk IsFresh conn × WorkedOver makes work conn old_output new_output status
+  WorkedIn makes work old_output new_output status = (conn : OfFiles disk) × IsOpenedFrom disk IsFresh conn × WorkedOver makes work conn old_output new_output status
 
   -- the requests of a plan were executed, and their answers written
   abbrev pub ImportedIn : Option (List ℕ) → Option (List ℕ) → ℕ → Type 0
   ImportedIn old_output new_output status =
-      (bytes : List ℕ) × (requests : List Request) × (plan_requests bytes ≡ Ok requests) × InFile disk IsFresh (λ (old new : BookState). ImportsOver requests old old_output new_output new) true × (status ≡ 0)
+      (bytes : List ℕ) × (requests : List Request) × (plan_requests bytes ≡ Ok requests) × InFile disk IsFresh (λ old new. ImportsOver requests old old_output new_output new) true × (status ≡ 0)
 
   -- a database in files was opened, a desk of its book answered connections, and it was closed into its file
   pub record ServeDoneIn (span : Option ℕ) (old_output new_output : Option (List ℕ)) : Type 0 where
-    pub conn : OfFiles
-    pub last : OfFiles
+    pub conn : OfFiles disk
+    pub last : OfFiles disk
     pub opened : IsOpenedFrom disk IsFresh conn
     pub answered : SeenIn over_files (λ (stands : Seen (InDatabase (FileStore D disk)) → Standing). ServeDone stands span old_output new_output) true (file_state conn) last
     pub closed : IsLaidIn last
 
   -- so one was, and each line of the input was answered over it
   pub record FileAnswered (reads ends : Bool) (io : Streams) : Type 0 where
-    pub conn : OfFiles
-    pub last : OfFiles
+    pub conn : OfFiles disk
+    pub last : OfFiles disk
     pub opened : IsOpenedFrom disk IsFresh conn
     pub answered : DatabaseAnswered over_files true reads ends io (file_state conn) last
     pub closed : IsLaidIn last
@@ -82,19 +74,26 @@ module _ {D : Type 0} (disk : Ghosts D) (IsFresh : Bool → D → Type 0) where
   InputAnswered (Some file) reads ends io status = FileAnswered reads ends io × (status ≡ 0)
 
   -- an audit was printed, with how the log of its file ended before
-  abbrev pub AuditedIn : Bool → Ending → Option (List ℕ) → Option (List ℕ) → ℕ → Type 0
-  AuditedIn counts ending old_output new_output status =
-      (found : Finding) × HasCount counts found × InFile disk IsFresh (λ (old new : BookState). WasAsked old IsFindingOf found new) false × Appends old_output new_output (finding_line ending found) × (status ≡ finding_status ending found)
+  pub record AuditedIn (counts : Bool) (ending : Ending) (old_output new_output : Option (List ℕ)) (status : ℕ) : Type 0 where
+    pub found : Finding
+    pub counted : HasCount counts found
+    pub done : InFile disk IsFresh (λ old new. WasAsked old IsFindingOf found new) false
+    pub printed : Appends old_output new_output (finding_line ending found)
+    pub outcome : status ≡ finding_status ending found
 
   -- the work of an audit was done over a connection to files, whose log ended so before
   abbrev pub WholeAudit : Bool → Option (List ℕ) → Option (List ℕ) → ℕ → Type 0
   WholeAudit counts old_output new_output status = (ending : Ending) × IsSomeEnding ending × WorkedIn false (kind.Audit counts ending) old_output new_output status
 
   -- an audit with an archive, which was opened beside the file and closed, was printed
-  abbrev pub AuditedWith : Bool → Bool → Option (List ℕ) → Option (List ℕ) → ℕ → Type 0
-  AuditedWith counts whole old_output new_output status =
-      (found : Finding) × (ending : Ending) × HasCount counts found × IsReadEnding whole ending × InFile disk IsFresh (λ (old new : BookState). BookAskedWithArchive disk IsFresh IsFindingIn old new found) false
-      × Appends old_output new_output (finding_line ending found) × (status ≡ finding_status ending found)
+  pub record AuditedWith (counts whole : Bool) (old_output new_output : Option (List ℕ)) (status : ℕ) : Type 0 where
+    pub found : Finding
+    pub ending : Ending
+    pub counted : HasCount counts found
+    pub read : IsReadEnding whole ending
+    pub done : InFile disk IsFresh (λ old new. BookAskedWithArchive disk IsFresh IsFindingIn old new found) false
+    pub printed : Appends old_output new_output (finding_line ending found)
+    pub outcome : status ≡ finding_status ending found
 
   -- the task was done, from what was read to what was written, to what was printed on the stream of errors, and to the exit
   -- status
@@ -102,13 +101,9 @@ module _ {D : Type 0} (disk : Ghosts D) (IsFresh : Bool → D → Type 0) where
   TaskDone (Lines file reads ends) io old_errors new_errors status = InputAnswered file reads ends io status
   TaskDone (Serve file port connections) io old_errors new_errors status = ServeDoneIn connections old_errors new_errors × (status ≡ 0)
   TaskDone (Import file plan) io old_errors new_errors status = ImportedIn io.old_output io.new_output status
-  TaskDone (Read file (kind.Import requests)) io old_errors new_errors status = InFile disk IsFresh (λ (old new : BookState). ImportsOver requests.now old io.old_output io.new_output new) false × (status ≡ 0)
+  TaskDone (Read file (kind.Import requests)) io old_errors new_errors status = InFile disk IsFresh (λ old new. ImportsOver requests.now old io.old_output io.new_output new) false × (status ≡ 0)
   TaskDone (Read file (kind.Print printout)) io old_errors new_errors status =
-      (text : List ℕ) × InFile disk IsFresh (λ (old new : BookState). WasAsked old (IsTextOf printout) text new) false × Appends io.old_output io.new_output text × (status ≡ 0)
+      (text : List ℕ) × InFile disk IsFresh (λ old new. WasAsked old (IsTextOf printout) text new) false × Appends io.old_output io.new_output text × (status ≡ 0)
   TaskDone (Read file (kind.Audit counts ending)) io old_errors new_errors status = AuditedIn counts ending io.old_output io.new_output status
   TaskDone (AuditWithArchive file archive counts whole) io old_errors new_errors status = AuditedWith counts whole io.old_output io.new_output status
   TaskDone (AuditWhole file counts) io old_errors new_errors status = (ending : Ending) × IsSomeEnding ending × AuditedIn counts ending io.old_output io.new_output status
-
-  -- the task that the words name was done so
-  abbrev pub NamedTaskDone : List Text → Streams → Option (List ℕ) → Option (List ℕ) → ℕ → Type 0
-  NamedTaskDone words io old_errors new_errors status = (task : Task) × IsTaskOf words task × TaskDone task io old_errors new_errors status

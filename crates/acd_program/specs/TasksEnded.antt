@@ -1,25 +1,19 @@
 -- A fault ended the task of a command line: what is left.
 use Rattle.std.specs.Prelude.{◌≡◌, ◌⊎◌, ℕ, Bool, true, false, List, Option, Some, None, Result}
 use Rattle.sqlite_disk.specs.declared.Disk.{Ghosts}
-use Rattle.sqlite_store.specs.declared.store.FileStore.{FileStore}
-use Rattle.sqlite.specs.Held.{Held}
 use Rattle.sqlite.specs.Files.{over_files, file_state}
 use Rattle.acd_lines.specs.Lines.{Streams, Untouched}
 use Rattle.acd_lines.specs.declared.fault.LinesFault.{LinesFault}
 use Rattle.acd_log.specs.declared.ending.Ending.{Ending}
-use Rattle.clap.specs.Words.{Text}
-use Rattle.acd_program.specs.CommandLine.{IsTaskOf, IsUntaken}
 use Rattle.acd_io.specs.Sent.{Begins}
-use Rattle.acd_book.specs.State.{BookState}
 use Rattle.acd_program.specs.WithArchive.{IsFindingIn, BookAskedWithArchive}
 use Rattle.acd_program.specs.Ended.{IsOfOpening, IsOfDesk, EndsBy, TakesPlan, IsShut, WorkEnded}
 use Rattle.acd_program.specs.Faults.{lines_fault}
 use Rattle.acd_program.specs.Found.{HasCount, finding_line}
-use Rattle.acd_program.specs.InFiles.{IsOpenedFrom}
+use Rattle.acd_program.specs.InFiles.{OfFiles, IsOpenedFrom}
 use Rattle.acd_program.specs.Over.{OverConnection, Unserved}
 use Rattle.acd_program.specs.Serving.{ServeIn}
 use Rattle.acd_program.specs.Sessions.{DatabaseEnded, MemoryEnded}
-use Rattle.acd_program.specs.Statuses.{fault_status}
 use Rattle.acd_program.specs.Tasks.{IsSomeEnding, IsReadEnding}
 use Rattle.acd_program.specs.declared.auditing.Finding.{Finding}
 use Rattle.acd_program.specs.declared.fault.Fault.{Fault}
@@ -30,41 +24,38 @@ use Rattle.acd_program.specs.declared.asked.Task.TheVariants.{Lines, Serve, Impo
 
 -- `IsFresh is_log file` says that a file is a log, or a database file, that was just opened
 module _ {D : Type 0} (disk : Ghosts D) (IsFresh : Bool → D → Type 0) where
-  abbrev pub OfFiles : Type 0
-  OfFiles = Held (FileStore D disk)
-
   -- A fault ended what was to be done over a file. It came before there was a connection, and nothing was read or written; or there was one to files that were just opened, and over it this was left.
-  abbrev pub EndedIn : Fault → Type 0 → (OfFiles → Type 0) → Type 0
-  EndedIn fault Untouched Left = (IsOfOpening fault × Untouched) ⊎ ((conn : OfFiles) × IsOpenedFrom disk IsFresh conn × IsOfDesk fault × Left conn)
+  abbrev pub EndedIn : Fault → Type 0 → (OfFiles disk → Type 0) → Type 0
+  EndedIn fault Untouched Left = (IsOfOpening fault × Untouched) ⊎ ((conn : OfFiles disk) × IsOpenedFrom disk IsFresh conn × IsOfDesk fault × Left conn)
 
   -- the lines ended, or closing their file did, and the connection was shut
-  pub record LinesLeft (reads ends : Bool) (io : Streams) (fault : Fault) (conn : OfFiles) : Type 0 where
-    pub last : OfFiles
+  pub record LinesLeft (reads ends : Bool) (io : Streams) (fault : Fault) (conn : OfFiles disk) : Type 0 where
+    pub last : OfFiles disk
     pub shut : IsShut last
     pub ended : Result (Unit {0}) Fault
     pub lines : DatabaseEnded over_files true reads ends io (file_state conn) ended last
     pub why : EndsBy ended fault
 
   -- the service ended, or closing its file did, and the connection was shut
-  pub record ServiceLeft (span : Option ℕ) (port : ℕ) (old_output new_output old_errors new_errors : Option (List ℕ)) (fault : Fault) (conn : OfFiles) : Type 0 where
-    pub last : OfFiles
+  pub record ServiceLeft (span : Option ℕ) (port : ℕ) (old_output new_output old_errors new_errors : Option (List ℕ)) (fault : Fault) (conn : OfFiles disk) : Type 0 where
+    pub last : OfFiles disk
     pub shut : IsShut last
     pub ended : Result (Unit {0}) Fault
     pub answered : ServeIn span old_errors new_errors port old_output new_output over_files true (file_state conn) ended last
     pub why : EndsBy ended fault
 
   -- an audit with an archive was done, and a beginning of what it found was printed
-  pub record AuditCut (counts whole : Bool) (old_output new_output : Option (List ℕ)) (conn last : OfFiles) : Type 0 where
+  pub record AuditCut (counts whole : Bool) (old_output new_output : Option (List ℕ)) (conn last : OfFiles disk) : Type 0 where
     pub found : Finding
     pub ending : Ending
     pub counted : HasCount counts found
     pub read : IsReadEnding whole ending
-    pub done : OverConnection (λ (old new : BookState). BookAskedWithArchive disk IsFresh IsFindingIn old new found) false (file_state conn) (file_state last)
+    pub done : OverConnection (λ old new. BookAskedWithArchive disk IsFresh IsFindingIn old new found) false (file_state conn) (file_state last)
     pub printed : Begins old_output new_output (finding_line ending found)
 
   -- A fault ended one, which may be the archive's, and the connection to the desk's file was shut: a reopening finds there what it could find before.
-  pub record AuditLeft (counts whole : Bool) (old_output new_output : Option (List ℕ)) (Unwritten : Type 0) (fault : Fault) (conn : OfFiles) : Type 0 where
-    pub last : OfFiles
+  pub record AuditLeft (counts whole : Bool) (old_output new_output : Option (List ℕ)) (Unwritten : Type 0) (fault : Fault) (conn : OfFiles disk) : Type 0 where
+    pub last : OfFiles disk
     pub shut : IsShut last
     pub kept : Unserved false (file_state conn) (file_state last)
     pub left : Unwritten ⊎ (IsOfDesk fault × AuditCut counts whole old_output new_output conn last)
@@ -87,7 +78,7 @@ module _ {D : Type 0} (disk : Ghosts D) (IsFresh : Bool → D → Type 0) where
   -- a file was to be audited with an archive
   abbrev pub AuditWithArchiveEnded : Bool → Bool → Option (List ℕ) → Option (List ℕ) → Type 0 → Fault → Type 0
   AuditWithArchiveEnded counts whole old_output new_output Unwritten fault =
-      (IsOfOpening fault × Unwritten) ⊎ ((conn : OfFiles) × IsOpenedFrom disk IsFresh conn × AuditLeft counts whole old_output new_output Unwritten fault conn)
+      (IsOfOpening fault × Unwritten) ⊎ ((conn : OfFiles disk) × IsOpenedFrom disk IsFresh conn × AuditLeft counts whole old_output new_output Unwritten fault conn)
 
   abbrev pub ServiceEnded : Option ℕ → ℕ → Option (List ℕ) → Option (List ℕ) → Option (List ℕ) → Option (List ℕ) → Type 0 → Fault → Type 0
   ServiceEnded span port old_output new_output old_errors new_errors Unwritten fault = EndedIn fault (Unwritten × (new_errors ≡ old_errors)) (ServiceLeft span port old_output new_output old_errors new_errors fault)
@@ -106,15 +97,3 @@ module _ {D : Type 0} (disk : Ghosts D) (IsFresh : Bool → D → Type 0) where
   TaskEnded (Read file work) io old_errors new_errors fault = io.unread × (new_errors ≡ old_errors) × WorkEndedIn false work io.old_output io.new_output io.unwritten fault
   TaskEnded (AuditWithArchive file archive counts whole) io old_errors new_errors fault = io.unread × (new_errors ≡ old_errors) × AuditWithArchiveEnded counts whole io.old_output io.new_output io.unwritten fault
   TaskEnded (AuditWhole file counts) io old_errors new_errors fault = io.unread × (new_errors ≡ old_errors) × AuditEnded counts io.old_output io.new_output io.unwritten fault
-
-  -- the task that the words name was ended so, by a fault that has this status
-  abbrev pub NamedTaskEnded : List Text → Streams → Option (List ℕ) → ℕ → Type 0
-  NamedTaskEnded words io old_errors status = (task : Task) × IsTaskOf words task × (new_errors : Option (List ℕ)) × (fault : Fault) × TaskEnded task io old_errors new_errors fault × (status ≡ fault_status fault)
-
-  -- no task was done: nothing was read, and nothing written, unless help was asked for
-  abbrev pub IsNoTask : List Text → Streams → Type 0
-  IsNoTask words io = io.unread × (io.unwritten ⊎ IsUntaken words)
-
-  -- the status of a fault is that of the task that the words name, which was ended so; of one that came before there was a task, it is 1
-  abbrev pub FaultEnded : List Text → Streams → Option (List ℕ) → ℕ → Type 0
-  FaultEnded words io old_errors status = ((status ≡ 4) → NamedTaskEnded words io old_errors status) × ((status ≡ 1) → IsNoTask words io ⊎ NamedTaskEnded words io old_errors status)

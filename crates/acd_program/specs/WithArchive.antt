@@ -2,12 +2,15 @@
 use Rattle.std.specs.Prelude.{◌≡◌, Bool, false, Result, Ok, IfOk}
 use Rattle.sqlite.specs.State.{State}
 use Rattle.sqlite_disk.specs.declared.Disk.{Ghosts}
+use Rattle.acd_book.specs.declared.book.Book as book
 use Rattle.acd_book.specs.Content.{Content}
 use Rattle.acd_book.specs.Order.{IsOrdered}
 use Rattle.acd_book.specs.State.{BookState, IfHonest}
 use Rattle.acd_desk.specs.declared.audit.AuditFault.{AuditFault}
 use Rattle.acd_desk.specs.AuditWith.{StandsInTime, IsDifferenceWith}
-use Rattle.acd_desk.specs.Standing.{Standing, InStep}
+use Rattle.acd_desk.specs.BookReading.{Anything}
+use Rattle.acd_desk.specs.declared.desk.Desk.{Desk}
+use Rattle.acd_desk.specs.Standing.{Standing, InStep, standing}
 use Rattle.acd_desk.specs.ReadDone.{ReadDone}
 use Rattle.acd_desk.specs.WithArchive.{IsSoundWith}
 use Rattle.acd_log.specs.declared.ending.Ending.{Ending}
@@ -19,10 +22,6 @@ use Rattle.acd_program.specs.Found.{HasCount}
 use Rattle.acd_program.specs.InFiles.{InFile}
 use Rattle.acd_program.specs.Over.{OverConnection}
 use Rattle.acd_program.specs.Work.{WasAsked}
-
--- any finding
-abbrev pub Anything : {A : Type 0} → Content → A → Type 0
-Anything c found = Unit {0}
 
 -- the content continues that of the archive, with so many executed requests in both; or it doesn't, and this is the stamp of a
 -- difference
@@ -55,6 +54,10 @@ IsFoundWithArchive old_archive new_archive d e result =
 abbrev pub FindsWithArchive : BookState → BookState → Standing → Standing → Finding → Type 0
 FindsWithArchive old_archive new_archive d e found =
     IfHonest old_archive new_archive (IfHonest d.book e.book (d.book.is_open → StandsInTime old_archive.content → IsOrdered d.book.content → IsDeskFindingWith old_archive.content d found))
+
+-- in a call it is, by the archive and the desk, each as it was and as it is then
+abbrev pub FindsWith : {A B : Type 0} → book.Ghosts A → A × A → book.Ghosts B → Desk B × Desk B → Result Finding AuditFault → Type 0
+FindsWith archives archive books desk result = IsFoundWithArchive (archives.state archive.0) (archives.state archive.1) (standing books desk.0) (standing books desk.1) result
 
 -- a book was asked, whatever it holds
 abbrev pub WasRead : BookState → BookState → Type 0

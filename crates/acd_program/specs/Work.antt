@@ -1,18 +1,23 @@
 -- Work over a book, and what is left to print of it.
-use Rattle.std.specs.Prelude.{◌≡◌, ℕ, Bool, List, [], Option, Result, Ok, string_bytes}
+use Rattle.std.specs.Prelude.{◌≡◌, ℕ, Bool, List, [], Option, Some, Result, Ok, IfOk, OnOk, String, string_bytes}
 use Rattle.std.specs.Io.KnownBytes.{Appends}
+use Rattle.sqlite.specs.Held.{Held}
 use Rattle.acd_terms.specs.declared.command.Request.{Request}
 use Rattle.acd_book.specs.Content.{Content, Within}
 use Rattle.acd_book.specs.Order.{IsOrdered}
+use Rattle.acd_book.specs.declared.book.Book.{Ghosts}
 use Rattle.acd_book.specs.State.{BookState, IfHonest, BookStep}
 use Rattle.acd_reports.specs.QueueReport.{queue_report}
 use Rattle.acd_reports.specs.Export.{events_csv}
 use Rattle.acd_desk.specs.Stands.{IsSound}
 use Rattle.acd_desk.specs.Carried.{Archive, together}
+use Rattle.acd_desk.specs.ReadAnswers.{text_read}
+use Rattle.acd_io.specs.Sent.{Breaks}
 use Rattle.acd_lines.specs.Lines.{LinesAnswered, AllRequests, RequestsAnswered}
 use Rattle.acd_program.specs.Found.{IsFindingOf, HasCount, finding_line}
 use Rattle.acd_program.specs.Statuses.{finding_status}
-use Rattle.acd_program.specs.Over.{IsSession}
+use Rattle.acd_program.specs.Output.{Output}
+use Rattle.acd_program.specs.Over.{IsSession, Database, OverCall}
 use Rattle.acd_log.specs.declared.ending.Ending.{Ending}
 use Rattle.acd_program.specs.declared.auditing.Finding.{Finding}
 use Rattle.acd_program.specs.declared.desk.Printout.{Printout}
@@ -55,6 +60,10 @@ pub record WasAsked {A : Type 0} (old : BookState) (IsAnswer : Content → A →
 abbrev pub IsTextOf : Printout → Content → List ℕ → Type 0
 IsTextOf printout c text = (p : Archive) → IsSound (together p c) → text ≡ printout_text printout c
 
+-- this is read of it, so that it can be printed
+abbrev pub IsPrintoutOf : {Z : Type 0} → Printout → Content → Option (String Z) → Type 0
+IsPrintoutOf printout c text = (p : Archive) → IsSound (together p c) → text_read text ≡ Some (printout_text printout c)
+
 -- of a content whose records are in order, as those of tables do, this is the finding
 abbrev pub IsFindingIfOrdered : Content → Finding → Type 0
 IsFindingIfOrdered c found = IsOrdered c → IsFindingOf c found
@@ -80,6 +89,27 @@ WorkDone IsAnswer (Import requests) old old_output new_output done new = Imports
 WorkDone IsAnswer (Print printout) old old_output new_output done new = PrintsOver printout old done new × (new_output ≡ old_output)
 WorkDone IsAnswer (Audit counts ending) old old_output new_output done new = AuditsOver IsAnswer counts ending old done new × (new_output ≡ old_output)
 
+-- ---- of a call
+
+-- without a fault the requests of a plan were executed over the book
+abbrev pub Imports : {B F : Type 0} → Ghosts B → B → Result Done F × B → List Request → Output → Type 0
+Imports books given result requests out = OnOk result.0 (ImportsOver requests (books.state given) out.before out.after (books.state result.1))
+
+-- the book was audited
+abbrev pub AuditsBook : {B F : Type 0} → Ghosts B → B → Result Done F × B → Bool → Ending → Type 0
+AuditsBook books given result counts ending = IfOk result.0 (λ (done : Done). AuditsOver IsFindingIfOrdered counts ending (books.state given) done (books.state result.1))
+
+-- the work was done over the book
+abbrev pub WorksOver : {B F : Type 0} → Ghosts B → B → Result Done F × B → Work → Output → Type 0
+WorksOver books given result work out = IfOk result.0 (λ (done : Done). WorkDone IsFindingIfOrdered work (books.state given) out.before out.after done (books.state result.1))
+
+-- and over the book of a database
+abbrev pub WorksInDatabase : {S F : Type 0} → Database S → Result Done F × Held S → Work → Output → Type 0
+WorksInDatabase db result work out =
+    IfOk result.0 (λ (done : Done). OverCall db (λ (old new : BookState). WorkDone IsFindingOf work old out.before out.after done new) result.1)
+
+-- ---- printed
+
 -- the work ended, so did the closing of its file, and what was left of it is printed
 pub record IsPrinted {F : Type 0} (done : Result Done F) (closed : Result (Unit {0}) F) (old_output new_output : Option (List ℕ)) (status : ℕ) : Type 0 where
   pub left : Done
@@ -87,3 +117,15 @@ pub record IsPrinted {F : Type 0} (done : Result Done F) (closed : Result (Unit 
   pub shut : closed ≡ Ok tt
   pub printed : Appends old_output new_output (text_left left)
   pub outcome : status ≡ status_left left
+
+-- all that was left was printed
+abbrev pub PrintsAll : Done → Output → Type 0
+PrintsAll left out = Appends out.before out.after (text_left left)
+
+-- a beginning of it was, and not all
+abbrev pub PrintsPart : Done → Output → Type 0
+PrintsPart left out = Breaks out.before out.after (text_left left)
+
+-- where no fault came of it, what was left was printed, with this status
+abbrev pub Prints : {F : Type 0} → Result Done F → Result (Unit {0}) F → Output → Result ℕ F → Type 0
+Prints done closed out result = IfOk result (λ (status : ℕ). IsPrinted done closed out.before out.after status)

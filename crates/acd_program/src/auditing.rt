@@ -1,13 +1,11 @@
 //! The audit of a desk, with the number of executed requests where that is asked for.
 
 ghost use Rattle.std.specs.Prelude.{◌≡◌, IfOk};
-ghost use Rattle.acd_book.specs.State.{IfHonest};
 ghost use Rattle.acd_desk.specs.AuditedWith.{desk_part, archive_part};
-ghost use Rattle.acd_desk.specs.Pages.{ReadsIfOpen};
-ghost use Rattle.acd_desk.specs.Standing.{standing};
+ghost use Rattle.acd_desk.specs.BookReading.{Anything, MayRead};
 ghost use Rattle.acd_desk.specs.ReadDone.{DeskRead};
-ghost use Rattle.acd_program.specs.WithArchive.{IsFoundWithArchive};
-ghost use Rattle.acd_program.specs.Found.{uncounted, IsFinding, HasCount};
+ghost use Rattle.acd_program.specs.WithArchive.{FindsWith};
+ghost use Rattle.acd_program.specs.Found.{uncounted, AuditsDesk, HasCount};
 
 use acd_book::Book;
 use acd_desk::{Audit, AuditFault, Desk, DeskFault};
@@ -33,9 +31,8 @@ fn uncounted(audit: Audit) -> Finding
 
 /// Audits what the desk's book holds.
 pub(crate) fn audited<B: Book>(desk: &mut Desk<B>, counts: bool) -> Result<Finding, DeskFault>
-    ensures found { IfHonest (standing B.Book desk.old).book (standing B.Book desk.new).book
-        (IfOk result (λ found. IsFinding (standing B.Book desk.old) found)) }
-    ensures read { DeskRead B.Book desk.old desk.new result (λ c found. Unit {0}) }
+    ensures found { AuditsDesk B.Book desk.old desk.new result }
+    ensures read { DeskRead B.Book desk.old desk.new result Anything }
     ensures counted { IfOk result (HasCount counts) }
 {
     let read = desk.audit()?;
@@ -54,11 +51,9 @@ pub(crate) fn audited_with_archive<A: Book, B: Book>(
     archive: &mut A,
     counts: bool,
 ) -> Result<Finding, AuditFault>
-    ensures found { IsFoundWithArchive (A.state archive.old) (A.state archive.new)
-        (standing B.Book desk.old) (standing B.Book desk.new) result }
-    ensures read { DeskRead B.Book desk.old desk.new (desk_part result) (λ c found. Unit {0}) }
-    ensures archive { ReadsIfOpen (A.state archive.old) (A.state archive.new)
-        (archive_part result) (λ a found. Unit {0}) }
+    ensures found { FindsWith A.Book (archive.old, archive.new) B.Book (desk.old, desk.new) result }
+    ensures read { DeskRead B.Book desk.old desk.new (desk_part result) Anything }
+    ensures archive { MayRead A.state archive.old archive.new (archive_part result) Anything }
     ensures counted { IfOk result (HasCount counts) }
 {
     let read = desk.audit_with(archive)?;

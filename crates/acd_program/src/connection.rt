@@ -1,18 +1,16 @@
 //! Lines over a connection, from what its database holds to what was answered.
 
-ghost use Rattle.std.specs.Prelude.{◌≡◌, true, false, IfOk, OnOk, IfErr};
+ghost use Rattle.std.specs.Prelude.{◌≡◌, true, false, IfOk, IfErr};
 ghost use Rattle.sqlite.specs.Held.{state};
-ghost use Rattle.sqlite.specs.State.{HasCleanDisk};
-ghost use Rattle.acd_terms.specs.Limits.{greatest_limits};
-ghost use Rattle.acd_sql_schema.specs.SettingUp.{MayMake};
 ghost use Rattle.acd_sqlbook.specs.View.{book_of};
 ghost use Rattle.acd_lines.specs.Lines.{streams};
+ghost use Rattle.acd_lines.specs.Questions.{TakesTurns};
 ghost use Rattle.acd_program.specs.Faults.{unmade_fault};
 ghost use Rattle.acd_program.specs.Ended.{IsOfDesk};
-ghost use Rattle.acd_program.specs.LinesOver.{each_by, DatabaseAnswered, LinesIn};
-ghost use Rattle.acd_program.specs.Over.{Unserved, unmade};
-ghost use Rattle.acd_program.specs.Sessions.{DatabaseEnded};
-ghost use Rattle.acd_program.specs.Taking.{IsOf, IsTaken};
+ghost use Rattle.acd_program.specs.LinesOver.{AnswersLines, EndsEach};
+ghost use Rattle.acd_program.specs.Over.{database, Unserved, unmade};
+ghost use Rattle.acd_program.specs.Sessions.{EndsLines};
+ghost use Rattle.acd_program.specs.Taking.{IsOf, IsTaken, MayMakeIn};
 
 use crate::fault::Fault;
 use crate::laws::lines_are_sessions;
@@ -48,9 +46,7 @@ fn create<S: Alter>(
     requires { conn.in_transaction ≡ false }
     ensures made { IfOk result (λ b. IsOf (unmade (state S.Store conn)) (book_of S.Store b)) }
     ensures idle { IfErr result (λ e. e.1.in_transaction ≡ false) }
-    ensures stops { IfErr result
-        (λ e. HasCleanDisk (state S.Store e.1)
-        → MayMake (state S.Store conn) (state S.Store e.1) greatest_limits) }
+    ensures stops { IfErr result (λ e. MayMakeIn S.Store conn e.1) }
 {
     match SqlBook::create(alloc, conn, Limits::GREATEST) {
         Ok(book) => Ok(book),
@@ -106,9 +102,8 @@ pub fn lines_over_connection<'a, S: Alter, A: Answering<SqlBook<S>>, R: Read, W:
     writer: &mut W,
 ) -> (Result<(), Fault<'a>>, Connection<S>)
     requires { conn.in_transaction ≡ false }
-    ensures done { LinesIn S.Store (each_by A.unmarked A.long A.read A.answers) makes ends
-        (streams R.remaining W.contents (reader.old, reader.new) (writer.old, writer.new))
-        (state S.Store conn) result.0 result.1 }
+    ensures done { EndsEach (database S.Store makes conn) (TakesTurns A.Answering) ends
+        (streams R.remaining W.contents (reader.old, reader.new) (writer.old, writer.new)) result }
     ensures known { IfErr result.0 IsOfDesk }
     ensures idle { result.1.in_transaction ≡ false }
 {
@@ -130,12 +125,10 @@ fn with_reads<'a, S: Alter, R: Read, W: Write>(
     writer: &mut W,
 ) -> (Result<(), Fault<'a>>, Connection<S>)
     requires { conn.in_transaction ≡ false }
-    ensures done { OnOk result.0 (DatabaseAnswered S.Store makes true ends
-        (streams R.remaining W.contents (reader.old, reader.new) (writer.old, writer.new))
-        (state S.Store conn) result.1) }
-    ensures ended { DatabaseEnded S.Store makes true ends
-        (streams R.remaining W.contents (reader.old, reader.new) (writer.old, writer.new))
-        (state S.Store conn) result.0 result.1 }
+    ensures done { AnswersLines (database S.Store makes conn) true ends
+        (streams R.remaining W.contents (reader.old, reader.new) (writer.old, writer.new)) result }
+    ensures ended { EndsLines (database S.Store makes conn) true ends
+        (streams R.remaining W.contents (reader.old, reader.new) (writer.old, writer.new)) result }
     ensures known { IfErr result.0 IsOfDesk }
     ensures idle { result.1.in_transaction ≡ false }
 {
@@ -158,13 +151,11 @@ pub(crate) fn database_lines<'a, S: Alter, R: Read, W: Write>(
     writer: &mut W,
 ) -> (Result<(), Fault<'a>>, Connection<S>)
     requires { conn.in_transaction ≡ false }
-    ensures done { OnOk result.0 (DatabaseAnswered S.Store makes reads ends
-        (streams R.remaining W.contents (reader.old, reader.new) (writer.old, writer.new))
-        (state S.Store conn) result.1) }
+    ensures done { AnswersLines (database S.Store makes conn) reads ends
+        (streams R.remaining W.contents (reader.old, reader.new) (writer.old, writer.new)) result }
     // whatever ended them
-    ensures ended { DatabaseEnded S.Store makes reads ends
-        (streams R.remaining W.contents (reader.old, reader.new) (writer.old, writer.new))
-        (state S.Store conn) result.0 result.1 }
+    ensures ended { EndsLines (database S.Store makes conn) reads ends
+        (streams R.remaining W.contents (reader.old, reader.new) (writer.old, writer.new)) result }
     ensures known { IfErr result.0 IsOfDesk }
     ensures idle { result.1.in_transaction ≡ false }
 {

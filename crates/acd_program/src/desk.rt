@@ -1,15 +1,13 @@
 //! Work over a database. Whatever needs a desk is done over any book, so that one function alone names the store.
 
-ghost use Rattle.std.specs.Prelude.{◌≡◌, false, [], Some, IfOk, IfErr, OnOk, OnErr, unwrap_or};
+ghost use Rattle.std.specs.Prelude.{◌≡◌, false, [], IfOk, IfErr, unwrap_or};
 ghost use Rattle.sqlite.specs.Held.{state};
-ghost use Rattle.acd_desk.specs.Stands.{IsSound};
-ghost use Rattle.acd_desk.specs.Carried.{Archive, together};
 ghost use Rattle.acd_desk.specs.ReadDone.{DeskRead};
 ghost use Rattle.acd_desk.specs.ReadAnswers.{text_read};
-ghost use Rattle.acd_program.specs.Found.{IsFindingOf};
-ghost use Rattle.acd_program.specs.Ended.{IsOfDesk, OnlyAsked, OnlyReads, StoppedPlan, StoppedOver, WorkStopped};
-ghost use Rattle.acd_program.specs.Over.{OverConnection, Unserved};
-ghost use Rattle.acd_program.specs.Work.{printout_text, text_left, status_left, ImportsOver, PrintsOver, AuditsOver, IsFindingIfOrdered, WorkDone};
+ghost use Rattle.acd_program.specs.Ended.{IsOfDesk, OnlyAsked, OnlyReads, EndsImport, EndsWork, EndsInDatabase};
+ghost use Rattle.acd_program.specs.Output.{output};
+ghost use Rattle.acd_program.specs.Over.{database, Unserved};
+ghost use Rattle.acd_program.specs.Work.{text_left, status_left, IsPrintoutOf, Imports, PrintsOver, AuditsBook, WorksOver, WorksInDatabase};
 
 use crate::auditing::{Finding, audited};
 use crate::connection::book_over;
@@ -59,12 +57,11 @@ fn imported<'a, B: Book, W: Write>(
     requests: &[Request],
     writer: &mut W,
 ) -> (Result<Done, Fault<'a>>, B)
-    ensures over { OnOk result.0
-        (ImportsOver requests.now (B.state book) (W.contents writer.old) (W.contents writer.new)
-        (B.state result.1)) }
+    ensures over { Imports B.Book book result requests.now
+        (output W.contents writer.old writer.new) }
     ensures nothing { IfOk result.0 (λ done. done ≡ Done.Nothing) }
-    ensures stopped { OnErr result.0 (StoppedPlan requests.now (W.contents writer.old)
-        (W.contents writer.new) (B.state book) (B.state result.1)) }
+    ensures stopped { EndsImport B.Book book result requests.now
+        (output W.contents writer.old writer.new) }
     ensures known { IfErr result.0 IsOfDesk }
 {
     let mut desk = match Desk::open(alloc, book) {
@@ -79,8 +76,7 @@ fn imported<'a, B: Book, W: Write>(
 
 // The text that the desk reads. There always is one.
 fn text_of<B: Book>(desk: &mut Desk<B>, printout: Printout) -> Result<Option<String>, DeskFault>
-    ensures { DeskRead B.Book desk.old desk.new result (λ c text.
-        (p : Archive) → IsSound (together p c) → text_read text ≡ Some (printout_text printout c)) }
+    ensures { DeskRead B.Book desk.old desk.new result (IsPrintoutOf printout) }
 {
     match printout {
         Printout::Report => desk.report(0),
@@ -135,9 +131,7 @@ fn audit<'a, B: Book>(
     counts: bool,
     ending: Ending,
 ) -> (Result<Done, Fault<'a>>, B)
-    ensures over { IfOk result.0
-        (λ done. AuditsOver IsFindingIfOrdered counts ending (B.state book.entry.inner) done
-        (B.state result.1)) }
+    ensures over { AuditsBook B.Book book.entry.inner result counts ending }
     ensures kept { OnlyAsked (B.state book.entry.inner) (B.state result.1) }
     ensures known { IfErr result.0 IsOfDesk }
 {
@@ -160,15 +154,14 @@ fn over_book<'a, B: Book, W: Write>(
     work: Work<'_>,
     writer: &mut W,
 ) -> (Result<Done, Fault<'a>>, B)
-    ensures over { IfOk result.0
-        (λ done. WorkDone IsFindingIfOrdered work.entry (B.state book) (W.contents writer.old)
-        (W.contents writer.new) done (B.state result.1)) }
+    ensures over { WorksOver B.Book book result work.entry
+        (output W.contents writer.old writer.new) }
     // work that only reads changes nothing, whatever comes of it, and writes nothing
     ensures kept { OnlyReads work.entry → OnlyAsked (B.state book) (B.state result.1) }
     ensures silent { OnlyReads work.entry → writer.new ≡ writer.old }
     // where a fault ended it
-    ensures stopped { OnErr result.0 (StoppedOver work.entry (W.contents writer.old)
-        (W.contents writer.new) (B.state book) (B.state result.1)) }
+    ensures stopped { EndsWork B.Book book result work.entry
+        (output W.contents writer.old writer.new) }
     ensures known { IfErr result.0 IsOfDesk }
 {
     match work {
@@ -190,15 +183,13 @@ pub(crate) fn over_database<'a, S: Alter, W: Write>(
     writer: &mut W,
 ) -> (Result<Done, Fault<'a>>, Connection<S>)
     requires { conn.in_transaction ≡ false }
-    ensures over { IfOk result.0
-        (λ done. OverConnection
-        (λ old new. WorkDone IsFindingOf work.entry old (W.contents writer.old)
-        (W.contents writer.new) done new) makes (state S.Store conn) (state S.Store result.1)) }
+    ensures over { WorksInDatabase (database S.Store makes conn) result work.entry
+        (output W.contents writer.old writer.new) }
     ensures kept { OnlyReads work.entry
         → Unserved makes (state S.Store conn) (state S.Store result.1) }
     ensures silent { OnlyReads work.entry → writer.new ≡ writer.old }
-    ensures stopped { OnErr result.0 (WorkStopped work.entry makes (state S.Store conn)
-        (state S.Store result.1) (W.contents writer.old) (W.contents writer.new)) }
+    ensures stopped { EndsInDatabase (database S.Store makes conn) result work.entry
+        (output W.contents writer.old writer.new) }
     ensures known { IfErr result.0 IsOfDesk }
 {
     let book = match book_over(rt.alloc(), conn, makes) {

@@ -4,7 +4,8 @@ ghost use Rattle.std.specs.Prelude.{IfOk};
 ghost use Rattle.acd_desk.specs.Ran.{standing};
 ghost use Rattle.acd_lines.specs.Lines.{streams};
 ghost use Rattle.acd_program.specs.Answered.{in_memory, IsNewDesk};
-ghost use Rattle.acd_program.specs.LinesOver.{each_by, LinesInMemory};
+ghost use Rattle.acd_lines.specs.Questions.{TakesTurns};
+ghost use Rattle.acd_program.specs.LinesOver.{LinesInMemory};
 
 use acd_book::MemoryBook;
 use acd_desk::{Desk, OpenFault};
@@ -35,7 +36,7 @@ pub fn lines_over_memory<A: Answering<MemoryBook>, R: Read, W: Write>(
     reader: &mut R,
     writer: &mut W,
 ) -> Result<(), LinesFault>
-    ensures { LinesInMemory (each_by A.unmarked A.long A.read A.answers)
+    ensures { LinesInMemory (TakesTurns A.Answering)
         (streams R.remaining W.contents (reader.old, reader.new) (writer.old, writer.new))
         result }
 {

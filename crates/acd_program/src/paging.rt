@@ -1,9 +1,9 @@
 //! The pages of a file: how long they are in a new one, and how many of them the store keeps in memory.
 
-ghost use Rattle.std.specs.Prelude.{◌≡◌, ◌/◌, ◌≤◌, ◌<◌, ◌↔◌, length, IsTrue, IfOk, IfErr};
-ghost use Rattle.sqlite_wal.specs.Reads.{IsClean, AreClean, OnlyReads};
+ghost use Rattle.std.specs.Prelude.{◌≡◌, ◌/◌, ◌≤◌, ◌<◌, IsTrue, IfOk, IfErr};
+ghost use Rattle.sqlite_wal.specs.Reads.{AreClean, OnlyReads};
 ghost use Rattle.acd_program.specs.Ended.{IsOfOpening};
-ghost use Rattle.acd_program.specs.Files.{new_page, page_of, treated, IfClean, IsLoneIn, AreReadOnly, OfPage, IsCreated, IsReadAndCreated, IsUnmade, IsUnbegun, IsBegun};
+ghost use Rattle.acd_program.specs.Files.{new_page, page_of, treated, IfClean, IsSmall, IsLoneIn, AreReadOnly, KeepsPages, AreTreated, IsCreated, IsReadAndCreated, IsUnmade, IsUnbegun, IsBegun};
 
 use crate::fault::Fault;
 use crate::lone_log::is_lone;
@@ -42,9 +42,7 @@ fn may_be_new<D: Disk>(files: &mut Files<D>) -> io::Result<bool>
     requires db { IsTrue (D.Disk.is_usable files.old.db) }
     ensures log { files.new.log ≡ files.old.log }
     ensures db { OnlyReads D.Disk files.old.db files.new.db }
-    ensures few { IfOk result
-        (λ few. IsClean D.Disk files.new.db
-        → IsTrue few ↔ length (D.Disk.seen files.old.db) ≤ new_page) }
+    ensures few { IfOk result (IsSmall D.Disk files.old.db files.new.db) }
 {
     Ok(files.db.len()? <= NEW_PAGE)
 }
@@ -178,8 +176,7 @@ fn cache_pages<D: Disk>(files: &mut Files<D>) -> io::Result<usize>
     requires log { IsTrue (D.Disk.is_usable files.old.log) }
     requires db { IsTrue (D.Disk.is_usable files.old.db) }
     ensures read { AreReadOnly D.Disk files.old files.new }
-    ensures kept { IfOk result
-        (λ pages. OfPage D.Disk files.old files.new (λ page. pages ≡ 8192000 / page)) }
+    ensures kept { IfOk result (KeepsPages D.Disk files.old files.new) }
 {
     let found = probe_page_size(files)?;
     Ok(kept_pages(page_bytes(found)))
@@ -196,8 +193,7 @@ pub(crate) fn options<'a, D: Disk>(
     ensures log { IsTrue (D.Disk.is_usable files.new.log) }
     ensures db { IsTrue (D.Disk.is_usable files.new.db) }
     ensures read { AreReadOnly D.Disk files.old files.new }
-    ensures treated { IfOk result
-        (λ options. OfPage D.Disk files.old files.new (λ page. options ≡ treated page seed)) }
+    ensures treated { IfOk result (AreTreated D.Disk files.old files.new seed) }
     ensures known { IfErr result IsOfOpening }
 {
     match cache_pages(files) {

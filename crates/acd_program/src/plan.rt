@@ -1,9 +1,8 @@
 //! The plan of an import.
 
-ghost use Rattle.std.specs.Prelude.{◌≡◌, ℕ, List, take, Ok, IfOk, IfErr, IfSome};
-ghost use Rattle.acd_reports.specs.Plan.{plan_requests};
-ghost use Rattle.acd_io.specs.Read.{IsInput};
+ghost use Rattle.std.specs.Prelude.{IfOk, IfErr};
 ghost use Rattle.acd_program.specs.Ended.{IsOfOpening};
+ghost use Rattle.acd_program.specs.Plans.{IsEnough, IsSomePlan, IsPlanFrom};
 
 use crate::fault::Fault;
 use acd_reports::plan_requests;
@@ -17,8 +16,7 @@ const ENOUGH: u64 = 1_048_577;
 
 /// All bytes of a reader, or as many as are enough.
 pub(crate) fn bytes_from<R: Read + Drop>(alloc: Global, reader: R) -> io::Result<Vec<u8>>
-    ensures { IfOk result
-        (λ bytes. IfSome (R.remaining reader) (λ all. bytes.items ≡ take 1048577 all)) }
+    ensures { IfOk result (λ bytes. IsEnough (R.remaining reader) bytes.items) }
 {
     let mut bytes = Vec::new(alloc);
     reader.take(ENOUGH).read_to_end(&mut bytes)?;
@@ -41,9 +39,7 @@ fn plan_from<'a, R: Read + Drop>(
     reader: R,
     path: &'a str,
 ) -> Result<Vec<Request>, Fault<'a>>
-    ensures plan { IfOk result
-        (λ requests. (bytes : List ℕ) × IsInput (R.remaining reader) bytes
-        × (plan_requests bytes ≡ Ok requests.items)) }
+    ensures plan { IfOk result (λ requests. IsPlanFrom (R.remaining reader) requests.items) }
     ensures known { IfErr result IsOfOpening }
 {
     let bytes = match bytes_from(alloc, reader) {
@@ -58,8 +54,7 @@ fn plan_from<'a, R: Read + Drop>(
 
 /// The requests of the plan at a path.
 pub(crate) fn read_plan<'a>(rt: &HostRuntime, path: &'a str) -> Result<Vec<Request>, Fault<'a>>
-    ensures plan { IfOk result
-        (λ requests. (bytes : List ℕ) × (plan_requests bytes ≡ Ok requests.items)) }
+    ensures plan { IfOk result (λ requests. IsSomePlan requests.items) }
     ensures known { IfErr result IsOfOpening }
 {
     match fs::open(rt, path) {

@@ -1,11 +1,11 @@
 //! The printing of what is left of the work.
 
-ghost use Rattle.std.specs.Prelude.{◌≡◌, ◌++◌, ◌∷◌, [], decimal, OnOk, OnErr, IfOk, IfErr};
-ghost use Rattle.std.specs.Io.KnownBytes.{Appends};
-ghost use Rattle.acd_io.specs.Sent.{Breaks, WasSent};
-ghost use Rattle.acd_program.specs.Found.{sound_line, finding_line};
+ghost use Rattle.std.specs.Prelude.{◌≡◌, OnOk, OnErr, IfOk, IfErr};
+ghost use Rattle.acd_io.specs.Sent.{Sends};
+ghost use Rattle.acd_program.specs.Found.{sound_line, number_line, counted_line, finding_line};
+ghost use Rattle.acd_program.specs.Output.{output};
 ghost use Rattle.acd_program.specs.Statuses.{IsDone, sound_status, finding_status};
-ghost use Rattle.acd_program.specs.Work.{text_left, status_left};
+ghost use Rattle.acd_program.specs.Work.{text_left, status_left, PrintsAll, PrintsPart};
 
 use crate::auditing::Finding;
 use crate::desk::Done;
@@ -31,8 +31,7 @@ pub(crate) fn send_number<W: Write>(
     front: &[u8],
     number: u64,
 ) -> Result<(), Stopped>
-    ensures { WasSent result (W.contents writer.old) (W.contents writer.new)
-        (front.now ++ (decimal number ++ 10 ∷ [])) }
+    ensures { Sends W.contents writer.old writer.new result (number_line front.now number) }
 {
     let mut calls = CALLS;
     let mut digits = Buffer::new();
@@ -54,8 +53,7 @@ fn sound_line(ending: Ending) -> &'static str
 
 // Writes that, and how many requests were executed.
 fn send_counted<W: Write>(ending: Ending, count: u64, writer: &mut W) -> Result<(), Stopped>
-    ensures { WasSent result (W.contents writer.old) (W.contents writer.new)
-        (finding_line ending (Finding.Counted count)) }
+    ensures { Sends W.contents writer.old writer.new result (counted_line ending count) }
 {
     let mut calls = CALLS;
     send(writer, &mut calls, sound_line(ending).as_bytes())?;
@@ -64,8 +62,7 @@ fn send_counted<W: Write>(ending: Ending, count: u64, writer: &mut W) -> Result<
 
 // Writes the finding of an audit, as a line or two.
 fn send_finding<W: Write>(found: Finding, ending: Ending, writer: &mut W) -> Result<(), Stopped>
-    ensures { WasSent result (W.contents writer.old) (W.contents writer.new)
-        (finding_line ending found) }
+    ensures { Sends W.contents writer.old writer.new result (finding_line ending found) }
 {
     let mut calls = CALLS;
     match found {
@@ -76,7 +73,7 @@ fn send_finding<W: Write>(found: Finding, ending: Ending, writer: &mut W) -> Res
 }
 
 fn send_left<W: Write>(left: &Done, writer: &mut W) -> Result<(), Stopped>
-    ensures { WasSent result (W.contents writer.old) (W.contents writer.new) (text_left left.now) }
+    ensures { Sends W.contents writer.old writer.new result (text_left left.now) }
 {
     let mut calls = CALLS;
     match left {
@@ -125,11 +122,9 @@ fn status_left(left: &Done) -> u8
 pub(crate) fn print<'a, W: Write>(left: &Done, writer: &mut W) -> Result<u8, Fault<'a>>
     ensures known { IfOk result IsDone }
     ensures status { IfOk result (λ status. status ≡ status_left left.now) }
-    ensures ok { OnOk result
-        (Appends (W.contents writer.old) (W.contents writer.new) (text_left left.now)) }
+    ensures ok { OnOk result (PrintsAll left.now (output W.contents writer.old writer.new)) }
     // where the writer failed, a beginning of it and not all
-    ensures short { OnErr result
-        (Breaks (W.contents writer.old) (W.contents writer.new) (text_left left.now)) }
+    ensures short { OnErr result (PrintsPart left.now (output W.contents writer.old writer.new)) }
     ensures fault { IfErr result (λ fault. fault ≡ Fault.Write) }
 {
     match send_left(left, writer) {

@@ -1,18 +1,19 @@
 //! The program over three streams.
 
-ghost use Rattle.std.specs.Prelude.{◌≡◌, ◌≤◌, ◌⊎◌, false, map, Ok, Err, IfOk, IfErr, OnOk, OnErr};
+ghost use Rattle.std.specs.Prelude.{◌≡◌, ◌≤◌, ◌⊎◌, false, map, Ok, IfOk, IfErr, OnOk, OnErr};
 ghost use Rattle.sqlite_std_file.specs.File.{IsFresh};
 ghost use Rattle.acd_lines.specs.Lines.{streams};
 ghost use Rattle.clap.specs.Words.{kind_of};
-ghost use Rattle.acd_program.specs.CommandLine.{IsUntaken};
-ghost use Rattle.acd_program.specs.Ended.{IsOfDesk, IsOfOpening, PrintedOf, WorkEnded};
+ghost use Rattle.acd_program.specs.Ended.{IsOfDesk, IsOfOpening, IsFirstFault, IsSomeFault, PrintedOf, EndsWorkOn};
+ghost use Rattle.acd_program.specs.FileTasks.{WorksIn, EndsWorkIn, ImportsIn, EndsImportIn, AuditsWhole, EndsWholeAudit, AuditsBoth, EndsAuditOfBoth, AnswersInput, EndsInput, DoesFileService, EndsFileService, DoesTask, EndsTask, DoneOrHelp, FaultEnded};
+ghost use Rattle.acd_program.specs.InFiles.{WorksOn};
 ghost use Rattle.acd_program.specs.LinesOver.{NewAnswered};
+ghost use Rattle.acd_program.specs.Output.{output};
+ghost use Rattle.acd_program.specs.Serving.{service};
 ghost use Rattle.acd_program.specs.Sessions.{MemoryEnded};
-ghost use Rattle.acd_program.specs.Statuses.{IsDone, IsHelp, fault_status, PrintsConnectionFaults};
-ghost use Rattle.acd_program.specs.Work.{IsPrinted};
-ghost use Rattle.acd_program.specs.InFiles.{WorkedOver};
-ghost use Rattle.acd_program.specs.Tasks.{WorkedIn, FileAnswered, InputAnswered, ImportedIn, ServeDoneIn, WholeAudit, IsReadEnding, AuditedWith, TaskDone, NamedTaskDone};
-ghost use Rattle.acd_program.specs.TasksEnded.{WorkEndedIn, PlanEnded, AuditEnded, AuditWithArchiveEnded, ServiceEnded, InputEnded, TaskEnded, FaultEnded};
+ghost use Rattle.acd_program.specs.Statuses.{IsDone, IsHelp, fault_status, PrintsAtMostFaults, PrintsOnSuccess, UntouchedElsewhere};
+ghost use Rattle.acd_program.specs.Tasks.{FileAnswered, IsReadEnding};
+ghost use Rattle.acd_program.specs.Work.{Prints};
 
 use crate::asked::Task;
 use crate::connection::database_lines;
@@ -34,7 +35,7 @@ use acd_lines::{LinesFault, Requests};
 use acd_log::Ending;
 use clap::Error;
 use clap::error::ErrorKind;
-use sqlite::{Connection, FileFrom, FileStore};
+use sqlite::{Connection, File, FileFrom, FileStore};
 use sqlite_disk::{Disk, Start, Unknown};
 use std::alloc::Global;
 use std::convert::AsStr;
@@ -55,8 +56,7 @@ fn done_and_closed<'a>(
     closed: Result<(), Fault<'a>>,
 ) -> Result<(), Fault<'a>>
     ensures both { OnOk result ((done.entry ≡ Ok tt) × (closed.entry ≡ Ok tt)) }
-    ensures first { IfErr result (λ fault. (done.entry ≡ Err fault)
-        ⊎ ((done.entry ≡ Ok tt) × (closed.entry ≡ Err fault))) }
+    ensures first { IfErr result (IsFirstFault done.entry closed.entry) }
 {
     done?;
     closed?;
@@ -73,11 +73,10 @@ fn work_over<'a, D: Disk + Drop, W: Write>(
 ) -> Result<u8, Fault<'a>>
     requires { conn.in_transaction ≡ false }
     ensures known { IfOk result IsDone }
-    ensures worked { IfOk result
-        (λ status. WorkedOver makes work.entry conn (W.contents writer.old)
-        (W.contents writer.new) status) }
-    ensures ended { OnErr result
-        (WorkEnded makes work.entry conn (W.contents writer.old) (W.contents writer.new)) }
+    ensures worked { WorksOn conn result makes work.entry
+        (output W.contents writer.old writer.new) }
+    ensures ended { EndsWorkOn conn result makes work.entry
+        (output W.contents writer.old writer.new) }
     ensures late { IfErr result IsOfDesk }
 {
     let (done, conn) = over_database(rt, conn, makes, work, writer);
@@ -94,12 +93,10 @@ fn work_in<'a, S: Start, W: Write>(
     writer: &mut W,
 ) -> Result<u8, Fault<'a>>
     ensures known { IfOk result IsDone }
-    ensures worked { IfOk result
-        (λ status. WorkedIn ⟦<FileFrom<S> as Disk>⟧ IsFresh makes work.entry
-        (W.contents writer.old) (W.contents writer.new) status) }
-    ensures ended { IfErr result
-        (WorkEndedIn ⟦<FileFrom<S> as Disk>⟧ IsFresh makes work.entry (W.contents writer.old)
-        (W.contents writer.new) (writer.new ≡ writer.old)) }
+    ensures worked { WorksIn ⟦<FileFrom<S> as Disk>⟧ makes work.entry
+        (output W.contents writer.old writer.new) result }
+    ensures ended { EndsWorkIn ⟦<FileFrom<S> as Disk>⟧ makes work.entry
+        (output W.contents writer.old writer.new) result }
 {
     let (conn, is_new) = connect(rt, file, makes, start)?;
     work_over(rt, conn, is_new, work, writer)
@@ -118,7 +115,7 @@ fn lines_in<'a, S: Start, R: Read, W: Write>(
     ensures answered { OnOk result (FileAnswered ⟦<FileFrom<S> as Disk>⟧ IsFresh reads ends
         (streams R.remaining W.contents (reader.old, reader.new) (writer.old, writer.new))) }
     ensures ended { IfErr result
-        (InputEnded ⟦<FileFrom<S> as Disk>⟧ IsFresh (Some file.entry) reads ends
+        (EndsInput ⟦<FileFrom<S> as Disk>⟧ (Some file.entry) reads ends
         (streams R.remaining W.contents (reader.old, reader.new) (writer.old, writer.new))) }
 {
     let (conn, is_new) = connect(rt, file, true, start)?;
@@ -158,11 +155,10 @@ fn answer_lines<'a, S: Start, R: Read, W: Write>(
 ) -> Result<u8, Fault<'a>>
     ensures known { IfOk result IsDone }
     ensures done { IfOk result
-        (λ status. InputAnswered ⟦<FileFrom<S> as Disk>⟧ IsFresh file.entry reads ends
-        (streams R.remaining W.contents (reader.old, reader.new) (writer.old, writer.new))
-        status) }
+        (AnswersInput ⟦<FileFrom<S> as Disk>⟧ file.entry reads ends
+        (streams R.remaining W.contents (reader.old, reader.new) (writer.old, writer.new))) }
     ensures ended { IfErr result
-        (InputEnded ⟦<FileFrom<S> as Disk>⟧ IsFresh file.entry reads ends
+        (EndsInput ⟦<FileFrom<S> as Disk>⟧ file.entry reads ends
         (streams R.remaining W.contents (reader.old, reader.new) (writer.old, writer.new))) }
 {
     match file {
@@ -186,12 +182,8 @@ fn import_plan<'a, S: Start, W: Write>(
     writer: &mut W,
 ) -> Result<u8, Fault<'a>>
     ensures known { IfOk result IsDone }
-    ensures imported { IfOk result
-        (λ status. ImportedIn ⟦<FileFrom<S> as Disk>⟧ IsFresh (W.contents writer.old)
-        (W.contents writer.new) status) }
-    ensures ended { IfErr result
-        (PlanEnded ⟦<FileFrom<S> as Disk>⟧ IsFresh (W.contents writer.old) (W.contents writer.new)
-        (writer.new ≡ writer.old)) }
+    ensures imported { ImportsIn ⟦<FileFrom<S> as Disk>⟧ W.contents writer.old writer.new result }
+    ensures ended { EndsImportIn ⟦<FileFrom<S> as Disk>⟧ W.contents writer.old writer.new result }
 {
     let requests = read_plan(rt, plan)?;
     work_in(rt, start, file, true, Work::Import(&requests), writer)
@@ -206,12 +198,10 @@ fn audit_whole<'a, S: Start, W: Write>(
     writer: &mut W,
 ) -> Result<u8, Fault<'a>>
     ensures known { IfOk result IsDone }
-    ensures audited { IfOk result
-        (λ status. WholeAudit ⟦<FileFrom<S> as Disk>⟧ IsFresh counts (W.contents writer.old)
-        (W.contents writer.new) status) }
-    ensures ended { IfErr result
-        (AuditEnded ⟦<FileFrom<S> as Disk>⟧ IsFresh counts (W.contents writer.old)
-        (W.contents writer.new) (writer.new ≡ writer.old)) }
+    ensures audited { AuditsWhole ⟦<FileFrom<S> as Disk>⟧ counts
+        (output W.contents writer.old writer.new) result }
+    ensures ended { EndsWholeAudit ⟦<FileFrom<S> as Disk>⟧ counts
+        (output W.contents writer.old writer.new) result }
 {
     let ending = log_ending(rt, file)?;
     work_in(
@@ -247,12 +237,10 @@ fn audit_with_archive<'a, S: Start, W: Write>(
     writer: &mut W,
 ) -> Result<u8, Fault<'a>>
     ensures known { IfOk result IsDone }
-    ensures audited { IfOk result
-        (λ status. AuditedWith ⟦<FileFrom<S> as Disk>⟧ IsFresh counts whole
-        (W.contents writer.old) (W.contents writer.new) status) }
-    ensures ended { IfErr result
-        (AuditWithArchiveEnded ⟦<FileFrom<S> as Disk>⟧ IsFresh counts whole (W.contents writer.old)
-        (W.contents writer.new) (writer.new ≡ writer.old)) }
+    ensures audited { AuditsBoth ⟦<FileFrom<S> as Disk>⟧ counts whole
+        (output W.contents writer.old writer.new) result }
+    ensures ended { EndsAuditOfBoth ⟦<FileFrom<S> as Disk>⟧ counts whole
+        (output W.contents writer.old writer.new) result }
 {
     let ending = read_ending(rt, file, whole)?;
     let (conn, _) = connect(rt, file, false, start)?;
@@ -269,12 +257,11 @@ fn serve_file<'a, S: Start, W: Write, E: Write>(
     writer: &mut W,
     errors: &mut E,
 ) -> Result<(), Fault<'a>>
-    ensures answered { OnOk result
-        (ServeDoneIn ⟦<FileFrom<S> as Disk>⟧ IsFresh connections (E.contents errors.old)
-        (E.contents errors.new)) }
-    ensures ended { IfErr result (ServiceEnded ⟦<FileFrom<S> as Disk>⟧ IsFresh connections port
-        (W.contents writer.old) (W.contents writer.new) (E.contents errors.old)
-        (E.contents errors.new) (writer.new ≡ writer.old)) }
+    ensures answered { DoesFileService ⟦<FileFrom<S> as Disk>⟧ connections
+        (output E.contents errors.old errors.new) result }
+    ensures ended { EndsFileService ⟦<FileFrom<S> as Disk>⟧
+        (service connections port (output W.contents writer.old writer.new)
+        (output E.contents errors.old errors.new)) result }
 {
     let (conn, is_new) = connect(rt, file, true, start)?;
     let (done, conn) = serve(rt, conn, is_new, port, connections, writer, errors);
@@ -288,14 +275,12 @@ fn print_done<'a, W: Write>(
     writer: &mut W,
 ) -> Result<u8, Fault<'a>>
     ensures known { IfOk result IsDone }
-    ensures printed { IfOk result
-        (λ status. IsPrinted done.entry closed.entry (W.contents writer.old) (W.contents writer.new)
-        status) }
+    ensures printed { Prints done.entry closed.entry
+        (output W.contents writer.old writer.new) result }
     ensures cut { OnErr result
         (PrintedOf done.entry (W.contents writer.old) (W.contents writer.new)) }
     ensures spared { OnErr done.entry (writer.new ≡ writer.old) }
-    ensures first { IfErr result
-        (λ fault. (done.entry ≡ Err fault) ⊎ ((fault ≡ Fault.Write) ⊎ (closed.entry ≡ Err fault))) }
+    ensures first { IfErr result (IsSomeFault done.entry closed.entry) }
 {
     let left = done?;
     let status = print(&left, writer)?;
@@ -315,20 +300,17 @@ fn execute<'a, S: Start, R: Read, W: Write, E: Write>(
 ) -> Result<u8, Fault<'a>>
     ensures known { IfOk result IsDone }
     // the task of the words was done
-    ensures done { IfOk result
-        (λ status. TaskDone ⟦<FileFrom<S> as Disk>⟧ IsFresh task.entry
+    ensures done { DoesTask ⟦<FileFrom<S> as Disk>⟧ task.entry
         (streams R.remaining W.contents (reader.old, reader.new) (writer.old, writer.new))
-        (E.contents errors.old) (E.contents errors.new) status) }
-    ensures printed { IfOk result
-        (λ status. (errors.new ≡ errors.old)
-        ⊎ ((status ≡ 0) × PrintsConnectionFaults (E.contents errors.old) (E.contents errors.new))) }
+        (output E.contents errors.old errors.new) result }
+    ensures printed { IfOk result (PrintsOnSuccess (output E.contents errors.old errors.new)) }
     // where a fault ended it
-    ensures ended { IfErr result (TaskEnded ⟦<FileFrom<S> as Disk>⟧ IsFresh task.entry
+    ensures ended { EndsTask ⟦<FileFrom<S> as Disk>⟧ task.entry
         (streams R.remaining W.contents (reader.old, reader.new) (writer.old, writer.new))
-        (E.contents errors.old) (E.contents errors.new)) }
+        (output E.contents errors.old errors.new) result }
     // before anything is read or written the program finds that another one has the file
-    ensures elsewhere { IfErr result (λ fault. fault_status fault ≡ 4
-        → (reader.new ≡ reader.old) × (writer.new ≡ writer.old)) }
+    ensures elsewhere { IfErr result
+        (UntouchedElsewhere reader.old reader.new writer.old writer.new) }
 {
     match task {
         Task::Lines { file, reads, ends } => {
@@ -406,8 +388,8 @@ pub fn program<S: AsStr, R: Read, W: Write, E: Write>(
     errors: &mut E,
 ) -> u8
     // success says nothing on the stream of errors but the lines of connections' faults, or a beginning of them
-    ensures success { result ≡ 0 → (errors.new ≡ errors.old)
-        ⊎ PrintsConnectionFaults (E.contents errors.old) (E.contents errors.new) }
+    ensures success { result ≡ 0
+        → PrintsAtMostFaults (output E.contents errors.old errors.new) }
     // a difference that an audit finds prints nothing there
     ensures differs { result ≡ 3 → errors.new ≡ errors.old }
     // nor does a log that ends early
@@ -416,14 +398,11 @@ pub fn program<S: AsStr, R: Read, W: Write, E: Write>(
     ensures refused { result ≡ 2 → (reader.new ≡ reader.old) × (writer.new ≡ writer.old) }
     ensures known { result ≤ 5 }
     // such a status is that of the task which the words name, done so, or help was asked for, and nothing was read
-    ensures done { IsDone result
-        → ((result ≡ 0) × IsUntaken (map S.text words.now) × (reader.new ≡ reader.old)
-        × (errors.new ≡ errors.old))
-        ⊎ NamedTaskDone ⟦<FileFrom<Unknown> as Disk>⟧ IsFresh (map S.text words.now)
+    ensures done { DoneOrHelp ⟦<File as Disk>⟧ (map S.text words.now)
         (streams R.remaining W.contents (reader.old, reader.new) (writer.old, writer.new))
-        (E.contents errors.old) (E.contents errors.new) result }
+        (output E.contents errors.old errors.new) result }
     // a fault ended the task that they name; or it came before there was one, and nothing was read or written but help
-    ensures ended { FaultEnded ⟦<FileFrom<Unknown> as Disk>⟧ IsFresh (map S.text words.now)
+    ensures ended { FaultEnded ⟦<File as Disk>⟧ (map S.text words.now)
         (streams R.remaining W.contents (reader.old, reader.new) (writer.old, writer.new))
         (E.contents errors.old) result }
     // nothing was read or written where another program has the file

@@ -1,12 +1,11 @@
 //! The desk of a database, over HTTP.
 
-ghost use Rattle.std.specs.Prelude.{◌≡◌, false, IfErr, OnOk, Some, None};
-ghost use Rattle.sqlite.specs.Held.{state};
-ghost use Rattle.acd_io.specs.Sent.{WasSent};
-ghost use Rattle.acd_desk.specs.Standing.{standing};
+ghost use Rattle.std.specs.Prelude.{◌≡◌, false, IfErr, Some, None};
+ghost use Rattle.acd_io.specs.Sent.{Sends};
 ghost use Rattle.acd_program.specs.Ended.{IsOfDesk};
-ghost use Rattle.acd_program.specs.Seen.{SeenIn};
-ghost use Rattle.acd_program.specs.Serving.{ServeDone, listening_line, ListenEnded, ServeEnded, ServeOver, ServeIn};
+ghost use Rattle.acd_program.specs.Output.{output};
+ghost use Rattle.acd_program.specs.Over.{database};
+ghost use Rattle.acd_program.specs.Serving.{listening_line, service, EndsListening, EndsService, EndsServiceOver, EndsServiceIn, DoesServiceIn};
 
 use crate::connection::book_over;
 use crate::fault::Fault;
@@ -31,8 +30,7 @@ fn listen<'a>(rt: &HostRuntime, port: u16) -> Result<TcpListener, Fault<'a>>
 
 // Says that connections are waited for.
 fn say<'a, W: Write>(port: u16, writer: &mut W) -> Result<(), Fault<'a>>
-    ensures said { WasSent result (W.contents writer.old) (W.contents writer.new)
-        (listening_line port) }
+    ensures said { Sends W.contents writer.old writer.new result (listening_line port) }
     ensures known { IfErr result IsOfDesk }
 {
     send_number(writer, b"listening on 127.0.0.1:", u64::from(port))?;
@@ -47,8 +45,8 @@ fn answer_some<'a, B: Book, E: Write>(
     connections: u32,
     errors: &mut E,
 ) -> Result<(), Fault<'a>>
-    ensures ended { ListenEnded (Some connections) (E.contents errors.old) (E.contents errors.new)
-        (standing B.Book) result desk.old desk.new }
+    ensures ended { EndsListening B.Book (desk.old, desk.new) result (Some connections)
+        (output E.contents errors.old errors.new) }
     ensures known { IfErr result IsOfDesk }
 {
     match serve_on(
@@ -72,8 +70,8 @@ fn answer_until_failed<'a, B: Book, E: Write>(
     desk: &mut Desk<B>,
     errors: &mut E,
 ) -> Result<(), Fault<'a>>
-    ensures ended { ListenEnded None (E.contents errors.old) (E.contents errors.new)
-        (standing B.Book) result desk.old desk.new }
+    ensures ended { EndsListening B.Book (desk.old, desk.new) result None
+        (output E.contents errors.old errors.new) }
     ensures known { IfErr result IsOfDesk }
 {
     match serve_until_failed(rt, rt.alloc(), listener, desk, errors) {
@@ -90,8 +88,8 @@ fn answer<'a, B: Book, E: Write>(
     connections: Option<u32>,
     errors: &mut E,
 ) -> Result<(), Fault<'a>>
-    ensures ended { ListenEnded connections (E.contents errors.old) (E.contents errors.new)
-        (standing B.Book) result desk.old desk.new }
+    ensures ended { EndsListening B.Book (desk.old, desk.new) result connections
+        (output E.contents errors.old errors.new) }
     ensures known { IfErr result IsOfDesk }
 {
     match connections {
@@ -108,9 +106,9 @@ fn serve_desk<'a, B: Book, W: Write, E: Write>(
     writer: &mut W,
     errors: &mut E,
 ) -> Result<(), Fault<'a>>
-    ensures ended { ServeEnded connections (E.contents errors.old) (E.contents errors.new)
-        port (W.contents writer.old) (W.contents writer.new) (standing B.Book) result desk.old
-        desk.new }
+    ensures ended { EndsService B.Book (desk.old, desk.new) result
+        (service connections port (output W.contents writer.old writer.new)
+        (output E.contents errors.old errors.new)) }
     ensures known { IfErr result IsOfDesk }
 {
     let listener = listen(rt, port)?;
@@ -126,9 +124,9 @@ fn serve_book<'a, B: Book, W: Write, E: Write>(
     writer: &mut W,
     errors: &mut E,
 ) -> (Result<(), Fault<'a>>, B)
-    ensures ended { ServeOver connections (E.contents errors.old) (E.contents errors.new)
-        port (W.contents writer.old) (W.contents writer.new) B.Book (B.state book)
-        result.0 result.1 }
+    ensures ended { EndsServiceOver B.Book book result
+        (service connections port (output W.contents writer.old writer.new)
+        (output E.contents errors.old errors.new)) }
     ensures known { IfErr result.0 IsOfDesk }
 {
     let mut desk = match Desk::open(rt.alloc(), book) {
@@ -152,13 +150,12 @@ pub(crate) fn serve<'a, S: Alter, W: Write, E: Write>(
 ) -> (Result<(), Fault<'a>>, Connection<S>)
     requires { conn.in_transaction ≡ false }
     ensures idle { result.1.in_transaction ≡ false }
-    ensures answered { OnOk result.0
-        (SeenIn S.Store (λ stands. ServeDone stands connections (E.contents errors.old)
-        (E.contents errors.new)) makes (state S.Store conn) result.1) }
+    ensures answered { DoesServiceIn (database S.Store makes conn) result connections
+        (output E.contents errors.old errors.new) }
     // whatever ended it
-    ensures ended { ServeIn connections (E.contents errors.old) (E.contents errors.new)
-        port (W.contents writer.old) (W.contents writer.new) S.Store makes (state S.Store conn)
-        result.0 result.1 }
+    ensures ended { EndsServiceIn (database S.Store makes conn) result
+        (service connections port (output W.contents writer.old writer.new)
+        (output E.contents errors.old errors.new)) }
     ensures known { IfErr result.0 IsOfDesk }
 {
     let book = match book_over(rt.alloc(), conn, makes) {

@@ -3,8 +3,9 @@
 ghost use Rattle.std.specs.Prelude.{◌≡◌, ◌&&◌, false, Ok, OnOk};
 ghost use Rattle.acd_desk.specs.Standing.{standing};
 ghost use Rattle.acd_lines.specs.Lines.{streams};
+ghost use Rattle.acd_lines.specs.Questions.{by_questions};
 ghost use Rattle.acd_program.specs.Faults.{command_result};
-ghost use Rattle.acd_program.specs.LinesOver.{each_by, LinesEnded, LinesOver};
+ghost use Rattle.acd_program.specs.LinesOver.{EndsOnDesk, EndsOnBook};
 
 use crate::fault::Fault;
 use acd_book::Book;
@@ -43,9 +44,9 @@ fn answer<'a, B: Book, A: Answering<B>, R: Read, W: Write>(
     reader: &mut R,
     writer: &mut W,
 ) -> Result<(), Fault<'a>>
-    ensures { LinesEnded (standing B.Book) (each_by A.unmarked A.long A.read A.answers) ends
+    ensures { EndsOnDesk (by_questions A.Answering B.Book ends)
         (streams R.remaining W.contents (reader.old, reader.new) (writer.old, writer.new))
-        result desk.old desk.new }
+        desk.old desk.new result }
 {
     answer_lines(alloc, lines, desk, ends, reader, writer)?;
     ended(desk, ends)
@@ -61,9 +62,8 @@ pub fn lines_over_book<'a, B: Book, A: Answering<B>, R: Read, W: Write>(
     reader: &mut R,
     writer: &mut W,
 ) -> (Result<(), Fault<'a>>, B)
-    ensures { LinesOver B.Book (each_by A.unmarked A.long A.read A.answers) ends
-        (streams R.remaining W.contents (reader.old, reader.new) (writer.old, writer.new))
-        (B.state book) result.0 result.1 }
+    ensures { EndsOnBook B.Book book (by_questions A.Answering B.Book ends)
+        (streams R.remaining W.contents (reader.old, reader.new) (writer.old, writer.new)) result }
 {
     let mut desk = match Desk::open(alloc, book) {
         Ok(desk) => desk,

@@ -1,9 +1,8 @@
 //! How a command line is read.
 
-ghost use Rattle.std.specs.Prelude.{◌≡◌, [], false, codes, map, IsTrue, IfOk, IfErr, IfSome};
-ghost use Rattle.clap.specs.Words.{App, app_of, kind_of, found_of, rows_of, subcommand_rows_of, with_subcommand};
-ghost use Rattle.acd_program.specs.CommandLine.{HasApp, HasRule, IsTaskWith, IsTaskIn, IsSpan, IsTaskOf, IsUntaken, acd, connections_rule, command_of, export_shape, file_rule, flag_rule, import_shape, is_given, lines_shape, number_rule, option_rule, report_shape, audit_shape, serve_shape};
-ghost use Rattle.acd_program.specs.Statuses.{IsHelp};
+ghost use Rattle.std.specs.Prelude.{◌≡◌, [], false, codes, map, IsTrue, IfOk, IfSome};
+ghost use Rattle.clap.specs.Words.{app_of, found_of, rows_of, subcommand_rows_of};
+ghost use Rattle.acd_program.specs.CommandLine.{HasApp, HasRule, IsTaskWith, IsTaskIn, IsSpan, IsTaskOf, AddsCommand, NamesTask, UntakenIfHelp, acd, connections_rule, command_of, export_shape, file_rule, flag_rule, import_shape, is_given, lines_shape, number_rule, option_rule, report_shape, audit_shape, serve_shape};
 
 use crate::asked::Task;
 use crate::desk::{Printout, Work};
@@ -218,9 +217,7 @@ fn with<'a>(
     acd: Result<Command<'a>, AllocError>,
     made: Result<Command<'a>, AllocError>,
 ) -> Result<Command<'a>, AllocError>
-    ensures { (above below : App) → IfOk acd.entry (HasApp above)
-        → IfOk made.entry (HasApp below)
-        → IfOk result (HasApp (with_subcommand above below.top)) }
+    ensures { AddsCommand acd.entry made.entry result }
 {
     acd?.subcommand(made?)
 }
@@ -364,9 +361,9 @@ fn chosen<'a, S: AsStr>(
     words: &'a [S],
 ) -> Result<Option<Task<'a>>, Error>
     ensures task { app_of commands.old ≡ acd
-        → IfOk result (λ task. IfSome task (IsTaskOf (map S.text words.entry.now))) }
+        → IfOk result (NamesTask (map S.text words.entry.now)) }
     ensures untaken { app_of commands.old ≡ acd
-        → IfErr result (λ e. IsHelp (kind_of e) → IsUntaken (map S.text words.entry.now)) }
+        → UntakenIfHelp result (map S.text words.entry.now) }
 {
     let matches = commands.try_get_matches_from_mut(words)?;
     Ok(task_in(&matches))
@@ -377,8 +374,7 @@ fn chosen<'a, S: AsStr>(
 pub(crate) fn parse<'a, S: AsStr>(alloc: Global, words: &'a [S]) -> Result<Task<'a>, Error>
     ensures task { IfOk result (IsTaskOf (map S.text words.entry.now)) }
     // help and the version are printed only for words that ask for no task
-    ensures untaken { IfErr result
-        (λ e. IsHelp (kind_of e) → IsUntaken (map S.text words.entry.now)) }
+    ensures untaken { UntakenIfHelp result (map S.text words.entry.now) }
 {
     let mut commands = all_commands(alloc)?;
     match chosen(&mut commands, words)? {

@@ -2,9 +2,8 @@
 
 ghost use Rattle.std.specs.Prelude.{◌≡◌, false, Ok, IfOk};
 ghost use Rattle.sqlite.specs.Held.{state};
-ghost use Rattle.sqlite_std_file.specs.File.{IsFresh};
 ghost use Rattle.acd_desk.specs.Standing.{standing};
-ghost use Rattle.acd_program.specs.WithArchive.{AskedWithArchive, AuditsWithArchive, AuditedWithArchive};
+ghost use Rattle.acd_program.specs.FileTasks.{AsksWithArchive, AuditsWith, AuditsDatabase};
 ghost use Rattle.acd_program.specs.Ended.{OnlyAsked};
 ghost use Rattle.acd_program.specs.Found.{HasCount};
 ghost use Rattle.acd_program.specs.Over.{Unserved};
@@ -42,8 +41,7 @@ fn found_with_archive<'a, S: Start, B: Book>(
     counts: bool,
 ) -> Result<Finding, Fault<'a>>
     ensures counted { IfOk result (HasCount counts) }
-    ensures asked { IfOk result (AskedWithArchive ⟦<FileFrom<S> as Disk>⟧ IsFresh
-        (standing B.Book desk.old) (standing B.Book desk.new)) }
+    ensures asked { AsksWithArchive ⟦<FileFrom<S> as Disk>⟧ B.Book desk.old desk.new result }
     ensures kept { OnlyAsked (standing B.Book desk.old).book (standing B.Book desk.new).book }
 {
     let conn = connect_archive(rt, archive, start)?;
@@ -67,8 +65,8 @@ fn audit_with_archive<'a, S: Start, B: Book>(
     counts: bool,
     ending: Ending,
 ) -> (Result<Done, Fault<'a>>, B)
-    ensures over { IfOk result.0 (AuditsWithArchive ⟦<FileFrom<S> as Disk>⟧ IsFresh counts ending
-        (B.state book.entry.inner) (B.state result.1)) }
+    ensures over { AuditsWith ⟦<FileFrom<S> as Disk>⟧ (counts, ending) B.Book book.entry.inner
+        result }
     ensures kept { OnlyAsked (B.state book.entry.inner) (B.state result.1) }
 {
     let mut desk = match Desk::open(rt.alloc(), book) {
@@ -90,8 +88,7 @@ fn audit_watched<'a, S: Start, B: Book>(
     counts: bool,
     ending: Ending,
 ) -> (Result<Done, Fault<'a>>, B)
-    ensures over { IfOk result.0 (AuditsWithArchive ⟦<FileFrom<S> as Disk>⟧ IsFresh counts ending
-        (B.state book) (B.state result.1)) }
+    ensures over { AuditsWith ⟦<FileFrom<S> as Disk>⟧ (counts, ending) B.Book book result }
     ensures kept { OnlyAsked (B.state book) (B.state result.1) }
 {
     let book = Watched::new(book, Progress::new(rt));
@@ -108,8 +105,7 @@ pub(crate) fn over_archive<'a, C: Alter, S: Start>(
     ending: Ending,
 ) -> (Result<Done, Fault<'a>>, Connection<C>)
     requires { conn.in_transaction ≡ false }
-    ensures over { IfOk result.0 (AuditedWithArchive ⟦<FileFrom<S> as Disk>⟧ IsFresh counts ending
-        (state C.Store conn) (state C.Store result.1)) }
+    ensures over { AuditsDatabase ⟦<FileFrom<S> as Disk>⟧ (counts, ending) C.Store conn result }
     // whatever comes of it, a reopening finds in the desk's database what it could find before
     ensures kept { Unserved false (state C.Store conn) (state C.Store result.1) }
 {

@@ -26,12 +26,19 @@ names =
     ∷ codes "call" ∷ codes "device" ∷ codes "agent"
     ∷ codes "group" ∷ codes "to" ∷ codes "cause" ∷ codes "waited" ∷ []
 
+-- those of an event's record
+abbrev pub fields_of_event : Event → List (List ℕ)
+fields_of_event e = event_fields e.number e.moment (columns_of e.report)
+
 -- a record as the default writer of CSV writes it
+abbrev pub record_text : List (List ℕ) → List ℕ
+record_text fields = row_text default_writer fields
+
 abbrev pub event_record : Event → List ℕ
-event_record e = row_text default_writer (event_fields e.number e.moment (columns_of e.report))
+event_record e = record_text (fields_of_event e)
 
 unfoldable pub header_record : List ℕ
-header_record = row_text default_writer names
+header_record = record_text names
 
 -- the records of some events
 unfoldable pub records_text : List Event → List ℕ

@@ -10,12 +10,14 @@ use Rattle.acd_reports.specs.declared.fault.PlanFault.TheVariants.{TooLong, Head
 use Rattle.acd_terms.specs.Results.{◌>>=◌}
 use Rattle.acd_reports.specs.PlanRows.{PlanRow, row_of, command_in}
 
+-- the fields before the times name their columns
+abbrev pub names_first_columns : PlanRow → Bool
+names_first_columns row = bytes_eq row.kind (codes "kind") && bytes_eq row.number (codes "number") && bytes_eq row.name (codes "name")
+
 -- the five fields name the columns
 abbrev pub names_columns : Option PlanRow → Bool
 names_columns None = false
-names_columns (Some row) =
-    bytes_eq row.kind (codes "kind") && bytes_eq row.number (codes "number") && bytes_eq row.name (codes "name")
-    && bytes_eq row.ring (codes "ring") && bytes_eq row.wrap (codes "wrap")
+names_columns (Some row) = names_first_columns row && bytes_eq row.ring (codes "ring") && bytes_eq row.wrap (codes "wrap")
 
 -- the request of a command, or the fault of its row
 abbrev pub request_of : ℕ → Result Command PlanMember → Result Request PlanFault

@@ -1,5 +1,5 @@
 -- A row of a plan: five fields, and the command that they represent.
-use Rattle.std.specs.Prelude.{ℕ, List, [], ◌∷◌, length, codes, ◌==◌, ◌&&◌, nat_le, if◌then◌else◌, Option, Some, None, Result, Ok, Err}
+use Rattle.std.specs.Prelude.{ℕ, Bool, List, [], ◌∷◌, length, codes, ◌==◌, ◌&&◌, nat_le, if◌then◌else◌, Option, Some, None, Result, Ok, Err}
 use Rattle.std.specs.List.{list_all}
 use Rattle.std.specs.Option.{ok_or}
 use Rattle.std.specs.Result.{result_ok}
@@ -95,12 +95,22 @@ agent_row_in row = do
   no_wrap ← nothing_in member.Wrap row.wrap
   Ok (AddAgent agent name)
 
+-- the kinds of rows
+abbrev pub is_group_row : PlanRow → Bool
+is_group_row row = bytes_eq row.kind (codes "group")
+
+abbrev pub is_station_row : PlanRow → Bool
+is_station_row row = bytes_eq row.kind (codes "station")
+
+abbrev pub is_agent_row : PlanRow → Bool
+is_agent_row row = bytes_eq row.kind (codes "agent")
+
 -- the kind of a row decides its command
 unfoldable pub command_of : PlanRow → Result Command PlanMember
 command_of row =
-    if bytes_eq row.kind (codes "group") then group_in row
-    else (if bytes_eq row.kind (codes "station") then station_in row
-    else (if bytes_eq row.kind (codes "agent") then agent_row_in row
+    if is_group_row row then group_in row
+    else (if is_station_row row then station_in row
+    else (if is_agent_row row then agent_row_in row
     else Err member.Kind))
 
 -- the command that some fields represent, or the first faulty member

@@ -1,5 +1,5 @@
 -- The queue report: a header line, and a line for each group.
-use Rattle.std.specs.Prelude.{ℕ, ◌-◌, ◌/◌, ◌==◌, List, [], ◌∷◌, ◌++◌, length, map, filter, min, codes, decimal, if◌then◌else◌, Option, Some, None, option_map}
+use Rattle.std.specs.Prelude.{ℕ, ◌-◌, ◌/◌, ◌==◌, List, [], ◌∷◌, ◌++◌, length, map, filter, min, codes, if◌then◌else◌, Option, Some, None, option_map}
 use Rattle.std.specs.List.{concat, filter_map, reduce}
 use Rattle.acd_terms.specs.Forms.{digits_of}
 use Rattle.acd_terms.specs.declared.rows.Rows.{Rows}
@@ -9,7 +9,7 @@ use Rattle.acd_terms.specs.declared.record.ConnectionRecord.{ConnectionRecord}
 use Rattle.acd_model.specs.Scans.{waiting_in}
 use Rattle.acd_model.specs.Rules.Occupied.{rings_from}
 use Rattle.acd_reports.specs.declared.queues.GroupState.{GroupState}
-use Rattle.acd_reports.specs.Layout.{left, number_or_hyphen, columns_text}
+use Rattle.acd_reports.specs.Layout.{left, columns_text, numbers_as_texts}
 
 -- how long an answered call waited on average, whole seconds downwards
 unfoldable pub average_wait : Figures → Option ℕ
@@ -32,20 +32,27 @@ abbrev pub state_of : Rows → GroupRecord → GroupState
 state_of s g = record { group = g; waiting = length (waiting_in s g.device); ringing = ringing_from s g.device; first_queued = first_queued s g.device }
 
 -- a line: the group, the columns and the name
-abbrev pub line : (group waiting ringing entered answered abandoned moved average longest name : List ℕ) → List ℕ
-line group waiting ringing entered answered abandoned moved average longest name =
-    left 15 group
-    ++ columns_text ((7, waiting) ∷ (7, ringing) ∷ (10, entered) ∷ (10, answered) ∷ (10, abandoned) ∷ (10, moved) ∷ (10, average) ∷ (10, longest) ∷ [])
-    ++ 32 ∷ (name ++ 10 ∷ [])
+abbrev pub line : List ℕ → List (ℕ × List ℕ) → List ℕ → List ℕ
+line group columns name = left 15 group ++ columns_text columns ++ 32 ∷ (name ++ 10 ∷ [])
 
 unfoldable pub header_line : List ℕ
-header_line = line (codes "group") (codes "waiting") (codes "ringing") (codes "entered") (codes "answered")
-    (codes "abandoned") (codes "moved") (codes "average") (codes "longest") (codes "name")
+header_line =
+    line (codes "group")
+    ((7, codes "waiting") ∷ (7, codes "ringing")
+    ∷ (10, codes "entered") ∷ (10, codes "answered") ∷ (10, codes "abandoned") ∷ (10, codes "moved")
+    ∷ (10, codes "average") ∷ (10, codes "longest") ∷ [])
+    (codes "name")
+
+-- the numbers of a group at a moment, each with the width of its column
+abbrev pub group_numbers : ℕ → GroupState → List (ℕ × Option ℕ)
+group_numbers moment x =
+    (7, Some x.waiting) ∷ (7, Some x.ringing)
+    ∷ (10, Some x.group.figures.entered) ∷ (10, Some x.group.figures.answered)
+    ∷ (10, Some x.group.figures.abandoned) ∷ (10, Some x.group.figures.moved)
+    ∷ (10, average_wait x.group.figures) ∷ (10, longest_wait x.first_queued moment) ∷ []
 
 unfoldable pub group_line : ℕ → GroupState → List ℕ
-group_line moment x = line (digits_of x.group.device) (decimal x.waiting) (decimal x.ringing)
-    (decimal x.group.figures.entered) (decimal x.group.figures.answered) (decimal x.group.figures.abandoned) (decimal x.group.figures.moved)
-    (number_or_hyphen (average_wait x.group.figures)) (number_or_hyphen (longest_wait x.first_queued moment)) x.group.name
+group_line moment x = line (digits_of x.group.device) (numbers_as_texts (group_numbers moment x)) x.group.name
 
 -- the text of the report of these groups at a moment
 unfoldable pub report_of : List GroupState → ℕ → List ℕ

@@ -1,15 +1,14 @@
 //! Columns of text.
 
-ghost use Rattle.std.specs.Prelude.{◌≡◌, ℕ, ◌-◌, ◌++◌, ◌∷◌, length, map, replicate, Option, OnOk, string_bytes};
-ghost use Rattle.acd_reports.specs.Layout.{left, right, number_or_hyphen, columns_text};
+ghost use Rattle.std.specs.Prelude.{◌-◌, length, replicate};
+ghost use Rattle.acd_reports.specs.Layout.{left, right, number_or_hyphen, Appends, numbers_text};
 
 use itoa::Buffer;
 use std::alloc::AllocError;
 
 // Spaces to the end of a column after a text.
 fn push_spaces(line: &mut String, width: usize, text: &str) -> Result<(), AllocError>
-    ensures { OnOk result
-        (string_bytes line.new ≡ string_bytes line.old ++ replicate (width - length text.now) 32) }
+    ensures { Appends result line.old line.new (replicate (width - length text.now) 32) }
 {
     for _ in 0..width.saturating_sub(text.len()) {
         line.push(' ')?;
@@ -19,7 +18,7 @@ fn push_spaces(line: &mut String, width: usize, text: &str) -> Result<(), AllocE
 
 /// Text at the left of a column.
 pub(crate) fn push_left(line: &mut String, width: usize, text: &str) -> Result<(), AllocError>
-    ensures { OnOk result (string_bytes line.new ≡ string_bytes line.old ++ left width text.now) }
+    ensures { Appends result line.old line.new (left width text.now) }
 {
     line.push_str(text)?;
     push_spaces(line, width, text)
@@ -27,7 +26,7 @@ pub(crate) fn push_left(line: &mut String, width: usize, text: &str) -> Result<(
 
 // Text at the right of a column.
 fn push_right(line: &mut String, width: usize, text: &str) -> Result<(), AllocError>
-    ensures { OnOk result (string_bytes line.new ≡ string_bytes line.old ++ right width text.now) }
+    ensures { Appends result line.old line.new (right width text.now) }
 {
     push_spaces(line, width, text)?;
     line.push_str(text)
@@ -35,8 +34,7 @@ fn push_right(line: &mut String, width: usize, text: &str) -> Result<(), AllocEr
 
 // A number at the right of a column, or a hyphen where there is none.
 fn push_number(line: &mut String, width: usize, number: Option<u64>) -> Result<(), AllocError>
-    ensures { OnOk result
-        (string_bytes line.new ≡ string_bytes line.old ++ right width (number_or_hyphen number)) }
+    ensures { Appends result line.old line.new (right width (number_or_hyphen number)) }
 {
     let mut buffer = Buffer::new();
     match number {
@@ -50,10 +48,7 @@ pub(crate) fn push_numbers(
     line: &mut String,
     numbers: &[(usize, Option<u64>)],
 ) -> Result<(), AllocError>
-    ensures { OnOk result
-        (string_bytes line.new
-        ≡ string_bytes line.old
-        ++ columns_text (map (λ (n : ℕ × Option ℕ). (n.0, number_or_hyphen n.1)) numbers.now)) }
+    ensures { Appends result line.old line.new (numbers_text numbers.now) }
 {
     for &(width, number) in numbers {
         line.push(' ')?;

@@ -1,13 +1,11 @@
 //! The export of events in CSV.
 
-ghost use Rattle.std.specs.Prelude.{◌≡◌, ◌++◌, ◌∷◌, [], map, Some, IfOk, OnOk, string_bytes, decimal};
+ghost use Rattle.std.specs.Prelude.{◌≡◌, [], map, IfOk, OnOk, string_bytes, decimal};
 ghost use Rattle.csv.specs.Records.{fields_of, partial_of};
-ghost use Rattle.csv.specs.Writing.{default_writer, row_text};
 ghost use Rattle.acd_terms.specs.Forms.{digits_of};
-ghost use Rattle.acd_terms.specs.Columns.{columns_of};
 ghost use Rattle.acd_terms.specs.EventNames.{cause_name};
-ghost use Rattle.acd_reports.specs.Export.{written, names, event_fields, event_record, header_record, records_text, events_csv, PagesJoin};
-ghost use Rattle.acd_reports.specs.ExportWriting.{IsPlain, Adds, all_written};
+ghost use Rattle.acd_reports.specs.Export.{written, header_record, records_text, events_csv, PagesJoin, fields_of_event, record_text};
+ghost use Rattle.acd_reports.specs.ExportWriting.{IsPlain, Adds, all_written, AddsField};
 
 use acd_terms::{AgentId, Cause, DeviceId, Event};
 use csv::{ByteRecord, Writer, WriterBuilder};
@@ -16,7 +14,7 @@ use std::alloc::{AllocError, Global};
 
 fn push(row: &mut ByteRecord, field: &[u8]) -> Result<(), AllocError>
     requires { partial_of row.old ≡ [] }
-    ensures fields { OnOk result (fields_of row.new ≡ fields_of row.old ++ (field.now ∷ [])) }
+    ensures fields { AddsField result row.old row.new field.now }
     ensures partial { OnOk result (partial_of row.new ≡ []) }
 {
     row.push_field(field)
@@ -24,8 +22,7 @@ fn push(row: &mut ByteRecord, field: &[u8]) -> Result<(), AllocError>
 
 fn push_number(row: &mut ByteRecord, number: Option<u64>) -> Result<(), AllocError>
     requires { partial_of row.old ≡ [] }
-    ensures fields { OnOk result
-        (fields_of row.new ≡ fields_of row.old ++ (written decimal number ∷ [])) }
+    ensures fields { AddsField result row.old row.new (written decimal number) }
     ensures partial { OnOk result (partial_of row.new ≡ []) }
 {
     let mut buffer = Buffer::new();
@@ -37,8 +34,7 @@ fn push_number(row: &mut ByteRecord, number: Option<u64>) -> Result<(), AllocErr
 
 fn push_device(row: &mut ByteRecord, device: Option<DeviceId>) -> Result<(), AllocError>
     requires { partial_of row.old ≡ [] }
-    ensures fields { OnOk result
-        (fields_of row.new ≡ fields_of row.old ++ (written digits_of device ∷ [])) }
+    ensures fields { AddsField result row.old row.new (written digits_of device) }
     ensures partial { OnOk result (partial_of row.new ≡ []) }
 {
     match device {
@@ -49,8 +45,7 @@ fn push_device(row: &mut ByteRecord, device: Option<DeviceId>) -> Result<(), All
 
 fn push_agent(row: &mut ByteRecord, agent: Option<AgentId>) -> Result<(), AllocError>
     requires { partial_of row.old ≡ [] }
-    ensures fields { OnOk result
-        (fields_of row.new ≡ fields_of row.old ++ (written digits_of agent ∷ [])) }
+    ensures fields { AddsField result row.old row.new (written digits_of agent) }
     ensures partial { OnOk result (partial_of row.new ≡ []) }
 {
     match agent {
@@ -61,8 +56,7 @@ fn push_agent(row: &mut ByteRecord, agent: Option<AgentId>) -> Result<(), AllocE
 
 fn push_cause(row: &mut ByteRecord, cause: Option<Cause>) -> Result<(), AllocError>
     requires { partial_of row.old ≡ [] }
-    ensures fields { OnOk result
-        (fields_of row.new ≡ fields_of row.old ++ (written cause_name cause ∷ [])) }
+    ensures fields { AddsField result row.old row.new (written cause_name cause) }
     ensures partial { OnOk result (partial_of row.new ≡ []) }
 {
     match cause {
@@ -73,9 +67,7 @@ fn push_cause(row: &mut ByteRecord, cause: Option<Cause>) -> Result<(), AllocErr
 
 // The fields of an event's record.
 fn fill(row: &mut ByteRecord, event: &Event) -> Result<(), AllocError>
-    ensures { OnOk result
-        (fields_of row.new
-        ≡ event_fields event.now.number event.now.moment (columns_of event.now.report)) }
+    ensures { OnOk result (fields_of row.new ≡ fields_of_event event.now) }
 {
     let columns = event.report.columns();
     row.clear();
@@ -100,8 +92,7 @@ fn writer_of(alloc: Global) -> Writer<Vec<u8>>
 
 fn write(writer: &mut Writer<Vec<u8>>, row: &ByteRecord) -> Result<(), AllocError>
     requires { IsPlain writer.old }
-    ensures { OnOk result
-        (Adds writer.old (row_text default_writer (fields_of row.now)) writer.new) }
+    ensures { OnOk result (Adds writer.old (record_text (fields_of row.now)) writer.new) }
 {
     let Ok(()) = writer.write_byte_record(row) else {
         return Err(AllocError);
@@ -111,8 +102,7 @@ fn write(writer: &mut Writer<Vec<u8>>, row: &ByteRecord) -> Result<(), AllocErro
 
 fn write_fields(writer: &mut Writer<Vec<u8>>, fields: &[&[u8]]) -> Result<(), AllocError>
     requires { IsPlain writer.old }
-    ensures { OnOk result
-        (Adds writer.old (row_text default_writer (map (λ f. f.now) fields.now)) writer.new) }
+    ensures { OnOk result (Adds writer.old (record_text (map (λ f. f.now) fields.now)) writer.new) }
 {
     let Ok(()) = writer.write_fields(fields) else {
         return Err(AllocError);

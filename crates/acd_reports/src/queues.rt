@@ -1,8 +1,9 @@
 //! The queue report.
 
-ghost use Rattle.std.specs.Prelude.{◌≡◌, ◌++◌, length, map, IfOk, OnOk, string_bytes};
+ghost use Rattle.std.specs.Prelude.{◌≡◌, length, map, IfOk, string_bytes};
 ghost use Rattle.acd_model.specs.Scans.{waiting_in};
 ghost use Rattle.acd_reports.specs.QueueReport.{average_wait, first_queued, longest_wait, ringing_from, state_of, group_line, report_of, queue_report};
+ghost use Rattle.acd_reports.specs.Layout.{Appends};
 
 use crate::columns::{push_left, push_numbers};
 use acd_terms::{DeviceId, Figures, GroupRecord, Rows};
@@ -98,8 +99,7 @@ fn states_of(
 
 #[tactic(auto, unfolding(crate::specs::QueueReport::group_line))]
 fn push_group(report: &mut String, moment: u32, state: &GroupState) -> Result<(), AllocError>
-    ensures { OnOk result
-        (string_bytes report.new ≡ string_bytes report.old ++ group_line moment state.now) }
+    ensures { Appends result report.old report.new (group_line moment state.now) }
 {
     let group = &state.group;
     let figures = group.figures;

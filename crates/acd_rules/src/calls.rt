@@ -1,9 +1,9 @@
 //! The rules call, connection, parties and live.
 
-ghost use Rattle.std.specs.Prelude.{◌≡◌, ◌&&◌, ◌||◌, ◌==◌, nat_le, length, filter};
+ghost use Rattle.std.specs.Prelude.{◌≡◌, ◌&&◌, ◌||◌, ◌==◌, length, filter};
 ghost use Rattle.acd_terms.specs.Lists.{count};
 ghost use Rattle.acd_model.specs.Watched.{is_caller};
-ghost use Rattle.acd_model.specs.Rules.Calls.{keeps_call, is_bare, is_placed, has_columns, is_group_or_none, may_stand, keeps_connection, is_open, parties_of, initiated_of, initiated_at, open_of, is_being_made, has_two_parties, keeps_parties, live_at, alerting_at, hold_at, keeps_live};
+ghost use Rattle.acd_model.specs.Rules.Calls.{keeps_call, is_bare, is_placed, has_columns, is_group_or_none, may_stand, keeps_connection, is_open, parties_of, initiated_of, initiated_at, open_of, is_being_made, has_two_parties, keeps_parties, live_at, alerting_at, hold_at, keeps_live, has_one_live};
 
 use crate::lookups::Lookups;
 use acd_terms::{CallRecord, ConnectionRecord, ConnectionState, DeviceId};
@@ -239,9 +239,7 @@ fn hold_at(lookups: &Lookups, device: DeviceId) -> usize
 
 // At most one live connection at the station, and none on hold beside an alerting one.
 fn has_one_live(lookups: &Lookups, station: DeviceId) -> bool
-    ensures { result ≡ (nat_le (count (live_at station) lookups.now.rows.now.connections) 1
-        && (count (alerting_at station) lookups.now.rows.now.connections == 0
-        || count (hold_at station) lookups.now.rows.now.connections == 0)) }
+    ensures { result ≡ has_one_live lookups.now.rows.now station }
 {
     live_at(lookups, station) <= 1
         && (alerting_at(lookups, station) == 0 || hold_at(lookups, station) == 0)

@@ -1,13 +1,9 @@
 //! The rule counters.
 
-ghost use Rattle.std.specs.Prelude.{◌≡◌, ◌&&◌, nat_le, length, filter};
+ghost use Rattle.std.specs.Prelude.{◌≡◌, ◌&&◌, length, filter};
 ghost use Rattle.std.specs.List.{list_all};
 ghost use Rattle.acd_terms.specs.Lists.{count};
-ghost use Rattle.acd_terms.specs.declared.record.AgentRecord.{AgentRecord};
-ghost use Rattle.acd_terms.specs.declared.record.CallRecord.{CallRecord};
-ghost use Rattle.acd_terms.specs.declared.record.ConnectionRecord.{ConnectionRecord};
-ghost use Rattle.acd_model.specs.Scans.{has};
-ghost use Rattle.acd_model.specs.Rules.Counters.{is_stamp, is_moment_or_none, is_unique_place, is_offered_after, is_timed, is_countable, keeps_counters};
+ghost use Rattle.acd_model.specs.Rules.Counters.{is_stamp, is_moment_or_none, is_unique_place, is_offered_after, is_timed, is_countable, keeps_counters, has_place, is_agent_timed, is_call_timed};
 
 use crate::lookups::Lookups;
 use acd_terms::{ConnectionRecord, GroupRecord, Rows};
@@ -25,8 +21,7 @@ fn is_moment_or_none(rows: &Rows, moment: Option<u32>) -> bool
 }
 
 fn placed_among(connections: &[ConnectionRecord], place: u64) -> usize
-    ensures { result ≡ length
-        (filter (λ (x : ConnectionRecord). has x.place place) connections.now) }
+    ensures { result ≡ length (filter (has_place place) connections.now) }
 {
     connections
         .iter()
@@ -35,8 +30,7 @@ fn placed_among(connections: &[ConnectionRecord], place: u64) -> usize
 }
 
 fn connections_with(lookups: &Lookups, place: u64) -> usize
-    ensures { result ≡ count
-        (λ (x : ConnectionRecord). has x.place place) lookups.now.rows.now.connections }
+    ensures { result ≡ count (has_place place) lookups.now.rows.now.connections }
 {
     placed_among(lookups.with_place(place), place)
 }
@@ -82,9 +76,7 @@ fn is_countable(rows: &Rows, group: &GroupRecord) -> bool
 }
 
 fn are_agents_timed(rows: &Rows) -> bool
-    ensures { result ≡ list_all
-        (λ (a : AgentRecord). is_stamp rows.now a.stamp && nat_le a.since rows.now.last_moment)
-        rows.now.agents }
+    ensures { result ≡ list_all (is_agent_timed rows.now) rows.now.agents }
 {
     rows.agents
         .iter()
@@ -92,8 +84,7 @@ fn are_agents_timed(rows: &Rows) -> bool
 }
 
 fn are_calls_timed(rows: &Rows) -> bool
-    ensures { result ≡ list_all
-        (λ (c : CallRecord). nat_le c.since rows.now.last_moment) rows.now.calls }
+    ensures { result ≡ list_all (is_call_timed rows.now) rows.now.calls }
 {
     rows.calls.iter().all(|c| c.since <= rows.last_moment)
 }

@@ -30,8 +30,8 @@ pub fn first_broken(alloc: Global, rows: &Rows) -> Option<Rule>
 // The first broken rule of rows that keep the limits and the order.
 #[tactic(auto, unfolding(acd_model::specs::Rules::First::first_broken))]
 fn first_broken_in_order(lookups: &Lookups) -> Option<Rule>
-    ensures { keeps_limits lookups.now.rows.now ≡ true → keeps_order lookups.now.rows.now ≡ true
-        → result ≡ first_broken lookups.now.rows.now }
+    ensures { let s = lookups.now.rows.now in
+        keeps_limits s ≡ true → keeps_order s ≡ true → result ≡ first_broken s }
 {
     if !keeps_device(lookups) {
         Some(Rule::Device)

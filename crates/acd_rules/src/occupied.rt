@@ -2,12 +2,10 @@
 
 ghost use Rattle.std.specs.Prelude.{◌≡◌, ◌<◌, ◌+◌, ◌^◌, ◌&&◌, ◌||◌, ◌==◌, length, filter};
 ghost use Rattle.acd_terms.specs.Lists.{count};
-ghost use Rattle.acd_terms.specs.States.{is_occupying, is_distributed, is_answered};
-ghost use Rattle.acd_terms.specs.declared.record.ConnectionRecord.{ConnectionRecord};
 ghost use Rattle.std.specs.List.{list_all, list_any};
-ghost use Rattle.acd_model.specs.Scans.{waiting_in, eligible_in, is_idle, is_occupied, is_eligible, has};
+ghost use Rattle.acd_model.specs.Scans.{is_idle, is_occupied, is_eligible, occupies_agent, occupies_station};
 ghost use Rattle.acd_model.specs.OneOffer.{is_distributed_at};
-ghost use Rattle.acd_model.specs.Rules.Occupied.{attends, is_attended, is_talking, is_busy_only_talking, keeps_occupied, is_empty, keeps_offer, waits_in, rings_from, is_balanced, keeps_balance};
+ghost use Rattle.acd_model.specs.Rules.Occupied.{attends, is_attended, is_talking, is_busy_only_talking, keeps_occupied, keeps_offer, waits_in, rings_from, is_balanced, keeps_balance, talks_on, has_no_offer};
 
 use crate::lookups::Lookups;
 use acd_terms::{AgentRecord, ConnectionRecord, DeviceId, Figures, GroupRecord};
@@ -50,9 +48,7 @@ fn is_attended(lookups: &Lookups, connection: &ConnectionRecord) -> bool
 }
 
 fn is_talking_among(connections: &[ConnectionRecord], agent: &AgentRecord) -> bool
-    ensures { result ≡ list_any
-        (λ (x : ConnectionRecord). has agent.now.station x.device && is_distributed x
-        && is_answered x.state) connections.now }
+    ensures { result ≡ list_any (talks_on agent.now) connections.now }
 {
     connections.iter().any(|x| agent.station == Some(x.device)
         && x.is_distributed()
@@ -70,9 +66,7 @@ fn is_talking(lookups: &Lookups, agent: &AgentRecord) -> bool
 }
 
 fn is_occupied_among(connections: &[ConnectionRecord], agent: &AgentRecord) -> bool
-    ensures { result ≡ list_any
-        (λ (x : ConnectionRecord). has agent.now.station x.device && is_distributed x)
-        connections.now }
+    ensures { result ≡ list_any (occupies_agent agent.now) connections.now }
 {
     connections
         .iter()
@@ -130,8 +124,7 @@ pub fn keeps_occupied(lookups: &Lookups) -> bool
 }
 
 fn has_occupying_among(connections: &[ConnectionRecord], station: DeviceId) -> bool
-    ensures { result ≡ list_any
-        (λ (x : ConnectionRecord). x.device == station && is_occupying x.state) connections.now }
+    ensures { result ≡ list_any (occupies_station station) connections.now }
 {
     connections
         .iter()
@@ -139,9 +132,7 @@ fn has_occupying_among(connections: &[ConnectionRecord], station: DeviceId) -> b
 }
 
 fn has_occupying(lookups: &Lookups, station: DeviceId) -> bool
-    ensures { result ≡ list_any
-        (λ (x : ConnectionRecord). x.device == station && is_occupying x.state)
-        lookups.now.rows.now.connections }
+    ensures { result ≡ list_any (occupies_station station) lookups.now.rows.now.connections }
 {
     has_occupying_among(lookups.at_device(station), station)
 }
@@ -196,8 +187,7 @@ fn has_waiting(lookups: &Lookups, group: DeviceId) -> bool
 // No call waits in the group, or no agent of it is eligible.
 #[tactic(auto, using(crate::proofs::RuleLists::none_left), unfolding(acd_model::specs::Scans::waiting_in, acd_model::specs::Scans::eligible_in))]
 fn has_no_offer(lookups: &Lookups, group: DeviceId) -> bool
-    ensures { result ≡ (is_empty (waiting_in lookups.now.rows.now group)
-        || is_empty (eligible_in lookups.now.rows.now group)) }
+    ensures { result ≡ has_no_offer lookups.now.rows.now group }
 {
     !has_waiting(lookups, group) || !has_eligible(lookups, group)
 }

@@ -56,8 +56,8 @@ pub fn make_all(
     moves: &[Move],
     events: &mut Vec<Event>,
 ) -> Result<(), AllocError>
-    ensures { OnOk result (AreMade
-        moment moves.now tables.old tables.new events.old.items events.new.items) }
+    ensures { OnOk result (AreMade moment moves.now (tables.old, events.old)
+        (tables.new, events.new)) }
 {
     for one in moves {
         make(tables, moment, one, events)?;

@@ -96,9 +96,9 @@ pub fn serve(
     requires no_tick { IsNoTick command.now }
     ensures outcome { IfOk result
         (λ o. o ≡ outcome_of (serve tables.old at command.now)) }
-    ensures made { OnOk result (AreMade
-        at.moment (moves_of (serve tables.old at command.now))
-        tables.old tables.new events.old.items events.new.items) }
+    ensures made { OnOk result
+        (AreMade at.moment (moves_of (serve tables.old at command.now)) (tables.old, events.old)
+        (tables.new, events.new)) }
 {
     match decide(tables, at, command) {
         Err(refusal) => Ok(Outcome::Refused(refusal)),

@@ -48,8 +48,8 @@ works_on a b c p q = record {
 }
 
 -- the connection holds the result of the transaction
-pub holds_drafted : (mid new : State) (c : Content) → HoldsUncommitted mid (relations_of c) → Shows mid new mid.now mid.now false → HoldsContent new c
-holds_drafted mid new c d s = record {
+pub holds_committed : (mid new : State) (c : Content) → HoldsUncommitted mid (relations_of c) → Shows mid new mid.now mid.now false → HoldsContent new c
+holds_committed mid new c d s = record {
   is_open = s.is_open;
   idle = s.now_is ∙ sym s.committed_is;
   schema = ap (λ (d : Database). d.schema) s.committed_is ∙ d.schema;
@@ -60,7 +60,7 @@ holds_drafted mid new c d s = record {
 pub made_whole : (old mid new : State) (r : Result (Unit {0}) Error) (change : Content → Content) → ((c : Content) → HoldsContent old c → HoldsUncommitted mid (relations_of (change c)))
     → OnOk r (IsTrue mid.in_transaction × Shows mid new mid.now mid.now false × KeepsCounts mid new × (new.marks ≡ [])) → OnOk r ((c : Content) → HoldsContent old c → HoldsContent new (change c))
 made_whole old mid new (Err e) change put ended = tt
-made_whole old mid new (Ok x) change put ended = λ (c : Content) (h : HoldsContent old c). holds_drafted mid new (change c) (put c h) ended.1
+made_whole old mid new (Ok x) change put ended = λ (c : Content) (h : HoldsContent old c). holds_committed mid new (change c) (put c h) ended.1
 
 -- and nothing else is added to the stops
 pub adds_stop : (old begun mid new : State) (change : Content → Content) → ((db : Trees) → begun.may_leave db → old.may_leave db) → Survives begun mid (λ _. ⊥) → Survives mid new (λ db. db ≡ mid.now.trees)

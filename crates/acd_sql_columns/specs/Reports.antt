@@ -71,11 +71,17 @@ abbrev pub are_together : EventKind → Bool → Bool → Bool
 are_together kind.Established group waited = if group then waited else not waited
 are_together _ group waited = true
 
+-- the device, the call and the agent are there or aren't, as the shape has it
+abbrev pub has_parties : Shape → Columns → Bool
+has_parties s c = admits s.device (is_some c.device) && admits s.call (is_some c.call) && admits s.agent (is_some c.agent)
+
+-- and so are the group, the other device, the cause and the wait
+abbrev pub has_columns : Shape → Columns → Bool
+has_columns s c = has_parties s c && admits s.group (is_some c.group) && admits s.to (is_some c.to) && admits s.cause (is_some c.cause) && admits s.waited (is_some c.waited)
+
+-- the columns are those of a report of their kind
 unfoldable pub is_formed : Columns → Bool
-is_formed c =
-    admits (shape_of c.kind).device (is_some c.device) && admits (shape_of c.kind).call (is_some c.call) && admits (shape_of c.kind).agent (is_some c.agent)
-    && admits (shape_of c.kind).group (is_some c.group) && admits (shape_of c.kind).to (is_some c.to) && admits (shape_of c.kind).cause (is_some c.cause)
-    && admits (shape_of c.kind).waited (is_some c.waited) && admits_cause c.kind c.cause && are_together c.kind (is_some c.group) (is_some c.waited)
+is_formed c = has_columns (shape_of c.kind) c && admits_cause c.kind c.cause && are_together c.kind (is_some c.group) (is_some c.waited)
 
 -- the report that has these columns
 unfoldable pub report_in : Columns → Option Report

@@ -1,5 +1,7 @@
 -- The steps from one list of records to another, both in ascending key.
-use Rattle.std.specs.Prelude.{◌≡◌, ◌↔◌, Bool, true, false, List, [], ◌∷◌, map, if◌then◌else◌}
+use Rattle.std.specs.Prelude.{◌≡◌, ◌↔◌, Bool, true, false, List, [], ◌∷◌, ◌++◌, ◌+◌, ◌<◌, length, map, option_to_list, Option, Vec, if◌then◌else◌}
+use Rattle.std.specs.Borrow.{Bor}
+use Rattle.std.specs.declared.alloc.Global.{Global}
 use Rattle.std.specs.declared.cmp.Ordering.{Ordering}
 use Rattle.std.specs.declared.cmp.Ordering.TheVariants.{Equal}
 use Rattle.std.specs.Ordering.{match_ordering}
@@ -61,3 +63,41 @@ merged cmp same (x ∷ held) new = merged_from cmp same x (merged cmp same held)
 
 abbrev pub differences : {T : Type 0} → (T → T → Ordering) → (T → T → Bool) → (T → Change) → (T → Change) → List T → List T → List Change
 differences cmp same off on held new = map (change_by off on) (merged cmp same held new)
+
+-- ---- of a table
+
+-- the change that removes a record of a table, and the one that puts it
+pub record Changes (T : Type 0) : Type 0 where
+  pub gone : T → Change
+  pub put : T → Change
+
+-- how the records of a table are ordered, when two are the same, and their changes
+pub record Comparing (T : Type 0) : Type 0 where
+  pub order : T → T → Ordering
+  pub same : T → T → Bool
+  pub changes : Changes T
+
+-- ordered by the key
+abbrev pub keyed : {T K : Type 0} → (T → K) → (K → K → Ordering) → (T → T → Bool) → Changes T → Comparing T
+keyed key_of cmp same changes = record { order = λ x y. cmp (key_of x) (key_of y); same = same; changes = changes }
+
+-- the changes of one list to the other
+abbrev pub differences_of : {T : Type 0} → Comparing T → List T → List T → List Change
+differences_of c held new = differences c.order c.same c.changes.gone c.changes.put held new
+
+-- these are the changes, and they lead from the one list to the other
+abbrev pub AreDifferences : {T : Type 0} → Comparing T → List T → List T → Vec Change Global → Type 0
+AreDifferences c held new changes =
+    (changes.items ≡ differences_of c held new) × LeadTo c.order c.same c.changes.gone c.changes.put held new changes.items
+
+-- the first change, if there is one, and what is left of both lists
+abbrev pub Turn : Type 0 → Type 0
+Turn T = Option Change × Bor (List T) × Bor (List T)
+
+-- the changes are that one and those of what is left
+abbrev pub IsTurn : {T : Type 0} → Comparing T → List T → List T → Turn T → Type 0
+IsTurn c held new t = differences_of c held new ≡ option_to_list t.0 ++ differences_of c t.1.now t.2.now
+
+-- less is left of both lists
+abbrev pub IsShorter : {T : Type 0} → List T → List T → Turn T → Type 0
+IsShorter held new t = length t.1.now + length t.2.now < length held + length new

@@ -18,7 +18,7 @@ use Rattle.acd_model.specs.Scans.{at_agent, at_connection}
 use Rattle.acd_model.specs.Rules.Plan.{group_order, station_order, agent_order, call_order, connection_order, monitor_order}
 use Rattle.acd_model.specs.declared.moves.Change.{Change}
 use Rattle.acd_model.specs.declared.moves.Change.TheVariants.{Nothing, PutGroup, PutStation, PutAgent, PutCall, PutConnection, PutMonitor, RemoveCall, RemoveConnection, RemoveMonitor}
-use Rattle.acd_sql_differences.specs.Differing.{differences}
+use Rattle.acd_sql_differences.specs.Differing.{differences, Changes}
 
 -- ---- records, as their types compare them
 
@@ -56,6 +56,26 @@ monitor_gone x = RemoveMonitor x.monitor
 
 -- ---- those between
 
+abbrev pub group_changes : Changes GroupRecord
+group_changes = record { gone = none_gone; put = PutGroup }
+
+abbrev pub station_changes : Changes StationRecord
+station_changes = record { gone = none_gone; put = PutStation }
+
+abbrev pub agent_changes : Changes AgentRecord
+agent_changes = record { gone = none_gone; put = PutAgent }
+
+abbrev pub call_changes : Changes CallRecord
+call_changes = record { gone = call_gone; put = PutCall }
+
+abbrev pub connection_changes : Changes ConnectionRecord
+connection_changes = record { gone = connection_gone; put = PutConnection }
+
+abbrev pub monitor_changes : Changes MonitorRecord
+monitor_changes = record { gone = monitor_gone; put = PutMonitor }
+
+-- ---- those between
+
 -- the station that both have
 abbrev pub shared_station : Option ℕ → Option ℕ → Option ℕ
 shared_station (Some one) (Some other) = if one == other then Some one else None
@@ -75,21 +95,53 @@ stays new x = is_some (find_by (at_connection x.call x.device) new)
 
 -- ---- all of them
 
+abbrev pub group_differences : List GroupRecord → List GroupRecord → List Change
+group_differences held new = differences group_order group_eq none_gone PutGroup held new
+
+abbrev pub station_differences : List StationRecord → List StationRecord → List Change
+station_differences held new = differences station_order station_eq none_gone PutStation held new
+
+abbrev pub agent_differences : List AgentRecord → List AgentRecord → List Change
+agent_differences held new = differences agent_order agent_eq none_gone PutAgent held new
+
+abbrev pub call_differences : List CallRecord → List CallRecord → List Change
+call_differences held new = differences call_order call_eq call_gone PutCall held new
+
+abbrev pub connection_differences : List ConnectionRecord → List ConnectionRecord → List Change
+connection_differences held new = differences connection_order connection_eq connection_gone PutConnection held new
+
+abbrev pub monitor_differences : List MonitorRecord → List MonitorRecord → List Change
+monitor_differences held new = differences monitor_order monitor_eq monitor_gone PutMonitor held new
+
+-- ---- of two states
+
+-- the agents that are held, without the stations that they give up
+abbrev pub all_unseated : Rows → Rows → List AgentRecord
+all_unseated held new = map (unseated new.agents) held.agents
+
+-- agents give their stations up before others take them
+abbrev pub seat_differences : Rows → Rows → List Change
+seat_differences held new = agent_differences held.agents (all_unseated held new) ++ agent_differences (all_unseated held new) new.agents
+
 -- groups and stations before agents, who give their stations up before others take them
 unfoldable pub plan_differences : Rows → Rows → List Change
-plan_differences held new =
-    differences group_order group_eq none_gone PutGroup held.groups new.groups
-    ++ (differences station_order station_eq none_gone PutStation held.stations new.stations
-    ++ (differences agent_order agent_eq none_gone PutAgent held.agents (map (unseated new.agents) held.agents)
-    ++ differences agent_order agent_eq none_gone PutAgent (map (unseated new.agents) held.agents) new.agents))
+plan_differences held new = group_differences held.groups new.groups ++ (station_differences held.stations new.stations ++ seat_differences held new)
+
+-- the connections that are held and whose keys stay
+abbrev pub all_staying : Rows → Rows → List ConnectionRecord
+all_staying held new = filter (stays new.connections) held.connections
+
+-- the other connections go, and later the new ones are put
+abbrev pub connections_gone : Rows → Rows → List Change
+connections_gone held new = connection_differences held.connections (all_staying held new)
+
+abbrev pub connections_put : Rows → Rows → List Change
+connections_put held new = connection_differences (all_staying held new) new.connections
 
 -- connections go before their calls, and calls are put before their connections
 unfoldable pub traffic_differences : Rows → Rows → List Change
 traffic_differences held new =
-    differences connection_order connection_eq connection_gone PutConnection held.connections (filter (stays new.connections) held.connections)
-    ++ (differences call_order call_eq call_gone PutCall held.calls new.calls
-    ++ (differences connection_order connection_eq connection_gone PutConnection (filter (stays new.connections) held.connections) new.connections
-    ++ differences monitor_order monitor_eq monitor_gone PutMonitor held.monitors new.monitors))
+    connections_gone held new ++ (call_differences held.calls new.calls ++ (connections_put held new ++ monitor_differences held.monitors new.monitors))
 
 unfoldable pub rows_differences : Rows → Rows → List Change
 rows_differences held new = plan_differences held new ++ traffic_differences held new

@@ -1,5 +1,6 @@
 -- The changes from the tables of one state to those of another.
-use Rattle.std.specs.Prelude.{◌≡◌, ◌++◌, Bool, List}
+use Rattle.std.specs.Prelude.{◌≡◌, ◌↔◌, ◌++◌, Bool, List, Vec}
+use Rattle.std.specs.declared.alloc.Global.{Global}
 use Rattle.std.specs.declared.cmp.Ordering.{Ordering}
 use Rattle.acd_terms.specs.Lists.{Every}
 use Rattle.acd_terms.specs.declared.rows.Rows.{Rows}
@@ -8,7 +9,7 @@ use Rattle.acd_model.specs.Changes.{changed_by}
 use Rattle.acd_model.specs.declared.moves.Change.{Change}
 use Rattle.acd_model.specs.declared.moves.Change.TheVariants.{Nothing}
 use Rattle.acd_lemmas.specs.Orders.{Orders}
-use Rattle.acd_sql_differences.specs.Differing.{IsNoKey, LeadTo, differences}
+use Rattle.acd_sql_differences.specs.Differing.{IsNoKey, LeadTo, differences, Comparing}
 
 -- the lists of one are those of the other; the limits and the counters are not asked for
 pub record HasTables (s t : Rows) : Type 0 where
@@ -37,6 +38,14 @@ Lead held new changes = (s : Rows) → HasTables s held → Orders held → Orde
 abbrev pub with_plan : Rows → Rows → Rows
 with_plan held new = record held { groups = new.groups; stations = new.stations; agents = new.agents }
 
+-- where both are in order, the changes are whole just where no group, station and agent is missing
+abbrev pub AreWholeIfKept : Rows → Rows → List Change → Type 0
+AreWholeIfKept held new changes = Orders held → Orders new → (AreWhole changes ↔ KeepsPlan held new)
+
 -- the differences of two lists are added
 abbrev pub AddsSteps : {T : Type 0} → (T → T → Ordering) → (T → T → Bool) → (T → Change) → (T → Change) → List T → List T → List Change → List Change → Type 0
 AddsSteps cmp same off on held new old now = (now ≡ old ++ differences cmp same off on held new) × LeadTo cmp same off on held new (differences cmp same off on held new)
+
+-- the same of a table's
+abbrev pub AddsDifferences : {T : Type 0} → Comparing T → List T → List T → Vec Change Global → Vec Change Global → Type 0
+AddsDifferences c held new old now = AddsSteps c.order c.same c.changes.gone c.changes.put held new old.items now.items

@@ -1,9 +1,8 @@
 //! The changes from the records that are held to new ones.
 
-ghost use Rattle.std.specs.Prelude.{◌≡◌, ◌<◌, ◌+◌, ◌++◌, [], None, length, option_to_list, IfSome, IfOk, OnOk};
-ghost use Rattle.acd_model.specs.declared.moves.Change.{Change as Made};
-ghost use Rattle.acd_model.specs.declared.moves.Change.TheVariants.{Nothing as NoChange, PutGroup as GroupPut, PutStation as StationPut, PutAgent as AgentPut, PutCall as CallPut, PutConnection as ConnectionPut, PutMonitor as MonitorPut, RemoveCall as CallGone, RemoveConnection as ConnectionGone, RemoveMonitor as MonitorGone};
-ghost use Rattle.acd_sql_differences.specs.Differing.{LeadTo, differences};
+ghost use Rattle.std.specs.Prelude.{◌≡◌, ◌++◌, [], None, option_to_list, IfSome, IfOk, OnOk};
+ghost use Rattle.acd_sql_differences.specs.Differing.{differences_of, keyed, AreDifferences, Changes, IsShorter, IsTurn};
+ghost use Rattle.acd_sql_differences.specs.Leading.{agent_changes, call_changes, connection_changes, group_changes, monitor_changes, station_changes};
 
 use acd_model::Change;
 use acd_terms::{
@@ -14,22 +13,18 @@ use std::cmp::Ordering;
 
 /// A record of a working table, and the changes that put it and that take it out.
 pub trait TableRecord: Keyed + PartialEq {
-    ghost put_of: { Self → Made };
-
-    ghost gone_of: { Self → Made };
+    ghost changes: { Changes Self };
 
     fn put(&self) -> Change
-        ensures { result ≡ put_of self.now };
+        ensures { result ≡ changes.put self.now };
 
     /// [`Change::Nothing`] for groups, stations and agents, which are never removed.
     fn gone(&self) -> Change
-        ensures { result ≡ gone_of self.now };
+        ensures { result ≡ changes.gone self.now };
 }
 
 impl TableRecord for GroupRecord {
-    ghost put_of = { GroupPut };
-
-    ghost gone_of = { λ r. NoChange };
+    ghost changes = { group_changes };
 
     fn put(&self) -> Change {
         Change::PutGroup(*self)
@@ -41,9 +36,7 @@ impl TableRecord for GroupRecord {
 }
 
 impl TableRecord for StationRecord {
-    ghost put_of = { StationPut };
-
-    ghost gone_of = { λ r. NoChange };
+    ghost changes = { station_changes };
 
     fn put(&self) -> Change {
         Change::PutStation(*self)
@@ -55,9 +48,7 @@ impl TableRecord for StationRecord {
 }
 
 impl TableRecord for AgentRecord {
-    ghost put_of = { AgentPut };
-
-    ghost gone_of = { λ r. NoChange };
+    ghost changes = { agent_changes };
 
     fn put(&self) -> Change {
         Change::PutAgent(*self)
@@ -69,9 +60,7 @@ impl TableRecord for AgentRecord {
 }
 
 impl TableRecord for CallRecord {
-    ghost put_of = { CallPut };
-
-    ghost gone_of = { λ r. CallGone r.call };
+    ghost changes = { call_changes };
 
     fn put(&self) -> Change {
         Change::PutCall(*self)
@@ -83,9 +72,7 @@ impl TableRecord for CallRecord {
 }
 
 impl TableRecord for ConnectionRecord {
-    ghost put_of = { ConnectionPut };
-
-    ghost gone_of = { λ r. ConnectionGone r.call r.device };
+    ghost changes = { connection_changes };
 
     fn put(&self) -> Change {
         Change::PutConnection(*self)
@@ -97,9 +84,7 @@ impl TableRecord for ConnectionRecord {
 }
 
 impl TableRecord for MonitorRecord {
-    ghost put_of = { MonitorPut };
-
-    ghost gone_of = { λ r. MonitorGone r.monitor };
+    ghost changes = { monitor_changes };
 
     fn put(&self) -> Change {
         Change::PutMonitor(*self)
@@ -116,15 +101,10 @@ fn turn<'a, R: TableRecord>(
     new: &'a [R],
 ) -> Option<(Option<Change>, &'a [R], &'a [R])>
     ensures leads { IfSome result
-        (λ t. differences (λ x y. R.Key.cmp (R.key_of x) (R.key_of y)) R.eq R.gone_of R.put_of
-        held.now new.now ≡ option_to_list t.0
-        ++ differences (λ x y. R.Key.cmp (R.key_of x) (R.key_of y)) R.eq R.gone_of R.put_of t.1.now
-        t.2.now) }
-    ensures shorter { IfSome result
-        (λ t. length t.1.now + length t.2.now < length held.now + length new.now) }
+        (IsTurn (keyed R.key_of R.Key.cmp R.eq R.changes) held.now new.now) }
+    ensures shorter { IfSome result (IsShorter held.now new.now) }
     ensures ends { result ≡ None
-        → differences (λ x y. R.Key.cmp (R.key_of x) (R.key_of y)) R.eq R.gone_of R.put_of held.now
-        new.now ≡ [] }
+        → differences_of (keyed R.key_of R.Key.cmp R.eq R.changes) held.now new.now ≡ [] }
 {
     match (held.split_first(), new.split_first()) {
         (None, None) => None,
@@ -158,11 +138,8 @@ pub fn row_changes<R: TableRecord>(
     held: &[R],
     new: &[R],
 ) -> Result<Vec<Change>, AllocError>
-    ensures lead { IfOk result (λ changes. LeadTo (λ x y. R.Key.cmp (R.key_of x) (R.key_of y)) R.eq
-        R.gone_of R.put_of held.now new.now changes.items) }
-    ensures exact { IfOk result (λ changes.
-        changes.items ≡ differences (λ x y. R.Key.cmp (R.key_of x) (R.key_of y)) R.eq
-        R.gone_of R.put_of held.now new.now) }
+    ensures { IfOk result
+        (AreDifferences (keyed R.key_of R.Key.cmp R.eq R.changes) held.now new.now) }
 {
     let mut changes = Vec::new(alloc);
     let mut left = held;

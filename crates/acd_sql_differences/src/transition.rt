@@ -3,8 +3,8 @@
 
 ghost use Rattle.std.specs.Prelude.{◌≡◌, ◌↔◌, ◌++◌, filter, map, IfOk, OnOk, IsTrue};
 ghost use Rattle.acd_sql_differences.specs.Leading.{shared_station, station_in, unseated, stays, plan_differences, traffic_differences, rows_differences};
-ghost use Rattle.acd_sql_differences.specs.Transition.{AreWhole, KeepsPlan, Lead, AddsSteps, with_plan};
-ghost use Rattle.acd_lemmas.specs.Orders.{Orders};
+ghost use Rattle.acd_sql_differences.specs.Transition.{with_plan, AddsDifferences, AreWhole, AreWholeIfKept, Lead};
+ghost use Rattle.acd_sql_differences.specs.Differing.{keyed};
 
 use crate::difference::{TableRecord, row_changes};
 use acd_model::Change;
@@ -25,9 +25,8 @@ fn add_changes<R: TableRecord>(
     held: &[R],
     new: &[R],
 ) -> Result<(), AllocError>
-    ensures { OnOk result
-        (AddsSteps (λ x y. R.Key.cmp (R.key_of x) (R.key_of y)) R.eq R.gone_of R.put_of held.now
-        new.now changes.old.items changes.new.items) }
+    ensures { OnOk result (AddsDifferences (keyed R.key_of R.Key.cmp R.eq R.changes)
+        held.now new.now changes.old changes.new) }
 {
     let more = row_changes(alloc, held, new)?;
     extend(changes, &more)
@@ -177,8 +176,7 @@ fn traffic_changes(alloc: Global, held: &Rows, new: &Rows) -> Result<Vec<Change>
 pub fn rows_changes(alloc: Global, held: &Rows, new: &Rows) -> Result<Vec<Change>, AllocError>
     ensures lead { IfOk result (λ changes. Lead held.now new.now changes.items) }
     ensures exact { IfOk result (λ changes. changes.items ≡ rows_differences held.now new.now) }
-    ensures whole { IfOk result (λ changes. Orders held.now → Orders new.now
-        → (AreWhole changes.items ↔ KeepsPlan held.now new.now)) }
+    ensures whole { IfOk result (λ changes. AreWholeIfKept held.now new.now changes.items) }
 {
     let mut changes = plan_changes(alloc, held, new)?;
     let more = traffic_changes(alloc, held, new)?;

@@ -33,8 +33,8 @@ both_built old mid new (Ok x) a b c p q s first second = λ (start : Builds old 
 
 module _ {S : Type 0} {g : Ghosts S} where
   -- a text, which the store doesn't refuse, makes one table
-  pub one : {old new : MutBor (Held S)} {r : Result (Unit {0}) Error} {s : Schema} {text : List ℕ} {t : Table} {rows : List (List Row)} → MakesTable s text t → IsTaken s text t → RunsText g old new r text []
-      → MakesTables g old new r (stage s rows) (stage (created s t) (rows ++ [] ∷ []))
+  pub one : {old new : MutBor (Held S)} {r : Result (Unit {0}) Error} {s : Schema} {text : List ℕ} {t : Table} {rows : List (List Row)} → MakesTable s text t → IsTaken s text t → RunsText g old new r (text, [])
+      → MakesTables g old new r (stage s rows, stage (created s t) (rows ++ [] ∷ []))
   one {old} {new} {r} {s} {text} {t} {rows} makes taken run = record {
     same = run.same;
     works = run.works;
@@ -43,7 +43,7 @@ module _ {S : Type 0} {g : Ghosts S} where
   }
 
   -- the second after the first, which succeeded
-  pub followed : {old mid new : MutBor (Held S)} {x : Unit {0}} {r : Result (Unit {0}) Error} {a b c : Schema} {p q s : List (List Row)} → MakesTables g old mid (Ok x) (stage a p) (stage b q) → MakesTables g mid new r (stage b q) (stage c s) → MakesTables g old new r (stage a p) (stage c s)
+  pub followed : {old mid new : MutBor (Held S)} {x : Unit {0}} {r : Result (Unit {0}) Error} {a b c : Schema} {p q s : List (List Row)} → MakesTables g old mid (Ok x) (stage a p, stage b q) → MakesTables g mid new r (stage b q, stage c s) → MakesTables g old new r (stage a p, stage c s)
   followed {old} {mid} {new} {x} {r} {a} {b} {c} {p} {q} {s} first second = record {
     same = second.same ∙ first.same;
     works = works_on (state g old.now) (state g mid.now) (state g new.now) first.works second.works;
@@ -56,10 +56,10 @@ module _ {S : Type 0} {g : Ghosts S} where
   }
 
   -- it failed, and no more is made
-  pub halted : {old new : MutBor (Held S)} {e : Error} {r : Result (Unit {0}) Error} {a b c : Schema} {p q s : List (List Row)} → MakesTables g old new (Err e) (stage a p) (stage b q) → r ≡ Err e → MakesTables g old new r (stage a p) (stage c s)
+  pub halted : {old new : MutBor (Held S)} {e : Error} {r : Result (Unit {0}) Error} {a b c : Schema} {p q s : List (List Row)} → MakesTables g old new (Err e) (stage a p, stage b q) → r ≡ Err e → MakesTables g old new r (stage a p, stage c s)
   halted {old} {new} {e} {r} {a} {b} {c} {p} {q} {s} h is =
-      subst (λ (r : Result (Unit {0}) Error). MakesTables g old new r (stage a p) (stage c s)) (sym is) (record { same = h.same; works = h.works; made = λ clean. tt; failed = h.failed })
+      subst (λ (r : Result (Unit {0}) Error). MakesTables g old new r (stage a p, stage c s)) (sym is) (record { same = h.same; works = h.works; made = λ clean. tt; failed = h.failed })
 
   -- the schema by another name
-  pub renamed : {old new : MutBor (Held S)} {r : Result (Unit {0}) Error} {a b c : Schema} {p q : List (List Row)} → b ≡ c → MakesTables g old new r (stage a p) (stage b q) → MakesTables g old new r (stage a p) (stage c q)
-  renamed {old} {new} {r} {a} {b} {c} {p} {q} is h = subst (λ (s : Schema). MakesTables g old new r (stage a p) (stage s q)) is h
+  pub renamed : {old new : MutBor (Held S)} {r : Result (Unit {0}) Error} {a b c : Schema} {p q : List (List Row)} → b ≡ c → MakesTables g old new r (stage a p, stage b q) → MakesTables g old new r (stage a p, stage c q)
+  renamed {old} {new} {r} {a} {b} {c} {p} {q} is h = subst (λ (s : Schema). MakesTables g old new r (stage a p, stage s q)) is h

@@ -53,7 +53,7 @@ module _ (limits : Limits) where
   none_set_up old new e (inr failed) = inr (inl failed)
 
   -- the row of the limits
-  pub start_failed : (old mid new : State) (e : Error) → Works old mid → HasCleanDisk mid → mid.faults ≤ new.faults → Builds mid book_schema (no_rows 11) → FailsToStart mid new (start_of limits) e → FailsToSetUp old new limits e
+  pub start_failed : (old mid new : State) (e : Error) → Works old mid → HasCleanDisk mid → mid.faults ≤ new.faults → Builds mid book_schema (no_rows 11) → FailsToStart (start_of limits) mid new e → FailsToSetUp old new limits e
   start_failed old mid new e w k counts b (inl memory) = inl memory
   start_failed old mid new e w k counts b (inr (inl failed)) = inr (inl (failed_after old mid new w.survives k counts failed))
   start_failed old mid new e w k counts b (inr (inr refused)) = inr (inr (mid.now, b.schema_is, b.rows_are, subst (λ l. Refuses l mid.now INSERT_META.now (meta_values (start_of limits))) w.survives.limit refused))

@@ -31,7 +31,9 @@ use Rattle.acd_sql_columns.specs.Transactions.{Fits}
 use Rattle.acd_sql_columns.specs.AnyRows.{is_good, are_good, is_good_in, is_beside, is_ranked, IsCanonicalAs, table_of_log, Numbered, AreNumbered, values_after, has_meta, BeginsAsBook, schema_of, Covers, FindsGood}
 use Rattle.acd_sql_columns.specs.Schema.{book_schema, nine, BeginsSchema}
 use Rattle.acd_sql_columns.specs.Schema as schema
-use Rattle.acd_sql_statements.specs.Looking.{HasLookCause, SeesOver}
+use Rattle.acd_sql_columns.specs.Seeing.{Sees}
+use Rattle.acd_sql_statements.specs.Between.{IsBookSchema}
+use Rattle.acd_sql_statements.specs.Looking.{Look, over, BeginsNine}
 use Rattle.acd_sql_columns.specs.Values.{◌>>=◌, whole_at}
 
 -- the tables of a version, in the order in which they are looked at
@@ -49,14 +51,6 @@ CoversAll tables s = Every (Covers s) tables
 abbrev pub IsBadOf : List Table → Database → Option Table → Type 0
 IsBadOf tables d None = IsCanonicalAs version.First d.trees → Every (λ t. is_good_in t d.trees ≡ true) tables
 IsBadOf tables d (Some t) = Covers d.schema t × (is_good_in t d.trees ≡ false)
-
--- the rows that a look sees of each database of such a schema
-abbrev pub SeesRows : {S A : Type 0} → (Schema → Type 0) → Ghosts S → Held S → Held S → Result A Error → (Trees → A → Type 0) → Type 0
-SeesRows Has g old new result IsAnswer = SeesOver Has g old new result (λ (d : Database). IsAnswer d.trees)
-
--- whether each value of the table is in its range
-abbrev pub SeesGood : {S : Type 0} → Table → (Schema → Type 0) → Ghosts S → Held S → Held S → Result Bool Error → Type 0
-SeesGood t Has g old new result = SeesRows Has g old new result (FindsGood t)
 
 unfoldable pub is_good_after : Log → ℕ → List Numbered → Bool
 is_good_after l n xs = are_good (table_of_log l) (values_after l n xs)
@@ -202,10 +196,6 @@ abbrev pub IsPlaceFound : Version → Database → Option AdoptFault → Type 0
 IsPlaceFound v d None = ArePlaced v d.trees
 IsPlaceFound v d (Some f) = IsFoundFaultOf d f
 
--- the same of each database of this version
-abbrev pub SeesPlaces : {S : Type 0} → Version → Ghosts S → Held S → Held S → Result (Option AdoptFault) Error → Type 0
-SeesPlaces v g old new result = SeesOver (IsSchemaOf v) g old new result (IsPlaceFound v)
-
 abbrev pub IsFound : Database → Found → Type 0
 IsFound d (Book v) = IsOfBook v d
 IsFound d (Fault f) = IsFoundFaultOf d f
@@ -220,15 +210,65 @@ abbrev pub adopt_fault_of : Error → AdoptFault
 adopt_fault_of (SqliteFailure OutOfMemory) = NoMemory
 adopt_fault_of _ = Store
 
--- ---- why a look fails
+-- ---- what is looked for
 
--- why a look at a database of which this is so fails
-abbrev pub HasLookCauseIn : {S A : Type 0} → (Database → Type 0) → Ghosts S → Held S → Held S → Result A Error → Type 0
-HasLookCauseIn Is g old new result = HasLookCause Is (state g old) (state g new) result
+-- whether each value of this table is in its range, where the table is there as a book has it
+abbrev pub good_table : Table → Look Bool
+good_table t = over (λ s. Covers s t) (λ (d : Database) (good : Bool). FindsGood t d.trees good)
+
+-- the same of the table of this log
+abbrev pub good_log : Log → Look Bool
+good_log l = over BeginsNine (λ (d : Database) (good : Bool). FindsGood (table_of_log l) d.trees good)
+
+-- what is left after a page of its rows, and whether all of its pages are good
+abbrev pub log_page : Log → ℕ → Look Page
+log_page l n = over BeginsNine (λ (d : Database) (page : Page). IsPageOfLog l n d.trees page)
+
+abbrev pub good_pages : Log → Look Bool
+good_pages l = over BeginsNine (λ (d : Database) (good : Bool). FindsGoodAfter l d.trees good)
+
+-- the first of these tables that isn't good
+abbrev pub bad_table : List Table → Look (Option Table)
+bad_table tables = over (CoversAll tables) (IsBadOf tables)
+
+-- which rows of this version's tables don't belong to the rows beside them; and the same of the priorities alone, if the further groups do
+abbrev pub misplaced_in : Version → Look (Option AdoptFault)
+misplaced_in v = over (IsSchemaOf v) (IsPlaceFound v)
+
+abbrev pub ranks_misplaced : Look (Option AdoptFault)
+ranks_misplaced = over IsBookSchema (λ (d : Database) (fault : Option AdoptFault). is_beside d.trees ≡ true → IsPlaceFound version.Second d fault)
+
+-- the first fault in the rows of tables of this version
+abbrev pub bad_row : Version → Look (Option AdoptFault)
+bad_row v = over (IsSchemaOf v) (IsRowFound v)
+
+-- what is found in them if they name this version too
+abbrev pub found_in_rows : Version → Look Found
+found_in_rows v = over (IsSchemaOf v) (λ (d : Database) (found : Found). IsVersionIn d.trees (Some (number_of v)) → IsFound d found)
+
+-- the first table alone is as a book has it
+abbrev pub IsLikeFirst : Schema → Type 0
+IsLikeFirst s = IsLike s First
+
+-- this is found in the database that the connection has
+abbrev pub SeesNow : {S A : Type 0} → Ghosts S → Held S → Held S → Result A Error → (Database → A → Type 0) → Type 0
+SeesNow g old new result IsAnswer = Sees (state g old).now (state g old) (state g new) result (IsAnswer (state g old).now)
+
+-- ---- why a look fails
 
 -- the schema is one of these, and the rows of the nine tables are canonical
 abbrev pub HasCanonical : (Schema → Type 0) → Database → Type 0
 HasCanonical Has d = Has d.schema × IsCanonicalAs version.First d.trees
+
+-- the same of a table, of several, and of the tables of a version
+abbrev pub HasCanonicalTable : Table → Database → Type 0
+HasCanonicalTable t = HasCanonical (λ s. Covers s t)
+
+abbrev pub HasCanonicalTables : List Table → Database → Type 0
+HasCanonicalTables tables = HasCanonical (CoversAll tables)
+
+abbrev pub HasCanonicalOf : Version → Database → Type 0
+HasCanonicalOf v = HasCanonical (IsSchemaOf v)
 
 -- the nine tables are there, and the numbers of the rows of this one rise from 0
 abbrev pub IsPaged : Log → Database → Type 0

@@ -1,5 +1,5 @@
 -- The result of a migration of version 1, and what a crash leaves of it.
-use Rattle.std.specs.Prelude.{◌≡◌, ◌≢◌, ◌⊎◌, ℕ, true, [], ◌∷◌, Option, IsTrue}
+use Rattle.std.specs.Prelude.{◌≡◌, ◌≢◌, ◌⊎◌, ℕ, true, [], ◌∷◌, Option, Result, IsTrue, OnErr}
 use Rattle.sqlite_trees.specs.Tree.{Trees}
 use Rattle.sqlite_trees.specs.declared.store.Store.{Ghosts}
 use Rattle.sqlite.specs.Effect.{Database}
@@ -48,6 +48,10 @@ pub record IsMade (old new : State) : Type 0 where
 pub record IsRestored (old new : State) : Type 0 where
   pub now : new.now ≡ old.committed
   pub committed : new.committed ≡ old.committed
+
+-- where a migration fails, a connection that is still open has what it had before
+abbrev pub IfFailsRestored : {A : Type 0} → Result A Error → State → State → Type 0
+IfFailsRestored result old new = OnErr result (IsTrue new.is_open → IsRestored old new)
 
 -- a crash leaves what it left before, or a migration
 abbrev pub MayAlter : State → State → Type 0

@@ -1,14 +1,11 @@
 //! Makes the tables of a book.
 
-ghost use Rattle.std.specs.Prelude.{◌≡◌, ◌↔◌, [], List, false, IsTrue, OnOk};
-ghost use Rattle.sqlite_value.specs.Order.{Row as Values};
+ghost use Rattle.std.specs.Prelude.{◌≡◌, ◌↔◌, [], false, IsTrue};
 ghost use Rattle.sqlite.specs.State.{HasCleanDisk};
 ghost use Rattle.sqlite.specs.Held.{state};
-ghost use Rattle.acd_sql_columns.specs.Schema.{no_schema, old_schema};
-ghost use Rattle.acd_sql_columns.specs.AnyRows.{schema_of};
-ghost use Rattle.acd_sql_columns.specs.Transactions.{HoldsContent, LimitsFit};
-ghost use Rattle.acd_book.specs.Content.{empty_content};
-ghost use Rattle.acd_sql_schema.specs.SettingUp.{MakesTables, stage, none_made, plan_made, state_made, made_of, eleven_with, IfClean, MayMake, FailsBy, FailsToMake, FailsToSetUp};
+ghost use Rattle.acd_sql_columns.specs.Schema.{no_schema};
+ghost use Rattle.acd_sql_columns.specs.Transactions.{LimitsFit};
+ghost use Rattle.acd_sql_schema.specs.SettingUp.{MakesTables, MakesTwo, none_made, plan_made, state_made, made_of, HasNewBook, HasTablesOf, IfClean, IfSucceeds, MayMake, FailsBy, FailsToMake, FailsToSetUp};
 ghost use Rattle.acd_sql_statements.specs.Between.{IsUp};
 ghost use Rattle.acd_sql_statements.specs.Inside.{RunsText};
 
@@ -32,14 +29,14 @@ pub fn has_no_tables(schema: &Schema) -> bool
 
 // Makes one table.
 fn make<S: Alter>(tx: &mut Transaction<'_, S>, sql: &str) -> Result<(), Error>
-    ensures { RunsText S.Store tx.old.conn tx.new.conn result sql.now [] }
+    ensures { RunsText S.Store tx.old.conn tx.new.conn result (sql.now, []) }
 {
     write(tx, sql, &[])
 }
 
 // The limits and the plan.
 fn make_plan<S: Alter>(tx: &mut Transaction<'_, S>) -> Result<(), Error>
-    ensures { MakesTables S.Store tx.old.conn tx.new.conn result none_made plan_made }
+    ensures { MakesTables S.Store tx.old.conn tx.new.conn result (none_made, plan_made) }
 {
     make(tx, CREATE_META)?;
     make(tx, CREATE_GROUPS)?;
@@ -49,7 +46,7 @@ fn make_plan<S: Alter>(tx: &mut Transaction<'_, S>) -> Result<(), Error>
 
 // The part that changes from call to call.
 fn make_state<S: Alter>(tx: &mut Transaction<'_, S>) -> Result<(), Error>
-    ensures { MakesTables S.Store tx.old.conn tx.new.conn result plan_made state_made }
+    ensures { MakesTables S.Store tx.old.conn tx.new.conn result (plan_made, state_made) }
 {
     make(tx, CREATE_CALLS)?;
     make(tx, CREATE_CONNECTIONS)?;
@@ -59,7 +56,7 @@ fn make_state<S: Alter>(tx: &mut Transaction<'_, S>) -> Result<(), Error>
 // The events and the kept replies.
 fn make_log<S: Alter>(tx: &mut Transaction<'_, S>) -> Result<(), Error>
     ensures { MakesTables S.Store tx.old.conn tx.new.conn result
-        state_made (made_of Version.First) }
+        (state_made, made_of Version.First) }
 {
     make(tx, CREATE_EVENTS)?;
     make(tx, CREATE_KEPT)
@@ -67,7 +64,8 @@ fn make_log<S: Alter>(tx: &mut Transaction<'_, S>) -> Result<(), Error>
 
 // Makes the nine tables of version 1.
 fn make_nine<S: Alter>(tx: &mut Transaction<'_, S>) -> Result<(), Error>
-    ensures { MakesTables S.Store tx.old.conn tx.new.conn result none_made (made_of Version.First) }
+    ensures { MakesTables S.Store tx.old.conn tx.new.conn result
+        (none_made, made_of Version.First) }
 {
     make_plan(tx)?;
     make_state(tx)?;
@@ -76,8 +74,7 @@ fn make_nine<S: Alter>(tx: &mut Transaction<'_, S>) -> Result<(), Error>
 
 /// Makes the two tables of version 2 after the nine, whatever rows these have.
 pub(crate) fn make_two<S: Alter>(tx: &mut Transaction<'_, S>) -> Result<(), Error>
-    ensures { (rows : List (List Values)) → MakesTables S.Store tx.old.conn tx.new.conn result
-        (stage old_schema rows) (eleven_with rows) }
+    ensures { MakesTwo S.Store tx.old.conn tx.new.conn result }
 {
     make(tx, CREATE_AGENT_GROUPS)?;
     make(tx, CREATE_GROUP_PRIORITY)
@@ -86,7 +83,7 @@ pub(crate) fn make_two<S: Alter>(tx: &mut Transaction<'_, S>) -> Result<(), Erro
 // Makes the eleven tables.
 fn make_tables<S: Alter>(tx: &mut Transaction<'_, S>) -> Result<(), Error>
     ensures { MakesTables S.Store tx.old.conn tx.new.conn result
-        none_made (made_of Version.Second) }
+        (none_made, made_of Version.Second) }
 {
     make_nine(tx)?;
     make_two(tx)
@@ -94,7 +91,7 @@ fn make_tables<S: Alter>(tx: &mut Transaction<'_, S>) -> Result<(), Error>
 
 // Makes the tables of the version.
 fn make_version<S: Alter>(tx: &mut Transaction<'_, S>, version: Version) -> Result<(), Error>
-    ensures { MakesTables S.Store tx.old.conn tx.new.conn result none_made (made_of version) }
+    ensures { MakesTables S.Store tx.old.conn tx.new.conn result (none_made, made_of version) }
 {
     match version {
         Version::First => make_nine(tx),
@@ -110,8 +107,7 @@ pub(crate) fn set_up_empty<S: Alter>(
     requires idle { conn.old.in_transaction ≡ false }
     requires empty { (state S.Store conn.old).now.schema ≡ no_schema }
     ensures idle { conn.new.in_transaction ≡ false }
-    ensures made { IfClean S.Store conn.old conn.new
-        (λ old new. OnOk result (new.now.schema ≡ schema_of version)) }
+    ensures made { IfClean S.Store conn.old conn.new (IfSucceeds result (HasTablesOf version)) }
     ensures failed { FailsBy S.Store conn.old conn.new result FailsToMake }
 {
     let mut tx = conn.transaction();
@@ -126,8 +122,7 @@ pub fn set_up<S: Alter>(conn: &mut Connection<S>, limits: Limits) -> Result<(), 
     requires fit { LimitsFit limits }
     ensures idle { conn.new.in_transaction ≡ false }
     ensures clean { HasCleanDisk (state S.Store conn.new) → HasCleanDisk (state S.Store conn.old) }
-    ensures made { IfClean S.Store conn.old conn.new
-        (λ old new. OnOk result (HoldsContent new (empty_content limits))) }
+    ensures made { IfClean S.Store conn.old conn.new (IfSucceeds result (HasNewBook limits)) }
     ensures up { IsUp (state S.Store conn.new) result }
     ensures stops { IfClean S.Store conn.old conn.new (λ old new. MayMake old new limits) }
     ensures limit { (state S.Store conn.new).step_limit ≡ (state S.Store conn.old).step_limit }

@@ -1,17 +1,16 @@
 //! Whether a database has the tables of a book, of version 1 or 2, with each value in its range.
 
-ghost use Rattle.std.specs.Prelude.{◌≡◌, ◌≢◌, ◌⊎◌, [], true, false, None, Some, IfErr, IfOk, IfSome};
+ghost use Rattle.std.specs.Prelude.{◌≡◌, ◌≢◌, ◌⊎◌, [], false, IfErr, IfOk, IfSome};
 ghost use Rattle.sqlite.specs.Held.{state};
 ghost use Rattle.acd_sql_columns.specs.declared.tables.Table.TheVariants as table;
-ghost use Rattle.acd_sql_columns.specs.AnyRows.{is_beside, table_of_log, are_good, schema_of, BeginsAsBook, Covers, IsCanonical};
-ghost use Rattle.acd_sql_columns.specs.Content.{number_of};
-ghost use Rattle.acd_sql_schema.specs.Inspecting.{CoversAll, IsSchemaOf, SeesRows, SeesGood, SeesPlaces, HasNoRise, IsPageAbove, HasCanonical, IsPaged, HasGoodTables, number_if_good, last_good, tables_of, version_read_in, IsLike, FindsGoodAfter, IsBadOf, IsPageOfLog, IsLogPage, PageFits, IsFound, IsRowFound, IsPlaceFound, IsVersionRead, IsVersionIn, IsAdoptStoreFault, adopt_fault_of, HasLookCauseIn};
+ghost use Rattle.acd_sql_columns.specs.AnyRows.{are_good, schema_of, BeginsAsBook, IsCanonical};
+ghost use Rattle.acd_sql_columns.specs.Schema.{book_schema};
+ghost use Rattle.acd_sql_columns.specs.Seeing.{HasLooked};
 ghost use Rattle.acd_sql_columns.specs.Transactions.{Fits};
-ghost use Rattle.acd_sql_columns.specs.Schema.{nine, book_schema, BeginsSchema};
-ghost use Rattle.acd_sql_columns.specs.Seeing.{Sees, HasLooked};
-ghost use Rattle.acd_sql_statements.specs.Between.{IsBookSchema};
+ghost use Rattle.acd_sql_schema.specs.Inspecting.{adopt_fault_of, bad_row, bad_table, found_in_rows, good_log, good_pages, good_table, last_good, log_page, misplaced_in, number_if_good, ranks_misplaced, tables_of, version_read_in, HasCanonical, HasCanonicalOf, HasCanonicalTable, HasCanonicalTables, HasGoodTables, HasNoRise, IsAdoptStoreFault, IsFound, IsLike, IsLikeFirst, IsLogPage, IsPageAbove, IsPaged, IsSchemaOf, IsVersionRead, PageFits, SeesNow};
+ghost use Rattle.acd_sql_statements.specs.Between.{IsBookSchema, SeesOver};
 ghost use Rattle.acd_sql_statements.specs.Failing.{IsMemory};
-ghost use Rattle.acd_sql_statements.specs.Looking.{HasLookCauseOver, SeesOver};
+ghost use Rattle.acd_sql_statements.specs.Looking.{over, BeginsNine, HasGood, HasLookCauseIn};
 
 use crate::create::set_up_empty;
 use crate::fault::{AdoptFault, Found};
@@ -46,8 +45,8 @@ fn are_connections(rows: &[Row]) -> bool
 
 // Whether the limits and the counters are in their ranges.
 fn is_good_meta<S: Alter>(conn: &mut Connection<S>) -> Result<bool, Error>
-    ensures seen { SeesGood table.Meta (BeginsSchema nine) S.Store conn.old conn.new result }
-    ensures looked { HasLookCauseOver (BeginsSchema nine) [] S.Store conn.old conn.new result }
+    ensures seen { SeesOver S.Store conn.old conn.new result (good_table table.Meta) }
+    ensures looked { HasLookCauseIn (HasGood BeginsNine []) S.Store conn.old conn.new result }
 {
     let rows = meta_rows(conn)?;
     Ok(are_counters(&rows))
@@ -55,8 +54,8 @@ fn is_good_meta<S: Alter>(conn: &mut Connection<S>) -> Result<bool, Error>
 
 // Whether each value of the connections is in its range.
 fn are_good_connections<S: Alter>(conn: &mut Connection<S>) -> Result<bool, Error>
-    ensures seen { SeesGood table.Connections (BeginsSchema nine) S.Store conn.old conn.new result }
-    ensures looked { HasLookCauseOver (BeginsSchema nine) [] S.Store conn.old conn.new result }
+    ensures seen { SeesOver S.Store conn.old conn.new result (good_table table.Connections) }
+    ensures looked { HasLookCauseIn (HasGood BeginsNine []) S.Store conn.old conn.new result }
 {
     let rows = unordered_connection_rows(conn)?;
     Ok(are_connections(&rows))
@@ -71,8 +70,8 @@ fn are_further(rows: &[Row]) -> bool
 
 // Whether each value of the further groups is in its range.
 fn are_good_further<S: Alter>(conn: &mut Connection<S>) -> Result<bool, Error>
-    ensures seen { SeesGood table.AgentGroups IsBookSchema S.Store conn.old conn.new result }
-    ensures looked { HasLookCauseOver IsBookSchema [] S.Store conn.old conn.new result }
+    ensures seen { SeesOver S.Store conn.old conn.new result (good_table table.AgentGroups) }
+    ensures looked { HasLookCauseIn (HasGood IsBookSchema []) S.Store conn.old conn.new result }
 {
     let rows = further_rows(conn)?;
     Ok(are_further(&rows))
@@ -144,8 +143,7 @@ fn page_after<S: Alter>(
     number: u64,
 ) -> Result<Page, Error>
     requires number { Fits number }
-    ensures seen { SeesRows (BeginsSchema nine) S.Store conn.old conn.new result
-        (IsPageOfLog log number) }
+    ensures seen { SeesOver S.Store conn.old conn.new result (log_page log number) }
     ensures fits { IfOk result (λ page. PageFits page) }
     ensures rises { IfOk result (λ page. IsPageAbove number page) }
     ensures looked { HasLookCauseIn (IsPaged log) S.Store conn.old conn.new result }
@@ -160,8 +158,7 @@ fn are_pages_good<S: Alter>(
     conn: &mut Connection<S>,
     log: Log,
 ) -> Result<bool, Error>
-    ensures seen { SeesRows (BeginsSchema nine) S.Store conn.old conn.new result
-        (FindsGoodAfter log) }
+    ensures seen { SeesOver S.Store conn.old conn.new result (good_pages log) }
     ensures looked { HasLookCauseIn (IsPaged log) S.Store conn.old conn.new result }
 {
     let mut number = 0;
@@ -181,10 +178,8 @@ fn is_good_log<S: Alter>(
     conn: &mut Connection<S>,
     log: Log,
 ) -> Result<bool, Error>
-    ensures seen { SeesGood (table_of_log log) (BeginsSchema nine) S.Store conn.old conn.new
-        result }
-    ensures looked { HasLookCauseIn
-        (HasCanonical (BeginsSchema nine)) S.Store conn.old conn.new result }
+    ensures seen { SeesOver S.Store conn.old conn.new result (good_log log) }
+    ensures looked { HasLookCauseIn (HasCanonical BeginsNine) S.Store conn.old conn.new result }
 {
     let low = low_rows(log, conn)?;
     if low.is_empty() {
@@ -200,9 +195,8 @@ fn is_good_table<S: Alter>(
     conn: &mut Connection<S>,
     table: Table,
 ) -> Result<bool, Error>
-    ensures seen { SeesGood table (λ s. Covers s table) S.Store conn.old conn.new result }
-    ensures looked { HasLookCauseIn
-        (HasCanonical (λ s. Covers s table)) S.Store conn.old conn.new result }
+    ensures seen { SeesOver S.Store conn.old conn.new result (good_table table) }
+    ensures looked { HasLookCauseIn (HasCanonicalTable table) S.Store conn.old conn.new result }
 {
     match table {
         Table::Meta => is_good_meta(conn),
@@ -225,10 +219,9 @@ fn bad_table<S: Alter>(
     conn: &mut Connection<S>,
     tables: &[Table],
 ) -> Result<Option<Table>, Error>
-    ensures seen { SeesOver (CoversAll tables.now) S.Store conn.old conn.new result
-        (IsBadOf tables.now) }
-    ensures looked { HasLookCauseIn
-        (HasCanonical (CoversAll tables.now)) S.Store conn.old conn.new result }
+    ensures seen { SeesOver S.Store conn.old conn.new result (bad_table tables.now) }
+    ensures looked { HasLookCauseIn (HasCanonicalTables tables.now)
+        S.Store conn.old conn.new result }
 {
     for table in tables {
         let good = is_good_table(kept, conn, *table)?;
@@ -270,7 +263,7 @@ fn misplaced<S: Alter>(
     conn: &mut Connection<S>,
     version: Version,
 ) -> Result<Option<AdoptFault>, Error>
-    ensures seen { SeesPlaces version S.Store conn.old conn.new result }
+    ensures seen { SeesOver S.Store conn.old conn.new result (misplaced_in version) }
     ensures looked { HasLookCauseIn (HasGoodTables version) S.Store conn.old conn.new result }
 {
     match version {
@@ -283,9 +276,9 @@ fn found_misplaced<S: Alter>(
     alloc: Global,
     conn: &mut Connection<S>,
 ) -> Result<Option<AdoptFault>, Error>
-    ensures seen { SeesPlaces Version.Second S.Store conn.old conn.new result }
-    ensures looked { HasLookCauseIn
-        (HasGoodTables Version.Second) S.Store conn.old conn.new result }
+    ensures seen { SeesOver S.Store conn.old conn.new result (misplaced_in Version.Second) }
+    ensures looked { HasLookCauseIn (HasGoodTables Version.Second)
+        S.Store conn.old conn.new result }
 {
     let placed = are_further_placed(alloc, conn)?;
     if placed {
@@ -299,10 +292,9 @@ fn ranks_misplaced<S: Alter>(
     alloc: Global,
     conn: &mut Connection<S>,
 ) -> Result<Option<AdoptFault>, Error>
-    ensures seen { SeesOver IsBookSchema S.Store conn.old conn.new result
-        (λ d fault. is_beside d.trees ≡ true → IsPlaceFound Version.Second d fault) }
-    ensures looked { HasLookCauseIn
-        (HasGoodTables Version.Second) S.Store conn.old conn.new result }
+    ensures seen { SeesOver S.Store conn.old conn.new result ranks_misplaced }
+    ensures looked { HasLookCauseIn (HasGoodTables Version.Second)
+        S.Store conn.old conn.new result }
 {
     let placed = are_priorities_placed(alloc, conn)?;
     if placed {
@@ -317,10 +309,8 @@ fn bad_row<S: Alter>(
     conn: &mut Connection<S>,
     version: Version,
 ) -> Result<Option<AdoptFault>, Error>
-    ensures seen { SeesOver (IsSchemaOf version) S.Store conn.old conn.new result
-        (IsRowFound version) }
-    ensures looked { HasLookCauseIn
-        (HasCanonical (IsSchemaOf version)) S.Store conn.old conn.new result }
+    ensures seen { SeesOver S.Store conn.old conn.new result (bad_row version) }
+    ensures looked { HasLookCauseIn (HasCanonicalOf version) S.Store conn.old conn.new result }
 {
     let mut kept = KeptReader::new(alloc);
     let bad = bad_table(&mut kept, conn, tables_of(version))?;
@@ -346,8 +336,8 @@ fn version_read_in(rows: &[Row]) -> VersionRead
 }
 
 fn version_read<S: Alter>(conn: &mut Connection<S>) -> Result<VersionRead, Error>
-    ensures seen { SeesOver BeginsAsBook S.Store conn.old conn.new result IsVersionRead }
-    ensures looked { HasLookCauseOver BeginsAsBook [] S.Store conn.old conn.new result }
+    ensures seen { SeesOver S.Store conn.old conn.new result (over BeginsAsBook IsVersionRead) }
+    ensures looked { HasLookCauseIn (HasGood BeginsAsBook []) S.Store conn.old conn.new result }
 {
     let rows = version_rows(conn)?;
     Ok(version_read_in(&rows))
@@ -369,8 +359,7 @@ fn tables_in_memory(alloc: Global, version: Version) -> Result<Connection<MemSto
 
 // How far the tables are those of an old book.
 fn compared_to_old(alloc: Global, schema: &Schema) -> Result<Likeness, Error>
-    ensures like { schema.now ≢ book_schema
-        → IfOk result (λ likeness. IsLike schema.now likeness) }
+    ensures like { schema.now ≢ book_schema → IfOk result (λ likeness. IsLike schema.now likeness) }
     ensures lacks { IfErr result IsMemory }
 {
     let book = tables_in_memory(alloc, Version::First)?;
@@ -398,9 +387,8 @@ fn compared(alloc: Global, schema: &Schema) -> Result<Likeness, Error>
 
 // Why a database whose first table alone is that of a book isn't adopted.
 fn found_in_first<S: Alter>(conn: &mut Connection<S>) -> Result<Found, Error>
-    ensures seen { SeesOver (λ s. IsLike s Likeness.First) S.Store conn.old conn.new result
-        IsFound }
-    ensures looked { HasLookCauseOver BeginsAsBook [] S.Store conn.old conn.new result }
+    ensures seen { SeesOver S.Store conn.old conn.new result (over IsLikeFirst IsFound) }
+    ensures looked { HasLookCauseIn (HasGood BeginsAsBook []) S.Store conn.old conn.new result }
 {
     match version_read(conn)? {
         VersionRead::Faulty(fault) => Ok(Found::Fault(fault)),
@@ -414,10 +402,8 @@ fn found_in_rows<S: Alter>(
     conn: &mut Connection<S>,
     version: Version,
 ) -> Result<Found, Error>
-    ensures seen { SeesOver (IsSchemaOf version) S.Store conn.old conn.new result
-        (λ d found. IsVersionIn d.trees (Some (number_of version)) → IsFound d found) }
-    ensures looked { HasLookCauseIn
-        (HasCanonical (IsSchemaOf version)) S.Store conn.old conn.new result }
+    ensures seen { SeesOver S.Store conn.old conn.new result (found_in_rows version) }
+    ensures looked { HasLookCauseIn (HasCanonicalOf version) S.Store conn.old conn.new result }
 {
     match bad_row(alloc, conn, version)? {
         Some(fault) => Ok(Found::Fault(fault)),
@@ -431,9 +417,8 @@ fn found_in_whole<S: Alter>(
     conn: &mut Connection<S>,
     version: Version,
 ) -> Result<Found, Error>
-    ensures seen { SeesOver (IsSchemaOf version) S.Store conn.old conn.new result IsFound }
-    ensures looked { HasLookCauseIn
-        (HasCanonical (IsSchemaOf version)) S.Store conn.old conn.new result }
+    ensures seen { SeesOver S.Store conn.old conn.new result (over (IsSchemaOf version) IsFound) }
+    ensures looked { HasLookCauseIn (HasCanonicalOf version) S.Store conn.old conn.new result }
 {
     let read = version_read(conn)?;
     match read {
@@ -445,8 +430,7 @@ fn found_in_whole<S: Alter>(
 
 // What is found where the store works.
 fn found_in<S: Alter>(alloc: Global, conn: &mut Connection<S>) -> Result<Found, Error>
-    ensures seen { Sees (state S.Store conn.old).now (state S.Store conn.old)
-        (state S.Store conn.new) result (IsFound (state S.Store conn.old).now) }
+    ensures seen { SeesNow S.Store conn.old conn.new result IsFound }
     ensures looked { HasLookCauseIn IsCanonical S.Store conn.old conn.new result }
 {
     if !has_meta(conn.schema()) {
@@ -463,8 +447,7 @@ fn found_in<S: Alter>(alloc: Global, conn: &mut Connection<S>) -> Result<Found, 
 /// Whether a connection holds a book, and of which version, or else why it isn't adopted. Nothing is changed.
 pub fn look_over<S: Alter>(alloc: Global, conn: &mut Connection<S>) -> Result<Found, Error>
     requires { conn.old.in_transaction ≡ false }
-    ensures looked { HasLooked (state S.Store conn.old) (state S.Store conn.new) result
-        IsFound }
+    ensures looked { HasLooked (state S.Store conn.old) (state S.Store conn.new) result IsFound }
     ensures cause { HasLookCauseIn IsCanonical S.Store conn.old conn.new result }
 {
     // The promises of these two hold of the connection before anything is read; their answers aren't needed.

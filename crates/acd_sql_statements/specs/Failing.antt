@@ -18,8 +18,12 @@ use Rattle.sqlite.specs.Effect.{Database}
 use Rattle.sqlite.specs.Listing.{understood}
 use Rattle.sqlite.specs.State.{State, shows_rows, text_of}
 use Rattle.acd_sql_columns.specs.declared.meta.Meta.{Meta}
-use Rattle.acd_sql_columns.specs.declared.texts.TheConstants.{INSERT_META}
+use Rattle.acd_sql_columns.specs.declared.texts.TheConstants.{INSERT_META, UPDATE_VERSION}
 use Rattle.acd_sql_columns.specs.Rows.{meta_values}
+
+-- a text of SQL, with its parameters
+abbrev pub Text : Type 0
+Text = List ℕ × Row
 
 -- it found no memory
 abbrev pub IsMemory : Error → Type 0
@@ -61,5 +65,9 @@ abbrev pub FailsToWrite : State → State → List ℕ → Row → Error → Typ
 FailsToWrite old new sql params e = IsMemory e ⊎ (StoreHasFailed old new ⊎ Refuses old.step_limit old.now sql params)
 
 -- why the first row, of the limits and the counters, isn't written
-abbrev pub FailsToStart : State → State → Meta → Error → Type 0
-FailsToStart old new m = FailsToWrite old new INSERT_META.now (meta_values m)
+abbrev pub FailsToStart : Meta → State → State → Error → Type 0
+FailsToStart m old new = FailsToWrite old new INSERT_META.now (meta_values m)
+
+-- why version 2 isn't named
+abbrev pub FailsToSetVersion : State → State → Error → Type 0
+FailsToSetVersion old new = FailsToWrite old new UPDATE_VERSION.now []

@@ -1,5 +1,5 @@
--- Why a look at a database fails, whatever that holds.
-use Rattle.std.specs.Prelude.{◌≡◌, ◌⊎◌, ℕ, ◌≤◌, true, List, Result, IfErr, IsSome}
+-- What is looked for in a database, whatever that holds, and why a look fails.
+use Rattle.std.specs.Prelude.{◌≡◌, ◌⊎◌, ℕ, true, List, [], ◌∷◌, Result, IfErr, IsSome}
 use Rattle.sqlite_disk.specs.Disk.{MoreFaults}
 use Rattle.sqlite_value.specs.Order.{Row}
 use Rattle.sqlite_trees.specs.declared.store.Store.{Ghosts}
@@ -11,11 +11,28 @@ use Rattle.sqlite.specs.State.{State, HasCleanDisk}
 use Rattle.sqlite.specs.declared.error.Error.{Error}
 use Rattle.acd_terms.specs.Lists.{Every}
 use Rattle.acd_sql_columns.specs.declared.tables.Table.{Table}
-use Rattle.acd_sql_columns.specs.AnyRows.{is_good_in}
-use Rattle.acd_sql_columns.specs.Schema.{BeginsSchema}
-use Rattle.acd_sql_columns.specs.Seeing.{HasDatabase, Sees}
-use Rattle.acd_sql_statements.specs.Failing.{IsMemory}
+use Rattle.acd_sql_columns.specs.AnyRows.{is_good_in, Covers}
+use Rattle.acd_sql_columns.specs.Schema.{nine, BeginsSchema}
+use Rattle.acd_sql_columns.specs.Seeing.{HasDatabase}
+use Rattle.acd_sql_statements.specs.Failing.{IsMemory, Text}
 use Rattle.acd_sql_statements.specs.Reading.{RefusesToShow, Spares}
+
+-- ---- what is looked for
+
+-- the schemas over which it is looked for, and what the answer is of each database
+pub record Look (A : Type 0) : Type 1 where
+  pub Over : Schema → Type 0
+  pub IsAnswer : Database → A → Type 0
+
+-- the look at these schemas with this answer
+abbrev pub over : {A : Type 0} → (Schema → Type 0) → (Database → A → Type 0) → Look A
+over Over IsAnswer = record { Over = Over; IsAnswer = IsAnswer }
+
+-- it begins with the nine tables of version 1
+abbrev pub BeginsNine : Schema → Type 0
+BeginsNine = BeginsSchema nine
+
+-- ---- why a look fails
 
 -- no memory, a fault of the store, or a limit of steps that was set
 abbrev pub FailsToLook : State → State → Error → Type 0
@@ -26,16 +43,21 @@ pub record HasLookCause {A : Type 0} (Is : Database → Type 0) (old new : State
   pub spares : Spares old new
   pub cause : HasCleanDisk new → (d : Database) → HasDatabase old d → Is d → IfErr result (FailsToLook old new)
 
+-- the same of what a connection holds before and after
+abbrev pub HasLookCauseIn : {S A : Type 0} → (Database → Type 0) → Ghosts S → Held S → Held S → Result A Error → Type 0
+HasLookCauseIn Is g old new result = HasLookCause Is (state g old) (state g new) result
+
 -- its schema is one of these, and each value of these tables is in its range
 abbrev pub HasGood : (Schema → Type 0) → List Table → Database → Type 0
 HasGood Has tables d = Has d.schema × Every (λ t. is_good_in t d.trees ≡ true) tables
 
-abbrev pub HasLookCauseOver : {S A : Type 0} → (Schema → Type 0) → List Table → Ghosts S → Held S → Held S → Result A Error → Type 0
-HasLookCauseOver Has tables g old new result = HasLookCause (HasGood Has tables) (state g old) (state g new) result
+-- the table is there as a book has it, and each of its values is in its range
+abbrev pub HasGoodOne : Table → Database → Type 0
+HasGoodOne t = HasGood (λ s. Covers s t) (t ∷ [])
 
--- the view of a look at each database of such a schema
-abbrev pub SeesOver : {S A : Type 0} → (Schema → Type 0) → Ghosts S → Held S → Held S → Result A Error → (Database → A → Type 0) → Type 0
-SeesOver Has g old new result IsAnswer = (d : Database) → Has d.schema → Sees d (state g old) (state g new) result (IsAnswer d)
+-- the same at a database on which the store doesn't refuse to answer the text
+abbrev pub HasLookCauseAt : {S A : Type 0} → Ghosts S → Held S → Held S → Result A Error → Text → Type 0
+HasLookCauseAt g old new result text = HasLookCauseIn (λ d. ¬ (RefusesToShow d text.0 text.1)) g old new result
 
 -- over no database that begins with these tables the store refuses to answer the text
 abbrev pub IsAnsweredOver : List Made → List ℕ → Row → Type 0

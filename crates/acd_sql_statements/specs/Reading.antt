@@ -1,5 +1,5 @@
 -- Why a read between transactions fails.
-use Rattle.std.specs.Prelude.{◌≡◌, ◌⊎◌, ℕ, ◌≤◌, false, List, [], map, Option, None, Some, Result, Ok, IfErr, IsSome, ⊤}
+use Rattle.std.specs.Prelude.{◌≡◌, ◌⊎◌, ℕ, ◌≤◌, false, List, [], ◌∷◌, map, take, option_to_list, Option, None, Some, Result, Ok, IfErr, IsSome, ⊤}
 use Rattle.sqlite_disk.specs.Disk.{MoreFaults}
 use Rattle.sqlite_value.specs.Order.{Row}
 use Rattle.sqlite_rules.specs.Lists.{Has}
@@ -17,10 +17,14 @@ use Rattle.sqlite.specs.Listing.{understood, reads_listing, IsSourceOf}
 use Rattle.sqlite.specs.State.{State, HasCleanDisk}
 use Rattle.acd_terms.specs.Groups.{are_groups}
 use Rattle.acd_book.specs.Content.{Content}
+use Rattle.acd_sql_columns.specs.declared.meta.Meta.{Meta}
 use Rattle.acd_sql_columns.specs.declared.relations.AgentRow.{AgentRow}
+use Rattle.acd_sql_columns.specs.declared.tables.Table.TheVariants as table
+use Rattle.acd_sql_columns.specs.AnyRows.{is_good}
 use Rattle.acd_sql_columns.specs.Descriptions.{Description}
 use Rattle.acd_sql_columns.specs.Transactions.{Fits, HoldsContent}
 use Rattle.acd_sql_columns.specs.Relations.{joined_agent, relations_of}
+use Rattle.acd_sql_columns.specs.Rows.{meta_shown}
 use Rattle.acd_sql_columns.specs.Schema.{book_schema}
 use Rattle.acd_sql_columns.specs.Values.{whole_at}
 use Rattle.acd_sql_statements.specs.Failing.{IsMemory, StoreHasFailed, IsUnreadText}
@@ -34,12 +38,17 @@ IsUnanswered (Select q names) db params = (accepts_program db.schema (lets_of q)
 IsUnanswered (Rows values width names) db params = ⊥
 IsUnanswered _ db params = ⊤
 
+-- it returns rows of what it writes
+abbrev pub ReturnsRows : Compiled → Type 0
+ReturnsRows c = (what : Returning) × (c.returning ≡ Some what)
+
+-- a value or a sum of it is against it, in the tables or in the list of them that it reads
+abbrev pub IsUnansweredOn : Database → List ℕ → Compiled → Row → Type 0
+IsUnansweredOn d sql c params = (now : ℕ) × (db : Database) × IsSourceOf (reads_listing d.schema sql) d db × IsUnanswered c.command db (timed params c.formats now)
+
 -- the store refuses to answer the text on this database
 unfoldable pub RefusesToShow : Database → List ℕ → Row → Type 0
-RefusesToShow d sql params =
-    IsUnreadText d.schema sql params
-    ⊎ ((c : Compiled) × (understood d.schema sql ≡ Ok c)
-    × (((what : Returning) × (c.returning ≡ Some what)) ⊎ ((now : ℕ) × (db : Database) × IsSourceOf (reads_listing d.schema sql) d db × IsUnanswered c.command db (timed params c.formats now))))
+RefusesToShow d sql params = IsUnreadText d.schema sql params ⊎ ((c : Compiled) × (understood d.schema sql ≡ Ok c) × (ReturnsRows c ⊎ IsUnansweredOn d sql c params))
 
 -- why a query fails
 abbrev pub FailsToShow : State → State → List ℕ → Row → Error → Type 0
@@ -54,6 +63,14 @@ IsAnswered sql params = (d : Database) → d.schema ≡ book_schema → ¬ (Refu
 -- one of them represents no record
 abbrev pub HasBad : {R : Type 0} → (Row → Option R) → List Row → Type 0
 HasBad in_row rows = (row : Row) × Has rows row × (in_row row ≡ None)
+
+-- the record that the first of them stands for, where there is one
+abbrev pub IsFirst : {R : Type 0} → (Row → Option R) → List Row → Option R → Type 0
+IsFirst in_row rows found = map Some (option_to_list found) ≡ map in_row (take 1 rows)
+
+-- where it is one row of limits and counters, a value is out of its range
+abbrev pub HasBadMeta : List Row → Type 0
+HasBadMeta rows = (m : Meta) → rows ≡ meta_shown m ∷ [] → is_good table.Meta (meta_shown m) ≡ false
 
 -- why no records are made of them
 abbrev pub FailsToDecode : {R : Type 0} → (Row → Option R) → List Row → Error → Type 0

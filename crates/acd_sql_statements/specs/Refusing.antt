@@ -32,6 +32,10 @@ pub record RefusesOn (sql : List ℕ) (params : Row) (limit : Option ℕ) (r : R
 abbrev pub without_further : ℕ → Relations → Relations
 without_further agent r = with_part table.AgentGroups (filter (λ (p : ℕ × ℕ). not (p.0 == agent)) r.further) r
 
+-- further groups of an agent put in
+abbrev pub with_further_groups : ℕ → List ℕ → Relations → Relations
+with_further_groups agent gs r = with_part table.AgentGroups (all_put (map (λ (g : ℕ). (agent, g)) gs) r.further) r
+
 -- no record has its key
 abbrev pub HasNone : {R : Type 0} → Description R → R → Relations → Type 0
 HasNone d x r = filter (λ y. d.key y == d.key x) (d.records r) ≡ []
@@ -61,8 +65,7 @@ RefusesGroup g limit r = RefusesPut groups UPDATE_GROUP.now (group_part g) limit
 -- one of an agent's further groups, after those before it
 abbrev pub RefusesFurther : ℕ → List ℕ → Option ℕ → Relations → Type 0
 RefusesFurther agent gs limit r =
-    (i : ℕ) × (i < length gs) × RefusesOn INSERT_AGENT_GROUP.now (further_values (agent, get_or gs i 0)) limit
-    (with_part table.AgentGroups (all_put (map (λ (g : ℕ). (agent, g)) (take i gs)) r.further) r)
+    (i : ℕ) × (i < length gs) × RefusesOn INSERT_AGENT_GROUP.now (further_values (agent, get_or gs i 0)) limit (with_further_groups agent (take i gs) r)
 
 -- an agent, its further groups that are removed after it, or those that are put after that
 abbrev pub RefusesAgent : AgentRecord → Option ℕ → Relations → Type 0

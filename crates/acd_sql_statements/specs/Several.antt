@@ -6,7 +6,7 @@ use Rattle.acd_sql_columns.specs.Relations.{Relations}
 use Rattle.acd_sql_columns.specs.Tables.{events}
 use Rattle.acd_sql_columns.specs.declared.texts.TheConstants.{INSERT_EVENT}
 use Rattle.acd_sql_statements.specs.Refusing.{RefusesOn}
-use Rattle.acd_sql_statements.specs.Writing.{with_put}
+use Rattle.acd_sql_statements.specs.Writing.{Writing, with_put}
 use Rattle.acd_sql_statements.specs.declared.several.TheConstants.{INSERT_TWO_EVENTS, INSERT_THREE_EVENTS, INSERT_FOUR_EVENTS}
 
 -- the values of each, one after the other
@@ -26,3 +26,7 @@ with_all (e ∷ es) r = with_all es (with_put events e r)
 -- the store refuses to put them
 abbrev pub RefusesEvents : List Event → Option ℕ → Relations → Type 0
 RefusesEvents es limit r = RefusesOn (text_of (length es)) (values_of es) limit r
+
+-- the statement that puts them
+abbrev pub inserting_events : List Event → Writing
+inserting_events es = record { change = with_all es; Refused = RefusesEvents es }

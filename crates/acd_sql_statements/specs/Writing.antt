@@ -1,5 +1,5 @@
--- A statement: what it leaves of what the tables held before.
-use Rattle.std.specs.Prelude.{ℕ, Result, OnOk}
+-- What a statement leaves of what the tables held.
+use Rattle.std.specs.Prelude.{ℕ, Option, Result, OnOk}
 use Rattle.std.specs.Ordering.{nat_cmp}
 use Rattle.sqlite.specs.State.{State, HasCleanDisk}
 use Rattle.sqlite.specs.declared.error.Error.{Error}
@@ -13,7 +13,12 @@ use Rattle.acd_sql_columns.specs.declared.tables.Table.TheVariants as table
 use Rattle.acd_sql_columns.specs.Transactions.{HoldsUncommitted}
 use Rattle.acd_sql_columns.specs.Descriptions.{Description}
 
--- where it succeeds, a transaction that saw these relations sees their new ones
+-- a statement of a transaction that sees these relations: what it makes of them, and when the store refuses it, under a limit of steps
+pub record Writing : Type 1 where
+  pub change : Relations → Relations
+  pub Refused : Option ℕ → Relations → Type 0
+
+-- where it succeeds, a transaction that saw these relations sees what was made of them
 abbrev pub LeavesRelations : State → State → Result (Unit {0}) Error → (Relations → Relations) → Type 0
 LeavesRelations old new result change = HasCleanDisk new → OnOk result ((r : Relations) → HoldsUncommitted old r → HoldsUncommitted new (change r))
 

@@ -1,15 +1,13 @@
 //! The queries that look at a connection before it is adopted as a book.
 
-ghost use Rattle.std.specs.Prelude.{◌≡◌, ◌∷◌, [], map, codes, IsPermutation};
+ghost use Rattle.std.specs.Prelude.{◌≡◌, [], codes};
 ghost use Rattle.std.specs.Str.{bytes_eq};
-ghost use Rattle.sqlite_value.specs.Order.{column};
 ghost use Rattle.acd_sql_columns.specs.declared.tables.Log.TheVariants as log;
 ghost use Rattle.acd_sql_columns.specs.declared.tables.Table.TheVariants as table;
-ghost use Rattle.acd_sql_columns.specs.AnyRows.{has_meta, rows_in, BeginsAsBook, FindsLow};
-ghost use Rattle.acd_sql_columns.specs.Content.{tree_of};
-ghost use Rattle.acd_sql_columns.specs.Schema.{nine, BeginsSchema};
+ghost use Rattle.acd_sql_columns.specs.AnyRows.{has_meta, BeginsAsBook};
 ghost use Rattle.acd_sql_statements.specs.Between.{LooksAt, IsBookSchema};
-ghost use Rattle.acd_sql_statements.specs.Looking.{HasLookCauseOver};
+ghost use Rattle.acd_sql_statements.specs.Looking.{BeginsNine, HasGood, HasLookCauseIn};
+ghost use Rattle.acd_sql_statements.specs.Queried.{low_rows, rows_of, versions};
 
 use crate::read::read;
 use acd_sql_columns::texts::{
@@ -35,10 +33,8 @@ pub fn has_meta(schema: &Schema) -> bool
 
 /// The versions that the table holds.
 pub fn version_rows<S: Alter>(conn: &mut Connection<S>) -> Result<Vec<Row>, Error>
-    ensures looks { LooksAt BeginsAsBook S.Store conn.old conn.new result
-        (λ d rows. IsPermutation
-        (map (λ r. column r 2 ∷ []) (d.trees (tree_of table.Meta))) rows.items) }
-    ensures looked { HasLookCauseOver BeginsAsBook [] S.Store conn.old conn.new result }
+    ensures looks { LooksAt S.Store conn.old conn.new result versions }
+    ensures looked { HasLookCauseIn (HasGood BeginsAsBook []) S.Store conn.old conn.new result }
 {
     read(conn, SELECT_VERSION, &[])
 }
@@ -46,36 +42,32 @@ pub fn version_rows<S: Alter>(conn: &mut Connection<S>) -> Result<Vec<Row>, Erro
 /// The rows of connections in the order of the file. Their key isn't the number of a row, so that to put them in its
 /// order takes longer than to read them.
 pub fn unordered_connection_rows<S: Alter>(conn: &mut Connection<S>) -> Result<Vec<Row>, Error>
-    ensures looks { LooksAt (BeginsSchema nine) S.Store conn.old conn.new result
-        (λ d rows. IsPermutation (rows_in table.Connections d.trees) rows.items) }
-    ensures looked { HasLookCauseOver (BeginsSchema nine) [] S.Store conn.old conn.new result }
+    ensures looks { LooksAt S.Store conn.old conn.new result (rows_of table.Connections) }
+    ensures looked { HasLookCauseIn (HasGood BeginsNine []) S.Store conn.old conn.new result }
 {
     read(conn, SELECT_STANDING_CONNECTIONS, &[])
 }
 
 /// The rows of further groups, in the order of the file.
 pub fn further_rows<S: Alter>(conn: &mut Connection<S>) -> Result<Vec<Row>, Error>
-    ensures looks { LooksAt IsBookSchema S.Store conn.old conn.new result
-        (λ d rows. IsPermutation (rows_in table.AgentGroups d.trees) rows.items) }
-    ensures looked { HasLookCauseOver IsBookSchema [] S.Store conn.old conn.new result }
+    ensures looks { LooksAt S.Store conn.old conn.new result (rows_of table.AgentGroups) }
+    ensures looked { HasLookCauseIn (HasGood IsBookSchema []) S.Store conn.old conn.new result }
 {
     read(conn, SELECT_STANDING_AGENT_GROUPS, &[])
 }
 
 /// An event whose number is below 1.
 pub(crate) fn low_event_rows<S: Alter>(conn: &mut Connection<S>) -> Result<Vec<Row>, Error>
-    ensures looks { LooksAt (BeginsSchema nine) S.Store conn.old conn.new result
-        (λ d rows. FindsLow log.Events d.trees rows.items) }
-    ensures looked { HasLookCauseOver (BeginsSchema nine) [] S.Store conn.old conn.new result }
+    ensures looks { LooksAt S.Store conn.old conn.new result (low_rows log.Events) }
+    ensures looked { HasLookCauseIn (HasGood BeginsNine []) S.Store conn.old conn.new result }
 {
     read(conn, SELECT_LOW_EVENT, &[])
 }
 
 /// A kept record whose stamp is below 1.
 pub(crate) fn low_kept_rows<S: Alter>(conn: &mut Connection<S>) -> Result<Vec<Row>, Error>
-    ensures looks { LooksAt (BeginsSchema nine) S.Store conn.old conn.new result
-        (λ d rows. FindsLow log.Kept d.trees rows.items) }
-    ensures looked { HasLookCauseOver (BeginsSchema nine) [] S.Store conn.old conn.new result }
+    ensures looks { LooksAt S.Store conn.old conn.new result (low_rows log.Kept) }
+    ensures looked { HasLookCauseIn (HasGood BeginsNine []) S.Store conn.old conn.new result }
 {
     read(conn, SELECT_LOW_KEPT, &[])
 }

@@ -3,14 +3,13 @@
 //! A query asks for a number or a limit that no INTEGER column can hold as the greatest that one can. No number is
 //! above that, and no answer is so long, which is checked before the rows are handed on.
 
-ghost use Rattle.std.specs.Prelude.{◌≡◌, ◌⊎◌, ◌-◌, ◌^◌, ◌<◌, [], length, map, take, filter, Some, IfErr, IfOk, OnOk};
-ghost use Rattle.acd_model.specs.Scans.{monitor_of};
-ghost use Rattle.acd_book.specs.Content.{events_after, events_of_monitor, is_at_after, kept_of, records_after};
-ghost use Rattle.acd_sql_columns.specs.Rows.{event_values, kept_values};
+ghost use Rattle.std.specs.Prelude.{◌≡◌, ◌⊎◌, ◌-◌, ◌^◌, ◌<◌, [], length, IfErr, IfOk, OnOk};
+ghost use Rattle.acd_book.specs.Content.{events_page, kept_under, monitor_page, records_page};
 ghost use Rattle.acd_sql_columns.specs.Transactions.{Fits};
 ghost use Rattle.acd_sql_statements.specs.Failing.{IsMemory};
 ghost use Rattle.acd_sql_statements.specs.Reading.{HasFitting};
-ghost use Rattle.acd_sql_statements.specs.Between.{LooksUp};
+ghost use Rattle.acd_sql_statements.specs.Between.{LooksUpList, LooksUpItem};
+ghost use Rattle.acd_sql_statements.specs.Queried.{event_rows, event_rows_at, events_page_at, kept_rows, monitor_at};
 
 use crate::fitting::{fits, number_of};
 use crate::query::{event_rows, event_rows_at, kept_row, kept_rows, monitor_row};
@@ -49,8 +48,7 @@ fn event_page<S: Alter>(
     number: u64,
     limit: u64,
 ) -> Result<Vec<Row>, Error>
-    ensures { LooksUp S.Store conn.old conn.new result
-        (λ c rows. rows.items ≡ map event_values (events_after c.events number limit)) }
+    ensures { LooksUpList S.Store conn.old conn.new result (event_rows number limit) }
 {
     let rows = event_rows(conn, number.min(GREATEST), limit.min(GREATEST))?;
     meant(rows, number, limit)
@@ -62,9 +60,7 @@ fn event_page_at<S: Alter>(
     number: u64,
     limit: u64,
 ) -> Result<Vec<Row>, Error>
-    ensures { LooksUp S.Store conn.old conn.new result
-        (λ c rows. rows.items
-        ≡ map event_values (take limit (filter (is_at_after (Some device) number) c.events))) }
+    ensures { LooksUpList S.Store conn.old conn.new result (event_rows_at device number limit) }
 {
     let rows = event_rows_at(conn, device, number.min(GREATEST), limit.min(GREATEST))?;
     meant(rows, number, limit)
@@ -72,8 +68,7 @@ fn event_page_at<S: Alter>(
 
 // The rows of the first kept records above a stamp.
 fn kept_page<S: Alter>(conn: &mut Connection<S>, stamp: u64, limit: u64) -> Result<Vec<Row>, Error>
-    ensures { LooksUp S.Store conn.old conn.new result
-        (λ c rows. rows.items ≡ map kept_values (records_after c.kept stamp limit)) }
+    ensures { LooksUpList S.Store conn.old conn.new result (kept_rows stamp limit) }
 {
     let rows = kept_rows(conn, stamp.min(GREATEST), limit.min(GREATEST))?;
     meant(rows, stamp, limit)
@@ -86,8 +81,7 @@ pub fn kept_under<S: Alter>(
     requester: &Requester,
     invoke: Invoke,
 ) -> Result<Option<Kept>, Error>
-    ensures { LooksUp S.Store conn.old conn.new result
-        (λ c found. found ≡ kept_of c.kept requester.now invoke) }
+    ensures { LooksUpItem S.Store conn.old conn.new result (kept_under requester.now invoke) }
 {
     let rows = kept_row(conn, requester, invoke)?;
     first(alloc, &rows)
@@ -100,8 +94,7 @@ pub fn records_after<S: Alter>(
     stamp: u64,
     limit: usize,
 ) -> Result<Vec<Kept>, Error>
-    ensures { LooksUp S.Store conn.old conn.new result
-        (λ c records. records.items ≡ records_after c.kept stamp limit) }
+    ensures { LooksUpList S.Store conn.old conn.new result (records_page stamp limit) }
 {
     let rows = kept_page(conn, stamp, limit as u64)?;
     records(alloc, &rows)
@@ -114,8 +107,7 @@ pub fn events_after<S: Alter>(
     number: u64,
     limit: usize,
 ) -> Result<Vec<Event>, Error>
-    ensures { LooksUp S.Store conn.old conn.new result
-        (λ c events. events.items ≡ events_after c.events number limit) }
+    ensures { LooksUpList S.Store conn.old conn.new result (events_page number limit) }
 {
     let rows = event_page(conn, number, limit as u64)?;
     records(alloc, &rows)
@@ -129,9 +121,7 @@ pub fn events_at<S: Alter>(
     number: u64,
     limit: usize,
 ) -> Result<Vec<Event>, Error>
-    ensures { LooksUp S.Store conn.old conn.new result
-        (λ c events. events.items ≡ take limit
-        (filter (is_at_after (Some device) number) c.events)) }
+    ensures { LooksUpList S.Store conn.old conn.new result (events_page_at device number limit) }
 {
     let rows = event_page_at(conn, device, number, limit as u64)?;
     records(alloc, &rows)
@@ -143,8 +133,7 @@ pub fn monitor_at<S: Alter>(
     conn: &mut Connection<S>,
     number: u64,
 ) -> Result<Option<MonitorRecord>, Error>
-    ensures { LooksUp S.Store conn.old conn.new result
-        (λ c found. found ≡ monitor_of c.rows number) }
+    ensures { LooksUpItem S.Store conn.old conn.new result (monitor_at number) }
 {
     if !fits(number) {
         let monitors = select::records::<MonitorRecord, S>(alloc, conn)?;
@@ -162,8 +151,7 @@ pub fn events_watched<S: Alter>(
     number: u64,
     limit: usize,
 ) -> Result<Vec<Event>, Error>
-    ensures { LooksUp S.Store conn.old conn.new result
-        (λ c events. events.items ≡ events_of_monitor c monitor number limit) }
+    ensures { LooksUpList S.Store conn.old conn.new result (monitor_page monitor number limit) }
 {
     match monitor_at(alloc, conn, monitor)? {
         Some(watch) => {

@@ -1,12 +1,9 @@
 //! Reads of events by their numbers.
 
-ghost use Rattle.std.specs.Prelude.{◌≡◌, ◌++◌, ◌-◌, IfErr, OnOk};
-ghost use Rattle.sqlite.specs.Held.{state};
-ghost use Rattle.acd_book.specs.Content.{events_after};
-ghost use Rattle.acd_sql_columns.specs.Finding.{Finds};
+ghost use Rattle.std.specs.Prelude.{◌≡◌, ◌++◌, IfErr, OnOk};
+ghost use Rattle.acd_sql_statements.specs.Between.{FindsIn, HasReadCauseIn};
 ghost use Rattle.acd_sql_statements.specs.Failing.{IsMemory};
-ghost use Rattle.acd_sql_statements.specs.Picking.{picked, IsOpenIfClean};
-ghost use Rattle.acd_sql_statements.specs.Reading.{HasReadCause};
+ghost use Rattle.acd_sql_statements.specs.Picking.{AddsPicked, ArePicked, FindsIfOpen, HasReadCauseIfOpen};
 
 use crate::lookups::events_after;
 use acd_terms::Event;
@@ -30,9 +27,9 @@ fn add_numbered<S: Alter>(
     found: &mut Vec<Event>,
     number: u64,
 ) -> Result<(), Error>
-    ensures found { Finds (state S.Store conn.old) (state S.Store conn.new) result
-        (λ c done. found.new.items ≡ found.old.items ++ events_after c.events (number - 1) 1) }
-    ensures cause { HasReadCause (state S.Store conn.old) (state S.Store conn.new) result }
+    ensures found { FindsIn S.Store conn.old conn.new result
+        (AddsPicked number found.old found.new) }
+    ensures cause { HasReadCauseIn S.Store conn.old conn.new result }
 {
     let more = events_after(alloc, conn, number.saturating_sub(1), 1)?;
     add_all(found, &more)
@@ -44,11 +41,8 @@ pub fn events_numbered<S: Alter>(
     conn: &mut Connection<S>,
     numbers: &[u64],
 ) -> Result<Vec<Event>, Error>
-    ensures found { IsOpenIfClean (state S.Store conn.old)
-        → Finds (state S.Store conn.old) (state S.Store conn.new) result
-        (λ c events. events.items ≡ picked c.events numbers.now) }
-    ensures cause { IsOpenIfClean (state S.Store conn.old)
-        → HasReadCause (state S.Store conn.old) (state S.Store conn.new) result }
+    ensures found { FindsIfOpen S.Store conn.old conn.new result (ArePicked numbers.now) }
+    ensures cause { HasReadCauseIfOpen S.Store conn.old conn.new result }
 {
     let mut found = Vec::new(alloc);
     for number in numbers {

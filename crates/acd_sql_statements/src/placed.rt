@@ -1,14 +1,12 @@
 //! Whether further groups and priorities belong to the rows beside them.
 
-ghost use Rattle.std.specs.Prelude.{◌≡◌, ◌==◌, ◌∷◌, [], false, nat_le, length, map, IsPermutation};
+ghost use Rattle.std.specs.Prelude.{◌≡◌, ◌==◌, false, nat_le, length};
 ghost use Rattle.std.specs.List.{list_any, list_all};
 ghost use Rattle.acd_sql_columns.specs.declared.tables.Table.TheVariants as table;
-ghost use Rattle.acd_sql_columns.specs.AnyRows.{rows_in, is_beside, is_ranked};
-ghost use Rattle.acd_sql_columns.specs.Decoding.{as_group, as_agent, as_further};
 ghost use Rattle.acd_sql_columns.specs.Relations.{groups_beside, is_above, is_after, are_after, are_of_groups};
-ghost use Rattle.acd_sql_columns.specs.Schema.{nine, BeginsSchema};
-ghost use Rattle.acd_sql_statements.specs.Between.{LooksAt, IsBookSchema};
-ghost use Rattle.acd_sql_statements.specs.Looking.{HasLookCauseOver};
+ghost use Rattle.acd_sql_statements.specs.Between.{LooksAt};
+ghost use Rattle.acd_sql_statements.specs.Looking.{HasGoodOne, HasLookCauseIn};
+ghost use Rattle.acd_sql_statements.specs.Queried.{pairs_of_agents, pairs_there, placed_pairs, placed_priorities, priorities_of_groups, HasGoodPairs, HasGoodPriorities};
 
 use crate::look::further_rows;
 use crate::reads::records;
@@ -82,10 +80,8 @@ fn are_of_agents_there<S: Alter>(
     conn: &mut Connection<S>,
     pairs: &[(AgentId, DeviceId)],
 ) -> Result<bool, Error>
-    ensures looks { LooksAt (BeginsSchema nine) S.Store conn.old conn.new result
-        (λ d placed. placed ≡ are_after (map as_agent (rows_in table.Agents d.trees)) pairs.now) }
-    ensures looked { HasLookCauseOver (BeginsSchema nine) (table.Agents ∷ [])
-        S.Store conn.old conn.new result }
+    ensures looks { LooksAt S.Store conn.old conn.new result (pairs_of_agents pairs.now) }
+    ensures looked { HasLookCauseIn (HasGoodOne table.Agents) S.Store conn.old conn.new result }
 {
     let agents = select::records::<AgentRow, S>(alloc, conn)?;
     Ok(are_after(&agents, pairs))
@@ -96,10 +92,8 @@ fn further_pairs<S: Alter>(
     alloc: Global,
     conn: &mut Connection<S>,
 ) -> Result<Vec<(AgentId, DeviceId)>, Error>
-    ensures looks { LooksAt IsBookSchema S.Store conn.old conn.new result
-        (λ d pairs. IsPermutation
-        (map as_further (rows_in table.AgentGroups d.trees)) pairs.items) }
-    ensures looked { HasLookCauseOver IsBookSchema (table.AgentGroups ∷ [])
+    ensures looks { LooksAt S.Store conn.old conn.new result pairs_there }
+    ensures looked { HasLookCauseIn (HasGoodOne table.AgentGroups)
         S.Store conn.old conn.new result }
 {
     let rows = further_rows(conn)?;
@@ -109,10 +103,8 @@ fn further_pairs<S: Alter>(
 /// Whether each further group comes after the first one of its agent, who has seven at most. A value that is out of its
 /// range is a failure of the store.
 pub fn are_further_placed<S: Alter>(alloc: Global, conn: &mut Connection<S>) -> Result<bool, Error>
-    ensures looks { LooksAt IsBookSchema S.Store conn.old conn.new result
-        (λ d placed. placed ≡ is_beside d.trees) }
-    ensures looked { HasLookCauseOver IsBookSchema (table.AgentGroups ∷ table.Agents ∷ [])
-        S.Store conn.old conn.new result }
+    ensures looks { LooksAt S.Store conn.old conn.new result placed_pairs }
+    ensures looked { HasLookCauseIn HasGoodPairs S.Store conn.old conn.new result }
 {
     let pairs = further_pairs(alloc, conn)?;
     are_of_agents_there(alloc, conn, &pairs)
@@ -138,11 +130,8 @@ fn are_of_groups_there<S: Alter>(
     conn: &mut Connection<S>,
     priorities: &[GroupPriority],
 ) -> Result<bool, Error>
-    ensures looks { LooksAt (BeginsSchema nine) S.Store conn.old conn.new result
-        (λ d placed. placed
-        ≡ are_of_groups (map as_group (rows_in table.Groups d.trees)) priorities.now) }
-    ensures looked { HasLookCauseOver (BeginsSchema nine) (table.Groups ∷ [])
-        S.Store conn.old conn.new result }
+    ensures looks { LooksAt S.Store conn.old conn.new result (priorities_of_groups priorities.now) }
+    ensures looked { HasLookCauseIn (HasGoodOne table.Groups) S.Store conn.old conn.new result }
 {
     let groups = select::records::<GroupRow, S>(alloc, conn)?;
     Ok(are_of_groups(&groups, priorities))
@@ -153,10 +142,8 @@ pub fn are_priorities_placed<S: Alter>(
     alloc: Global,
     conn: &mut Connection<S>,
 ) -> Result<bool, Error>
-    ensures looks { LooksAt IsBookSchema S.Store conn.old conn.new result
-        (λ d placed. placed ≡ is_ranked d.trees) }
-    ensures looked { HasLookCauseOver IsBookSchema (table.GroupPriority ∷ table.Groups ∷ [])
-        S.Store conn.old conn.new result }
+    ensures looks { LooksAt S.Store conn.old conn.new result placed_priorities }
+    ensures looked { HasLookCauseIn HasGoodPriorities S.Store conn.old conn.new result }
 {
     let priorities = select::records::<GroupPriority, S>(alloc, conn)?;
     are_of_groups_there(alloc, conn, &priorities)

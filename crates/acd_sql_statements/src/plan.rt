@@ -1,13 +1,12 @@
 //! The groups and the agents, joined of what their tables hold.
 
 ghost use Rattle.std.specs.Prelude.{◌≡◌, ◌⊎◌, ◌<◌, false, length, map, option_to_list, None, IfErr, IfOk, IfSome};
-ghost use Rattle.sqlite.specs.Held.{state};
 ghost use Rattle.acd_terms.specs.Groups.{are_groups};
-ghost use Rattle.acd_sql_columns.specs.Finding.{Finds};
 ghost use Rattle.acd_sql_statements.specs.Failing.{IsMemory};
-ghost use Rattle.acd_sql_statements.specs.Reading.{HasReadCauseIf, HasStray};
-ghost use Rattle.acd_sql_columns.specs.Relations.{group_part, agent_part, priority_of, joined_group, groups_beside, after_first, joined_agent, further_in};
-ghost use Rattle.acd_sql_statements.specs.Between.{LooksUp};
+ghost use Rattle.acd_sql_statements.specs.Reading.{HasStray};
+ghost use Rattle.acd_sql_columns.specs.Relations.{priority_of, joined_group, joined_agent, further_in};
+ghost use Rattle.acd_sql_statements.specs.Between.{AreItems, FindsIn, HasReadCauseWhere, LooksUp, LooksUpList};
+ghost use Rattle.acd_sql_statements.specs.Queried.{groups_joined, AreAgentParts, AreAgentsOf, AreGroupsOf};
 
 use crate::query::further_rows;
 use crate::reads::{add, records};
@@ -40,8 +39,7 @@ fn joined_groups(
     parts: &[GroupRow],
     priorities: &[GroupPriority],
 ) -> Result<Vec<GroupRecord>, Error>
-    ensures groups { IfOk result (λ groups.
-        groups.items ≡ map (joined_group priorities.now) parts.now) }
+    ensures groups { IfOk result (AreItems (map (joined_group priorities.now) parts.now)) }
     ensures full { IfErr result IsMemory }
 {
     let mut groups = Vec::new(alloc);
@@ -57,8 +55,7 @@ fn ranked<S: Alter>(
     conn: &mut Connection<S>,
     parts: &[GroupRow],
 ) -> Result<Vec<GroupRecord>, Error>
-    ensures { LooksUp S.Store conn.old conn.new result
-        (λ c groups. parts.now ≡ map group_part c.rows.groups → groups.items ≡ c.rows.groups) }
+    ensures { LooksUp S.Store conn.old conn.new result (AreGroupsOf parts.now) }
 {
     let priorities = select::records::<GroupPriority, S>(alloc, conn)?;
     joined_groups(alloc, parts, &priorities)
@@ -69,7 +66,7 @@ pub(crate) fn groups<S: Alter>(
     alloc: Global,
     conn: &mut Connection<S>,
 ) -> Result<Vec<GroupRecord>, Error>
-    ensures { LooksUp S.Store conn.old conn.new result (λ c groups. groups.items ≡ c.rows.groups) }
+    ensures { LooksUpList S.Store conn.old conn.new result (λ c. c.rows.groups) }
 {
     let parts = select::records::<GroupRow, S>(alloc, conn)?;
     ranked(alloc, conn, &parts)
@@ -88,10 +85,8 @@ fn first(group: Option<DeviceId>) -> Few
 
 // The groups of an agent: its first one, and those beside it. None where they are more than eight.
 fn groups_of(part: &AgentRow, further: &[(AgentId, DeviceId)]) -> Option<Few>
-    ensures groups { IfSome result (λ groups.
-        groups ≡ after_first part.now.group (groups_beside further.now part.now.agent)) }
-    ensures many { result ≡ None
-        → 8 < length (after_first part.now.group (groups_beside further.now part.now.agent)) }
+    ensures groups { IfSome result (λ groups. groups ≡ groups_joined further.now part.now) }
+    ensures many { result ≡ None → 8 < length (groups_joined further.now part.now) }
 {
     let mut groups = first(part.group);
     for item in further {
@@ -132,8 +127,7 @@ fn joined_agents(
     parts: &[AgentRow],
     further: &[(AgentId, DeviceId)],
 ) -> Result<Vec<AgentRecord>, Error>
-    ensures agents { IfOk result (λ agents.
-        agents.items ≡ map (joined_agent further.now) parts.now) }
+    ensures agents { IfOk result (AreItems (map (joined_agent further.now) parts.now)) }
     ensures other { IfErr result (λ e. IsMemory e ⊎ HasStray further.now parts.now) }
 {
     let mut agents = Vec::new(alloc);
@@ -151,8 +145,7 @@ fn further<S: Alter>(
     alloc: Global,
     conn: &mut Connection<S>,
 ) -> Result<Vec<(AgentId, DeviceId)>, Error>
-    ensures { LooksUp S.Store conn.old conn.new result
-        (λ c pairs. pairs.items ≡ further_in c.rows.agents) }
+    ensures { LooksUpList S.Store conn.old conn.new result (λ c. further_in c.rows.agents) }
 {
     let rows = further_rows(conn)?;
     records(alloc, &rows)
@@ -164,10 +157,8 @@ fn grouped<S: Alter>(
     conn: &mut Connection<S>,
     parts: &[AgentRow],
 ) -> Result<Vec<AgentRecord>, Error>
-    ensures found { Finds (state S.Store conn.old) (state S.Store conn.new) result
-        (λ c agents. parts.now ≡ map agent_part c.rows.agents → agents.items ≡ c.rows.agents) }
-    ensures cause { HasReadCauseIf (λ c. parts.now ≡ map agent_part c.rows.agents)
-        (state S.Store conn.old) (state S.Store conn.new) result }
+    ensures found { FindsIn S.Store conn.old conn.new result (AreAgentsOf parts.now) }
+    ensures cause { HasReadCauseWhere (AreAgentParts parts.now) S.Store conn.old conn.new result }
 {
     let further = further(alloc, conn)?;
     joined_agents(alloc, parts, &further)
@@ -178,7 +169,7 @@ pub(crate) fn agents<S: Alter>(
     alloc: Global,
     conn: &mut Connection<S>,
 ) -> Result<Vec<AgentRecord>, Error>
-    ensures { LooksUp S.Store conn.old conn.new result (λ c agents. agents.items ≡ c.rows.agents) }
+    ensures { LooksUpList S.Store conn.old conn.new result (λ c. c.rows.agents) }
 {
     let parts = select::records::<AgentRow, S>(alloc, conn)?;
     grouped(alloc, conn, &parts)

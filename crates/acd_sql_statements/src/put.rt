@@ -1,13 +1,11 @@
 //! The statements that put a record and remove it. Each works inside a transaction: its writes are there, and no stop
 //! is added.
 
-ghost use Rattle.std.specs.Prelude.{◌≡◌, ◌∷◌, [], IsSome};
+ghost use Rattle.std.specs.Prelude.{◌≡◌, IsSome};
 ghost use Rattle.acd_sql_columns.specs.Descriptions.{the_text};
 ghost use Rattle.acd_sql_columns.specs.Transactions.{Fits};
-ghost use Rattle.acd_sql_columns.specs.Values.{id_value};
-ghost use Rattle.acd_sql_statements.specs.Refusing.{RefusesOn, RefusesPut};
-ghost use Rattle.acd_sql_statements.specs.Writing.{with_put, without};
 ghost use Rattle.acd_sql_statements.specs.Inside.{WritesRow};
+ghost use Rattle.acd_sql_statements.specs.Statements.{inserting, putting, removing};
 
 use crate::stored::Stored;
 use crate::write::write;
@@ -17,8 +15,7 @@ use sqlite::{Alter, Error, Transaction};
 /// Puts a record that has no row. One that has a row is the store's to refuse.
 pub fn insert<R: Stored, S: Alter>(tx: &mut Transaction<'_, S>, item: &R) -> Result<(), Error>
     requires { R.descr.Fits item.now }
-    ensures { WritesRow S.Store tx.old.conn tx.new.conn result
-        (with_put R.descr item.now) (RefusesOn R.descr.insert (R.descr.values item.now)) }
+    ensures { WritesRow S.Store tx.old.conn tx.new.conn result (inserting R.descr item.now) }
 {
     item.run(tx, R::texts().insert)?;
     Ok(())
@@ -42,8 +39,7 @@ fn delete_text<R: Stored>() -> &'static str
 pub fn put<R: Stored, S: Alter>(tx: &mut Transaction<'_, S>, item: &R) -> Result<(), Error>
     requires fits { R.descr.Fits item.now }
     requires changes { IsSome R.descr.update }
-    ensures { WritesRow S.Store tx.old.conn tx.new.conn result
-        (with_put R.descr item.now) (RefusesPut R.descr (the_text R.descr.update) item.now) }
+    ensures { WritesRow S.Store tx.old.conn tx.new.conn result (putting R.descr item.now) }
 {
     let changed = item.run(tx, update_text::<R>())?;
     if changed > 0 {
@@ -57,8 +53,7 @@ pub fn put<R: Stored, S: Alter>(tx: &mut Transaction<'_, S>, item: &R) -> Result
 pub fn remove<R: Stored, S: Alter>(tx: &mut Transaction<'_, S>, key: u64) -> Result<(), Error>
     requires key { Fits key }
     requires removes { IsSome R.descr.delete }
-    ensures { WritesRow S.Store tx.old.conn tx.new.conn result
-        (without R.descr key) (RefusesOn (the_text R.descr.delete) (id_value key ∷ [])) }
+    ensures { WritesRow S.Store tx.old.conn tx.new.conn result (removing R.descr key) }
 {
     write(tx, delete_text::<R>(), &[bind::integer(key)])
 }

@@ -1,20 +1,12 @@
 //! The queries between transactions, one a function: rows of one table, in the order of its key.
 
-ghost use Rattle.std.specs.Prelude.{◌≡◌, [], Some, map, take, filter, option_to_list, IsPermutation};
-ghost use Rattle.sqlite.specs.Held.{state};
-ghost use Rattle.acd_model.specs.Scans.{monitor_of};
-ghost use Rattle.acd_book.specs.Content.{events_after, is_at_after, kept_of, records_after};
-ghost use Rattle.acd_sql_columns.specs.Relations.{further_in};
-ghost use Rattle.acd_sql_columns.specs.Rows.{further_values, connection_values, monitor_values, event_values, kept_values};
+ghost use Rattle.std.specs.Prelude.{[]};
 ghost use Rattle.acd_sql_columns.specs.declared.tables.Log.TheVariants as log;
 ghost use Rattle.acd_sql_columns.specs.declared.tables.Table.TheVariants as table;
-ghost use Rattle.acd_sql_columns.specs.AnyRows.{rows_in, IsPageRows};
 ghost use Rattle.acd_sql_columns.specs.Transactions.{Fits};
-ghost use Rattle.acd_sql_columns.specs.Finding.{Finds};
-ghost use Rattle.acd_sql_columns.specs.Schema.{nine, BeginsSchema};
-ghost use Rattle.acd_sql_statements.specs.Reading.{HasReadCause};
-ghost use Rattle.acd_sql_statements.specs.Between.{LooksUp, SeesOf};
-ghost use Rattle.acd_sql_statements.specs.Looking.{HasLookCauseOver};
+ghost use Rattle.acd_sql_statements.specs.Between.{FindsList, HasReadCauseIn, LooksUpList, SeesOver};
+ghost use Rattle.acd_sql_statements.specs.Looking.{BeginsNine, HasGood, HasLookCauseIn};
+ghost use Rattle.acd_sql_statements.specs.Queried.{connection_rows, event_rows, event_rows_at, further_rows, kept_row, kept_rows, monitor_row, page_rows, rows_of};
 
 use crate::read::read;
 use acd_sql_columns::bind;
@@ -28,8 +20,7 @@ use sqlite::{Alter, Connection, Error, Row};
 /// The row of a monitor, if it is running.
 pub fn monitor_row<S: Alter>(conn: &mut Connection<S>, monitor: u64) -> Result<Vec<Row>, Error>
     requires number { Fits monitor }
-    ensures { LooksUp S.Store conn.old conn.new result
-        (λ c rows. rows.items ≡ map monitor_values (option_to_list (monitor_of c.rows monitor))) }
+    ensures { LooksUpList S.Store conn.old conn.new result (monitor_row monitor) }
 {
     read(conn, SELECT_MONITOR, &[bind::integer(monitor)])
 }
@@ -42,12 +33,10 @@ pub fn event_rows<S: Alter>(
 ) -> Result<Vec<Row>, Error>
     requires number { Fits number }
     requires limit { Fits limit }
-    ensures found { Finds (state S.Store conn.old) (state S.Store conn.new) result
-        (λ c rows. rows.items ≡ map event_values (events_after c.events number limit)) }
-    ensures seen { SeesOf (BeginsSchema nine) S.Store conn.old conn.new result
-        (λ d rows. IsPageRows log.Events number limit d.trees rows.items) }
-    ensures cause { HasReadCause (state S.Store conn.old) (state S.Store conn.new) result }
-    ensures looked { HasLookCauseOver (BeginsSchema nine) [] S.Store conn.old conn.new result }
+    ensures found { FindsList S.Store conn.old conn.new result (event_rows number limit) }
+    ensures seen { SeesOver S.Store conn.old conn.new result (page_rows log.Events number limit) }
+    ensures cause { HasReadCauseIn S.Store conn.old conn.new result }
+    ensures looked { HasLookCauseIn (HasGood BeginsNine []) S.Store conn.old conn.new result }
 {
     read(
         conn,
@@ -64,12 +53,10 @@ pub fn kept_rows<S: Alter>(
 ) -> Result<Vec<Row>, Error>
     requires stamp { Fits stamp }
     requires limit { Fits limit }
-    ensures found { Finds (state S.Store conn.old) (state S.Store conn.new) result
-        (λ c rows. rows.items ≡ map kept_values (records_after c.kept stamp limit)) }
-    ensures seen { SeesOf (BeginsSchema nine) S.Store conn.old conn.new result
-        (λ d rows. IsPageRows log.Kept stamp limit d.trees rows.items) }
-    ensures cause { HasReadCause (state S.Store conn.old) (state S.Store conn.new) result }
-    ensures looked { HasLookCauseOver (BeginsSchema nine) [] S.Store conn.old conn.new result }
+    ensures found { FindsList S.Store conn.old conn.new result (kept_rows stamp limit) }
+    ensures seen { SeesOver S.Store conn.old conn.new result (page_rows log.Kept stamp limit) }
+    ensures cause { HasReadCauseIn S.Store conn.old conn.new result }
+    ensures looked { HasLookCauseIn (HasGood BeginsNine []) S.Store conn.old conn.new result }
 {
     read(
         conn,
@@ -84,9 +71,7 @@ pub fn kept_row<S: Alter>(
     requester: &Requester,
     invoke: Invoke,
 ) -> Result<Vec<Row>, Error>
-    ensures { LooksUp S.Store conn.old conn.new result
-        (λ c rows. rows.items
-        ≡ map kept_values (option_to_list (kept_of c.kept requester.now invoke))) }
+    ensures { LooksUpList S.Store conn.old conn.new result (kept_row requester.now invoke) }
 {
     read(
         conn,
@@ -99,19 +84,16 @@ pub fn kept_row<S: Alter>(
 }
 
 pub fn connection_rows<S: Alter>(conn: &mut Connection<S>) -> Result<Vec<Row>, Error>
-    ensures found { Finds (state S.Store conn.old) (state S.Store conn.new) result
-        (λ c rows. rows.items ≡ map connection_values c.rows.connections) }
-    ensures seen { SeesOf (BeginsSchema nine) S.Store conn.old conn.new result
-        (λ d rows. IsPermutation (rows_in table.Connections d.trees) rows.items) }
-    ensures cause { HasReadCause (state S.Store conn.old) (state S.Store conn.new) result }
+    ensures found { FindsList S.Store conn.old conn.new result connection_rows }
+    ensures seen { SeesOver S.Store conn.old conn.new result (rows_of table.Connections) }
+    ensures cause { HasReadCauseIn S.Store conn.old conn.new result }
 {
     read(conn, SELECT_CONNECTIONS, &[])
 }
 
 /// The further groups, by agent and group.
 pub fn further_rows<S: Alter>(conn: &mut Connection<S>) -> Result<Vec<Row>, Error>
-    ensures { LooksUp S.Store conn.old conn.new result
-        (λ c rows. rows.items ≡ map further_values (further_in c.rows.agents)) }
+    ensures { LooksUpList S.Store conn.old conn.new result further_rows }
 {
     read(conn, SELECT_AGENT_GROUPS, &[])
 }
@@ -125,9 +107,7 @@ pub fn event_rows_at<S: Alter>(
 ) -> Result<Vec<Row>, Error>
     requires number { Fits number }
     requires limit { Fits limit }
-    ensures { LooksUp S.Store conn.old conn.new result
-        (λ c rows. rows.items
-        ≡ map event_values (take limit (filter (is_at_after (Some device) number) c.events))) }
+    ensures { LooksUpList S.Store conn.old conn.new result (event_rows_at device number limit) }
 {
     read(
         conn,

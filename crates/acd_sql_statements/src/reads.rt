@@ -1,17 +1,15 @@
 //! Reads between transactions, as records. A row with a value out of its range is a failure of the store.
 
-ghost use Rattle.std.specs.Prelude.{◌≡◌, ◌++◌, ◌∷◌, [], Option, Some, false, map, take, option_to_list, IfErr, IfOk, OnOk};
+ghost use Rattle.std.specs.Prelude.{◌≡◌, ◌++◌, ◌∷◌, [], Option, Some, map, IfErr, IfOk, OnOk};
 ghost use Rattle.sqlite_value.specs.Order.{Row as Values};
 ghost use Rattle.acd_sql_columns.specs.Relations.{meta_of};
-ghost use Rattle.acd_sql_columns.specs.Finding.{joined_rows};
 ghost use Rattle.acd_sql_columns.specs.Rows.{meta_shown};
 ghost use Rattle.acd_sql_columns.specs.declared.meta.Meta.{Meta as MetaRow};
-ghost use Rattle.acd_sql_columns.specs.declared.tables.Table.TheVariants as table;
-ghost use Rattle.acd_sql_columns.specs.AnyRows.{is_good};
 ghost use Rattle.acd_sql_statements.specs.Failing.{IsMemory};
-ghost use Rattle.acd_sql_statements.specs.Reading.{FailsToDecode};
+ghost use Rattle.acd_sql_statements.specs.Reading.{FailsToDecode, HasBadMeta, IsFirst};
 ghost use Rattle.acd_sql_columns.specs.Ranges.{further_in, connection_in, monitor_in, event_in, kept_in};
-ghost use Rattle.acd_sql_statements.specs.Between.{LooksUp};
+ghost use Rattle.acd_sql_statements.specs.Between.{LooksUp, LooksUpItem, LooksUpList};
+ghost use Rattle.acd_sql_statements.specs.Queried.{rows_joined, IsPlan, IsTraffic};
 
 use crate::query::connection_rows;
 use crate::read::meta_rows;
@@ -115,8 +113,7 @@ pub(crate) fn records<R: Decoded>(alloc: Global, rows: &[Row]) -> Result<Vec<R>,
 
 /// The record of the first row, if there is one.
 pub(crate) fn first<R: Decoded>(alloc: Global, rows: &[Row]) -> Result<Option<R>, Error>
-    ensures found { IfOk result (λ found.
-        map Some (option_to_list found) ≡ map R.in_row (take 1 rows.now)) }
+    ensures found { IfOk result (IsFirst R.in_row rows.now) }
     ensures bad { IfErr result (FailsToDecode R.in_row rows.now) }
 {
     match rows.first() {
@@ -128,8 +125,7 @@ pub(crate) fn first<R: Decoded>(alloc: Global, rows: &[Row]) -> Result<Option<R>
 // The content of the table's one row. Neither more rows nor a value out of its range is the book's.
 fn only_meta(rows: &[Row]) -> Result<Meta, Error>
     ensures found { IfOk result (λ meta. (m : MetaRow) → rows.now ≡ meta_shown m ∷ [] → meta ≡ m) }
-    ensures bad { IfErr result (λ e. (m : MetaRow) → rows.now ≡ meta_shown m ∷ []
-        → is_good table.Meta (meta_shown m) ≡ false) }
+    ensures bad { IfErr result (λ e. HasBadMeta rows.now) }
 {
     match rows {
         [row] => match decode::counters_in(row) {
@@ -142,7 +138,7 @@ fn only_meta(rows: &[Row]) -> Result<Meta, Error>
 
 /// The limits and the counters.
 pub fn read_meta<S: Alter>(conn: &mut Connection<S>) -> Result<Meta, Error>
-    ensures { LooksUp S.Store conn.old conn.new result (λ c meta. meta ≡ meta_of c.rows) }
+    ensures { LooksUpItem S.Store conn.old conn.new result (λ c. meta_of c.rows) }
 {
     let rows = meta_rows(conn)?;
     only_meta(&rows)
@@ -152,8 +148,7 @@ fn connections<S: Alter>(
     alloc: Global,
     conn: &mut Connection<S>,
 ) -> Result<Vec<ConnectionRecord>, Error>
-    ensures { LooksUp S.Store conn.old conn.new result
-        (λ c connections. connections.items ≡ c.rows.connections) }
+    ensures { LooksUpList S.Store conn.old conn.new result (λ c. c.rows.connections) }
 {
     let rows = connection_rows(conn)?;
     records(alloc, &rows)
@@ -161,9 +156,7 @@ fn connections<S: Alter>(
 
 // The groups, the stations and the agents.
 fn planned<S: Alter>(alloc: Global, conn: &mut Connection<S>) -> Result<Plan, Error>
-    ensures { LooksUp S.Store conn.old conn.new result
-        (λ c t. (t.0.items ≡ c.rows.groups)
-        × (t.1.items ≡ c.rows.stations) × (t.2.items ≡ c.rows.agents)) }
+    ensures { LooksUp S.Store conn.old conn.new result IsPlan }
 {
     let groups = plan::groups(alloc, conn)?;
     let stations = select::records::<StationRecord, S>(alloc, conn)?;
@@ -173,9 +166,7 @@ fn planned<S: Alter>(alloc: Global, conn: &mut Connection<S>) -> Result<Plan, Er
 
 // The calls, the connections and the monitors.
 fn traffic<S: Alter>(alloc: Global, conn: &mut Connection<S>) -> Result<Traffic, Error>
-    ensures { LooksUp S.Store conn.old conn.new result
-        (λ c t. (t.0.items ≡ c.rows.calls)
-        × (t.1.items ≡ c.rows.connections) × (t.2.items ≡ c.rows.monitors)) }
+    ensures { LooksUp S.Store conn.old conn.new result IsTraffic }
 {
     let calls = select::records::<CallRecord, S>(alloc, conn)?;
     let connections = connections(alloc, conn)?;
@@ -184,8 +175,7 @@ fn traffic<S: Alter>(alloc: Global, conn: &mut Connection<S>) -> Result<Traffic,
 }
 
 fn joined(meta: Meta, plan: Plan, traffic: Traffic) -> Rows
-    ensures { result ≡ joined_rows meta plan.0.items plan.1.items plan.2.items traffic.0.items
-        traffic.1.items traffic.2.items }
+    ensures { result ≡ rows_joined meta plan traffic }
 {
     let (groups, stations, agents) = plan;
     let (calls, connections, monitors) = traffic;
@@ -207,7 +197,7 @@ fn joined(meta: Meta, plan: Plan, traffic: Traffic) -> Rows
 
 /// The limits, the tables and the counters.
 pub fn rows<S: Alter>(alloc: Global, conn: &mut Connection<S>) -> Result<Rows, Error>
-    ensures { LooksUp S.Store conn.old conn.new result (λ c rows. rows ≡ c.rows) }
+    ensures { LooksUpItem S.Store conn.old conn.new result (λ c. c.rows) }
 {
     let meta = read_meta(conn)?;
     let planned = planned(alloc, conn)?;

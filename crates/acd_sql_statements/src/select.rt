@@ -1,15 +1,11 @@
 //! Reads of a whole table between transactions.
 
-ghost use Rattle.std.specs.Prelude.{◌≡◌, ◌∷◌, [], Some, map, IfErr, IfOk, IsSome, IsPermutation};
-ghost use Rattle.sqlite.specs.Held.{state};
-ghost use Rattle.acd_sql_columns.specs.AnyRows.{rows_in, FindsGood};
-ghost use Rattle.acd_sql_columns.specs.Finding.{Finds};
+ghost use Rattle.std.specs.Prelude.{◌≡◌, ◌∷◌, [], Some, map, IfErr, IfOk, IsSome};
 ghost use Rattle.acd_sql_columns.specs.Relations.{relations_of};
-ghost use Rattle.acd_sql_columns.specs.Schema.{BeginsSchema};
 ghost use Rattle.acd_sql_columns.specs.Descriptions.{are_read, the_text};
-ghost use Rattle.acd_sql_statements.specs.Reading.{IsAnswered, HasTableValues, FailsToDecode, HasReadCause};
-ghost use Rattle.acd_sql_statements.specs.Between.{LooksAt, SeesOf};
-ghost use Rattle.acd_sql_statements.specs.Looking.{HasLookCauseOver, IsAnsweredOver};
+ghost use Rattle.acd_sql_statements.specs.Reading.{FailsToDecode};
+ghost use Rattle.acd_sql_statements.specs.Between.{FindsList, HasReadCauseAt, LooksAt, SeesOver};
+ghost use Rattle.acd_sql_statements.specs.Queried.{described_rows, good_there, records_there, rows_there, HasRecordsCause, HasRecordsLookCause, HasRowsLookCause};
 
 use crate::read::read;
 use crate::reads::add;
@@ -27,14 +23,10 @@ fn select_text<R: Stored>() -> &'static str
 /// The rows of a table, in the order of their keys.
 pub fn rows<R: Stored, S: Alter>(conn: &mut Connection<S>) -> Result<Vec<Row>, Error>
     requires selects { IsSome R.descr.select }
-    ensures found { Finds (state S.Store conn.old) (state S.Store conn.new) result
-        (λ c rows. rows.items ≡ map R.descr.values (R.descr.records (relations_of c))) }
-    ensures seen { SeesOf (BeginsSchema R.descr.base) S.Store conn.old conn.new result
-        (λ d rows. IsPermutation (rows_in R.descr.table d.trees) rows.items) }
-    ensures cause { IsAnswered (the_text R.descr.select) []
-        → HasReadCause (state S.Store conn.old) (state S.Store conn.new) result }
-    ensures looked { IsAnsweredOver R.descr.base (the_text R.descr.select) []
-        → HasLookCauseOver (BeginsSchema R.descr.base) [] S.Store conn.old conn.new result }
+    ensures found { FindsList S.Store conn.old conn.new result (described_rows R.descr) }
+    ensures seen { SeesOver S.Store conn.old conn.new result (rows_there R.descr) }
+    ensures cause { HasReadCauseAt S.Store conn.old conn.new result (the_text R.descr.select, []) }
+    ensures looked { HasRowsLookCause R.descr S.Store conn.old conn.new result }
 {
     read(conn, select_text::<R>(), &[])
 }
@@ -50,8 +42,8 @@ fn read_one<R: Stored>(row: &Row) -> Result<R, Error>
 }
 
 fn records_of<R: Stored>(alloc: Global, rows: &[Row]) -> Result<Vec<R>, Error>
-    ensures records { IfOk result (λ records.
-        map Some records.items ≡ map R.descr.in_row rows.now) }
+    ensures records { IfOk result
+        (λ records. map Some records.items ≡ map R.descr.in_row rows.now) }
     ensures bad { IfErr result (FailsToDecode R.descr.in_row rows.now) }
 {
     let mut records = Vec::new(alloc);
@@ -68,16 +60,11 @@ pub fn records<R: Stored, S: Alter>(
     conn: &mut Connection<S>,
 ) -> Result<Vec<R>, Error>
     requires selects { IsSome R.descr.select }
-    ensures found { Finds (state S.Store conn.old) (state S.Store conn.new) result
-        (λ c found. found.items ≡ R.descr.records (relations_of c)) }
-    ensures seen { SeesOf (BeginsSchema R.descr.base) S.Store conn.old conn.new result
-        (λ d found. IsPermutation
-        (rows_in R.descr.table d.trees) (map R.descr.values found.items)) }
-    ensures cause { IsAnswered (the_text R.descr.select) [] → HasTableValues R.descr
-        → HasReadCause (state S.Store conn.old) (state S.Store conn.new) result }
-    ensures looked { IsAnsweredOver R.descr.base (the_text R.descr.select) []
-        → HasLookCauseOver (BeginsSchema R.descr.base) (R.descr.table ∷ [])
-        S.Store conn.old conn.new result }
+    ensures found { FindsList S.Store conn.old conn.new result
+        (λ c. R.descr.records (relations_of c)) }
+    ensures seen { SeesOver S.Store conn.old conn.new result (records_there R.descr) }
+    ensures cause { HasRecordsCause R.descr S.Store conn.old conn.new result }
+    ensures looked { HasRecordsLookCause R.descr S.Store conn.old conn.new result }
 {
     let rows = rows::<R, S>(conn)?;
     records_of(alloc, &rows)
@@ -93,10 +80,8 @@ fn are_read<R: Stored>(rows: &[Row]) -> bool
 /// Whether each value of a table is in its range.
 pub fn is_good<R: Stored, S: Alter>(conn: &mut Connection<S>) -> Result<bool, Error>
     requires selects { IsSome R.descr.select }
-    ensures looks { LooksAt (BeginsSchema R.descr.base) S.Store conn.old conn.new result
-        (λ d good. FindsGood R.descr.table d.trees good) }
-    ensures looked { IsAnsweredOver R.descr.base (the_text R.descr.select) []
-        → HasLookCauseOver (BeginsSchema R.descr.base) [] S.Store conn.old conn.new result }
+    ensures looks { LooksAt S.Store conn.old conn.new result (good_there R.descr) }
+    ensures looked { HasRowsLookCause R.descr S.Store conn.old conn.new result }
 {
     let rows = rows::<R, S>(conn)?;
     Ok(are_read::<R>(&rows))

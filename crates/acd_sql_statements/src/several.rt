@@ -5,7 +5,7 @@ ghost use Rattle.sqlite.specs.Values.{bound};
 ghost use Rattle.acd_terms.specs.Lists.{Every};
 ghost use Rattle.acd_sql_columns.specs.Tables.{events};
 ghost use Rattle.acd_sql_statements.specs.Inside.{WritesRow};
-ghost use Rattle.acd_sql_statements.specs.Several.{values_of, text_of, with_all, RefusesEvents};
+ghost use Rattle.acd_sql_statements.specs.Several.{inserting_events, values_of, text_of};
 
 use crate::write::write;
 use acd_sql_columns::encode::event_values;
@@ -88,8 +88,7 @@ pub fn insert_events<S: Alter>(tx: &mut Transaction<'_, S>, items: &[Event]) -> 
     requires fits { Every events.Fits items.now }
     requires some { items.now ≢ [] }
     requires few { length items.now ≤ 4 }
-    ensures { WritesRow S.Store tx.old.conn tx.new.conn result
-        (with_all items.now) (RefusesEvents items.now) }
+    ensures { WritesRow S.Store tx.old.conn tx.new.conn result (inserting_events items.now) }
 {
     let values = values_of(items);
     write(tx, text_of(items.len()), &values[..items.len() * COLUMNS])

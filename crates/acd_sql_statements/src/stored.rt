@@ -20,7 +20,7 @@ pub trait Stored: Drop {
     fn run<S: Alter>(&self, tx: &mut Transaction<'_, S>, sql: &str) -> Result<usize, Error>
         requires { descr.Fits self.now }
         ensures { CountsRows S.Store tx.old.conn tx.new.conn result
-            sql.now (descr.values self.now) };
+            (sql.now, descr.values self.now) };
 
     /// The record of a row whose values are all in their ranges.
     fn decode(row: &Row) -> Option<Self>

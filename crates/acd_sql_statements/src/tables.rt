@@ -2,10 +2,9 @@
 
 ghost use Rattle.std.specs.Prelude.{[]};
 ghost use Rattle.acd_sql_columns.specs.Transactions.{Fits};
-ghost use Rattle.acd_sql_columns.specs.AnyRows.{FindsLow, IsPageRows};
-ghost use Rattle.acd_sql_columns.specs.Schema.{nine, BeginsSchema};
 ghost use Rattle.acd_sql_statements.specs.Between.{LooksAt};
-ghost use Rattle.acd_sql_statements.specs.Looking.{HasLookCauseOver};
+ghost use Rattle.acd_sql_statements.specs.Looking.{BeginsNine, HasGood, HasLookCauseIn};
+ghost use Rattle.acd_sql_statements.specs.Queried.{low_rows, page_rows};
 
 use crate::look::{low_event_rows, low_kept_rows};
 use crate::query::{event_rows, kept_rows};
@@ -14,9 +13,8 @@ use sqlite::{Alter, Connection, Error, Row};
 
 /// A row whose number is below 1.
 pub fn low_rows<S: Alter>(log: Log, conn: &mut Connection<S>) -> Result<Vec<Row>, Error>
-    ensures looks { LooksAt (BeginsSchema nine) S.Store conn.old conn.new result
-        (λ d rows. FindsLow log d.trees rows.items) }
-    ensures looked { HasLookCauseOver (BeginsSchema nine) [] S.Store conn.old conn.new result }
+    ensures looks { LooksAt S.Store conn.old conn.new result (low_rows log) }
+    ensures looked { HasLookCauseIn (HasGood BeginsNine []) S.Store conn.old conn.new result }
 {
     match log {
         Log::Events => low_event_rows(conn),
@@ -31,9 +29,8 @@ pub fn rows_above<S: Alter>(
     number: u64,
 ) -> Result<Vec<Row>, Error>
     requires number { Fits number }
-    ensures looks { LooksAt (BeginsSchema nine) S.Store conn.old conn.new result
-        (λ d rows. IsPageRows log number 1000 d.trees rows.items) }
-    ensures looked { HasLookCauseOver (BeginsSchema nine) [] S.Store conn.old conn.new result }
+    ensures looks { LooksAt S.Store conn.old conn.new result (page_rows log number 1000) }
+    ensures looked { HasLookCauseIn (HasGood BeginsNine []) S.Store conn.old conn.new result }
 {
     match log {
         Log::Events => event_rows(conn, number, 1000),

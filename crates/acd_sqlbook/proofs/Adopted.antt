@@ -276,9 +276,9 @@ pub unmade_cause : (old mid new : State) (free : old.step_limit ≡ None) (settl
 unmade_cause old mid new free settles k e f is store h causes counts (inl memory) = absurd (no_memory e f is store memory)
 unmade_cause old mid new free settles k e f is store h causes counts (inr (inl (inl more))) = failed (let first = causes.spares.counts in omega (arith, more, first))
 unmade_cause old mid new free settles k e f is store h causes counts (inr (inl (inr down))) = absurd (let up = h.up k in let apart = sym up ∙ down in cc)
-unmade_cause old mid new free settles k e f is store h causes counts (inr (inr untold)) =
+unmade_cause old mid new free settles k e f is store h causes counts (inr (inr unread)) =
     let same = (after_look old mid settles k (Book version.First) h).now in
-    refused ((found_in old mid settles k (Book version.First) h).schema_is) (subst (λ (l : Option ℕ). IsVersionRefused l old.now.trees) (causes.spares.limit ∙ free) (subst (λ (d : Database). IsVersionRefused mid.step_limit d.trees) same untold))
+    refused ((found_in old mid settles k (Book version.First) h).schema_is) (subst (λ (l : Option ℕ). IsVersionRefused l old.now.trees) (causes.spares.limit ∙ free) (subst (λ (d : Database). IsVersionRefused mid.step_limit d.trees) same unread))
 
 -- ---- a limit of steps that was removed before makes no difference
 
@@ -325,4 +325,4 @@ module _ (s : State) where
   cause_before new (failed more) = failed more
   cause_before new (shut down) = shut down
   cause_before new (unlike found) = unlike found
-  cause_before new (refused is untold) = refused is untold
+  cause_before new (refused is unread) = refused is unread

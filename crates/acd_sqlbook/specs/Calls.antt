@@ -9,13 +9,29 @@ use Rattle.acd_model.specs.Changes.{changed_by}
 use Rattle.acd_model.specs.declared.moves.Change.{Change}
 use Rattle.acd_lemmas.specs.Orders.{Orders}
 use Rattle.acd_book.specs.Content.{Content}
-use Rattle.acd_sql_columns.specs.Transactions.{HoldsContent, Quiet, NoStop, MayAdd}
+use Rattle.acd_sql_columns.specs.Transactions.{HoldsContent, Quiet, NoStop, AddsStop, MayAdd}
 use Rattle.acd_sql_differences.specs.Leading.{rows_differences}
 use Rattle.acd_sql_differences.specs.Transition.{HasTables}
 
 -- a disk that is clean after a call was so before it
 abbrev pub WasClean : {S : Type 0} → Ghosts S → Held S → Held S → Type 0
 WasClean g old new = HasCleanDisk (state g new) → HasCleanDisk (state g old)
+
+-- a call that succeeds needs an open connection, and leaves it open
+abbrev pub StaysOpen : {S A : Type 0} → Ghosts S → Held S → Held S → Result A Error → Type 0
+StaysOpen g old new result = HasCleanDisk (state g new) → OnOk result (IsTrue (state g old).is_open × IsTrue (state g new).is_open)
+
+-- a commit that succeeds makes `after` of the content that the connection held
+abbrev pub CommitsContent : {S A : Type 0} → Ghosts S → Held S → Held S → Result A Error → (Content → Content) → Type 0
+CommitsContent g old new result after = HasCleanDisk (state g new) → OnOk result ((c : Content) → HoldsContent (state g old) c → HoldsContent (state g new) (after c))
+
+-- one that fails leaves that content, if the connection is still open
+abbrev pub KeepsContent : {S A : Type 0} → Ghosts S → Held S → Held S → Result A Error → Type 0
+KeepsContent g old new result = HasCleanDisk (state g new) → OnErr result ((c : Content) → HoldsContent (state g old) c → IsTrue (state g new).is_open → HoldsContent (state g new) c)
+
+-- a crash leaves what it could leave before, or what `after` makes of that content
+abbrev pub AddsOneStop : {S : Type 0} → Ghosts S → Held S → Held S → (Content → Content) → Type 0
+AddsOneStop g old new after = HasCleanDisk (state g new) → AddsStop (state g old) (state g new) after
 
 -- while it is open it has a content
 abbrev pub ShowsContent : State → Type 0
@@ -45,6 +61,10 @@ pub record HasReplaced (old new : State) (result : Result (Unit {0}) Error) (Fol
   pub same : HasCleanDisk new → (c : Content) → HoldsContent old c → Follows c → written c ≡ after c
 
 -- ---- the changes of a commit of tables
+
+-- the changes lead from the tables that are held to those of the rows
+abbrev pub LeadsBetween : Rows → Rows → List Change → Type 0
+LeadsBetween held rows changes = Orders held → Orders rows → HasTables (changed_by held changes) rows
 
 -- they lead from the tables of a content to those of the rows, and are the differences of both
 pub record LeadsTo (rows : Rows) (c : Content) (changes : List Change) : Type 0 where

@@ -20,7 +20,7 @@ use Rattle.acd_sql_differences.specs.Leading.{rows_differences}
 use Rattle.acd_sql_statements.specs.InRange.{IsInRange}
 use Rattle.acd_sql_schema.specs.SettingUp.{IsUnstarted}
 use Rattle.acd_sqlbook.specs.State.{IsSoundState}
-use Rattle.acd_sqlbook.specs.View.{BookView}
+use Rattle.acd_sqlbook.specs.View.{BookView, book_of}
 use Rattle.acd_sqlbook.specs.Commit.{counted}
 use Rattle.acd_sqlbook.specs.Stopping.{AllNumbersFit, AreCounted, Drops, HasAbove, IsUncounted, RefusesInAll}
 
@@ -93,3 +93,7 @@ pub record HasCause {A : Type 0} (asked : BookCall) (old new : State) (failures 
 -- so it is with a book
 abbrev pub IsCaused : {S A : Type 0} → BookCall → Ghosts S → BookView S → BookView S → Result A BookFault → Type 0
 IsCaused asked g old new result = HasCause asked (state g old.conn) (state g new.conn) old.failures new.failures result
+
+-- the same of a book that is sound, its cache too
+abbrev pub IsCausedIfSound : {S A : Type 0} → BookCall → Ghosts S → BookView S → BookView S → Result A BookFault → Type 0
+IsCausedIfSound asked g old new result = (book_of g old).is_sound → IsCaused asked g old new result

@@ -15,6 +15,10 @@ abbrev pub is_taken_away : Change → Change → Bool
 is_taken_away (PutConnection x) (RemoveConnection call device) = (x.call == call) && (x.device == device)
 is_taken_away _ _ = false
 
+-- the first is made in vain: the second makes the same of a content without it
+abbrev pub IsVainBefore : Change → Change → Type 0
+IsVainBefore first second = (c : Content) → IsAscending connection_order c.rows.connections → applied (applied c first) second ≡ applied c second
+
 -- those that are written: all but a connection that the very next change removes
 abbrev pub written : List Change → List Change
 written [] = []

@@ -4,7 +4,7 @@ use Rattle.std.specs.Borrow.{MutBor}
 use Rattle.std.specs.Ordering.{nat_cmp}
 use Rattle.sqlite_trees.specs.declared.store.Store.{Ghosts}
 use Rattle.sqlite.specs.Held.{Held, state}
-use Rattle.sqlite.specs.State.{HasCleanDisk}
+use Rattle.sqlite.specs.State.{State, HasCleanDisk}
 use Rattle.sqlite.specs.declared.error.Error.{Error}
 use Rattle.acd_terms.specs.Columns.{columns_of}
 use Rattle.acd_terms.specs.Lists.{put_by}
@@ -68,10 +68,20 @@ with_meta m c = record c {
 abbrev pub made_by : List Change → List Event → Kept → Meta → Content → Content
 made_by changes events kept meta c = with_meta meta (with_kept (with_events (all_applied c changes) events) kept)
 
--- a content that the transaction saw is now what `change` makes of it
+-- each content that the transaction saw is now what `change` makes of it
+abbrev pub MakesOfEach : (Content → Content) → State → State → Type 0
+MakesOfEach change old new = (c : Content) → HoldsUncommitted old (relations_of c) → HoldsUncommitted new (relations_of (change c))
+
+-- so it is after a write that succeeded, if no disk broke a promise
 abbrev pub LeavesContent : {S : Type 0} → Ghosts S → MutBor (Held S) → MutBor (Held S) → Result (Unit {0}) Error → (Content → Content) → Type 0
-LeavesContent g old new result change =
-    HasCleanDisk (state g new.now) → OnOk result ((c : Content) → HoldsUncommitted (state g old.now) (relations_of c) → HoldsUncommitted (state g new.now) (relations_of (change c)))
+LeavesContent g old new result change = HasCleanDisk (state g new.now) → OnOk result (MakesOfEach change (state g old.now) (state g new.now))
+
+-- a write makes this change, or all of these
+abbrev pub WritesChange : {S : Type 0} → Ghosts S → MutBor (Held S) → MutBor (Held S) → Result (Unit {0}) Error → Change → Type 0
+WritesChange g old new result change = LeavesContent g old new result (λ c. applied c change)
+
+abbrev pub WritesChanges : {S : Type 0} → Ghosts S → MutBor (Held S) → MutBor (Held S) → Result (Unit {0}) Error → List Change → Type 0
+WritesChanges g old new result changes = LeavesContent g old new result (λ c. all_applied c changes)
 
 -- ---- the counters of a commit
 
@@ -106,6 +116,10 @@ counted m changes events k = record {
 abbrev pub counters_of : List Change → ℕ → Kept → Content → ℕ × Meta
 counters_of changes events kept c = (c.rows.last_call, counted (meta_of c.rows) changes events kept)
 
--- the writes of a commit, with the counters that continue the content's
+-- those that continue the content's
+abbrev pub counters_after : List Change → List Event → Kept → Content → Meta
+counters_after changes events kept c = counted (meta_of c.rows) changes (length events) kept
+
+-- the writes of a commit, with these counters
 abbrev pub written_by : List Change → List Event → Kept → Content → Content
-written_by changes events kept c = made_by changes events kept (counted (meta_of c.rows) changes (length events) kept) c
+written_by changes events kept c = made_by changes events kept (counters_after changes events kept c) c

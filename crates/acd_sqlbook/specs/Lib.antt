@@ -11,3 +11,5 @@ pub mod Indexing
 pub mod Ahead
 pub mod Counters
 pub mod Caching
+pub mod OverReady
+pub mod Opening

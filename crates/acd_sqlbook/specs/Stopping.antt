@@ -1,5 +1,5 @@
 -- Why a part of a commit isn't written, inside a transaction that saw a content, on a connection without a limit of steps.
-use Rattle.std.specs.Prelude.{◌≡◌, ◌⊎◌, ℕ, ◌≤◌, ◌∷◌, [], List, length, Option, None, Some, Result, IfErr, OnOk}
+use Rattle.std.specs.Prelude.{◌≡◌, ◌⊎◌, ℕ, ◌≤◌, ◌∷◌, [], List, length, Bool, IsTrue, Option, None, Some, Result, IfErr, OnOk}
 use Rattle.std.specs.Borrow.{MutBor}
 use Rattle.sqlite_trees.specs.declared.store.Store.{Ghosts}
 use Rattle.sqlite.specs.declared.error.Error.{Error}
@@ -25,10 +25,10 @@ use Rattle.acd_sql_differences.specs.Leading.{rows_differences}
 use Rattle.acd_sql_differences.specs.Transition.{AreWhole}
 use Rattle.acd_sql_statements.specs.Failing.{IsMemory, StoreHasFailed}
 use Rattle.acd_sql_statements.specs.Reading.{FailsToRead}
-use Rattle.acd_sql_statements.specs.Refusing.{RefusesOn, RefusesPut, RefusesPutConnection, RefusesGroup, RefusesAgent}
+use Rattle.acd_sql_statements.specs.Refusing.{HasWriteCause, RefusesOn, RefusesPut, RefusesPutConnection, RefusesGroup, RefusesAgent}
 use Rattle.acd_sql_statements.specs.Several.{RefusesEvents}
 use Rattle.acd_sqlbook.specs.Choosing.{written}
-use Rattle.acd_sqlbook.specs.Commit.{ChangeFits, EventFits, counted, applied, all_applied, with_events, with_kept}
+use Rattle.acd_sqlbook.specs.Commit.{ChangeFits, EventFits, counted, counters_after, applied, all_applied, with_events, with_kept}
 
 -- no call that it has, and no call of its connections, is above this one
 pub record AreUpTo (last : ℕ) (c : Content) : Type 0 where
@@ -57,10 +57,21 @@ RefusesChange Meets (RemoveMonitor monitor) r = RefusesOn DELETE_MONITOR.now (id
 abbrev pub StopsAtChange : Type 0 → Change → Content → Type 0
 StopsAtChange Meets change c = (¬ (ChangeFits change)) ⊎ RefusesChange Meets change (relations_of c)
 
+-- the same of a change that is inserted where it is new, and by an upsert where it isn't
+abbrev pub RefusesWrite : Bool → Change → Content → Type 0
+RefusesWrite is_new change c = RefusesChange (IsTrue is_new) change (relations_of c)
+
+abbrev pub StopsWrite : Bool → Change → Content → Type 0
+StopsWrite is_new change c = StopsAtChange (IsTrue is_new) change c
+
 -- one of them, after those before it
 abbrev pub StopsInChanges : Type 0 → List Change → Content → Type 0
 StopsInChanges Meets [] c = ⊥
 StopsInChanges Meets (change ∷ changes) c = StopsAtChange Meets change c ⊎ StopsInChanges Meets changes (applied c change)
+
+-- one of these that are written, of a commit that inserts what is above the last call's number
+abbrev pub StopsInWritten : Option ℕ → List Change → Content → Type 0
+StopsInWritten last changes c = StopsInChanges (HasAbove last c) (written changes) c
 
 -- at the events of one statement, four at most, after those before them
 abbrev pub InEvents : (List Event → Content → Type 0) → List Event → Content → Type 0
@@ -82,11 +93,17 @@ abbrev pub StopsAtLast : Kept → Meta → Content → Type 0
 StopsAtLast kept meta c =
     RefusesOn INSERT_KEPT.now (kept_values kept) None (relations_of c) ⊎ RefusesOn UPDATE_META.now (meta_shown meta) None (relations_of (with_kept c kept))
 
--- the changes that are written, the events after them, or what is last
+-- one of the events, or what is written last
+abbrev pub StopsInRest : List Event → Kept → Meta → Content → Type 0
+StopsInRest events kept meta c = StopsInEvents events c ⊎ StopsAtLast kept meta (with_events c events)
+
+-- one of the changes that are written, or what is written after them
 abbrev pub StopsInAll : Type 0 → List Change → List Event → Kept → Meta → Content → Type 0
-StopsInAll Meets changes events kept meta c =
-    StopsInChanges Meets (written changes) c
-    ⊎ (StopsInEvents events (all_applied c changes) ⊎ StopsAtLast kept meta (with_events (all_applied c changes) events))
+StopsInAll Meets changes events kept meta c = StopsInChanges Meets (written changes) c ⊎ StopsInRest events kept meta (all_applied c changes)
+
+-- the same of a commit that inserts what is above the last call's number
+abbrev pub StopsInCommit : Option ℕ → List Change → List Event → Kept → Meta → Content → Type 0
+StopsInCommit last changes events kept meta c = StopsInAll (HasAbove last c) changes events kept meta c
 
 -- ---- what of it doesn't fit, and what the store refuses
 
@@ -122,9 +139,17 @@ IsStopped Stops old new result = HasCleanDisk new → (c : Content) → HoldsUnc
 abbrev pub FailsAt : {S A : Type 0} → Ghosts S → MutBor (Held S) → MutBor (Held S) → Result A Error → (Content → Type 0) → Type 0
 FailsAt g old new result Stops = IsStopped Stops (state g old.now) (state g new.now) result
 
+-- the same of one statement, which the store may refuse
+abbrev pub HasWriteCauseAt : {S A : Type 0} → Ghosts S → MutBor (Held S) → MutBor (Held S) → Result A Error → (Option ℕ → Relations → Type 0) → Type 0
+HasWriteCauseAt g old new result Refuses = HasWriteCause Refuses (state g old.now) (state g new.now) result
+
 -- of a whole commit, on a connection that holds a content
 abbrev pub IsUndone : {A : Type 0} → (Content → Type 0) → State → State → Result A Error → Type 0
 IsUndone Stops old new result = HasCleanDisk new → (c : Content) → HoldsContent old c → IfErr result (FailsToApply Stops c old new)
+
+-- the same of what a connection holds before and after
+abbrev pub IsUndoneAt : {S A : Type 0} → Ghosts S → Held S → Held S → Result A Error → (Content → Type 0) → Type 0
+IsUndoneAt g old new result Stops = IsUndone Stops (state g old) (state g new) result
 
 -- ---- a commit of changes
 
@@ -135,8 +160,7 @@ IsUncounted changes events kept c = ¬ (MetaFits (counted (meta_of c.rows) chang
 -- those don't fit, or it stops at something that it writes
 abbrev pub StopsCommit : List Change → List Event → Kept → Content → Type 0
 StopsCommit changes events kept c =
-    IsUncounted changes (length events) kept c
-    ⊎ StopsInAll (HasAbove (Some c.rows.last_call) c) changes events kept (counted (meta_of c.rows) changes (length events) kept) c
+    IsUncounted changes (length events) kept c ⊎ StopsInCommit (Some c.rows.last_call) changes events kept (counters_after changes events kept c) c
 
 -- ---- a commit of tables
 
@@ -145,8 +169,11 @@ abbrev pub AreCounted : Rows → Kept → Type 0
 AreCounted rows kept = MetaFits (meta_of rows) × Fits kept.stamp
 
 -- a group, a station or an agent that is held isn't among the rows
+abbrev pub DropsOf : Rows → Rows → Type 0
+DropsOf held rows = ¬ (AreWhole (rows_differences held rows))
+
 abbrev pub Drops : Rows → Content → Type 0
-Drops rows c = ¬ (AreWhole (rows_differences c.rows rows))
+Drops rows c = DropsOf c.rows rows
 
 -- those don't fit, it would drop one of these, or it stops at something that it writes
 abbrev pub StopsReplace : Rows → List Event → Kept → Content → Type 0

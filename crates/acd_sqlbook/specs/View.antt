@@ -1,9 +1,11 @@
 -- A book over a connection, as clauses see it.
-use Rattle.std.specs.Prelude.{ℕ, refl}
+use Rattle.std.specs.Prelude.{ℕ, List, Result, Vec, refl}
 use Rattle.std.specs.Coded.{Coded, code_by, coded×, coded_ℕ}
 use Rattle.sqlite_trees.specs.declared.store.Store.{Ghosts}
 use Rattle.sqlite.specs.Held.{Held, held_code, state}
-use Rattle.acd_book.specs.State.{BookState}
+use Rattle.acd_book.specs.Content.{Content, Commit}
+use Rattle.acd_book.specs.State.{BookState, BookReads, BookFinds, BookLists, BookCommits}
+use Rattle.acd_book.specs.declared.fault.BookFault.{BookFault}
 use Rattle.acd_sqlbook.specs.Caching.{followed}
 use Rattle.acd_sqlbook.specs.State.{book_state}
 use Rattle.acd_sqlbook.specs.contracts.cache.Cache.{the_row}
@@ -23,3 +25,17 @@ view_code {S} store =
 -- the book that it is
 abbrev pub book_of : {S : Type 0} → Ghosts S → BookView S → BookState
 book_of store b = followed b.cache (book_state (state store b.conn) b.failures)
+
+-- ---- a call of it: a read finds what `IsAnswer` says, just this of the content, or just this list; or it commits
+
+abbrev pub SqlReads : {S A : Type 0} → Ghosts S → BookView S → BookView S → Result A BookFault → (Content → A → Type 0) → Type 0
+SqlReads store old new result IsAnswer = BookReads (book_of store) old new result IsAnswer
+
+abbrev pub SqlFinds : {S A : Type 0} → Ghosts S → BookView S → BookView S → Result A BookFault → (Content → A) → Type 0
+SqlFinds store old new result answer = BookFinds (book_of store) old new result answer
+
+abbrev pub SqlLists : {S T Z : Type 0} → Ghosts S → BookView S → BookView S → Result (Vec T Z) BookFault → (Content → List T) → Type 0
+SqlLists store old new result answer = BookLists (book_of store) old new result answer
+
+abbrev pub SqlCommits : {S : Type 0} → Ghosts S → BookView S → BookView S → Result (Unit {0}) BookFault → Commit → Type 0
+SqlCommits store old new result commit = BookCommits (book_of store) old new result commit

@@ -1,9 +1,8 @@
 //! Kept records that were read ahead, so that an audit reads a page for many of them.
 
-ghost use Rattle.std.specs.Prelude.{◌≡◌, List, [], None, IfSome, Some, reverse};
-ghost use Rattle.acd_book.specs.declared.kept.Kept.{Kept as Record};
+ghost use Rattle.std.specs.Prelude.{◌≡◌, [], None, IfSome, Some, reverse};
 ghost use Rattle.acd_book.specs.Content.{IsKeptAfter};
-ghost use Rattle.acd_sqlbook.specs.Ahead.{Ascend, IsAhead};
+ghost use Rattle.acd_sqlbook.specs.Ahead.{IfAhead, IsAhead};
 
 use acd_book::Kept;
 use std::alloc::Global;
@@ -45,10 +44,9 @@ impl Ahead {
 
     /// The record of the least stamp above one, where it was read ahead.
     pub(crate) fn next(&mut self, stamp: u64) -> Option<Kept>
-        ensures next { (kept : List Record) → Ascend kept → IsAhead self.old kept
-            → IfSome result (λ k. IsKeptAfter kept stamp (Some k)) }
-        ensures still { (kept : List Record) → Ascend kept → IsAhead self.old kept
-            → IsAhead self.new kept }
+        ensures next { IfAhead self.old
+            (λ kept. IfSome result (λ k. IsKeptAfter kept stamp (Some k))) }
+        ensures still { IfAhead self.old (IsAhead self.new) }
         ensures none { result ≡ None → self.old.above ≡ stamp → self.old.records.items ≡ [] }
     {
         if stamp != self.above {

@@ -1,11 +1,9 @@
 //! The index of a book that holds some events already.
 
-ghost use Rattle.sqlite.specs.Held.{state};
-ghost use Rattle.acd_sql_columns.specs.Finding.{Finds};
-ghost use Rattle.acd_sql_statements.specs.Picking.{IsOpenIfClean};
-ghost use Rattle.acd_sql_statements.specs.Reading.{HasReadCause};
-ghost use Rattle.acd_sqlbook.specs.Calls.{HasRead};
-ghost use Rattle.acd_sqlbook.specs.Indexing.{BeginsIndex, IsIndexOf};
+ghost use Rattle.acd_sql_statements.specs.Between.{FindsIn, HasReadCauseIn};
+ghost use Rattle.acd_sql_statements.specs.Picking.{FindsIfOpen, HasReadCauseIfOpen};
+ghost use Rattle.acd_sqlbook.specs.Indexing.{EndsIndex, IsIndexIn, KeepsIndex};
+ghost use Rattle.acd_sqlbook.specs.OverReady.{ReadyFails, ReadyReads};
 
 use crate::index::{Index, index_extended};
 use crate::ready::Ready;
@@ -34,11 +32,8 @@ fn index_to_the_end<S: Alter>(
     conn: &mut Connection<S>,
     begun: Index,
 ) -> Result<Option<Index>, Error>
-    ensures found { IsOpenIfClean (state S.Store conn.old)
-        → Finds (state S.Store conn.old) (state S.Store conn.new) result
-        (λ c recorded. BeginsIndex begun c.events → IsIndexOf recorded c.events) }
-    ensures cause { IsOpenIfClean (state S.Store conn.old)
-        → HasReadCause (state S.Store conn.old) (state S.Store conn.new) result }
+    ensures found { FindsIfOpen S.Store conn.old conn.new result (EndsIndex begun) }
+    ensures cause { HasReadCauseIfOpen S.Store conn.old conn.new result }
 {
     let mut index = begun;
     for _ in 0..u64::MAX {
@@ -56,9 +51,8 @@ fn index_to_the_end<S: Alter>(
 
 // The index of all events that are held.
 fn begun<S: Alter>(alloc: Global, conn: &mut Connection<S>) -> Result<Option<Index>, Error>
-    ensures found { Finds (state S.Store conn.old) (state S.Store conn.new) result
-        (λ c recorded. IsIndexOf recorded c.events) }
-    ensures cause { HasReadCause (state S.Store conn.old) (state S.Store conn.new) result }
+    ensures found { FindsIn S.Store conn.old conn.new result (λ c recorded. IsIndexIn recorded c) }
+    ensures cause { HasReadCauseIn S.Store conn.old conn.new result }
 {
     let rows = rows(alloc, conn)?;
     let monitors = rows.monitors.as_slice();
@@ -73,10 +67,8 @@ pub(crate) fn index_or_begun<S: Alter>(
     ready: &mut Ready<S>,
     recorded: Option<Index>,
 ) -> Result<Option<Index>, Error>
-    ensures read { HasRead (state S.Store ready.old.conn) (state S.Store ready.new.conn) result
-        (λ c next. IsIndexOf recorded c.events → IsIndexOf next c.events) }
-    ensures cause { HasReadCause (state S.Store ready.old.conn)
-        (state S.Store ready.new.conn) result }
+    ensures read { ReadyReads ready.old ready.new result (KeepsIndex recorded) }
+    ensures cause { ReadyFails ready.old ready.new result }
 {
     ready.refresh()?;
     match recorded {

@@ -1,18 +1,15 @@
 //! A book over a connection.
 
-ghost use Rattle.std.specs.Prelude.{◌≡◌, ◌≢◌, ◌≤◌, false, None, Err, is_ok, IsTrue, IfOk, IfErr};
-ghost use Rattle.sqlite.specs.State.{HasCleanDisk};
-ghost use Rattle.sqlite.specs.Held.{state};
-ghost use Rattle.acd_sql_columns.specs.Schema.{no_schema};
+ghost use Rattle.std.specs.Prelude.{◌≡◌, ◌≤◌, false, None, Err, is_ok, IsTrue, IfOk, IfErr};
 ghost use Rattle.acd_sql_columns.specs.Transactions.{LimitsFit};
 ghost use Rattle.acd_sqlbook.specs.Calls.{WasClean};
-ghost use Rattle.acd_sqlbook.specs.State.{book_state, IsNewBook, fault_of, answered, failures_after};
+ghost use Rattle.acd_sqlbook.specs.State.{fault_of, answered, failures_after};
 ghost use Rattle.acd_sqlbook.specs.Caching.{IsBlank};
-ghost use Rattle.acd_sqlbook.specs.View.{book_of};
-ghost use Rattle.acd_sql_schema.specs.SettingUp.{IfClean, MayMake};
-ghost use Rattle.acd_sqlbook.specs.Causes.{StoreCause, IsCaused, create as creating, read as reading, change as changing, replace as replacing};
-ghost use Rattle.acd_book.specs.Content.{IsKeptAfter, events_after, records_after, events_of_monitor, kept_of, Follows, committed, FollowsBy, committed_by};
-ghost use Rattle.acd_book.specs.State.{Reads, Commits};
+ghost use Rattle.acd_sqlbook.specs.Opening.{HasCreateCause, HasNoTables, IfHandedBack, IsNewOver};
+ghost use Rattle.acd_sqlbook.specs.View.{book_of, SqlReads, SqlFinds, SqlLists, SqlCommits};
+ghost use Rattle.acd_sql_schema.specs.SettingUp.{MayMake};
+ghost use Rattle.acd_sqlbook.specs.Causes.{IsCaused, IsCausedIfSound, read as reading, change as changing, replace as replacing};
+ghost use Rattle.acd_book.specs.Content.{IsNextKept, events_page, kept_under, monitor_page, records_page, commit_by, commit_of};
 
 use crate::cache::Cache;
 use crate::following::kept_followed;
@@ -101,23 +98,19 @@ impl<S: Alter> SqlBook<S> {
         limits: Limits,
     ) -> Result<SqlBook<S>, (BookFault, Connection<S>)>
         requires { conn.in_transaction ≡ false }
-        ensures made { IfOk result (λ b. HasCleanDisk (state S.Store b.conn)
-            → IsNewBook (book_state (state S.Store b.conn) b.failures) limits) }
+        ensures made { IfOk result (IsNewOver S.Store limits) }
         ensures counted { IfOk result (λ b. b.failures ≡ 0) }
         ensures blank { IfOk result (λ b. IsBlank b.cache) }
         ensures unlimited { IfOk result (λ b. b.conn.step_limit ≡ None) }
         ensures clean { IfOk result (λ b. WasClean S.Store conn b.conn) }
         ensures refused { ¬ (LimitsFit limits) → result ≡ Err (BookFault.Store, conn) }
-        ensures occupied { (state S.Store conn).now.schema ≢ no_schema
-            → result ≡ Err (BookFault.Store, conn) }
+        ensures occupied { ¬ (HasNoTables S.Store conn) → result ≡ Err (BookFault.Store, conn) }
         ensures handed_back { IfErr result (λ e. e.1.in_transaction ≡ false) }
-        ensures limit { LimitsFit limits → (state S.Store conn).now.schema ≡ no_schema
+        ensures limit { LimitsFit limits → HasNoTables S.Store conn
             → IfErr result (λ e. e.1.step_limit ≡ None) }
         ensures doubted { IfErr result (λ e. WasClean S.Store conn e.1) }
-        ensures stops { IfErr result
-            (λ e. IfClean S.Store conn e.1 (λ old new. MayMake old new limits)) }
-        ensures caused { IfErr result (λ e. IfClean S.Store conn e.1
-            (λ old new. e.0 ≡ BookFault.Store → StoreCause (creating limits) old new)) }
+        ensures stops { IfHandedBack S.Store conn result (λ fault old new. MayMake old new limits) }
+        ensures caused { IfHandedBack S.Store conn result (HasCreateCause limits) }
     {
         if !limits_fit(&limits) {
             return Err((BookFault::Store, conn));
@@ -185,8 +178,7 @@ impl<S: Alter> Book for SqlBook<S> {
     }
 
     fn limits(&mut self) -> Result<Limits, BookFault>
-        ensures reads { Reads (book_of S.Store self.old) (book_of S.Store self.new) result
-            (λ c found. found ≡ c.rows.limits) }
+        ensures reads { SqlFinds S.Store self.old self.new result (λ c. c.rows.limits) }
         ensures caused { IsCaused reading S.Store self.old self.new result }
     {
         let found = self.ready.limits();
@@ -194,8 +186,7 @@ impl<S: Alter> Book for SqlBook<S> {
     }
 
     fn rows(&mut self) -> Result<Rows, BookFault>
-        ensures reads { Reads (book_of S.Store self.old) (book_of S.Store self.new) result
-            (λ c found. found ≡ c.rows) }
+        ensures reads { SqlFinds S.Store self.old self.new result (λ c. c.rows) }
         ensures caused { IsCaused reading S.Store self.old self.new result }
     {
         let found = self.ready.rows(self.alloc);
@@ -203,8 +194,8 @@ impl<S: Alter> Book for SqlBook<S> {
     }
 
     fn kept(&mut self, requester: &Requester, invoke: Invoke) -> Result<Option<Kept>, BookFault>
-        ensures reads { Reads (book_of S.Store self.old) (book_of S.Store self.new) result
-            (λ c found. found ≡ kept_of c.kept requester.now invoke) }
+        ensures reads { SqlFinds S.Store self.old self.new result
+            (kept_under requester.now invoke) }
         ensures caused { IsCaused reading S.Store self.old self.new result }
     {
         let found = self.ready.kept(self.alloc, requester, invoke);
@@ -212,8 +203,7 @@ impl<S: Alter> Book for SqlBook<S> {
     }
 
     fn kept_after(&mut self, stamp: u64) -> Result<Option<Kept>, BookFault>
-        ensures reads { Reads (book_of S.Store self.old) (book_of S.Store self.new) result
-            (λ c found. IsKeptAfter c.kept stamp found) }
+        ensures reads { SqlReads S.Store self.old self.new result (IsNextKept stamp) }
         ensures caused { IsCaused reading S.Store self.old self.new result }
     {
         let found = kept_followed(self.alloc, &mut self.ready, &mut self.cache.ahead, stamp);
@@ -221,8 +211,7 @@ impl<S: Alter> Book for SqlBook<S> {
     }
 
     fn requests_after(&mut self, stamp: u64, limit: usize) -> Result<Vec<Kept>, BookFault>
-        ensures reads { Reads (book_of S.Store self.old) (book_of S.Store self.new) result
-            (λ c found. found.items ≡ records_after c.kept stamp limit) }
+        ensures reads { SqlLists S.Store self.old self.new result (records_page stamp limit) }
         ensures caused { IsCaused reading S.Store self.old self.new result }
     {
         let found = self.ready.records_after(self.alloc, stamp, limit);
@@ -230,8 +219,7 @@ impl<S: Alter> Book for SqlBook<S> {
     }
 
     fn events_after(&mut self, number: u64, limit: usize) -> Result<Vec<Event>, BookFault>
-        ensures reads { Reads (book_of S.Store self.old) (book_of S.Store self.new) result
-            (λ c found. found.items ≡ events_after c.events number limit) }
+        ensures reads { SqlLists S.Store self.old self.new result (events_page number limit) }
         ensures caused { IsCaused reading S.Store self.old self.new result }
     {
         let found = self.ready.events_after(self.alloc, number, limit);
@@ -244,8 +232,8 @@ impl<S: Alter> Book for SqlBook<S> {
         number: u64,
         limit: usize,
     ) -> Result<Vec<Event>, BookFault>
-        ensures reads { Reads (book_of S.Store self.old) (book_of S.Store self.new) result
-            (λ c found. found.items ≡ events_of_monitor c monitor number limit) }
+        ensures reads { SqlLists S.Store self.old self.new result
+            (monitor_page monitor number limit) }
         ensures caused { IsCaused reading S.Store self.old self.new result }
     {
         let found = page_followed(
@@ -260,9 +248,8 @@ impl<S: Alter> Book for SqlBook<S> {
     }
 
     fn commit(&mut self, rows: &Rows, events: &[Event], kept: &Kept) -> Result<(), BookFault>
-        ensures commits { Commits (book_of S.Store self.old) (book_of S.Store self.new) result
-            (Follows rows.now events.now kept.now)
-            (committed rows.now events.now kept.now) }
+        ensures commits { SqlCommits S.Store self.old self.new result
+            (commit_of rows.now events.now kept.now) }
         ensures caused { IsCaused (replacing rows.now events.now kept.now)
             S.Store self.old self.new result }
     {
@@ -277,13 +264,12 @@ impl<S: Alter> Book for SqlBook<S> {
         events: &[Event],
         kept: &Kept,
     ) -> Result<(), BookFault>
-        ensures commits { Commits (book_of S.Store self.old) (book_of S.Store self.new) result
-            (FollowsBy changes.now events.now kept.now)
-            (committed_by changes.now events.now kept.now) }
+        ensures commits { SqlCommits S.Store self.old self.new result
+            (commit_by changes.now events.now kept.now) }
         // It counts from what is remembered: so the book is sound with what it remembers, as `commits` asks too. A new
         // or an adopted one is, and each call leaves it so.
-        ensures caused { (book_of S.Store self.old).is_sound
-            → IsCaused (changing changes.now events.now kept.now) S.Store self.old self.new result }
+        ensures caused { IsCausedIfSound (changing changes.now events.now kept.now)
+            S.Store self.old self.new result }
     {
         let counters = &mut self.cache.counters;
         let done = self

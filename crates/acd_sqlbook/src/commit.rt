@@ -1,20 +1,16 @@
 //! All writes of a commit, in one transaction.
 
-ghost use Rattle.std.specs.Prelude.{◌≡◌, ◌≢◌, ◌↔◌, ◌<◌, ◌≤◌, [], length, filter, false, None, IfSome, OnOk, OnErr, IsTrue};
-ghost use Rattle.sqlite.specs.State.{HasCleanDisk};
+ghost use Rattle.std.specs.Prelude.{◌≡◌, ◌≢◌, ◌↔◌, ◌<◌, ◌≤◌, [], length, filter, false, None, IfSome, IsTrue};
 ghost use Rattle.sqlite.specs.Held.{state};
 ghost use Rattle.acd_codec.specs.RequestTexts.{request_text};
-ghost use Rattle.acd_terms.specs.Lists.{Every, IsAscending};
-ghost use Rattle.acd_model.specs.Rules.Plan.{connection_order};
-ghost use Rattle.acd_book.specs.Content.{Content};
-ghost use Rattle.acd_sql_schema.specs.SettingUp.{IfClean};
-ghost use Rattle.acd_sqlbook.specs.Calls.{WasClean};
-ghost use Rattle.acd_sqlbook.specs.Choosing.{written, is_taken_away, IsWrittenNext, IsNextPart, puts_the_same, is_put_once, is_above, is_new};
-ghost use Rattle.acd_sqlbook.specs.Commit.{LeavesContent, ChangeFits, EventFits, applied, all_applied, with_events, made_by, top_call, top_monitor, last_call, last_monitor, counted};
-ghost use Rattle.acd_sqlbook.specs.Stopping.{HasAbove, RefusesChange, StopsAtChange, StopsInChanges, StopsAtEvents, StopsInEvents, StopsInAll, FailsAt, IsUndone};
-ghost use Rattle.acd_sql_statements.specs.Refusing.{RefusesAgent, HasWriteCause};
-ghost use Rattle.acd_sql_columns.specs.Relations.{relations_of};
-ghost use Rattle.acd_sql_columns.specs.Transactions.{Works, HoldsContent, AddsStop, Fits, FiguresFitColumns, MetaFits};
+ghost use Rattle.acd_terms.specs.Lists.{Every};
+ghost use Rattle.acd_sqlbook.specs.Calls.{AddsOneStop, CommitsContent, KeepsContent, StaysOpen, WasClean};
+ghost use Rattle.acd_sqlbook.specs.Choosing.{is_taken_away, IsVainBefore, IsWrittenNext, IsNextPart, puts_the_same, is_put_once, is_above, is_new};
+ghost use Rattle.acd_sqlbook.specs.Commit.{LeavesContent, WritesChange, WritesChanges, ChangeFits, EventFits, with_events, made_by, top_call, top_monitor, last_call, last_monitor, counted};
+ghost use Rattle.acd_sqlbook.specs.Stopping.{RefusesWrite, StopsWrite, StopsInWritten, StopsAtEvents, StopsInEvents, StopsInCommit, FailsAt, HasWriteCauseAt, IsUndoneAt};
+ghost use Rattle.acd_sql_schema.specs.SettingUp.{WasOpen};
+ghost use Rattle.acd_sql_statements.specs.Refusing.{RefusesAgent};
+ghost use Rattle.acd_sql_columns.specs.Transactions.{Works, Fits, FiguresFitColumns, MetaFits};
 
 use acd_book::Kept;
 use acd_model::Change;
@@ -76,10 +72,9 @@ fn write_agent<S: Alter>(tx: &mut Transaction<'_, S>, agent: &AgentRecord) -> Re
     requires { Fits agent.now.stamp }
     ensures same { tx.new.conn.ghost_name ≡ tx.old.conn.ghost_name }
     ensures works { Works (state S.Store tx.old.conn.now) (state S.Store tx.new.conn.now) }
-    ensures put { LeavesContent S.Store tx.old.conn tx.new.conn result
-        (λ c. applied c (Change.PutAgent agent.now)) }
-    ensures failed { HasWriteCause (RefusesAgent agent.now)
-        (state S.Store tx.old.conn.now) (state S.Store tx.new.conn.now) result }
+    ensures put { WritesChange S.Store tx.old.conn tx.new.conn result (Change.PutAgent agent.now) }
+    ensures failed { HasWriteCauseAt S.Store tx.old.conn tx.new.conn result
+        (RefusesAgent agent.now) }
 {
     let _ascending = agent.groups.as_slice();
     put_agent(tx, agent)
@@ -95,10 +90,9 @@ fn make_change<S: Alter>(
     requires free { (state S.Store tx.old.conn.now).step_limit ≡ None }
     ensures same { tx.new.conn.ghost_name ≡ tx.old.conn.ghost_name }
     ensures works { Works (state S.Store tx.old.conn.now) (state S.Store tx.new.conn.now) }
-    ensures put { LeavesContent S.Store tx.old.conn tx.new.conn result
-        (λ c. applied c change.now) }
+    ensures put { WritesChange S.Store tx.old.conn tx.new.conn result change.now }
     ensures failed { FailsAt S.Store tx.old.conn tx.new.conn result
-        (λ c. RefusesChange (IsTrue is_new) change.now (relations_of c)) }
+        (RefusesWrite is_new change.now) }
 {
     match change {
         Change::Nothing => Ok(()),
@@ -124,10 +118,8 @@ fn write_change<S: Alter>(
     requires { (state S.Store tx.old.conn.now).step_limit ≡ None }
     ensures same { tx.new.conn.ghost_name ≡ tx.old.conn.ghost_name }
     ensures works { Works (state S.Store tx.old.conn.now) (state S.Store tx.new.conn.now) }
-    ensures put { LeavesContent S.Store tx.old.conn tx.new.conn result
-        (λ c. applied c change.now) }
-    ensures failed { FailsAt S.Store tx.old.conn tx.new.conn result
-        (StopsAtChange (IsTrue is_new) change.now) }
+    ensures put { WritesChange S.Store tx.old.conn tx.new.conn result change.now }
+    ensures failed { FailsAt S.Store tx.old.conn tx.new.conn result (StopsWrite is_new change.now) }
 {
     if !change_fits(change) {
         return Err(too_large());
@@ -199,8 +191,7 @@ fn is_new(last: Option<u64>, changes: &[Change], change: &Change) -> bool
 // Whether the second change removes the connection that the first one puts.
 fn is_taken_away(first: &Change, second: &Change) -> bool
     ensures is { result ≡ is_taken_away first.now second.now }
-    ensures vain { IsTrue result → (c : Content) → IsAscending connection_order c.rows.connections
-        → applied (applied c first.now) second.now ≡ applied c second.now }
+    ensures vain { IsTrue result → IsVainBefore first.now second.now }
 {
     match (first, second) {
         (Change::PutConnection(connection), Change::RemoveConnection(call, device)) => {
@@ -237,10 +228,9 @@ fn write_changes<S: Alter>(
     requires { (state S.Store tx.old.conn.now).step_limit ≡ None }
     ensures same { tx.new.conn.ghost_name ≡ tx.old.conn.ghost_name }
     ensures works { Works (state S.Store tx.old.conn.now) (state S.Store tx.new.conn.now) }
-    ensures put { LeavesContent S.Store tx.old.conn tx.new.conn result
-        (λ c. all_applied c changes.now) }
+    ensures put { WritesChanges S.Store tx.old.conn tx.new.conn result changes.now }
     ensures failed { FailsAt S.Store tx.old.conn tx.new.conn result
-        (λ c. StopsInChanges (HasAbove last c) (written changes.now) c) }
+        (StopsInWritten last changes.now) }
 {
     let mut rest = changes;
     while let Some((change, remaining)) = next_written(rest) {
@@ -383,7 +373,7 @@ fn write_all<S: Alter>(
     ensures put { LeavesContent S.Store tx.old.conn tx.new.conn result
         (made_by changes.now events.now kept.now meta.now) }
     ensures failed { FailsAt S.Store tx.old.conn tx.new.conn result
-        (λ c. StopsInAll (HasAbove last c) changes.now events.now kept.now meta.now c) }
+        (StopsInCommit last changes.now events.now kept.now meta.now) }
 {
     write_changes(tx, last, changes)?;
     write_events(tx, events)?;
@@ -409,22 +399,17 @@ pub(crate) fn commit_all<S: Alter>(
     requires idle { conn.old.in_transaction ≡ false }
     requires unlimited { conn.old.step_limit ≡ None }
     ensures idle { conn.new.in_transaction ≡ false }
-    ensures done { IfClean S.Store conn.old conn.new (λ old new. OnOk result ((c : Content)
-        → HoldsContent old c
-        → HoldsContent new (made_by changes.now events.now kept.now meta.now c))) }
+    ensures done { CommitsContent S.Store conn.old conn.new result
+        (made_by changes.now events.now kept.now meta.now) }
     ensures clean { WasClean S.Store conn.old conn.new }
-    ensures up { HasCleanDisk (state S.Store conn.new) → OnOk result
-        (IsTrue (state S.Store conn.old).is_open × IsTrue (state S.Store conn.new).is_open) }
-    ensures was { HasCleanDisk (state S.Store conn.new)
-        → IsTrue (state S.Store conn.new).is_open → IsTrue (state S.Store conn.old).is_open }
-    ensures undone { IfClean S.Store conn.old conn.new (λ old new. OnErr result ((c : Content)
-        → HoldsContent old c → IsTrue new.is_open → HoldsContent new c)) }
-    ensures stops { IfClean S.Store conn.old conn.new
-        (λ old new. AddsStop old new (made_by changes.now events.now kept.now meta.now)) }
+    ensures up { StaysOpen S.Store conn.old conn.new result }
+    ensures was { WasOpen S.Store conn.old conn.new }
+    ensures undone { KeepsContent S.Store conn.old conn.new result }
+    ensures stops { AddsOneStop S.Store conn.old conn.new
+        (made_by changes.now events.now kept.now meta.now) }
     ensures limit { (state S.Store conn.new).step_limit ≡ (state S.Store conn.old).step_limit }
-    ensures failed { IsUndone
-        (λ c. StopsInAll (HasAbove last c) changes.now events.now kept.now meta.now c)
-        (state S.Store conn.old) (state S.Store conn.new) result }
+    ensures failed { IsUndoneAt S.Store conn.old conn.new result
+        (StopsInCommit last changes.now events.now kept.now meta.now) }
 {
     let mut tx = conn.transaction();
     write_all(&mut tx, last, changes, events, kept, request, meta)?;

@@ -1,13 +1,7 @@
 //! The kept records one after the other.
 
-ghost use Rattle.std.specs.Prelude.{◌≡◌};
-ghost use Rattle.sqlite.specs.State.{HasCleanDisk};
-ghost use Rattle.sqlite.specs.Held.{state};
-ghost use Rattle.acd_book.specs.Content.{Content, IsKeptAfter};
-ghost use Rattle.acd_sql_columns.specs.Transactions.{HoldsContent};
-ghost use Rattle.acd_sql_statements.specs.Reading.{HasReadCause};
-ghost use Rattle.acd_sqlbook.specs.Ahead.{IsAhead};
-ghost use Rattle.acd_sqlbook.specs.Calls.{HasRead};
+ghost use Rattle.acd_sqlbook.specs.Ahead.{IsAheadOf, IsNextAfter};
+ghost use Rattle.acd_sqlbook.specs.OverReady.{Carries, ReadyFails, ReadyReads};
 
 use crate::ahead::Ahead;
 use crate::ready::Ready;
@@ -25,13 +19,9 @@ pub(crate) fn kept_followed<S: Alter>(
     ahead: &mut Ahead,
     stamp: u64,
 ) -> Result<Option<Kept>, Error>
-    ensures recorded { HasCleanDisk (state S.Store ready.new.conn) → (c : Content)
-        → HoldsContent (state S.Store ready.old.conn) c
-        → IsAhead ahead.old c.kept → IsAhead ahead.new c.kept }
-    ensures read { HasRead (state S.Store ready.old.conn) (state S.Store ready.new.conn) result
-        (λ c found. IsAhead ahead.old c.kept → IsKeptAfter c.kept stamp found) }
-    ensures cause { HasReadCause (state S.Store ready.old.conn)
-        (state S.Store ready.new.conn) result }
+    ensures recorded { Carries ready.old ready.new (IsAheadOf ahead.old) (IsAheadOf ahead.new) }
+    ensures read { ReadyReads ready.old ready.new result (IsNextAfter ahead.old stamp) }
+    ensures cause { ReadyFails ready.old ready.new result }
 {
     if ready.known_open {
         if let Some(kept) = ahead.next(stamp) {

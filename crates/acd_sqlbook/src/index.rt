@@ -1,12 +1,8 @@
 //! The events at the devices of the running monitors, as far as they are indexed.
 
-ghost use Rattle.std.specs.Prelude.{◌≡◌, ◌≤◌, IfSome};
-ghost use Rattle.acd_terms.specs.Lists.{Every};
-ghost use Rattle.acd_terms.specs.declared.event.Event.{Event};
-ghost use Rattle.acd_book.specs.Memory.{number_of};
-ghost use Rattle.acd_book.specs.Order.{Rises};
+ghost use Rattle.std.specs.Prelude.{IfSome};
 ghost use Rattle.acd_book.specs.Watched.{IsPage};
-ghost use Rattle.acd_sqlbook.specs.Indexing.{IndexGoesOn, IsIndexAfter, last_of};
+ghost use Rattle.acd_sqlbook.specs.Indexing.{IndexGoesOn, IsIndexAfter, RisesTo};
 
 use acd_book::Watched;
 use acd_model::Change;
@@ -48,8 +44,7 @@ impl Index {
 
 // The last number, where each of the events has one above all before.
 fn rises(last: u64, events: &[Event]) -> Option<u64>
-    ensures { IfSome result (λ top. Rises number_of last events.now × (last ≤ top)
-        × Every (λ (e : Event). e.number ≤ top) events.now × (top ≡ last_of last events.now)) }
+    ensures { IfSome result (RisesTo last events.now) }
 {
     let mut top = last;
     for event in events {

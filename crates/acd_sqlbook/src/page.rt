@@ -1,15 +1,10 @@
 //! Pages of a monitor by the numbers that an index has of its events.
 
-ghost use Rattle.std.specs.Prelude.{◌≡◌, Some, false, filter, take};
-ghost use Rattle.sqlite.specs.State.{HasCleanDisk};
-ghost use Rattle.sqlite.specs.Held.{state};
-ghost use Rattle.acd_book.specs.Content.{Content, events_of_monitor, is_at_after};
-ghost use Rattle.acd_sql_columns.specs.Transactions.{HoldsContent};
-ghost use Rattle.acd_sql_columns.specs.Finding.{Finds};
-ghost use Rattle.acd_sql_statements.specs.Picking.{IsOpenIfClean};
-ghost use Rattle.acd_sql_statements.specs.Reading.{HasReadCause};
-ghost use Rattle.acd_sqlbook.specs.Calls.{HasRead};
-ghost use Rattle.acd_sqlbook.specs.Indexing.{Indexes, IsIndexOf};
+ghost use Rattle.std.specs.Prelude.{Some};
+ghost use Rattle.acd_sql_statements.specs.Between.{FindsIn, HasReadCauseIn};
+ghost use Rattle.acd_sql_statements.specs.Picking.{FindsIfOpen, HasReadCauseIfOpen};
+ghost use Rattle.acd_sqlbook.specs.Indexing.{IsDevicePage, IsIndexIn, IsPageBy};
+ghost use Rattle.acd_sqlbook.specs.OverReady.{Carries, ReadyFails, ReadyReads};
 
 use crate::begun::index_or_begun;
 use crate::index::Index;
@@ -29,12 +24,9 @@ fn page_at<S: Alter>(
     number: u64,
     limit: usize,
 ) -> Result<Vec<Event>, Error>
-    ensures found { IsOpenIfClean (state S.Store conn.old)
-        → Finds (state S.Store conn.old) (state S.Store conn.new) result
-        (λ c events. Indexes index.now c.events
-        → events.items ≡ take limit (filter (is_at_after (Some device) number) c.events)) }
-    ensures cause { IsOpenIfClean (state S.Store conn.old)
-        → HasReadCause (state S.Store conn.old) (state S.Store conn.new) result }
+    ensures found { FindsIfOpen S.Store conn.old conn.new result
+        (IsDevicePage index.now device number limit) }
+    ensures cause { HasReadCauseIfOpen S.Store conn.old conn.new result }
 {
     match index.numbers(device, number, limit) {
         Some(numbers) => events_numbered(alloc, conn, numbers),
@@ -51,10 +43,9 @@ fn page<S: Alter>(
     number: u64,
     limit: usize,
 ) -> Result<Vec<Event>, Error>
-    ensures found { Finds (state S.Store conn.old) (state S.Store conn.new) result
-        (λ c events. Indexes index.now c.events
-        → events.items ≡ events_of_monitor c monitor number limit) }
-    ensures cause { HasReadCause (state S.Store conn.old) (state S.Store conn.new) result }
+    ensures found { FindsIn S.Store conn.old conn.new result
+        (IsPageBy (Some index.now) monitor number limit) }
+    ensures cause { HasReadCauseIn S.Store conn.old conn.new result }
 {
     match monitor_at(alloc, conn, monitor)? {
         Some(watch) => {
@@ -74,10 +65,9 @@ fn recorded_page<S: Alter>(
     number: u64,
     limit: usize,
 ) -> Result<Vec<Event>, Error>
-    ensures found { Finds (state S.Store conn.old) (state S.Store conn.new) result
-        (λ c events. IsIndexOf recorded.now c.events
-        → events.items ≡ events_of_monitor c monitor number limit) }
-    ensures cause { HasReadCause (state S.Store conn.old) (state S.Store conn.new) result }
+    ensures found { FindsIn S.Store conn.old conn.new result
+        (IsPageBy recorded.now monitor number limit) }
+    ensures cause { HasReadCauseIn S.Store conn.old conn.new result }
 {
     match recorded {
         Some(index) => page(alloc, conn, index, monitor, number, limit),
@@ -94,14 +84,11 @@ pub(crate) fn page_followed<S: Alter>(
     number: u64,
     limit: usize,
 ) -> Result<Vec<Event>, Error>
-    ensures recorded { HasCleanDisk (state S.Store ready.new.conn) → (c : Content)
-        → HoldsContent (state S.Store ready.old.conn) c
-        → IsIndexOf recorded.old c.events → IsIndexOf recorded.new c.events }
-    ensures read { HasRead (state S.Store ready.old.conn) (state S.Store ready.new.conn) result
-        (λ c events. IsIndexOf recorded.old c.events
-        → events.items ≡ events_of_monitor c monitor number limit) }
-    ensures cause { HasReadCause (state S.Store ready.old.conn)
-        (state S.Store ready.new.conn) result }
+    ensures recorded { Carries ready.old ready.new
+        (IsIndexIn recorded.old) (IsIndexIn recorded.new) }
+    ensures read { ReadyReads ready.old ready.new result
+        (IsPageBy recorded.old monitor number limit) }
+    ensures cause { ReadyFails ready.old ready.new result }
 {
     let next = index_or_begun(alloc, ready, recorded.take())?;
     ready.known_open = false;

@@ -4,16 +4,14 @@
 ghost use Rattle.std.specs.Prelude.{◌≡◌, ◌↔◌, false, None, Some, IsTrue, IfOk, IfErr, OnOk, OnErr};
 ghost use Rattle.sqlite.specs.State.{HasCleanDisk};
 ghost use Rattle.sqlite.specs.Held.{state};
-ghost use Rattle.acd_book.specs.Content.{Content, events_after, kept_of, records_after};
-ghost use Rattle.acd_sqlbook.specs.Calls.{HasRead, HasReplaced};
-ghost use Rattle.acd_sqlbook.specs.Commit.{counted, counters_of, written_by};
-ghost use Rattle.acd_sqlbook.specs.Counters.{AreCounters, StopsWith};
+ghost use Rattle.acd_book.specs.Content.{events_page, kept_under, records_page};
+ghost use Rattle.acd_sqlbook.specs.Commit.{counted, counters_of};
+ghost use Rattle.acd_sqlbook.specs.Counters.{StopsWith};
 ghost use Rattle.acd_sql_columns.specs.Relations.{meta_of};
-ghost use Rattle.acd_sql_columns.specs.Transactions.{HoldsContent, Quiet, NoStop, Fits, LimitsFit, MetaFits};
+ghost use Rattle.acd_sql_columns.specs.Transactions.{Quiet, NoStop, Fits, LimitsFit, MetaFits};
 ghost use Rattle.acd_sql_schema.specs.SettingUp.{IfClean};
 ghost use Rattle.acd_sql_statements.specs.Between.{IsUp};
-ghost use Rattle.acd_sql_statements.specs.Reading.{HasReadCause};
-ghost use Rattle.acd_sqlbook.specs.Stopping.{HasReadCauseOr, IsCausedByReadOr, IsUncounted, StopsCommit};
+ghost use Rattle.acd_sqlbook.specs.Stopping.{IsUncounted, StopsCommit};
 
 use crate::commit::{commit_all, counted};
 use acd_book::Kept;
@@ -86,14 +84,15 @@ fn held_after(done: &Result<(), Error>, meta: Meta) -> Option<Meta>
 }
 
 impl<S: Alter> Ready<S> {
+    ghost use Rattle.acd_sqlbook.specs.OverReady.{ReadyFinds, ReadyLists, ReadyCounts, ReadyCommits, HoldsCounters, commit_on, ReadyFails, ReadyStops, ReadyFailsOr};
+
     /// Tries the store where it isn't known to work, as it isn't from here on until a call has succeeded.
     pub(crate) fn refresh(&mut self) -> Result<(), Error>
         ensures doubted { self.new.known_open ≡ false }
         ensures up { IsUp (state S.Store self.new.conn) result }
         ensures quiet { Quiet (state S.Store self.old.conn) (state S.Store self.new.conn) }
         ensures stops { IfClean S.Store self.old.conn self.new.conn NoStop }
-        ensures cause { HasReadCause (state S.Store self.old.conn)
-            (state S.Store self.new.conn) result }
+        ensures cause { ReadyFails self.old self.new result }
     {
         if self.known_open {
             self.known_open = false;
@@ -104,10 +103,8 @@ impl<S: Alter> Ready<S> {
 
     // The limits and the counters: those that are held or, where none are, those of the database.
     fn meta(&mut self, held: Option<Meta>) -> Result<Meta, Error>
-        ensures read { HasRead (state S.Store self.old.conn) (state S.Store self.new.conn) result
-            (λ c meta. AreCounters held c → meta ≡ meta_of c.rows) }
-        ensures cause { HasReadCause (state S.Store self.old.conn)
-            (state S.Store self.new.conn) result }
+        ensures read { ReadyCounts self.old self.new held result (λ c. meta_of c.rows) }
+        ensures cause { ReadyFails self.old self.new result }
     {
         self.refresh()?;
         match held {
@@ -118,10 +115,8 @@ impl<S: Alter> Ready<S> {
 
     /// The limits.
     pub(crate) fn limits(&mut self) -> Result<Limits, Error>
-        ensures read { HasRead (state S.Store self.old.conn) (state S.Store self.new.conn) result
-            (λ c limits. limits ≡ c.rows.limits) }
-        ensures cause { HasReadCause (state S.Store self.old.conn)
-            (state S.Store self.new.conn) result }
+        ensures read { ReadyFinds self.old self.new result (λ c. c.rows.limits) }
+        ensures cause { ReadyFails self.old self.new result }
     {
         let meta = self.meta(None)?;
         Ok(meta.limits)
@@ -129,10 +124,8 @@ impl<S: Alter> Ready<S> {
 
     /// The limits, the tables and the counters.
     pub(crate) fn rows(&mut self, alloc: Global) -> Result<Rows, Error>
-        ensures read { HasRead (state S.Store self.old.conn) (state S.Store self.new.conn) result
-            (λ c found. found ≡ c.rows) }
-        ensures cause { HasReadCause (state S.Store self.old.conn)
-            (state S.Store self.new.conn) result }
+        ensures read { ReadyFinds self.old self.new result (λ c. c.rows) }
+        ensures cause { ReadyFails self.old self.new result }
     {
         self.refresh()?;
         rows(alloc, &mut self.conn)
@@ -145,10 +138,8 @@ impl<S: Alter> Ready<S> {
         requester: &Requester,
         invoke: Invoke,
     ) -> Result<Option<Kept>, Error>
-        ensures read { HasRead (state S.Store self.old.conn) (state S.Store self.new.conn) result
-            (λ c found. found ≡ kept_of c.kept requester.now invoke) }
-        ensures cause { HasReadCause (state S.Store self.old.conn)
-            (state S.Store self.new.conn) result }
+        ensures read { ReadyFinds self.old self.new result (kept_under requester.now invoke) }
+        ensures cause { ReadyFails self.old self.new result }
     {
         self.refresh()?;
         kept_under(alloc, &mut self.conn, requester, invoke)
@@ -161,10 +152,8 @@ impl<S: Alter> Ready<S> {
         stamp: u64,
         limit: usize,
     ) -> Result<Vec<Kept>, Error>
-        ensures read { HasRead (state S.Store self.old.conn) (state S.Store self.new.conn) result
-            (λ c found. found.items ≡ records_after c.kept stamp limit) }
-        ensures cause { HasReadCause (state S.Store self.old.conn)
-            (state S.Store self.new.conn) result }
+        ensures read { ReadyLists self.old self.new result (records_page stamp limit) }
+        ensures cause { ReadyFails self.old self.new result }
     {
         self.refresh()?;
         records_after(alloc, &mut self.conn, stamp, limit)
@@ -177,10 +166,8 @@ impl<S: Alter> Ready<S> {
         number: u64,
         limit: usize,
     ) -> Result<Vec<Event>, Error>
-        ensures read { HasRead (state S.Store self.old.conn) (state S.Store self.new.conn) result
-            (λ c found. found.items ≡ events_after c.events number limit) }
-        ensures cause { HasReadCause (state S.Store self.old.conn)
-            (state S.Store self.new.conn) result }
+        ensures read { ReadyLists self.old self.new result (events_page number limit) }
+        ensures cause { ReadyFails self.old self.new result }
     {
         self.refresh()?;
         events_after(alloc, &mut self.conn, number, limit)
@@ -194,13 +181,12 @@ impl<S: Alter> Ready<S> {
         events: u64,
         kept: &Kept,
     ) -> Result<(u64, Meta), Error>
-        ensures read { HasRead (state S.Store self.old.conn) (state S.Store self.new.conn) result
-            (λ c found. AreCounters held c
-            → found ≡ counters_of changes.now events kept.now c) }
+        ensures read { ReadyCounts self.old self.new held result
+            (counters_of changes.now events kept.now) }
         ensures fits { IfOk result (λ found. MetaFits found.1) }
         ensures stamp { OnOk result (Fits kept.now.stamp) }
-        ensures cause { HasReadCauseOr (StopsWith held (IsUncounted changes.now events kept.now))
-            (state S.Store self.old.conn) (state S.Store self.new.conn) result }
+        ensures cause { ReadyFailsOr self.old self.new result
+            (StopsWith held (IsUncounted changes.now events kept.now)) }
     {
         let meta = self.meta(held)?;
         let next = next_meta(&meta, changes, events, kept)?;
@@ -217,16 +203,13 @@ impl<S: Alter> Ready<S> {
         events: &[Event],
         kept: &Kept,
     ) -> Result<(), Error>
-        ensures commits { HasReplaced (state S.Store self.old.conn) (state S.Store self.new.conn)
-            result (AreCounters counters.old) (written_by changes.now events.now kept.now) }
-        ensures counted { HasCleanDisk (state S.Store self.new.conn) → (c : Content)
-            → HoldsContent (state S.Store self.old.conn) c → AreCounters counters.old c
-            → OnOk result
-            (AreCounters counters.new (written_by changes.now events.now kept.now c)) }
+        ensures commits { ReadyCommits self.old self.new result
+            (commit_on counters.old changes.now events.now kept.now) }
+        ensures counted { HoldsCounters self.old self.new result counters.new
+            (commit_on counters.old changes.now events.now kept.now) }
         ensures forgotten { OnErr result (counters.new ≡ None) }
-        ensures cause { IsCausedByReadOr
-            (StopsWith counters.old (StopsCommit changes.now events.now kept.now))
-            (state S.Store self.old.conn) (state S.Store self.new.conn) result }
+        ensures cause { ReadyStops self.old self.new result
+            (StopsWith counters.old (StopsCommit changes.now events.now kept.now)) }
     {
         let held = counters.take();
         let request = request_text(alloc, &kept.request)?;

@@ -1,16 +1,13 @@
 //! A commit of whole tables, by the changes that lead to them.
 
 ghost use Rattle.std.specs.Prelude.{◌≡◌, ◌⊎◌, IfErr, IfOk, OnOk};
-ghost use Rattle.sqlite.specs.Held.{state};
-ghost use Rattle.acd_model.specs.Changes.{changed_by};
-ghost use Rattle.acd_book.specs.Content.{Follows, committed};
-ghost use Rattle.acd_lemmas.specs.Orders.{Orders};
-ghost use Rattle.acd_sqlbook.specs.Calls.{HasRead, HasReplaced, LeadsTo};
-ghost use Rattle.acd_sqlbook.specs.Stopping.{AreCounted, HasReadCauseOr, Drops, IsCausedByReadOr, StopsReplace};
+ghost use Rattle.acd_book.specs.Content.{commit_of};
+ghost use Rattle.acd_sqlbook.specs.Calls.{LeadsBetween, LeadsTo};
+ghost use Rattle.acd_sqlbook.specs.OverReady.{ReadyCommits, ReadyFailsOr, ReadyReads, ReadyStops};
+ghost use Rattle.acd_sqlbook.specs.Stopping.{AreCounted, Drops, DropsOf, StopsReplace};
 ghost use Rattle.acd_sql_columns.specs.Relations.{meta_of};
 ghost use Rattle.acd_sql_columns.specs.Transactions.{Fits, MetaFits};
 ghost use Rattle.acd_sql_differences.specs.Leading.{rows_differences};
-ghost use Rattle.acd_sql_differences.specs.Transition.{AreWhole, HasTables};
 ghost use Rattle.acd_sql_statements.specs.Failing.{IsMemory};
 
 use crate::commit::commit_all;
@@ -33,10 +30,8 @@ fn missing() -> Error {
 // The changes, where they can be made.
 fn whole_changes(alloc: Global, held: &Rows, new: &Rows) -> Result<Vec<Change>, Error>
     ensures exact { IfOk result (λ changes. changes.items ≡ rows_differences held.now new.now) }
-    ensures leads { IfOk result (λ changes. Orders held.now → Orders new.now
-        → HasTables (changed_by held.now changes.items) new.now) }
-    ensures failed { IfErr result (λ e. IsMemory e
-        ⊎ (¬ (AreWhole (rows_differences held.now new.now)))) }
+    ensures leads { IfOk result (λ changes. LeadsBetween held.now new.now changes.items) }
+    ensures failed { IfErr result (λ e. IsMemory e ⊎ DropsOf held.now new.now) }
 {
     let changes = rows_changes(alloc, held, new)?;
     if !are_whole(&changes) {
@@ -51,10 +46,9 @@ fn changes_to<S: Alter>(
     ready: &mut Ready<S>,
     rows: &Rows,
 ) -> Result<Vec<Change>, Error>
-    ensures read { HasRead (state S.Store ready.old.conn) (state S.Store ready.new.conn) result
-        (λ c changes. LeadsTo rows.now c changes.items) }
-    ensures cause { HasReadCauseOr (Drops rows.now)
-        (state S.Store ready.old.conn) (state S.Store ready.new.conn) result }
+    ensures read { ReadyReads ready.old ready.new result
+        (λ c found. LeadsTo rows.now c found.items) }
+    ensures cause { ReadyFailsOr ready.old ready.new result (Drops rows.now) }
 {
     let held = ready.rows(alloc)?;
     whole_changes(alloc, &held, rows)
@@ -93,11 +87,10 @@ pub(crate) fn commit_rows<S: Alter>(
     events: &[Event],
     kept: &Kept,
 ) -> Result<(), Error>
-    ensures commits { HasReplaced (state S.Store ready.old.conn) (state S.Store ready.new.conn)
-        result (Follows rows.now events.now kept.now)
-        (committed rows.now events.now kept.now) }
-    ensures cause { IsCausedByReadOr (StopsReplace rows.now events.now kept.now)
-        (state S.Store ready.old.conn) (state S.Store ready.new.conn) result }
+    ensures commits { ReadyCommits ready.old ready.new result
+        (commit_of rows.now events.now kept.now) }
+    ensures cause { ReadyStops ready.old ready.new result
+        (StopsReplace rows.now events.now kept.now) }
 {
     let request = request_text(alloc, &kept.request)?;
     let meta = meta_of(rows, kept)?;

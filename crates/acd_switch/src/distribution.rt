@@ -2,7 +2,7 @@
 
 ghost use Rattle.std.specs.Prelude.{OnOk};
 ghost use Rattle.acd_model.specs.Distribution.{offer_moves, distribution};
-ghost use Rattle.acd_switch.specs.CarryingOut.{CarriesOut};
+ghost use Rattle.acd_switch.specs.CarryingOut.{Carries};
 
 use crate::journal::Journal;
 use acd_model::Offer;
@@ -19,9 +19,8 @@ fn make_offer(
     offered: Offer,
     journal: &mut Journal,
 ) -> Result<(), AllocError>
-    ensures { OnOk result (CarriesOut
-        moment (offer_moves tables.old moment offered)
-        tables.old journal.old tables.new journal.new) }
+    ensures { OnOk result (Carries moment (offer_moves tables.old moment offered)
+        (tables.old, journal.old) (tables.new, journal.new)) }
 {
     let Some(connection) = tables.connection(offered.call, offered.group) else {
         return Ok(());
@@ -41,9 +40,8 @@ fn make_offer(
 
 /// Makes offers until there is none. After an error tables and journal are only to be dropped.
 pub fn distribute(tables: &mut Tables, moment: u32, journal: &mut Journal) -> Result<(), AllocError>
-    ensures { OnOk result (CarriesOut
-        moment (distribution tables.old moment)
-        tables.old journal.old tables.new journal.new) }
+    ensures { OnOk result (Carries moment (distribution tables.old moment) (tables.old, journal.old)
+        (tables.new, journal.new)) }
 {
     let most = tables.queued_count();
     for round in 0..most {

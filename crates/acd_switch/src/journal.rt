@@ -1,13 +1,13 @@
 //! The journal of a step: what it does to the tables, with the events and the changes recorded.
 
-ghost use Rattle.std.specs.Prelude.{◌≡◌, ◌++◌, ◌∷◌, [], IfOk, OnOk};
+ghost use Rattle.std.specs.Prelude.{◌≡◌, ◌∷◌, [], IfOk, OnOk};
 ghost use Rattle.acd_terms.specs.Lists.{IsAscending};
 ghost use Rattle.acd_model.specs.Moves.{changed};
 ghost use Rattle.acd_model.specs.Changes.{with_change, changed_by, growth_by, growth};
 ghost use Rattle.acd_model.specs.Figures.{with_figures};
 ghost use Rattle.acd_model.specs.Rules.Plan.{group_order};
 ghost use Rattle.acd_switch.specs.Counting.{CountingFits};
-ghost use Rattle.acd_switch.specs.CarryingOut.{CarriesOut};
+ghost use Rattle.acd_switch.specs.CarryingOut.{Carries, Extends, RecordsGrowth};
 
 use crate::figures::{counted_group, counting};
 use acd_model::{Change, Move};
@@ -45,8 +45,8 @@ impl Journal {
         moment: u32,
         moves: &[Move],
     ) -> Result<(), AllocError>
-        ensures { OnOk result
-            (CarriesOut moment moves.now tables.old self.old tables.new self.new) }
+        ensures { OnOk result (Carries moment moves.now (tables.old, self.old)
+            (tables.new, self.new)) }
     {
         for one in moves {
             self.make(tables, moment, one)?;
@@ -56,8 +56,8 @@ impl Journal {
 
     // Makes one move.
     fn make(&mut self, tables: &mut Tables, moment: u32, one: &Move) -> Result<(), AllocError>
-        ensures { OnOk result
-            (CarriesOut moment (one.now ∷ []) tables.old self.old tables.new self.new) }
+        ensures { OnOk result (Carries moment (one.now ∷ []) (tables.old, self.old)
+            (tables.new, self.new)) }
     {
         make_change(tables, &one.change, &mut self.changes)?;
         if let Some(report) = one.report {
@@ -77,8 +77,7 @@ impl Journal {
         requires room { CountingFits tables.old self.old.events.items }
         ensures rows { OnOk result (tables.new ≡ with_figures tables.old self.old.events.items) }
         ensures events { self.new.events.items ≡ self.old.events.items }
-        ensures changes { OnOk result (self.new.changes.items
-            ≡ self.old.changes.items ++ growth tables.old self.old.events.items) }
+        ensures changes { RecordsGrowth result tables.old self.old self.new }
     {
         grow_by_all(tables, &self.events, &mut self.changes)
     }
@@ -91,8 +90,7 @@ fn make_change(
     changes: &mut Vec<Change>,
 ) -> Result<(), AllocError>
     ensures rows { OnOk result (tables.new ≡ changed tables.old one.now) }
-    ensures changes { OnOk result
-        (changes.new.items ≡ changes.old.items ++ with_change one.now []) }
+    ensures changes { Extends result changes.old changes.new (with_change one.now []) }
 {
     if let Change::Nothing = one {
         return Ok(());
@@ -103,7 +101,7 @@ fn make_change(
 
 // A separate addition, for any type. As a list, a change is copied into its place at once, and not by way of the stack.
 fn append<T: Copy + Drop>(more: &[T], list: &mut Vec<T>) -> Result<(), AllocError>
-    ensures { OnOk result (list.new.items ≡ list.old.items ++ more.now) }
+    ensures { Extends result list.old list.new more.now }
 {
     list.extend_from_slice(more)
 }
@@ -113,8 +111,7 @@ fn grow_by(tables: &mut Tables, event: &Event, changes: &mut Vec<Change>) -> Res
     requires { CountingFits tables.old (event.now ∷ []) }
     ensures rows { OnOk result
         (tables.new ≡ changed_by tables.old (growth_by tables.old event.now)) }
-    ensures changes { OnOk result
-        (changes.new.items ≡ changes.old.items ++ growth_by tables.old event.now) }
+    ensures changes { Extends result changes.old changes.new (growth_by tables.old event.now) }
 {
     let Some(device) = counted_group(&event.report) else {
         return Ok(());
@@ -133,8 +130,7 @@ fn grow_by_all(
     requires order { IsAscending group_order tables.old.groups }
     requires room { CountingFits tables.old events.now }
     ensures rows { OnOk result (tables.new ≡ with_figures tables.old events.now) }
-    ensures changes { OnOk result
-        (changes.new.items ≡ changes.old.items ++ growth tables.old events.now) }
+    ensures changes { Extends result changes.old changes.new (growth tables.old events.now) }
 {
     for event in events {
         grow_by(tables, event, changes)?;

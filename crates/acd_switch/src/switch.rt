@@ -1,20 +1,20 @@
 //! The switch.
 
-ghost use Rattle.std.specs.Prelude.{◌≡◌, ◌<◌, ◌+◌, ◌-◌, ◌^◌, ◌++◌, length, true, nat_le, IfOk, IfErr, OnOk};
+ghost use Rattle.std.specs.Prelude.{◌≡◌, ◌<◌, ◌+◌, ◌-◌, ◌^◌, length, true, nat_le, IfOk, IfErr, OnOk};
 ghost use Rattle.acd_terms.specs.Rows.{empty_rows};
 ghost use Rattle.acd_terms.specs.Limits.{limits_fit};
 ghost use Rattle.acd_terms.specs.Lists.{IsAscending};
 ghost use Rattle.acd_model.specs.Served.{outcome_of, moves_of};
 ghost use Rattle.acd_model.specs.Services.Serve.{serve};
 ghost use Rattle.acd_model.specs.Step.{step, numbered};
-ghost use Rattle.acd_model.specs.Changes.{growth, step_changes};
+ghost use Rattle.acd_model.specs.Changes.{step_changes};
 ghost use Rattle.acd_model.specs.Rules.First.{BreaksNoRule};
 ghost use Rattle.acd_model.specs.Rules.Plan.{group_order};
 ghost use Rattle.acd_services.specs.NoTick.{IsNoTick};
 ghost use Rattle.acd_switch.specs.RowFaults.{IsFaultOf};
 ghost use Rattle.acd_switch.specs.Room.{HasRoom, CountersFit, closed};
 ghost use Rattle.acd_switch.specs.Kept.{figures_at, IsRefused};
-ghost use Rattle.acd_switch.specs.CarryingOut.{CarriesOut};
+ghost use Rattle.acd_switch.specs.CarryingOut.{Carries, RecordsGrowth};
 ghost use Rattle.acd_switch.specs.Executing.{IsMadeBy};
 ghost use Rattle.acd_laws.specs.RefusalLaws.{ChangesNothing};
 
@@ -210,9 +210,7 @@ fn close(tables: &mut Tables, at: Turn, last: u64, journal: &mut Journal) -> Res
     ensures rows { OnOk result (tables.new ≡ closed tables.old at last journal.old.events.items) }
     ensures events { OnOk result
         (journal.new.events.items ≡ numbered last journal.old.events.items) }
-    ensures changes { OnOk result
-        (journal.new.changes.items
-        ≡ journal.old.changes.items ++ growth tables.old journal.old.events.items) }
+    ensures changes { RecordsGrowth result tables.old journal.old journal.new }
 {
     journal.grow(tables)?;
     let count = journal.events.len() as u64;
@@ -232,9 +230,9 @@ fn run_command(
     requires { HasRoom tables.old }
     ensures outcome { IfOk result
         (λ o. o ≡ outcome_of (serve tables.old at command.now)) }
-    ensures carried { OnOk result (CarriesOut
-        at.moment (moves_of (serve tables.old at command.now))
-        tables.old journal.old tables.new journal.new) }
+    ensures carried { OnOk result
+        (Carries at.moment (moves_of (serve tables.old at command.now)) (tables.old, journal.old)
+        (tables.new, journal.new)) }
 {
     match command {
         Command::Tick => {
@@ -255,9 +253,9 @@ fn run_service(
     requires no_tick { IsNoTick command.now }
     ensures outcome { IfOk result
         (λ o. o ≡ outcome_of (serve tables.old at command.now)) }
-    ensures carried { OnOk result (CarriesOut
-        at.moment (moves_of (serve tables.old at command.now))
-        tables.old journal.old tables.new journal.new) }
+    ensures carried { OnOk result
+        (Carries at.moment (moves_of (serve tables.old at command.now)) (tables.old, journal.old)
+        (tables.new, journal.new)) }
 {
     let served = decide(tables, at, command);
     match &served {

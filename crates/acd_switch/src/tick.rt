@@ -3,7 +3,7 @@
 ghost use Rattle.std.specs.Prelude.{◌≡◌, OnOk, IfOk, filter};
 ghost use Rattle.acd_model.specs.Scans.{group_of};
 ghost use Rattle.acd_model.specs.Tick.{is_over, ring_of, wrap_of, is_overdue, overdue_in, return_moves, is_rested, rested_in, rest_moves, returns, rests, tick};
-ghost use Rattle.acd_switch.specs.CarryingOut.{CarriesOut};
+ghost use Rattle.acd_switch.specs.CarryingOut.{Carries, CarriesAt};
 
 use crate::journal::Journal;
 use acd_services::{go_from, return_to};
@@ -138,9 +138,8 @@ fn take_back(
     connection: &ConnectionRecord,
     journal: &mut Journal,
 ) -> Result<(), AllocError>
-    ensures { OnOk result (CarriesOut
-        at.moment (return_moves tables.old at connection.now)
-        tables.old journal.old tables.new journal.new) }
+    ensures { OnOk result (Carries at.moment (return_moves tables.old at connection.now)
+        (tables.old, journal.old) (tables.new, journal.new)) }
 {
     let Some(group) = connection.group else {
         return Ok(());
@@ -156,9 +155,8 @@ fn end_work(
     agent: &AgentRecord,
     journal: &mut Journal,
 ) -> Result<(), AllocError>
-    ensures { OnOk result (CarriesOut
-        at.moment (rest_moves at agent.now)
-        tables.old journal.old tables.new journal.new) }
+    ensures { OnOk result (Carries at.moment (rest_moves at agent.now) (tables.old, journal.old)
+        (tables.new, journal.new)) }
 {
     let moves = [go_from(at, agent, AgentState::Ready)];
     journal.make_all(tables, at.moment, &moves)
@@ -170,9 +168,8 @@ fn return_overdue(
     at: Turn,
     journal: &mut Journal,
 ) -> Result<(), AllocError>
-    ensures { OnOk result (CarriesOut
-        at.moment (returns tables.old at)
-        tables.old journal.old tables.new journal.new) }
+    ensures { OnOk result (CarriesAt at returns (tables.old, journal.old)
+        (tables.new, journal.new)) }
 {
     let overdue = overdue_in(alloc, tables, at.moment)?;
     for connection in overdue.as_slice() {
@@ -187,9 +184,7 @@ fn end_rested(
     at: Turn,
     journal: &mut Journal,
 ) -> Result<(), AllocError>
-    ensures { OnOk result (CarriesOut
-        at.moment (rests tables.old at)
-        tables.old journal.old tables.new journal.new) }
+    ensures { OnOk result (CarriesAt at rests (tables.old, journal.old) (tables.new, journal.new)) }
 {
     let rested = rested_in(alloc, tables, at.moment)?;
     for agent in rested.as_slice() {
@@ -206,9 +201,7 @@ pub fn tick(
     at: Turn,
     journal: &mut Journal,
 ) -> Result<(), AllocError>
-    ensures { OnOk result (CarriesOut
-        at.moment (tick tables.old at)
-        tables.old journal.old tables.new journal.new) }
+    ensures { OnOk result (CarriesAt at tick (tables.old, journal.old) (tables.new, journal.new)) }
 {
     return_overdue(alloc, tables, at, journal)?;
     end_rested(alloc, tables, at, journal)

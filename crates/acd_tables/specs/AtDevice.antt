@@ -1,9 +1,13 @@
 -- The connections at a device.
-use Rattle.std.specs.Prelude.{Bool, ◌==◌, List, filter, Option, None, if◌then◌else◌}
+use Rattle.std.specs.Prelude.{Bool, not, ◌&&◌, ◌==◌, List, filter, Option, None, if◌then◌else◌}
 use Rattle.acd_terms.specs.Numbers.{Device, CallId}
 use Rattle.acd_terms.specs.declared.rows.Rows.{Rows}
 use Rattle.acd_terms.specs.declared.record.ConnectionRecord.{ConnectionRecord}
 use Rattle.acd_model.specs.Scans.{connection_of}
+
+-- a connection of the same call at another device
+abbrev pub is_other_of : ConnectionRecord → ConnectionRecord → Bool
+is_other_of x y = y.call == x.call && not (y.device == x.device)
 
 abbrev pub is_at_device : Device → ConnectionRecord → Bool
 is_at_device device c = c.device == device

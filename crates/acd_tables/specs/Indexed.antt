@@ -1,5 +1,5 @@
 -- The indexes of the rows.
-use Rattle.std.specs.Prelude.{◌≡◌, ℕ, Bool, true, false, not, ◌&&◌, ◌||◌, ◌==◌, Option, Some, None, is_some, length, unwrap_or}
+use Rattle.std.specs.Prelude.{◌≡◌, ℕ, Bool, true, false, not, ◌&&◌, ◌||◌, ◌==◌, List, map, Option, Some, None, is_some, length, unwrap_or}
 use Rattle.std.specs.List.{list_any}
 use Rattle.std.specs.declared.cmp.Ordering.{Ordering}
 use Rattle.std.specs.Ordering.{nat_cmp, ordering_then, is_gt}
@@ -18,7 +18,8 @@ use Rattle.acd_terms.specs.declared.record.GroupRecord.{GroupRecord}
 use Rattle.acd_terms.specs.declared.record.AgentRecord.{AgentRecord}
 use Rattle.acd_terms.specs.declared.record.ConnectionRecord.{ConnectionRecord}
 use Rattle.acd_model.specs.Rules.Plan.{group_order, agent_order, connection_order}
-use Rattle.acd_model.specs.Scans.{is_group, group_of, agent_of, connection_of, queued_in_all, has}
+use Rattle.acd_model.specs.Scans.{is_group, group_of, agent_of, connection_of, waiting_in, eligible_in, queued_in_all, has}
+use Rattle.acd_model.specs.Choice.{waiting_pair, ready_pair}
 use Rattle.acd_tables.specs.Sets.{holds, has_set, HasExactly}
 use Rattle.acd_tables.specs.declared.indexes.Indexes.{Indexes}
 
@@ -77,14 +78,30 @@ offer_cmp x y = ordering_then (nat_cmp y.0.0 x.0.0) (nat_cmp x.1 y.1)
 abbrev pub offer_key : GroupRecord → OfferKey
 offer_key g = (record { 0 = g.priority }, g.device)
 
--- a planned group with members in both is indexed at its priority
+-- the group is indexed at its priority
+abbrev pub ListsRecord : BTreeSet OfferKey → GroupRecord → Type 0
+ListsRecord offering g = contains offer_cmp offering (offer_key g) ≡ true
+
+-- a planned group with members in both is indexed
 abbrev pub ListsOffers : Rows → PairSets → PairSets → BTreeSet OfferKey → Type 0
-ListsOffers s queues ready offering = (g : Device) (r : GroupRecord) (p q : ℕ × ℕ) → group_of s g ≡ Some r → lists queues g p ≡ true → lists ready g q ≡ true
-    → contains offer_cmp offering (offer_key r) ≡ true
+ListsOffers s queues ready offering =
+    (g : Device) (r : GroupRecord) (p q : ℕ × ℕ) → group_of s g ≡ Some r → lists queues g p ≡ true → lists ready g q ≡ true → ListsRecord offering r
 
 -- somebody waits in the group, and an agent is able to take an offer
 abbrev pub HasOffer : PairSets → PairSets → Device → Type 0
 HasOffer queues ready g = ((p : ℕ × ℕ) × (lists queues g p ≡ true)) × ((q : ℕ × ℕ) × (lists ready g q ≡ true))
+
+-- where somebody waits in the group, no agent is able to
+abbrev pub HasNoOffer : PairSets → PairSets → Device → Type 0
+HasNoOffer queues ready g = (p q : ℕ × ℕ) → lists queues g p ≡ true → lists ready g q ≡ false
+
+-- the calls that wait in the group, each by its time stamp and number
+abbrev pub waiting_pairs : Rows → Device → List (Stamp × CallId)
+waiting_pairs s group = map waiting_pair (waiting_in s group)
+
+-- those who can take a call of the group, each by its time stamp and number
+abbrev pub ready_pairs : Rows → Device → List (Stamp × Agent)
+ready_pairs s group = map ready_pair (eligible_in s group)
 
 -- stations and the agents there
 abbrev pub SeatMap : Type 0
@@ -131,6 +148,10 @@ Ringing s = HasExactly pair_cmp (λ p. rings (connection_of s p.0 p.1))
 -- exactly the agents in after-call work are indexed
 abbrev pub Working : Rows → BTreeSet Agent → Type 0
 Working s = HasExactly nat_cmp (λ n. works (agent_of s n))
+
+-- the rows with the records of others, where these have indexes
+abbrev pub with_indexed : Rows → Rows → Rows
+with_indexed s t = record s { groups = t.groups; agents = t.agents; connections = t.connections }
 
 -- the indexes are those of the rows
 pub record IsIndexed (s : Rows) (x : Indexes) : Type 0 where

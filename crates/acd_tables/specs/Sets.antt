@@ -27,6 +27,14 @@ module _ {K E : Type 0} (by : K → K → Ordering) (cmp : E → E → Ordering)
     pub sets : (q : K) → has_set new q ≡ has_set old q
     pub members : (q : K) (x : E) → holds new q x ≡ (if is_at_key k e q x then there else holds old q x)
 
+  -- the member is in the set at the key, and all else is as before
+  abbrev pub InsertedAt : BTreeMap K (BTreeSet E) → BTreeMap K (BTreeSet E) → K × E → Type 0
+  InsertedAt old new place = Sets old new place.0 place.1 true
+
+  -- the member is not in the set at the key, and all else is as before
+  abbrev pub RemovedAt : BTreeMap K (BTreeSet E) → BTreeMap K (BTreeSet E) → K × E → Type 0
+  RemovedAt old new place = Sets old new place.0 place.1 false
+
   -- the same members; sets that are empty may have been removed or added
   abbrev pub SameMembers : BTreeMap K (BTreeSet E) → BTreeMap K (BTreeSet E) → Type 0
   SameMembers old new = (q : K) (x : E) → holds new q x ≡ holds old q x
@@ -48,6 +56,18 @@ module _ {K : Type 0} (cmp : K → K → Ordering) where
   -- the set has exactly the keys that pass
   abbrev pub HasExactly : (K → Bool) → BTreeSet K → Type 0
   HasExactly p index = (k : K) → contains cmp index k ≡ p k
+
+  -- the same keys
+  abbrev pub SameKeys : BTreeSet K → BTreeSet K → Type 0
+  SameKeys old new = (k : K) → contains cmp new k ≡ contains cmp old k
+
+  -- the same keys, but for those that pass
+  abbrev pub SameKeysBut : (K → Bool) → BTreeSet K → BTreeSet K → Type 0
+  SameKeysBut p old new = (k : K) → p k ≡ false → contains cmp new k ≡ contains cmp old k
+
+  -- no key went
+  abbrev pub KeepsKeys : BTreeSet K → BTreeSet K → Type 0
+  KeepsKeys old new = (k : K) → contains cmp old k ≡ true → contains cmp new k ≡ true
 
   -- the key came, if it belongs there
   abbrev pub Inserted : BTreeSet K → BTreeSet K → K → Bool → Type 0

@@ -11,11 +11,12 @@ use Rattle.acd_terms.specs.declared.rows.Rows.{Rows}
 use Rattle.acd_terms.specs.declared.record.GroupRecord.{GroupRecord}
 use Rattle.acd_terms.specs.declared.record.AgentRecord.{AgentRecord}
 use Rattle.acd_terms.specs.declared.record.ConnectionRecord.{ConnectionRecord}
-use Rattle.acd_model.specs.Scans.{group_of, agent_of, connection_of, has}
+use Rattle.acd_model.specs.Scans.{group_of, agent_of, agent_at, connection_of, has}
 use Rattle.acd_model.specs.Choice.{waiting_pair, ready_pair}
 use Rattle.acd_model.specs.Writes.{with_connection, without_connection}
 use Rattle.acd_tables.specs.Sets.{holds, has_set, Stays}
-use Rattle.acd_tables.specs.Indexed.{PairSets, HasOffer, pair_cmp, waits_at, is_able_since, OfferKey, offer_cmp, offer_key, ListsOffers, SeatMap, agent_seated}
+use Rattle.acd_tables.specs.Indexed.{PairSets, HasOffer, lists, ListsRecord, is_busying, pair_cmp, waits_at, is_able_since, OfferKey, offer_cmp, offer_key, ListsOffers, SeatMap, agent_seated}
+use Rattle.acd_tables.specs.Uses.{is_there_and}
 use Rattle.acd_tables.specs.declared.indexes.Indexes.{Indexes}
 use Rattle.acd_tables.specs.declared.indexes.Entries.{Entries}
 use Rattle.acd_tables.specs.declared.indexes.Swap.{Swap}
@@ -30,6 +31,10 @@ module _ {E : Type 0} (cmp : E → E → Ordering) where
   abbrev pub is_entry : Option (List Device × E) → Device → E → Bool
   is_entry None g e = false
   is_entry (Some k) g e = is_one_of k.0 g && is_eq (cmp k.1 e)
+
+  -- the member is in the set of the group, once one entry has left and another has entered; it was there before, or not
+  abbrev pub is_in_after : Option (List Device × E) → Option (List Device × E) → Device → E → Bool → Bool
+  is_in_after leaving entering g e before = not (is_entry leaving g e) && (is_entry entering g e || before)
 
   -- the sets with the entry
   pub record Enters (old new : BTreeMap Device (BTreeSet E)) (entry : Option (List Device × E)) : Type 0 where
@@ -75,17 +80,33 @@ pub record KeepsRest (old new : Indexes) : Type 0 where
 abbrev pub Offers : Rows → Indexes → Type 0
 Offers s x = ListsOffers s x.queues x.ready x.offering
 
--- the groups are indexed, each at its priority
+-- the group is indexed, if it is planned
+abbrev pub ListsGroup : Rows → BTreeSet OfferKey → Device → Type 0
+ListsGroup s offering g = (r : GroupRecord) → group_of s g ≡ Some r → ListsRecord offering r
+
+-- the groups that pass are indexed
+abbrev pub ListsEach : Rows → BTreeSet OfferKey → (Device → Bool) → Type 0
+ListsEach s offering passes = (g : Device) (r : GroupRecord) → passes g ≡ true → group_of s g ≡ Some r → ListsRecord offering r
+
+-- these groups are indexed
 abbrev pub ListsGroups : Rows → BTreeSet OfferKey → List Device → Type 0
-ListsGroups s offering gs = (g : Device) (r : GroupRecord) → is_one_of gs g ≡ true → group_of s g ≡ Some r → contains offer_cmp offering (offer_key r) ≡ true
+ListsGroups s offering gs = ListsEach s offering (is_one_of gs)
+
+-- of the groups that pass, those in which somebody waits pass another test
+abbrev pub KeepsWaiting : PairSets → (Device → Bool) → (Device → Bool) → Type 0
+KeepsWaiting queues all some = (g : Device) (p : ℕ × ℕ) → all g ≡ true → lists queues g p ≡ true → some g ≡ true
 
 -- no group was added to those that are indexed
 abbrev pub ListsNoMore : BTreeSet OfferKey → BTreeSet OfferKey → Type 0
 ListsNoMore old new = (k : OfferKey) → contains offer_cmp new k ≡ true → contains offer_cmp old k ≡ true
 
+-- the group has an offer, if it is indexed
+abbrev pub GroupJust : Rows → PairSets → PairSets → BTreeSet OfferKey → Device → Type 0
+GroupJust s queues ready offering g = (r : GroupRecord) → group_of s g ≡ Some r → ListsRecord offering r → HasOffer queues ready g
+
 -- each of these groups that is indexed has an offer
 abbrev pub GroupsJust : Rows → PairSets → PairSets → BTreeSet OfferKey → List Device → Type 0
-GroupsJust s queues ready offering gs = (g : Device) (r : GroupRecord) → is_one_of gs g ≡ true → group_of s g ≡ Some r → contains offer_cmp offering (offer_key r) ≡ true → HasOffer queues ready g
+GroupsJust s queues ready offering gs = (g : Device) (r : GroupRecord) → is_one_of gs g ≡ true → group_of s g ≡ Some r → ListsRecord offering r → HasOffer queues ready g
 
 -- the same of the groups of an entry
 abbrev pub EntryJust : {E : Type 0} → Rows → PairSets → PairSets → BTreeSet OfferKey → Option (List Device × E) → Type 0
@@ -96,6 +117,10 @@ EntryJust s queues ready offering (Some k) = GroupsJust s queues ready offering 
 pub record IsPruned (s : Rows) (queues ready : PairSets) (offering : BTreeSet OfferKey) (entries : Entries) : Type 0 where
   pub of_queue : EntryJust s queues ready offering entries.queue
   pub of_ready : EntryJust s queues ready offering entries.ready
+
+-- the same of these indexes
+abbrev pub Pruned : Rows → Indexes → Entries → Type 0
+Pruned s x entries = IsPruned s x.queues x.ready x.offering entries
 
 -- the indexes with the entries
 pub record Entered (s : Rows) (old new : Indexes) (entries : Entries) : Type 0 where
@@ -121,12 +146,16 @@ pub record TakenOut (s : Rows) (old new : Indexes) (entries : Entries) : Type 0 
   pub queues : Leaves pair_cmp old.queues new.queues entries.queue
   pub ready : Leaves pair_cmp old.ready new.ready entries.ready
   pub offers : Offers s new
-  pub pruned : IsPruned s new.queues new.ready new.offering entries
+  pub pruned : Pruned s new entries
   pub rest : KeepsRest old new
 
 -- one of the two
 abbrev pub differ : Bool → Bool → Bool
 differ a b = if a then not b else b
+
+-- the place of the ready agent at the device, where its connection makes the station busy or free
+abbrev pub swapped_seat : Rows → Device → Option ConnectionRecord → Option ConnectionRecord → Option (List Device × (Stamp × Agent))
+swapped_seat s device old new = if differ (is_there_and is_busying old) (is_there_and is_busying new) then ready_entry (agent_at s device) else None
 
 -- the connection that may be at a key
 abbrev pub IsAt : CallId → Device → Option ConnectionRecord → Type 0
@@ -140,8 +169,8 @@ with_or_without s call device (Some c) = with_connection s c
 
 -- the entries added and removed make the sets of t from those of s
 pub record SwapsTo (s t : Rows) (swap : Swap) : Type 0 where
-  pub waiting : (g : Device) (p : ℕ × ℕ) → waits_at p.0 (connection_of t p.1 g) ≡ (not (is_entry pair_cmp swap.leaving.queue g p) && (is_entry pair_cmp swap.entering.queue g p || waits_at p.0 (connection_of s p.1 g)))
-  pub able : (g : Device) (p : ℕ × ℕ) → is_able_since t g p.0 (agent_of t p.1) ≡ (not (is_entry pair_cmp swap.leaving.ready g p) && (is_entry pair_cmp swap.entering.ready g p || is_able_since s g p.0 (agent_of s p.1)))
+  pub waiting : (g : Device) (p : ℕ × ℕ) → waits_at p.0 (connection_of t p.1 g) ≡ is_in_after pair_cmp swap.leaving.queue swap.entering.queue g p (waits_at p.0 (connection_of s p.1 g))
+  pub able : (g : Device) (p : ℕ × ℕ) → is_able_since t g p.0 (agent_of t p.1) ≡ is_in_after pair_cmp swap.leaving.ready swap.entering.ready g p (is_able_since s g p.0 (agent_of s p.1))
 
 -- one where the connection that may be there is queued
 abbrev pub one_queued : Option ConnectionRecord → ℕ

@@ -1,5 +1,5 @@
 -- How connections use a station.
-use Rattle.std.specs.Prelude.{◌+◌, ◌-◌, ◌^◌, Bool, false, not, ◌&&◌, ◌==◌, Option, Some, None, if◌then◌else◌}
+use Rattle.std.specs.Prelude.{◌+◌, ◌-◌, ◌^◌, Bool, false, not, ◌&&◌, ◌||◌, ◌==◌, Option, Some, None, if◌then◌else◌}
 use Rattle.std.specs.List.{list_any}
 use Rattle.std.specs.declared.ops.Bound.{Bound}
 use Rattle.std.specs.declared.ops.Bound.TheVariants.{Included, Excluded, Unbounded}
@@ -7,7 +7,7 @@ use Rattle.acd_terms.specs.States.{is_distributed, is_live, is_occupying}
 use Rattle.acd_terms.specs.Numbers.{Device, CallId}
 use Rattle.acd_terms.specs.declared.rows.Rows.{Rows}
 use Rattle.acd_terms.specs.declared.record.ConnectionRecord.{ConnectionRecord}
-use Rattle.acd_model.specs.Scans.{has}
+use Rattle.acd_model.specs.Scans.{connection_of, has}
 use Rattle.acd_tables.specs.Indexed.{is_busying}
 use Rattle.acd_tables.specs.declared.uses.Use.{Use}
 use Rattle.acd_tables.specs.declared.uses.Use.TheVariants.{Live, Occupying, Distributed, Busying}
@@ -26,6 +26,14 @@ is_there_and u (Some c) = u c
 -- a connection at the device, but for one of the call, uses it so
 abbrev pub is_in_use : Rows → Device → Option CallId → Use → Bool
 is_in_use s device but kind = list_any (λ c. c.device == device && (not (has but c.call) && uses kind c)) s.connections
+
+-- the same of one call
+abbrev pub call_uses : Rows → Device → Option CallId → Use → CallId → Bool
+call_uses s device but kind call = not (has but call) && is_there_and (uses kind) (connection_of s call device)
+
+-- the new connection of the call keeps the station busy, or one of another call does
+abbrev pub is_busy_with : Rows → Device → CallId → Option ConnectionRecord → Bool
+is_busy_with s device call new = is_there_and is_busying new || is_in_use s device (Some call) Busying
 
 -- at the calls of the device
 unfoldable pub first_line : Device → Bound (Device × CallId)

@@ -1,11 +1,11 @@
 //! Changes of one record that keep the indexes.
 
-ghost use Rattle.std.specs.Prelude.{◌≡◌, false, length, OnOk, OnErr};
+ghost use Rattle.std.specs.Prelude.{◌≡◌, length, OnOk, OnErr};
 ghost use Rattle.acd_model.specs.Scans.{connection_of, queued_in_all};
 ghost use Rattle.acd_model.specs.Writes.{with_group, with_agent, with_connection, without_connection};
-ghost use Rattle.std.specs.BTreeSet.{contains};
-ghost use Rattle.acd_tables.specs.Indexed.{IsIndexed, OfferKey, offer_cmp};
+ghost use Rattle.acd_tables.specs.Indexed.{IsIndexed, offer_cmp};
 ghost use Rattle.acd_tables.specs.Swaps.{IsAt, with_or_without, one_queued, has_rank, loses_rank};
+ghost use Rattle.acd_tables.specs.Sets.{SameKeysBut};
 
 use crate::alone::Alone;
 use crate::indexes::{Indexes, OfferKey, may_offer, offer_key};
@@ -56,8 +56,7 @@ fn has_rank(group: &Option<GroupRecord>, priority: Priority) -> bool
 
 // The group is no longer among those of its priority of before, where that is another.
 fn forget_rank(offering: &mut BTreeSet<OfferKey>, old: &Option<GroupRecord>, priority: Priority)
-    ensures { (k : OfferKey) → loses_rank old.now priority k ≡ false
-        → contains offer_cmp offering.new k ≡ contains offer_cmp offering.old k }
+    ensures { SameKeysBut offer_cmp (loses_rank old.now priority) offering.old offering.new }
 {
     if let Some(old) = old {
         remove_if(offering, offer_key(old), old.priority != priority);

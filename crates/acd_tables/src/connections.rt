@@ -1,11 +1,12 @@
 //! The connections by call and device, and those of one call.
 
-ghost use Rattle.std.specs.Prelude.{◌≡◌, ◌==◌, ◌&&◌, ◌<◌, ◌^◌, [], not, length, filter, find, OnOk, OnErr, IfOk};
+ghost use Rattle.std.specs.Prelude.{◌≡◌, ◌==◌, ◌<◌, ◌^◌, [], length, filter, find, OnOk, OnErr, IfOk};
 ghost use Rattle.std.specs.List.{filter_map};
 ghost use Rattle.acd_terms.specs.Lists.{find_by, first_two, put_by, remove_by};
 ghost use Rattle.acd_model.specs.Rules.Plan.{connection_order};
 ghost use Rattle.acd_model.specs.Scans.{at_connection};
 ghost use Rattle.acd_tables.specs.Near.{start, end, of_key};
+ghost use Rattle.acd_tables.specs.AtDevice.{is_other_of};
 
 use crate::sets::{insert_if, remove_if};
 use crate::table::Table;
@@ -182,8 +183,7 @@ impl Connections {
 
     /// The other party of the connection's call.
     pub fn other_of(&self, connection: &ConnectionRecord) -> Option<ConnectionRecord>
-        ensures { let x = connection.now in
-            result ≡ find (λ y. y.call == x.call && not (y.device == x.device)) self.now }
+        ensures { result ≡ find (is_other_of connection.now) self.now }
     {
         for key in self.near(connection.call, connection.device) {
             if let Some(other) = self.of_key(key, connection.call) {

@@ -3,6 +3,7 @@
 ghost use Rattle.std.specs.Prelude.{◌≡◌, [], true, OnOk};
 ghost use Rattle.acd_terms.specs.Lists.{ascends};
 ghost use Rattle.acd_model.specs.Rules.Plan.{group_order, agent_order, connection_order};
+ghost use Rattle.acd_tables.specs.Indexed.{with_indexed};
 
 use crate::tables::Tables;
 use acd_terms::{AgentRecord, ConnectionRecord, GroupRecord, Rows, ascends};
@@ -15,12 +16,7 @@ impl Tables {
         requires groups { self.old.groups ≡ [] }
         requires agents { self.old.agents ≡ [] }
         requires connections { self.old.connections ≡ [] }
-        ensures { OnOk result
-            (self.new ≡ record self.old {
-              groups = rows.now.groups;
-              agents = rows.now.agents;
-              connections = rows.now.connections;
-            }) }
+        ensures { OnOk result (self.new ≡ with_indexed self.old rows.now) }
     {
         if !(ascends(rows.groups.as_slice())
             && ascends(rows.agents.as_slice())

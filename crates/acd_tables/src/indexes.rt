@@ -1,15 +1,12 @@
 //! The indexes: who waits and who is able to take a call in each group, who is at a station, the calls at a device,
 //! and what tick may end.
 
-ghost use Rattle.std.specs.Prelude.{◌≡◌, ◌≤◌, ℕ, true, false, not, filter, length, Some, None, OnOk, OnErr, IfOk, if◌then◌else◌};
+ghost use Rattle.std.specs.Prelude.{◌≡◌, ◌≤◌, ℕ, true, false, not, filter, length, None, OnOk, OnErr, IfOk, if◌then◌else◌};
 ghost use Rattle.std.specs.Ordering.{nat_cmp};
 ghost use Rattle.acd_terms.specs.Groups.{is_one_of};
-ghost use Rattle.acd_terms.specs.declared.record.GroupRecord.{GroupRecord};
-ghost use Rattle.acd_model.specs.Scans.{group_of};
-ghost use Rattle.std.specs.BTreeSet.{contains};
-ghost use Rattle.acd_tables.specs.Sets.{holds, Stays};
-ghost use Rattle.acd_tables.specs.Indexed.{lists, OfferKey, offer_cmp, offer_key, HasOffer, ListsOffers};
-ghost use Rattle.acd_tables.specs.Swaps.{is_entry, Enters, Leaves, Undoes, LeavesBut, ListsGroups, EntryJust, ListsNoMore, IsPruned, left_of, is_of_group, Offers, Entered, Undone, Untouched, TakenOut, IsBlank};
+ghost use Rattle.acd_tables.specs.Sets.{holds, Stays, KeepsKeys};
+ghost use Rattle.acd_tables.specs.Indexed.{offer_cmp, offer_key, HasOffer, ListsOffers, HasNoOffer};
+ghost use Rattle.acd_tables.specs.Swaps.{is_entry, Enters, Leaves, Undoes, LeavesBut, ListsGroups, EntryJust, ListsNoMore, IsPruned, left_of, is_of_group, Offers, Entered, Undone, Untouched, TakenOut, IsBlank, ListsGroup, ListsEach, KeepsWaiting, GroupJust, Pruned};
 
 use crate::alone::Alone;
 use crate::records::Records;
@@ -112,8 +109,7 @@ impl Indexes {
     pub(crate) fn settle(&mut self, records: &Records, swap: &Swap)
         requires { Offers records.now self.old }
         ensures taken { TakenOut records.now self.old self.new swap.now.leaving }
-        ensures pruned { IsPruned records.now self.new.queues self.new.ready self.new.offering
-            swap.now.entering }
+        ensures pruned { Pruned records.now self.new swap.now.entering }
     {
         self.take_out(records, &swap.leaving);
         self.prune(records, &swap.entering);
@@ -158,11 +154,8 @@ fn insert_group(
     offering: &mut BTreeSet<OfferKey>,
     group: DeviceId,
 ) -> Result<(), AllocError>
-    ensures kept { (k : OfferKey) → contains offer_cmp offering.old k ≡ true
-        → contains offer_cmp offering.new k ≡ true }
-    ensures ok { OnOk result
-        ((r : GroupRecord) → group_of records.now group ≡ Some r
-        → contains offer_cmp offering.new (offer_key r) ≡ true) }
+    ensures kept { KeepsKeys offer_cmp offering.old offering.new }
+    ensures ok { OnOk result (ListsGroup records.now offering.new group) }
 {
     match records.group(group) {
         None => Ok(()),
@@ -178,8 +171,7 @@ fn insert_each(
     offering: &mut BTreeSet<OfferKey>,
     groups: &[DeviceId],
 ) -> Result<(), AllocError>
-    ensures kept { (k : OfferKey) → contains offer_cmp offering.old k ≡ true
-        → contains offer_cmp offering.new k ≡ true }
+    ensures kept { KeepsKeys offer_cmp offering.old offering.new }
     ensures ok { OnOk result (ListsGroups records.now offering.new groups.now) }
 {
     for group in groups {
@@ -194,11 +186,8 @@ fn insert_alone<E: Copy>(
     offering: &mut BTreeSet<OfferKey>,
     entry: &Option<(Alone, E)>,
 ) -> Result<(), AllocError>
-    ensures kept { (k : OfferKey) → contains offer_cmp offering.old k ≡ true
-        → contains offer_cmp offering.new k ≡ true }
-    ensures ok { OnOk result
-        ((g : ℕ) (r : GroupRecord) → is_of_group entry.now g ≡ true
-        → group_of records.now g ≡ Some r → contains offer_cmp offering.new (offer_key r) ≡ true) }
+    ensures kept { KeepsKeys offer_cmp offering.old offering.new }
+    ensures ok { OnOk result (ListsEach records.now offering.new (is_of_group entry.now)) }
 {
     match entry {
         None => Ok(()),
@@ -212,11 +201,8 @@ fn insert_groups<E: Copy>(
     offering: &mut BTreeSet<OfferKey>,
     entry: &Option<(Few, E)>,
 ) -> Result<(), AllocError>
-    ensures kept { (k : OfferKey) → contains offer_cmp offering.old k ≡ true
-        → contains offer_cmp offering.new k ≡ true }
-    ensures ok { OnOk result
-        ((g : ℕ) (r : GroupRecord) → is_of_group entry.now g ≡ true
-        → group_of records.now g ≡ Some r → contains offer_cmp offering.new (offer_key r) ≡ true) }
+    ensures kept { KeepsKeys offer_cmp offering.old offering.new }
+    ensures ok { OnOk result (ListsEach records.now offering.new (is_of_group entry.now)) }
 {
     match entry {
         None => Ok(()),
@@ -227,8 +213,7 @@ fn insert_groups<E: Copy>(
 // The groups in which somebody waits.
 fn waiting_groups(queues: &BTreeMap<DeviceId, BTreeSet<(u64, u64)>>, groups: &[DeviceId]) -> Few
     requires { length groups.now ≤ 8 }
-    ensures { (g : ℕ) (p : ℕ × ℕ) → is_one_of groups.now g ≡ true → lists queues.now g p ≡ true
-        → is_one_of result g ≡ true }
+    ensures { KeepsWaiting queues.now (is_one_of groups.now) (is_one_of result) }
 {
     let mut waiting = Few::none();
     for group in groups {
@@ -243,8 +228,7 @@ fn with_waiting<E: Copy>(
     queues: &BTreeMap<DeviceId, BTreeSet<(u64, u64)>>,
     entry: &Option<(Few, E)>,
 ) -> Option<(Few, E)>
-    ensures { (g : ℕ) (p : ℕ × ℕ) → is_of_group entry.now g ≡ true → lists queues.now g p ≡ true
-        → is_of_group result g ≡ true }
+    ensures { KeepsWaiting queues.now (is_of_group entry.now) (is_of_group result) }
 {
     match entry {
         None => None,
@@ -262,9 +246,7 @@ fn prune_group(
 )
     requires { ListsOffers records.now queues.now ready.now offering.old }
     ensures offers { ListsOffers records.now queues.now ready.now offering.new }
-    ensures pruned { (r : GroupRecord) → group_of records.now group ≡ Some r
-        → contains offer_cmp offering.new (offer_key r) ≡ true
-        → HasOffer queues.now ready.now group }
+    ensures pruned { GroupJust records.now queues.now ready.now offering.new group }
     ensures fewer { ListsNoMore offering.old offering.new }
 {
     if let Some(record) = records.group(group) {
@@ -317,8 +299,7 @@ pub(crate) fn may_offer(
     ready: &BTreeMap<DeviceId, BTreeSet<(u64, AgentId)>>,
     group: DeviceId,
 ) -> bool
-    ensures none { result ≡ false → (p q : ℕ × ℕ) → lists queues.now group p ≡ true
-        → lists ready.now group q ≡ false }
+    ensures none { result ≡ false → HasNoOffer queues.now ready.now group }
     ensures some { result ≡ true → HasOffer queues.now ready.now group }
 {
     !has_none(queues, group) && !has_none(ready, group)

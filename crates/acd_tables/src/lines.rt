@@ -1,10 +1,9 @@
 //! The calls that are listed at a device.
 
 ghost use Rattle.std.specs.Prelude.{◌≡◌, ℕ, true, OnOk, OnErr};
-ghost use Rattle.std.specs.BTreeSet.{contains};
 ghost use Rattle.std.specs.List.Sorted.{IsStrictlySortedBy};
 ghost use Rattle.acd_terms.specs.Lists.{Among};
-ghost use Rattle.acd_tables.specs.Sets.{Inserted, Removed};
+ghost use Rattle.acd_tables.specs.Sets.{Inserted, Removed, SameKeys};
 ghost use Rattle.acd_tables.specs.Indexed.{pair_cmp, joins};
 ghost use Rattle.acd_tables.specs.Uses.{first_line, past_lines};
 
@@ -52,8 +51,7 @@ pub(crate) fn list(
     new: bool,
 ) -> Result<(), AllocError>
     ensures ok { OnOk result (Inserted pair_cmp lines.old lines.new (device, call) new) }
-    ensures err { OnErr result
-        ((k : ℕ × ℕ) → contains pair_cmp lines.new k ≡ contains pair_cmp lines.old k) }
+    ensures err { OnErr result (SameKeys pair_cmp lines.old lines.new) }
 {
     insert_if(lines, (device.number(), call), new)
 }

@@ -1,10 +1,10 @@
 //! The look-ups that aren't of one record by its key.
 
-ghost use Rattle.std.specs.Prelude.{◌≡◌, None, length, map, filter, is_some, IfSome, IfOk};
+ghost use Rattle.std.specs.Prelude.{◌≡◌, None, length, filter, is_some, IfSome, IfOk};
 ghost use Rattle.acd_terms.specs.Lists.{first_two};
-ghost use Rattle.acd_model.specs.Scans.{is_group, agent_of, agent_at, connection_of, connections_of, other_of, is_live_at, is_idle, is_idle_there, is_occupied, is_eligible, is_calling, is_used, waiting_in, eligible_in, queued_in_all};
-ghost use Rattle.acd_model.specs.Choice.{first_waiting, first_eligible, waiting_pair, ready_pair, offer_of};
-ghost use Rattle.acd_tables.specs.Indexed.{pair_cmp, is_ringing, is_working};
+ghost use Rattle.acd_model.specs.Scans.{is_group, agent_of, agent_at, connection_of, connections_of, other_of, is_live_at, is_idle, is_occupied, is_eligible, is_calling, is_used, queued_in_all};
+ghost use Rattle.acd_model.specs.Choice.{first_waiting, first_eligible, offer_of};
+ghost use Rattle.acd_tables.specs.Indexed.{pair_cmp, is_ringing, is_working, waiting_pairs, ready_pairs};
 ghost use Rattle.acd_tables.specs.Sets.{IsSetOf};
 ghost use Rattle.acd_tables.specs.Uses.{kept, is_in_use};
 ghost use Rattle.acd_tables.specs.FirstOffer.{offer_by_key};
@@ -152,7 +152,7 @@ impl Tables {
     pub fn queue_of(&self, group: DeviceId) -> Option<&BTreeSet<(u64, u64)>>
         ensures planned { is_some result ≡ is_group self.now group }
         ensures members { IfSome result
-            (λ q. IsSetOf pair_cmp (map waiting_pair (waiting_in self.now group)) q.now) }
+            (λ q. IsSetOf pair_cmp (waiting_pairs self.now group) q.now) }
     {
         if self.is_group(group) {
             self.indexes.queues.get(&group)
@@ -164,8 +164,7 @@ impl Tables {
     /// The ready set of a planned group: stamp and number of the agents that may be offered a call.
     pub fn ready_of(&self, group: DeviceId) -> Option<&BTreeSet<(u64, AgentId)>>
         ensures planned { is_some result ≡ is_group self.now group }
-        ensures members { IfSome result
-            (λ r. IsSetOf pair_cmp (map ready_pair (eligible_in self.now group)) r.now) }
+        ensures members { IfSome result (λ r. IsSetOf pair_cmp (ready_pairs self.now group) r.now) }
     {
         if self.is_group(group) {
             self.indexes.ready.get(&group)

@@ -1,9 +1,9 @@
 //! Sets, and sets by key.
 
-ghost use Rattle.std.specs.Prelude.{◌≡◌, ◌≤◌, ◌<◌, ◌++◌, [], ◌∷◌, length, true, false, not, Some, OnOk, OnErr, IfOk, if◌then◌else◌};
+ghost use Rattle.std.specs.Prelude.{◌≡◌, ◌≤◌, ◌<◌, ◌++◌, [], ◌∷◌, length, not, Some, OnOk, OnErr, IfOk, if◌then◌else◌};
 ghost use Rattle.std.specs.Ordering.{nat_cmp};
 ghost use Rattle.acd_tables.specs.Indexed.{IsFirstIn};
-ghost use Rattle.acd_tables.specs.Sets.{holds, Sets, Stays, HasSet, Inserted, Removed};
+ghost use Rattle.acd_tables.specs.Sets.{holds, Stays, HasSet, Inserted, Removed, InsertedAt, RemovedAt};
 ghost use Rattle.acd_tables.specs.Swaps.{Enters, Leaves, Undoes};
 ghost use Rattle.std.specs.BTreeSet.{contains};
 
@@ -19,7 +19,7 @@ pub(crate) fn enter<K: Ord + Copy, E: Ord + Copy>(
     key: K,
     member: E,
 ) -> Result<bool, AllocError>
-    ensures ok { OnOk result (Sets K.cmp E.cmp sets.old sets.new key member true) }
+    ensures ok { OnOk result (InsertedAt K.cmp E.cmp sets.old sets.new (key, member)) }
     ensures added { IfOk result (λ added. added ≡ not (holds K.cmp E.cmp sets.old key member)) }
     ensures err { OnErr result (Stays K.cmp E.cmp sets.old sets.new) }
 {
@@ -36,7 +36,7 @@ pub(crate) fn leave<K: Ord + Copy, E: Ord + Copy>(
     key: K,
     member: E,
 )
-    ensures { Sets K.cmp E.cmp sets.old sets.new key member false }
+    ensures { RemovedAt K.cmp E.cmp sets.old sets.new (key, member) }
 {
     if let Some(set) = sets.get_mut(&key) {
         set.remove(&member);

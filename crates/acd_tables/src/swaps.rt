@@ -1,12 +1,11 @@
 //! The entries that a change of one record adds to the exact sets, and those that it removes.
 
 ghost use Rattle.std.specs.Prelude.{◌≡◌, ◌&&◌, ◌||◌, Some, None, is_some, if◌then◌else◌};
-ghost use Rattle.acd_model.specs.Scans.{agent_of, agent_at, connection_of};
+ghost use Rattle.acd_model.specs.Scans.{agent_of, connection_of};
 ghost use Rattle.acd_model.specs.Writes.{with_agent};
 ghost use Rattle.acd_tables.specs.Indexed.{IsIndexed, is_free, is_busying};
-ghost use Rattle.acd_tables.specs.Uses.{is_there_and, is_in_use};
-ghost use Rattle.acd_tables.specs.declared.uses.Use.TheVariants.{Busying};
-ghost use Rattle.acd_tables.specs.Swaps.{SwapsTo, differ, IsAt, queue_entry, ready_entry, with_or_without};
+ghost use Rattle.acd_tables.specs.Uses.{is_there_and, is_busy_with};
+ghost use Rattle.acd_tables.specs.Swaps.{SwapsTo, differ, IsAt, queue_entry, ready_entry, with_or_without, swapped_seat};
 
 use crate::alone::Alone;
 use crate::indexes::{Entries, Indexes, Swap, leaving_alone, leaving_but, only};
@@ -74,8 +73,7 @@ fn is_busy_with(
     new: &Option<ConnectionRecord>,
 ) -> bool
     requires { IsIndexed records.now indexes.now }
-    ensures { result ≡ (is_there_and is_busying new.now
-        || is_in_use records.now device (Some call) Busying) }
+    ensures { result ≡ is_busy_with records.now device call new.now }
 {
     is_busying(new) || is_in_use(records, &indexes.lines, device, Some(call), Use::Busying)
 }
@@ -91,8 +89,7 @@ fn is_kept(
     seat: &Option<(Few, (u64, AgentId))>,
 ) -> bool
     requires { IsIndexed records.now indexes.now }
-    ensures { result ≡ (is_some seat.now
-        && (is_there_and is_busying new.now || is_in_use records.now device (Some call) Busying)) }
+    ensures { result ≡ (is_some seat.now && is_busy_with records.now device call new.now) }
 {
     seat.is_some() && is_busy_with(records, indexes, call, device, new)
 }
@@ -113,9 +110,7 @@ fn swapped_seat(
     new: &Option<ConnectionRecord>,
 ) -> Option<(Few, (u64, AgentId))>
     requires { IsIndexed records.now indexes.now }
-    ensures { result ≡ (if differ (is_there_and is_busying old.now)
-        (is_there_and is_busying new.now) then ready_entry (agent_at records.now device) else
-        None) }
+    ensures { result ≡ swapped_seat records.now device old.now new.now }
 {
     if is_other(is_busying(old), is_busying(new)) {
         ready_entry(&agent_at(records, &indexes.seats, device))

@@ -1,7 +1,8 @@
 //! Records found by the hash of their keys.
 
 ghost use Rattle.std.specs.Prelude.{◌≡◌, ◌<◌, ◌^◌, ◌↔◌, [], length, OnOk, OnErr, IfOk};
-ghost use Rattle.acd_terms.specs.Lists.{Among, find_by, put_by, remove_by};
+ghost use Rattle.acd_terms.specs.Lists.{Among, find_by, remove_by};
+ghost use Rattle.acd_tables.specs.KeyedMaps.{with_record};
 
 use acd_terms::{Keyed, Listed, ascends};
 use std::alloc::{AllocError, Global};
@@ -73,8 +74,7 @@ impl<R: Keyed> Table<R> {
 
     /// Puts the record at its key. One that finds no memory changes nothing.
     pub fn put(&mut self, item: R) -> Result<(), AllocError>
-        ensures ok { OnOk result
-            (self.new ≡ put_by (λ x. R.Key.cmp (R.key_of item) (R.key_of x)) self.old item) }
+        ensures ok { OnOk result (self.new ≡ with_record R.Key.cmp R.key_of self.old item) }
         ensures err { OnErr result (self.new ≡ self.old) }
     {
         if let Some(old) = self.map.get_mut(&item.key()) {

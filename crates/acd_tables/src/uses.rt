@@ -1,11 +1,11 @@
 //! How connections use a station, found by the calls that are listed there.
 
-ghost use Rattle.std.specs.Prelude.{◌≡◌, ◌&&◌, not};
+ghost use Rattle.std.specs.Prelude.{◌≡◌, ◌&&◌};
 ghost use Rattle.std.specs.List.{list_any};
 ghost use Rattle.acd_terms.specs.Lists.{IsAscending};
 ghost use Rattle.acd_model.specs.Rules.Plan.{agent_order, connection_order};
-ghost use Rattle.acd_model.specs.Scans.{agent_at, connection_of, has};
-ghost use Rattle.acd_tables.specs.Uses.{uses, is_there_and, is_in_use};
+ghost use Rattle.acd_model.specs.Scans.{agent_at};
+ghost use Rattle.acd_tables.specs.Uses.{uses, is_in_use, call_uses};
 ghost use Rattle.acd_tables.specs.Indexed.{is_ringing, Lines, Seats};
 
 use crate::lines::lines_at;
@@ -48,8 +48,7 @@ pub(crate) fn is_ringing(c: &ConnectionRecord) -> bool
 
 // The connection of the call at the device, but for one of the call that is left out, uses it so.
 fn call_uses(records: &Records, call: u64, device: DeviceId, but: Option<u64>, kind: Use) -> bool
-    ensures { result ≡ (not (has but call)
-        && is_there_and (uses kind) (connection_of records.now call device)) }
+    ensures { result ≡ call_uses records.now device but kind call }
 {
     if but == Some(call) {
         return false;
@@ -67,9 +66,7 @@ fn any_call_uses(
     but: Option<u64>,
     kind: Use,
 ) -> bool
-    ensures { result ≡ list_any
-        (λ k. not (has but k.1) && is_there_and (uses kind) (connection_of records.now k.1 device))
-        lines.entry }
+    ensures { result ≡ list_any (λ k. call_uses records.now device but kind k.1) lines.entry }
 {
     for key in lines {
         if call_uses(records, key.1, device, but, kind) {

@@ -64,12 +64,16 @@ abbrev pub text_or_fault : Option ℕ → List ℕ → Result (List ℕ) NameFau
 text_or_fault None bytes = Ok bytes
 text_or_fault (Some place) bytes = Err (name_fault.BadCharacter place)
 
+-- the place of the first character that doesn't pass
+abbrev pub first_bad : (ℕ → Bool) → List ℕ → Option ℕ
+first_bad passes bytes = position (λ b. not (passes b)) bytes
+
 -- one to `longest` characters, each of which passes, or the first fault
 unfoldable pub read_text : (ℕ → Bool) → ℕ → List ℕ → Result (List ℕ) NameFault
 read_text passes longest bytes =
     if length bytes == 0 then Err name_fault.Empty
     else (if nat_lt longest (length bytes) then Err name_fault.TooLong
-    else text_or_fault (position (λ b. not (passes b)) bytes) bytes)
+    else text_or_fault (first_bad passes bytes) bytes)
 
 -- the text has one to `longest` characters, each of which passes
 pub record IsText (passes : ℕ → Bool) (longest : ℕ) (text : List ℕ) : Type 0 where

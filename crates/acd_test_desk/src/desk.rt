@@ -73,14 +73,14 @@ again
 @made
 closed executed 2, groups 1, stations 1, failures 1, reads 2
 
-scene store_fails_behind_the_commit_of_the_first_request failing 3:made
+scene store_fails_after_the_commit_of_the_first_request failing 3:made
 > lines @group@station@group
 @storeFault
 @storeFault
 @storeFault
 closed executed 1, groups 1, stations 0, failures 1, reads 1
 
-scene opens_again_behind_the_commit_of_the_first_request failing 3:made
+scene opens_again_after_the_commit_of_the_first_request failing 3:made
 > lines @group@station@group
 @storeFault
 @storeFault
@@ -116,7 +116,7 @@ again
 @made
 closed executed 2, groups 1, stations 1, failures 1, reads 2
 
-scene store_fails_behind_the_commit_of_the_second_request failing 5:made
+scene store_fails_after_the_commit_of_the_second_request failing 5:made
 > lines @group@station@group
 @made
 @storeFault

@@ -93,7 +93,7 @@ written 2, left 0
 written 2, left 0
 closed executed 1, groups 0, stations 1, failures 0, reads 1
 
-scene lines_go_on_behind_a_store_fault failing 5:store
+scene lines_go_on_after_a_store_fault failing 5:store
 > counted @group@station|@call
 @made
 @storeFault
@@ -119,7 +119,7 @@ written 2, left 0
 closed executed 3, groups 1, stations 1, failures 0, reads 1
 
 scene reads_between_requests
-> # a read sees what the lines before it did, and the lines behind it are answered as without it
+> # a read sees what the lines before it did, and the lines after it are answered as without it
 > reads 4294967295 GET /queues/100\n@group7 GET /queues/100\n@call4294967295 GET /queues/100\n5 GET /events?after=x\n50 {"requester":"pbx","invoke":2,"service":"arriveCall","caller":"0309999","called":"100"}\n5 GET /queues/100\n5 GET /nowhere
 404 {"error":{"code":35,"name":"notFound"}}
 @made
@@ -145,7 +145,7 @@ scene reads_between_requests
 400 {"error":{"code":30,"member":"json","name":"malformed"}}
 closed executed 3, groups 1, stations 0, failures 0, reads 1
 
-scene reads_behind_a_store_fault failing 5:store
+scene reads_after_a_store_fault failing 5:store
 > reads @group@station9 GET /queues/100\n@call
 @made
 @storeFault

@@ -66,7 +66,7 @@ fn unseen(rt: &impl Abort, alloc: Global, scene: &Scene, change: &str) -> Option
         return None;
     }
     let mut what = found;
-    push_both(rt, &mut what, " behind ", change);
+    push_both(rt, &mut what, " after ", change);
     Some(what)
 }
 

@@ -111,7 +111,7 @@ repeat_gets_the_kept_reply
 same_key_other_request
 refusal_is_kept
 full_desk
-what_is_told_of_calls
+what_reads_say_of_calls
 events_of_a_monitor
 head_of_queue
 ready_agents_in_order

@@ -44,11 +44,14 @@ may_stand s Queued x = is_group s x.device
 may_stand s Connected x = is_station s x.device || (not (is_planned s x.device) && is_none x.group)
 may_stand s _ x = is_station s x.device
 
--- of a live call, at its caller or a planned device, with its columns, in a state that may be there
+-- of a live call, at its caller or a planned device
+abbrev pub is_party : Rows → ConnectionRecord → Bool
+is_party s x = is_some (call_of s x.call) && (is_caller (call_of s x.call) x.device || is_planned s x.device)
+
+-- of such a call, with its columns, in a state that may be there
 unfoldable pub keeps_connection : Rows → Bool
 keeps_connection s = list_all (λ (x : ConnectionRecord).
-    is_some (call_of s x.call) && (is_caller (call_of s x.call) x.device || is_planned s x.device)
-    && has_columns x.state x && is_group_or_none s x.group && may_stand s x.state x) s.connections
+    is_party s x && has_columns x.state x && is_group_or_none s x.group && may_stand s x.state x) s.connections
 
 -- alerting, queued or fail
 abbrev pub is_open : ConnectionState → Bool
@@ -88,8 +91,10 @@ alerting_at device x = is_alerting x.state && x.device == device
 abbrev pub hold_at : Device → ConnectionRecord → Bool
 hold_at device x = is_hold x.state && x.device == device
 
--- at most one live connection at a station, and none on hold beside an alerting one
+-- at most one live connection at the station, and none on hold beside an alerting one
+abbrev pub has_one_live : Rows → Device → Bool
+has_one_live s station =
+    nat_le (count (live_at station) s.connections) 1 && (count (alerting_at station) s.connections == 0 || count (hold_at station) s.connections == 0)
+
 unfoldable pub keeps_live : Rows → Bool
-keeps_live s = list_all (λ (t : StationRecord).
-    nat_le (count (live_at t.device) s.connections) 1
-    && (count (alerting_at t.device) s.connections == 0 || count (hold_at t.device) s.connections == 0)) s.stations
+keeps_live s = list_all (λ (t : StationRecord). has_one_live s t.device) s.stations

@@ -22,9 +22,13 @@ is_attended s x =
     not (is_distributed x)
     || (nat_le (count (is_distributed_at x.device) s.connections) 1 && attends x (agent_at s x.device))
 
--- an answered distributed connection is at the agent's station
+-- the connection is distributed and answered, at the agent's station
+abbrev pub talks_on : AgentRecord → ConnectionRecord → Bool
+talks_on a x = has a.station x.device && is_distributed x && is_answered x.state
+
+-- there is such a connection
 abbrev pub is_talking : Rows → AgentRecord → Bool
-is_talking s a = list_any (λ (x : ConnectionRecord). has a.station x.device && is_distributed x && is_answered x.state) s.connections
+is_talking s a = list_any (talks_on a) s.connections
 
 -- a busy agent talks, and a state is pending only for an occupied one
 abbrev pub is_busy_only_talking : Rows → AgentRecord → Bool
@@ -37,9 +41,12 @@ abbrev pub is_empty : {T : Type 0} → List T → Bool
 is_empty [] = true
 is_empty (x ∷ xs) = false
 
--- no group has both a waiting call and an eligible agent
+-- the group has not both a waiting call and an eligible agent
+abbrev pub has_no_offer : Rows → Device → Bool
+has_no_offer s group = is_empty (waiting_in s group) || is_empty (eligible_in s group)
+
 unfoldable pub keeps_offer : Rows → Bool
-keeps_offer s = list_all (λ (g : GroupRecord). is_empty (waiting_in s g.device) || is_empty (eligible_in s g.device)) s.groups
+keeps_offer s = list_all (λ (g : GroupRecord). has_no_offer s g.device) s.groups
 
 -- it waits in the group
 abbrev pub waits_in : Device → ConnectionRecord → Bool

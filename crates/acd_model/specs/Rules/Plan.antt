@@ -18,15 +18,21 @@ use Rattle.acd_terms.specs.declared.record.MonitorRecord.{MonitorRecord}
 use Rattle.acd_model.specs.Scans.{is_group, is_station, is_planned, has}
 use Rattle.acd_model.specs.Rules.Occupied.{is_empty}
 
--- no limit above its greatest, no list above its limit, the last stamp within the limit, no last call or monitor above it,
--- and no priority above 9
+-- no limit is above its greatest, and the plan is within its limits
+abbrev pub fits_plan : Rows → Bool
+fits_plan s =
+    limits_fit s.limits && nat_le (length s.groups) s.limits.groups && nat_le (length s.stations) s.limits.stations
+    && nat_le (length s.agents) s.limits.agents
+
+-- so are the calls, the monitors and the requests that were executed
+abbrev pub fits_limits : Rows → Bool
+fits_limits s =
+    fits_plan s && nat_le (length s.calls) s.limits.calls && nat_le (length s.monitors) s.limits.monitors && nat_le s.last_stamp s.limits.requests
+
+-- no last call or monitor is above the last stamp either, and no priority above 9
 unfoldable pub keeps_limits : Rows → Bool
 keeps_limits s =
-    limits_fit s.limits
-    && nat_le (length s.groups) s.limits.groups && nat_le (length s.stations) s.limits.stations
-    && nat_le (length s.agents) s.limits.agents && nat_le (length s.calls) s.limits.calls
-    && nat_le (length s.monitors) s.limits.monitors && nat_le s.last_stamp s.limits.requests
-    && nat_le s.last_call s.last_stamp && nat_le s.last_monitor s.last_stamp
+    fits_limits s && nat_le s.last_call s.last_stamp && nat_le s.last_monitor s.last_stamp
     && list_all (λ (g : GroupRecord). nat_le g.priority greatest_priority) s.groups
 
 abbrev pub group_order : GroupRecord → GroupRecord → Ordering
@@ -47,11 +53,13 @@ connection_order x y = ordering_then (nat_cmp x.call y.call) (nat_cmp x.device y
 abbrev pub monitor_order : MonitorRecord → MonitorRecord → Ordering
 monitor_order x y = nat_cmp x.monitor y.monitor
 
--- each list strictly ascending in its key
+-- the lists of the plan strictly ascending in their keys
+abbrev pub plan_ascends : Rows → Bool
+plan_ascends s = ascends group_order s.groups && ascends station_order s.stations && ascends agent_order s.agents
+
+-- and the other lists
 unfoldable pub keeps_order : Rows → Bool
-keeps_order s =
-    ascends group_order s.groups && ascends station_order s.stations && ascends agent_order s.agents
-    && ascends call_order s.calls && ascends connection_order s.connections && ascends monitor_order s.monitors
+keeps_order s = plan_ascends s && ascends call_order s.calls && ascends connection_order s.connections && ascends monitor_order s.monitors
 
 -- no device both group and station
 unfoldable pub keeps_device : Rows → Bool

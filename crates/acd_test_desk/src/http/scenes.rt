@@ -221,7 +221,7 @@ scene desk_with_room_for_two within 2
 409 Conflict: {"error":{"code":3,"name":"unknownCall"},"invoke":1,"requester":"pbx"}
 closed executed 2, groups 1, stations 0, failures 0, reads 1
 
-scene reads_behind_a_call_that_nobody_answered
+scene reads_after_a_call_that_nobody_answered
 > # agent 7 logs on at station 201 in group 100, and doesn't answer a call for 20 seconds
 > lines 0 {"requester":"plan","invoke":1,"service":"addGroup","device":"100","name":"Billing","ring":20,"wrap":30}\n
 200 {"invoke":1,"requester":"plan","result":{}}

@@ -88,7 +88,7 @@ lines {plan}-wal 100
 is {plan} small
 
 
-log_that_ends_early: A log with a byte changed: in a commit that others follow, in the last one, in its head. What stands behind the changed byte is gone, which an audit of all says in the first and in the third case; a power cut may leave the second.
+log_that_ends_early: A log with a byte changed: in a commit that others follow, in the last one, in its head. What comes after the changed byte is gone, which an audit of all says in the first and in the third case; a power cut may leave the second.
 copied {file} {plan} acd lines --file {file}
 > 0 {"requester":"plan","invoke":1,"service":"addGroup","device":"100","name":"Billing","ring":20,"wrap":30}
 > 10 {"requester":"pbx","invoke":1,"service":"arriveCall","caller":"0301234","called":"100"}

@@ -427,7 +427,7 @@ slowly acd report --file {file}
 < executed 10
 
 
-new_files: Behind it a new file whose making was stopped at its first byte. It is made to its end, and holds no desk.
+new_files: After it a new file whose making was stopped at its first byte. It is made to its end, and holds no desk.
 0 acd lines --file {file}
 
 is {file} small
@@ -458,7 +458,7 @@ zeros {file} 1
 is {file} small
 
 
-streams_that_fail: A fault that can't be told is the fault's status all the same.
+streams_that_fail: A fault that can't be printed is the fault's status all the same.
 cut acd lines
 ! acd: cannot read
 
@@ -471,9 +471,9 @@ cut acd lines
 cut acd --help
 ! acd: cannot write
 
-untold 1 acd report --file /
+unprinted 1 acd report --file /
 
-untold 2 acd
+unprinted 2 acd
 
 
 copied_while_it_is_open: The file and its log, copied while the desk is open: the copy has all that was answered, and the requests that are sent to it once more get their replies.
@@ -505,7 +505,7 @@ copied {file} {plan} acd lines --file {file}
 < 409 {"error":{"code":3,"name":"unknownCall"},"invoke":3,"requester":"pbx"}
 
 
-file_behind_its_archive: A file behind what it was before: a copy of then is an archive, of which nothing was left behind. It has to be closed into its file, and stays as it is. Of both, the file's fault is told; and a request of the archive that was changed is told by its stamp.
+file_after_its_archive: A file after what it was before: a copy of then is an archive, of which nothing was left out. It has to be closed into its file, and stays as it is. Of both, the file's fault is printed; and of a request of the archive that was changed, its stamp.
 copied {file} {plan} acd lines --file {file}
 > 0 {"requester":"plan","invoke":1,"service":"addGroup","device":"100","name":"Billing","ring":20,"wrap":30}
 > 10 {"requester":"pbx","invoke":1,"service":"arriveCall","caller":"0301234","called":"100"}
@@ -557,7 +557,7 @@ patch {plan} "call":1} "call":2}
 < differs at request 2
 
 
-desk_over_http: A client that calls when it is said that the desk listens gets its reply, and other programs are told that the file is open elsewhere. Of a port that is taken the file's fault is found before the port's.
+desk_over_http: A client that calls when it is said that the desk listens gets its reply, and other programs say that the file is open elsewhere. Of a port that is taken the file's fault is found before the port's.
 serve {file}
 > 4 acd report --file {file}
 > ! acd: {file} is open elsewhere
@@ -589,7 +589,7 @@ taken
 // character; the group has no entry; a table has another range; and the last event is none, so that the next one has
 // the number of one that is there. An audit finds the changed reply and the changed name.
 fn altered_file() -> &'static [u8] {
-    b"altered_file: behind each change what is told.
+    b"altered_file: after each change, what the program says.
 0 acd lines --file {file}
 > 0 {\"requester\":\"plan\",\"invoke\":1,\"service\":\"addGroup\",\"device\":\"100\",\"name\":\"Billing\",\"ring\":20,\"wrap\":30}
 > 0 {\"requester\":\"plan\",\"invoke\":2,\"service\":\"addStation\",\"device\":\"201\"}

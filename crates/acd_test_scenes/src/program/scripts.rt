@@ -5,7 +5,7 @@
 //! |---|---|
 //! | `STATUS WORD WORD` | the program, called with these words, ends with this status |
 //! | `cut WORD WORD` | the same with status 1; its input fails where it would end, its output at once |
-//! | `untold STATUS WORD WORD` | the same, and the stream of errors fails too |
+//! | `unprinted STATUS WORD WORD` | the same, and the stream of errors fails too |
 //! | `slowly WORD WORD` | the program, called with these words, succeeds, and its output takes a byte at a time |
 //! | `copied PATH PATH WORD WORD` | the program, called with these words, succeeds; when it asks for more input than the step's the file and the log at the first path are copied to the second one, while the desk is open |
 //! | `lines PATH LENGTH` | a file gets lines, and after them empty ones up to a length |
@@ -141,7 +141,7 @@ fn happens(rt: &HostRuntime, step: &str) -> io::Result<bool> {
     let (what, said) = parts_of(step);
     match what {
         "cut" => cannot_write(rt, said, step),
-        "untold" => cannot_print(rt, said),
+        "unprinted" => cannot_print(rt, said),
         "slowly" => writes_slowly(rt, said, step),
         "copied" => is_copied(rt, said, step),
         "lines" => is_written(rt, said, step, b'\n'),

@@ -83,7 +83,7 @@ scene never: plan never
 # Neither an offer that ends unanswered nor asking for the present state takes an agent's turn.
 scene who_is_ready_longest: plan ready_again
 
-# A monitor tells what comes after its start; numbers of monitors are not used again.
+# A monitor reports what comes after its start; numbers of monitors are not used again.
 scene monitors: plan monitors
 
 # After-call work ends in two groups at once: the group of least number is served first.

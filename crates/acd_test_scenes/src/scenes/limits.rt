@@ -31,7 +31,7 @@ part full_calls
 part full_ticks
 # At one tick the six hundred offers go back, each with three reports, the four hundred agents become ready, and each of them is offered
 # a call. The groups are served by their numbers: of the hundred agents of eight groups the last twenty are offered calls of the
-# fourth, behind its five agents of one group, so the very last one the 25th of its calls, 3 + 24 * 64. That one is answered; the others
+# fourth, after its five agents of one group, so the very last one the 25th of its calls, 3 + 24 * 64. That one is answered; the others
 # go back at the greatest moment. At this moment agent 900001001 gets ready and answers the first call of all.
 * 1 1 999998000 40 {} {"invoke":$2,"requester":"help-line-office-of-the-city-001","service":"tick"}
 + 41 {} {"call":1539,"device":"200000000002000","invoke":999998002,"requester":"help-line-office-of-the-city-001","service":"answerCall"}

@@ -401,7 +401,7 @@ part three_groups
 
 part work_of_three_groups
 # A call waits in each group of agent 7, and is offered in that order. The call of 99 is cleared while it rings, that of 100 is
-# deflected to 0201, behind the one that waits there, and these two are answered. After-call work lasts for the 10 seconds of 99. With
+# deflected to 0201, after the one that waits there, and these two are answered. After-call work lasts for the 10 seconds of 99. With
 # the end of the last call the agent leaves all three groups.
 + 10 {"call":1} {"called":"0201","caller":"0300","invoke":1,"requester":"pbx","service":"arriveCall"}
 ! {"call":1,"cause":"newCall","device":"0201","event":"queued","moment":10,"number":2}

@@ -2,7 +2,7 @@
 
 /// The lines of a [script](crate::script).
 pub fn lines() -> &'static [u8] {
-    br#"# What a desk tells, from question to text.
+    br#"# What a desk answers, from question to text.
 
 part of_a_call_that_waits
 # A call waits, and nobody planned its caller.
@@ -118,7 +118,7 @@ part of_the_empty_state
 . {"last":0,"requests":[]}
 
 part of_executed_requests
-# Behind the plan a refusal, which is sent again, and a request that comes at an earlier moment and in another form.
+# After the plan a refusal, which is sent again, and a request that comes at an earlier moment and in another form.
 > 30 {"call":9,"device":"0201","invoke":1,"requester":"desk","service":"holdCall"}
 < 409 {"error":{"code":3,"name":"unknownCall"},"invoke":1,"requester":"desk"}
 > 40 {"call":9,"device":"0201","invoke":1,"requester":"desk","service":"holdCall"}
@@ -186,7 +186,7 @@ part of_each_kind_of_record
 ? snapshot all
 . {"agents":[{"agent":"7","device":"201","groups":["100","110"],"name":"Ana","pending":"loggedOff","since":20,"stamp":11,"state":"busy"},{"agent":"8","device":"202","group":"110","name":"Ben","since":27,"stamp":17,"state":"ready"}],"calls":[{"call":1,"called":"100","caller":"0301234","connections":[{"device":"201","group":"100","state":"hold"},{"device":"0301234","state":"connected"}],"since":10},{"call":2,"called":"201","caller":"0305678","connections":[{"device":"201","state":"fail"},{"device":"0305678","state":"connected"}],"since":24},{"call":3,"called":"110","caller":"0309999","connections":[{"device":"202","group":"110","offered":30,"place":18,"queued":30,"state":"alerting"},{"device":"0309999","state":"connected"}],"since":30},{"call":4,"called":"100","caller":"0307777","connections":[{"device":"100","place":19,"queued":40,"state":"queued"},{"device":"0307777","state":"connected"}],"since":40}],"groups":[{"abandoned":0,"answered":1,"device":"100","entered":2,"kind":"group","moved":0,"name":"Billing","ring":20,"waited":10,"wrap":30},{"abandoned":0,"answered":0,"device":"110","entered":1,"kind":"group","moved":0,"name":"Claims","priority":5,"ring":20,"waited":0,"wrap":45}],"last":15,"moment":40,"monitors":[{"after":9,"device":"201","monitor":1}],"stations":[{"agent":"7","connections":[{"call":1,"state":"hold"},{"call":2,"state":"fail"}],"device":"201","kind":"station"},{"agent":"8","connections":[{"call":3,"state":"alerting"}],"device":"202","kind":"station"}]}
 
-scene what_is_told_of_calls: plan call_arrives of_a_call_that_waits ana_becomes_ready of_a_call_that_is_offered ana_answers of_a_call_that_was_answered of_a_busy_station
+scene what_reads_say_of_calls: plan call_arrives of_a_call_that_waits ana_becomes_ready of_a_call_that_is_offered ana_answers of_a_call_that_was_answered of_a_busy_station
 scene events_of_a_monitor: plan call_arrives ana_becomes_ready ana_answers of_a_monitor
 scene head_of_queue: plan no_answer of_a_queue
 scene ready_agents_in_order: plan of_ready_agents
@@ -206,7 +206,7 @@ stops answered_call_stops: plan call_arrives ana_becomes_ready ana_answers
 
 old migration_stops: plan
 
-# What is told of a book whose database was changed by hand: a place that differs from the replay, or the first rule that is broken.
+# What an audit says of a book whose database was changed by hand: a place that differs from the replay, or the first rule that is broken.
 
 part more_calls
 # A monitor, a second agent who is offered a call, a call that waits, a group and two stations without calls, an agent who isn't ready, and a tick.

@@ -11,7 +11,7 @@ use std::process::Abort;
 
 // Databases and changes of them.
 fn parts() -> &'static [u8] {
-    br#"of_new_book: Changes of a new book, each behind what is told of it. The first table is a book's, and tells its version.
+    br#"of_new_book: Changes of a new book, each after what is found then. The first table is a book's, and has its version.
 book UPDATE meta SET version = 2
 WrongVersion(0) DELETE FROM meta
 WrongVersion(9) UPDATE meta SET version = 9

@@ -23,7 +23,7 @@ fn parts() -> &'static [u8] {
 < 200 {"invoke":1,"requester":"clock","result":{}}
 = 11 SELECT max(stamp) FROM kept
 
-changes: The stamp that is told, which of both is changed, and how: records and events that both have, first of all and last; newer ones; tables, counters and limits; and a key that only the archive has.
+changes: The stamp that the audit says, which of both is changed, and how: records and events that both have, first of all and last; newer ones; tables, counters and limits; and a key that only the archive has.
 9 file UPDATE kept SET status = 409 WHERE stamp = 9
 9 archive UPDATE kept SET status = 409 WHERE stamp = 9
 8 file UPDATE kept SET moment = 17 WHERE stamp = 8

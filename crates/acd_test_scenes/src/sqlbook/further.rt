@@ -136,7 +136,7 @@ two_groups: The agent logs on in the two others.
 = 1 SELECT count(*) FROM agent_groups
 = 1120 SELECT grp FROM agent_groups WHERE agent = 17
 
-behind_a_migration: A second group and its priority, and an agent who logs on in both.
+after_a_migration: A second group and its priority, and an agent who logs on in both.
 > 30 {"requester":"plan","invoke":6,"service":"addGroup","device":"110","name":"Claims","ring":20,"wrap":45}
 > 30 {"requester":"plan","invoke":7,"service":"setGroupPriority","device":"110","priority":9}
 > 31 {"requester":"desk","invoke":4,"service":"setAgentState","agent":"8","requested":"loggedOn","device":"202","groups":["110","100"]}
@@ -173,7 +173,7 @@ fn two_groups_after_a_migration(rt: HostRuntime) {
     let alloc = rt.alloc();
     let conn = changed(&rt, database(&rt, alloc), old_tables(&rt));
     let conn = changed(&rt, conn, left(&rt));
-    let session = part_of(&rt, sessions(), "behind_a_migration");
+    let session = part_of(&rt, sessions(), "after_a_migration");
     let conn = after_session(&rt, alloc, conn, session);
     let _book = expect_sound(&rt, alloc, book_in(&rt, alloc, conn, None));
 }

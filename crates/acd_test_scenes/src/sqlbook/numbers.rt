@@ -100,7 +100,7 @@ INSERT INTO events VALUES (29, 20, 18, 1205, NULL, 15, NULL, NULL, NULL, NULL);
 INSERT INTO kept VALUES (1, 'plan', 1, 0, '{"device":"0110","invoke":1,"name":"Claims","requester":"plan","ring":25,"service":"addGroup","wrap":45}', 200, '{"invoke":1,"requester":"plan","result":{}}');
 INSERT INTO kept VALUES (2, 'pbx', 1, 10, '{"call":9,"device":"0301","invoke":1,"requester":"pbx","service":"clearConnection"}', 409, '{"error":{"code":3,"name":"unknownCall"},"invoke":1,"requester":"pbx"}')
 
-told_of_rows: What a desk tells of these rows. Each line is a read and its text.
+reads_of_rows: What a desk answers of these rows. Each line is a read and its text.
 agent 1 {"agent":"1","name":"Ana","since":10,"state":"null"}
 agent 2 {"agent":"2","device":"202","groups":["100","0110"],"name":"Ben","since":11,"state":"notReady"}
 agent 3 {"agent":"3","device":"203","group":"0110","name":"Cem","since":12,"state":"ready"}
@@ -160,7 +160,7 @@ kept: The two requests that are kept, again.
 < 200 {"invoke":1,"requester":"plan","result":{}}
 < 409 {"error":{"code":3,"name":"unknownCall"},"invoke":1,"requester":"pbx"}
 
-course: A private call is made, answered, held, retrieved, transferred, deflected to a station and to a group, and offered; nobody answers it, nor a call of the other group. Both are then answered, one is given to the other's group, and two more end. Its events, each kind behind the one before it.
+course: A private call is made, answered, held, retrieved, transferred, deflected to a station and to a group, and offered; nobody answers it, nor a call of the other group. Both are then answered, one is given to the other's group, and two more end. Its events, each kind after the one before it.
 > 100 {"requester":"desk","invoke":1,"service":"makeCall","device":"209","called":"202"}
 > 101 {"requester":"desk","invoke":2,"service":"phoneOffHook","call":8,"device":"209"}
 > 102 {"requester":"desk","invoke":3,"service":"answerCall","call":8,"device":"202"}
@@ -234,7 +234,7 @@ course: A private call is made, answered, held, retrieved, transferred, deflecte
 = 11 SELECT kind FROM events WHERE number = 68 AND moment = 146 AND device = 1100 AND call = 2 AND agent IS NULL AND grp IS NULL AND target IS NULL AND cause IS NULL AND waited IS NULL
 = 12 SELECT kind FROM events WHERE number = 69 AND moment = 146 AND device IS NULL AND call = 2 AND agent IS NULL AND grp = 1100 AND target IS NULL AND cause IS NULL AND waited IS NULL
 
-more: What is held behind it: who logs on and off, a call that fails, one that waits, one that rings and one on hold; a state of each kind pending; a call that is initiated; a monitor; and priorities.
+more: What is held after it: who logs on and off, a call that fails, one that waits, one that rings and one on hold; a state of each kind pending; a call that is initiated; a monitor; and priorities.
 > 147 {"requester":"desk","invoke":14,"service":"setAgentState","agent":"1","requested":"loggedOn","device":"209","group":"100"}
 > 148 {"requester":"desk","invoke":15,"service":"setAgentState","agent":"4","requested":"loggedOn","device":"204","groups":["0110","100"]}
 > 149 {"requester":"pbx","invoke":4,"service":"arriveCall","caller":"0309","called":"207"}
@@ -338,7 +338,7 @@ fn laid(rt: &impl Abort, alloc: Global) -> Connection<MemStore> {
 fn names_of_numbers_in_rows(rt: HostRuntime) {
     let alloc = rt.alloc();
     let book = book_in(&rt, alloc, laid(&rt, alloc), None);
-    let book = expect_reads(&rt, alloc, book, part_of(&rt, parts(), "told_of_rows"));
+    let book = expect_reads(&rt, alloc, book, part_of(&rt, parts(), "reads_of_rows"));
     let _book = expect_exported(&rt, alloc, book, part_of(&rt, parts(), "records"));
 }
 

@@ -1,12 +1,11 @@
 use Rattle.std.proofs.Common.{◌∙◌}
 use Rattle.std.proofs.lemmas.Result.{IfOk-weaker}
-use Rattle.acd_codec.specs.RequestTexts.{request_members, request_data, request_text}
+use Rattle.acd_codec.specs.RequestTexts.{members_of, request_data, request_text}
 use Rattle.acd_codec.proofs.Adding.{printed_members}
 use Rattle.acd_codec.proofs.requests.request_text.Goals as goal
 
 pub returns : goal.returns
 unfolding request_data request_text
 returns c =
-    let r = c.args.request.now in
-    let printed = printed_members c.in_ok-out.out c.put_request.new.out (request_members r.requester r.invoke r.command) c.in_ok-out.ensures c.in_ok-put_request.ensures in
+    let printed = printed_members c.in_ok-out.out c.put_request.new.out (members_of c.args.request.now) c.in_ok-out.ensures c.in_ok-put_request.ensures in
     IfOk-weaker c.ended.result _ _ (λ s h. h ∙ printed) c.ended.ensures

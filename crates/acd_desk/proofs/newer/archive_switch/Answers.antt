@@ -10,11 +10,9 @@ use Rattle.acd_desk.specs.declared.working.LoadedSwitch.{LoadedSwitch}
 use Rattle.acd_desk.specs.Opening.{by_book, by_rows}
 use Rattle.acd_desk.specs.Pages.{ReadsIfOpen}
 use Rattle.acd_desk.specs.Pairs.{by_opening}
+use Rattle.acd_desk.specs.ReplayWith.{IsSwitchOf}
 use Rattle.acd_desk.proofs.ReadsAhead.{by_read, read_ok, read_nothing, read_no_memory}
 use Rattle.acd_desk.proofs.newer.archive_switch.Goals as goal
-
-abbrev IsSwitchOf : Content → LoadedSwitch → Type 0
-IsSwitchOf a loaded = loaded.switch.value ≡ a.rows
 
 -- the book answered nothing
 by_its_fault : {A : Type 0} {P : Content → A → Type 0} (a b : BookState) (f : BookFault) (made : OpenFault) → made ≡ by_book f → ReadsIfOpen {A = A} a b (Err f) P → ReadsIfOpen a b (by_opening {T = LoadedSwitch} (Err made)) IsSwitchOf

@@ -2,8 +2,9 @@ use Rattle.std.proofs.Common.{◌≡◌, ◌+◌, ◌≤◌, ◌∙◌, ℕ, Ok,
 use Rattle.acd_terms.specs.declared.rows.Limits.{Limits}
 use Rattle.acd_terms.specs.declared.rows.Rows.{Rows}
 use Rattle.acd_desk.specs.Replay.{CountsOne}
+use Rattle.acd_desk.specs.ReplayWith.{AuditsFrom}
 use Rattle.acd_desk.proofs.BothReads.{both_then_fault, current_read}
-use Rattle.acd_desk.proofs.StepsWith.{AuditOf, newer_begun, newer_more, newer_differs, newer_ended, newer_all, newer_left}
+use Rattle.acd_desk.proofs.StepsWith.{newer_begun, newer_more, newer_differs, newer_ended, newer_all, newer_left}
 use Rattle.acd_desk.proofs.newer.audited_newer.Goals as goal
 
 pub loop-count-init : goal.loop-count-init
@@ -35,12 +36,12 @@ returns-in-Ended g c =
 
 pub returns-in_err-next : goal.returns-in_err-next
 returns-in_err-next g c =
-    both_then_fault (AuditOf c.args.first) (g.A.Book.state c.args.archive.now) (g.A.Book.state c.loop-count.archive) (g.A.Book.state c.next_newer.new.archive) (g.B.Book.state c.args.book.now) (g.B.Book.state c.loop-count.book)
+    both_then_fault (AuditsFrom c.args.first) (g.A.Book.state c.args.archive.now) (g.A.Book.state c.loop-count.archive) (g.A.Book.state c.next_newer.new.archive) (g.B.Book.state c.args.book.now) (g.B.Book.state c.loop-count.book)
     (g.B.Book.state c.next_newer.new.book) tt c.in_err-next.field-0.0 c.from_residual.result c.loop-count.invariant.seen c.in_err-next.ensures.read (search rules)
 
 pub returns-in_err-all : goal.returns-in_err-all
 returns-in_err-all g c =
-    both_then_fault (AuditOf c.args.first) (g.A.Book.state c.args.archive.now) (g.A.Book.state c.loop-count.archive) (g.A.Book.state c.loop-count.archive) (g.B.Book.state c.args.book.now) (g.B.Book.state c.loop-count.book)
+    both_then_fault (AuditsFrom c.args.first) (g.A.Book.state c.args.archive.now) (g.A.Book.state c.loop-count.archive) (g.A.Book.state c.loop-count.archive) (g.B.Book.state c.args.book.now) (g.B.Book.state c.loop-count.book)
     (g.B.Book.state c.is_all.new.book) tt c.in_err-all.field-0.0 c.from_residual-in_err-all.result c.loop-count.invariant.seen
     (current_read (g.A.Book.state c.loop-count.archive) (g.B.Book.state c.loop-count.book) (g.B.Book.state c.is_all.new.book) c.is_all.result (Err c.in_err-all.field-0.0) (Err c.in_err-all.field-0.0) c.is_all.ensures c.in_err-all.ensures refl)
     (search rules)

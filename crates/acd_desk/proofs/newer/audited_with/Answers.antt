@@ -4,19 +4,20 @@ use Rattle.acd_book.specs.declared.fault.BookFault.TheVariants as book
 use Rattle.acd_desk.specs.declared.audit.Audit.{Audit}
 use Rattle.acd_desk.specs.declared.pair.PairFault.TheVariants.{Current}
 use Rattle.acd_desk.specs.declared.working.LoadedSwitch.{LoadedSwitch}
+use Rattle.acd_desk.specs.ReplayWith.{AuditsInOrder}
 use Rattle.acd_desk.proofs.BothReads.{both_opening, both_ok, both_then, both_fault, both_then_fault, both_no_memory}
-use Rattle.acd_desk.proofs.StepsWith.{IsLoaded, WholeOf, both_then_ok, whole_differs, whole_newer}
+use Rattle.acd_desk.proofs.StepsWith.{IsLoaded, both_then_ok, whole_differs, whole_newer}
 use Rattle.acd_desk.proofs.newer.audited_with.Goals as goal
 
 pub returns-in_err-loaded : goal.returns-in_err-loaded
 returns-in_err-loaded g c =
-    both_fault WholeOf (g.A.Book.state c.args.archive.now) (g.A.Book.state c.archive_switch.new.archive) (g.B.Book.state c.args.book.now) (g.B.Book.state c.args.book.now) c.in_err-loaded.field-0.0 c.from_residual.result
+    both_fault AuditsInOrder (g.A.Book.state c.args.archive.now) (g.A.Book.state c.archive_switch.new.archive) (g.B.Book.state c.args.book.now) (g.B.Book.state c.args.book.now) c.in_err-loaded.field-0.0 c.from_residual.result
     (both_opening (λ (x z : Content) (y : LoadedSwitch). y.switch.value ≡ x.rows) (g.A.Book.state c.args.archive.now) (g.A.Book.state c.archive_switch.new.archive) (g.B.Book.state c.args.book.now) c.archive_switch.result
     (Err c.in_err-loaded.field-0.0) c.archive_switch.ensures c.in_err-loaded.ensures (λ x z y holds. holds)) (search rules)
 
 pub returns-in_err-other : goal.returns-in_err-other
 returns-in_err-other g c =
-    both_then_fault WholeOf (g.A.Book.state c.args.archive.now) (g.A.Book.state c.archive_switch.new.archive) (g.A.Book.state c.other_place.new.archive) (g.B.Book.state c.args.book.now) (g.B.Book.state c.args.book.now) (g.B.Book.state c.other_place.new.book)
+    both_then_fault AuditsInOrder (g.A.Book.state c.args.archive.now) (g.A.Book.state c.archive_switch.new.archive) (g.A.Book.state c.other_place.new.archive) (g.B.Book.state c.args.book.now) (g.B.Book.state c.args.book.now) (g.B.Book.state c.other_place.new.book)
     c.in_ok-loaded.loaded c.in_err-other.field-0.0 c.from_residual-in_err-other.result
     (both_opening (λ (x z : Content) (y : LoadedSwitch). y.switch.value ≡ x.rows) (g.A.Book.state c.args.archive.now) (g.A.Book.state c.archive_switch.new.archive) (g.B.Book.state c.args.book.now) c.archive_switch.result
     (Ok c.in_ok-loaded.loaded) c.archive_switch.ensures c.in_ok-loaded.ensures (λ x z y holds. holds)) c.in_err-other.ensures (search rules)
@@ -31,7 +32,7 @@ returns-in-Some g c =
 
 pub returns-in_err-first : goal.returns-in_err-first
 returns-in_err-first g c =
-    both_then_fault WholeOf (g.A.Book.state c.args.archive.now) (g.A.Book.state c.other_place.new.archive) (g.A.Book.state c.other_place.new.archive) (g.B.Book.state c.args.book.now) (g.B.Book.state c.other_place.new.book) (g.B.Book.state c.other_place.new.book)
+    both_then_fault AuditsInOrder (g.A.Book.state c.args.archive.now) (g.A.Book.state c.other_place.new.archive) (g.A.Book.state c.other_place.new.archive) (g.B.Book.state c.args.book.now) (g.B.Book.state c.other_place.new.book) (g.B.Book.state c.other_place.new.book)
     c.in_ok-other.other (Current book.NoMemory) c.from_residual-in_err-first.result
     (both_then {S = Option ℕ} (λ (p q : Content) (y : Option ℕ). Unit {0}) (g.A.Book.state c.args.archive.now) (g.A.Book.state c.archive_switch.new.archive) (g.A.Book.state c.other_place.new.archive) (g.B.Book.state c.args.book.now) (g.B.Book.state c.args.book.now)
     (g.B.Book.state c.other_place.new.book) c.in_ok-loaded.loaded (Ok c.in_ok-other.other)

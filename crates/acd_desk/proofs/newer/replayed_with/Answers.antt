@@ -2,9 +2,10 @@ use Rattle.std.proofs.Common.{rules, Option, Ok, Err, IfSome, refl}
 use Rattle.acd_book.specs.Content.{Content}
 use Rattle.acd_desk.specs.declared.replay.Course.{Course}
 use Rattle.acd_desk.specs.Firsts.{stepped}
-use Rattle.acd_desk.specs.Replay.{again, rows_of, Knows, IsReplayed}
+use Rattle.acd_desk.specs.Replay.{again, rows_of, Knows, IsReplayed, StepsOn}
+use Rattle.acd_desk.specs.ReplayWith.{PlaysWith}
 use Rattle.acd_desk.proofs.BothReads.{both_current, both_fault, archive_read, if_current}
-use Rattle.acd_desk.proofs.StepsWith.{PlaysWith, StepsOn, replayed_not, replayed_current}
+use Rattle.acd_desk.proofs.StepsWith.{replayed_not, replayed_current}
 use Rattle.acd_desk.proofs.newer.replayed_with.Goals as goal
 
 pub returns-in_err-known-clause-read : goal.returns-in_err-known-clause-read

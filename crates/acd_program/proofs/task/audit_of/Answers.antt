@@ -6,11 +6,8 @@ use Rattle.acd_program.proofs.task.audit_of.Goals as goal
 
 pub returns-in-Some : goal.returns-in-Some
 returns-in-Some c = (
-  refl,
-  text_read (found_of c.args.options.now) (codes "file") c.in_ok-file.file c.in_ok-file.ensures,
+  (refl, text_read (found_of c.args.options.now) (codes "file") c.in_ok-file.file c.in_ok-file.ensures, c.is_given-counts.ensures, c.is_given-whole.ensures),
   text_read (found_of c.args.options.now) (codes "archive") c.in-Some.archive c.in-Some.ensures,
-  c.is_given-counts.ensures,
-  c.is_given-whole.ensures,
 )
 
 pub returns-in-None : goal.returns-in-None

@@ -5,18 +5,10 @@ use Rattle.acd_sql_differences.specs.Differing.{merged, differences}
 use Rattle.acd_sql_differences.proofs.Differences.{are_steps}
 use Rattle.acd_sql_differences.proofs.difference.row_changes.Goals as goal
 
-pub returns-clause-lead : goal.returns-clause-lead
-returns-clause-lead g c up next =
+pub returns : goal.returns
+returns g c =
     let cmp : g.row.R.Denot → g.row.R.Denot → Ordering = λ x y. g.R.Key.Ord.cmp (g.R.Keyed.key_of x) (g.R.Keyed.key_of y) in
     let total = on_total g.R.Keyed.key_of g.met.R.Key.Ord.total in
-    let ended : differences cmp g.R.PartialEq.eq g.R.TableRecord.gone_of g.R.TableRecord.put_of c.loop-change.left.now c.loop-change.rest.now ≡ [] = search rules in (
-      merged cmp g.R.PartialEq.eq c.args.held.now c.args.new.now,
-      are_steps cmp total g.R.PartialEq.eq c.args.held.now c.args.new.now up next,
-      sym (append-nil c.loop-change.changes.items) ∙ ap (λ l. c.loop-change.changes.items ++ l) (sym ended) ∙ c.loop-change.invariant,
-    )
-
-pub returns-clause-exact : goal.returns-clause-exact
-returns-clause-exact g c =
-    let cmp : g.row.R.Denot → g.row.R.Denot → Ordering = λ x y. g.R.Key.Ord.cmp (g.R.Keyed.key_of x) (g.R.Keyed.key_of y) in
-    let ended : differences cmp g.R.PartialEq.eq g.R.TableRecord.gone_of g.R.TableRecord.put_of c.loop-change.left.now c.loop-change.rest.now ≡ [] = search rules in
-    sym (append-nil c.loop-change.changes.items) ∙ ap (λ l. c.loop-change.changes.items ++ l) (sym ended) ∙ c.loop-change.invariant
+    let ended : differences cmp g.R.PartialEq.eq g.R.TableRecord.changes.gone g.R.TableRecord.changes.put c.loop-change.left.now c.loop-change.rest.now ≡ [] = search rules in
+    let exact = sym (append-nil c.loop-change.changes.items) ∙ ap (λ l. c.loop-change.changes.items ++ l) (sym ended) ∙ c.loop-change.invariant in
+    (exact, λ up next. (merged cmp g.R.PartialEq.eq c.args.held.now c.args.new.now, are_steps cmp total g.R.PartialEq.eq c.args.held.now c.args.new.now up next, exact))

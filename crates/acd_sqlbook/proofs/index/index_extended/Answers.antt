@@ -11,10 +11,10 @@ returns c =
     let more = c.args.events.now in
     let e = c.in_ok-top.ensures in
     record {
-      rise = e.0;
-      end = e.3;
+      rise = e.rise;
+      end = e.end;
       of_both = λ events indexes. record {
         lists = c.add_all.ensures.lists events (c.change.ensures.lists events indexes.last indexes.lists);
-        last = every-append (λ (x : Event). x.number ≤ top) events more (events_raised i.last top events e.1 indexes.last) e.2;
+        last = every-append (λ (x : Event). x.number ≤ top) events more (events_raised i.last top events e.low indexes.last) e.all;
       };
     }

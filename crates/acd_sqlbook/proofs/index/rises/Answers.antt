@@ -25,9 +25,10 @@ pub returns : goal.returns
 returns c =
     let inv = c.loop-event.invariant in
     let i = c.loop-event.event-index in
-    let events = c.args.events.now in (
-      inv.rise (subst (Rises number_of c.loop-event.top) (sym (none_left i events c.loop-event-test.false)) tt),
-      inv.low,
-      subst (Every (λ (e : Event). e.number ≤ c.loop-event.top)) (all_taken i events c.loop-event-test.false) inv.all,
-      sym (ap (last_of c.loop-event.top) (none_left i events c.loop-event-test.false)) ∙ inv.end,
-    )
+    let events = c.args.events.now in
+    record {
+      rise = inv.rise (subst (Rises number_of c.loop-event.top) (sym (none_left i events c.loop-event-test.false)) tt);
+      low = inv.low;
+      all = subst (Every (λ (e : Event). e.number ≤ c.loop-event.top)) (all_taken i events c.loop-event-test.false) inv.all;
+      end = sym (ap (last_of c.loop-event.top) (none_left i events c.loop-event-test.false)) ∙ inv.end;
+    }

@@ -6,8 +6,8 @@ use Rattle.acd_desk.specs.AuditedWith.{desk_part, archive_part, audit_fault}
 use Rattle.acd_desk.specs.Pages.{ReadsIfOpen}
 use Rattle.acd_desk.specs.Standing.{standing}
 use Rattle.acd_desk.specs.ReadDone.{ReadDone}
+use Rattle.acd_desk.specs.ReplayWith.{AuditsInOrder}
 use Rattle.acd_desk.proofs.AuditedWith.{read_found, both_failed, archive_neither, audited_both}
-use Rattle.acd_desk.proofs.StepsWith.{WholeOf}
 use Rattle.acd_desk.proofs.desk.Desk.audit_with.Goals as goal
 
 pub returns-in-Ok-clause-read : goal.returns-in-Ok-clause-read
@@ -24,10 +24,10 @@ pub returns-in-Err-clause-read : goal.returns-in-Err-clause-read
 returns-in-Err-clause-read g c =
     subst (λ (x : AuditFault). ReadDone {A = Audit} (standing g.B.Book c.args.self.now) (standing g.B.Book c.pair_failed.new.self) (desk_part (Err x)) (λ (k : Content) (found : Audit). Unit {0})) (sym c.pair_failed.ensures.fault)
     (subst (λ (d : _). ReadDone {A = Audit} (standing g.B.Book c.args.self.now) (standing g.B.Book d) (desk_part (Err (audit_fault c.in-Err.fault))) (λ (k : Content) (found : Audit). Unit {0})) (sym c.pair_failed.ensures.left)
-    (both_failed (g.A.Book.state c.args.archive.now) (g.A.Book.state c.audited_with.new.archive) (g.B.Book.state c.args.self.now.book) (g.B.Book.state c.audited_with.new.book) c.args.self.now.working c.in-Err.fault WholeOf c.in-Err.ensures
+    (both_failed (g.A.Book.state c.args.archive.now) (g.A.Book.state c.audited_with.new.archive) (g.B.Book.state c.args.self.now.book) (g.B.Book.state c.audited_with.new.book) c.args.self.now.working c.in-Err.fault AuditsInOrder c.in-Err.ensures
     (sym c.has_failed.ensures ∙ c.if-has_failed.false)))
 
 pub returns-in-Err-clause-archive : goal.returns-in-Err-clause-archive
 returns-in-Err-clause-archive g c =
     subst (λ (x : AuditFault). ReadsIfOpen {A = Audit} (g.A.Book.state c.args.archive.now) (g.A.Book.state c.audited_with.new.archive) (archive_part (Err x)) (λ (k : Content) (found : Audit). Unit {0})) (sym c.pair_failed.ensures.fault)
-    (archive_neither (g.A.Book.state c.args.archive.now) (g.A.Book.state c.audited_with.new.archive) (g.B.Book.state c.args.self.now.book) (g.B.Book.state c.audited_with.new.book) c.in-Err.fault WholeOf c.in-Err.ensures)
+    (archive_neither (g.A.Book.state c.args.archive.now) (g.A.Book.state c.audited_with.new.archive) (g.B.Book.state c.args.self.now.book) (g.B.Book.state c.audited_with.new.book) c.in-Err.fault AuditsInOrder c.in-Err.ensures)

@@ -1,0 +1,52 @@
+-- What lines may ask, by all that this says of itself; and for private clauses, how far they were answered.
+use Rattle.std.specs.Prelude.{◌≡◌, ℕ, List, [], Bool, Result, MatchResult}
+use Rattle.acd_book.specs.declared.book.Book.{Ghosts as Books}
+use Rattle.acd_desk.specs.declared.desk.Desk.{Desk}
+use Rattle.acd_desk.specs.Ran.{standing}
+use Rattle.acd_io.specs.declared.sending.Stopped.{Stopped}
+use Rattle.acd_lines.specs.declared.answering.Answering.{Ghosts}
+use Rattle.acd_lines.specs.Input.{asked}
+use Rattle.acd_lines.specs.Lines.{Manner}
+use Rattle.acd_lines.specs.Outgoing.{Step}
+use Rattle.acd_lines.specs.Parts.{AnswerPushed, InTurn, Feeds, FeedStops, Finishes, FinishStops}
+
+module _ {A B : Type 0} (lines : Ghosts A B) where
+  -- the question of a line's text
+  abbrev pub question : List ℕ → lines.Asked
+  question text = asked lines.unmarked lines.long lines.read text
+
+  -- the questions of lines are answered in turn, from one desk to another
+  abbrev pub TakesTurns : Desk B → Desk B → List (List ℕ) → List (List ℕ) → Type 0
+  TakesTurns d e pieces outs = InTurn question lines.answers d e pieces outs
+
+  -- lines are answered so
+  abbrev pub by_questions : Books B → Bool → Manner (Desk B)
+  by_questions book ends = record { stands = standing book; Answered = TakesTurns; ends = ends }
+
+  -- a line of this text was answered, and its answer was pushed
+  abbrev pub LineAnswered : List ℕ → Step (Desk B) → Result (Unit {0}) Stopped → Type 0
+  LineAnswered text over result = AnswerPushed lines.answers (question text) over result
+
+  -- Of a line a part was kept before these bytes, and a part is kept after them: they were used, and nothing waits.
+  abbrev pub FedWhole : List ℕ × List ℕ → List ℕ → Step (Desk B) → Type 0
+  FedWhole kept bytes over = (over.out.waits ≡ []) × Feeds question lines.answers over.old over.new kept.0 kept.1 bytes over.out.old_output over.out.new_output over.out.waited over.out.waits
+
+  -- the writer stopped in them
+  abbrev pub FedPart : List ℕ → List ℕ → Step (Desk B) → Type 0
+  FedPart kept bytes over = FeedStops question lines.answers over.old over.new kept bytes over.out.old_output over.out.new_output over.out.waited
+
+  -- the one or the other
+  abbrev pub Fed : List ℕ × List ℕ → List ℕ → Step (Desk B) → Result (Unit {0}) Stopped → Type 0
+  Fed kept bytes over result = MatchResult result (λ _. FedWhole kept bytes over) (λ _. FedPart kept.0 bytes over)
+
+  -- the input is at its end, and was answered to it
+  abbrev pub FinishedWhole : List ℕ → Step (Desk B) → Type 0
+  FinishedWhole kept over = Finishes question lines.answers over.old over.new kept over.out.old_output over.out.new_output over.out.waited
+
+  -- the writer stopped there
+  abbrev pub FinishedPart : List ℕ → Step (Desk B) → Type 0
+  FinishedPart kept over = FinishStops question lines.answers over.old over.new kept over.out.old_output over.out.new_output over.out.waited
+
+  -- the one or the other
+  abbrev pub Finished : List ℕ → Step (Desk B) → Result (Unit {0}) Stopped → Type 0
+  Finished kept over result = MatchResult result (λ _. FinishedWhole kept over) (λ _. FinishedPart kept over)
