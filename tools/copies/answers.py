@@ -1,4 +1,5 @@
 """What each command of the program answers of a file: how many callers wait there, or that it can't be opened."""
+import contextlib
 import json
 import os
 import re
@@ -8,9 +9,10 @@ import subprocess
 import tempfile
 from pathlib import Path
 
-from ground import PLANNED, Office, ask, free_port, kept, log_of, sums
+from ground import PLANNED, Office, kept, log_of, sums
+from trial import Desk, Plan, free_port
 
-ROW = "kind,number,name,ring,wrap\nstation,299,,,\n"
+ROW = Plan([], ["299"], []).text()
 CLOSED = "cannot open"
 
 
@@ -54,14 +56,12 @@ def by_import(office):
 
 
 def by_serve(office):
-    port = free_port()
-    desk = subprocess.Popen(["acd", "serve", "--file", "desk.db", "--port", str(port), "--endless"], stdout=subprocess.PIPE, stderr=subprocess.PIPE,
-                            text=True, cwd=office.folder, env=office.settings())
-    if desk.stdout.readline():
-        told = len(json.loads(ask(port, "/snapshot")[1])["calls"])
+    with contextlib.suppress(RuntimeError), Desk(office.program, "desk.db", cwd=office.folder) as desk:
+        waiting = len(desk.read("/snapshot")["calls"])
         desk.kill()
-    said, faults = desk.communicate()
-    return told if desk.returncode == -signal.SIGKILL else (desk.returncode, said, faults)
+        return waiting if desk.process.returncode == -signal.SIGKILL else (desk.process.returncode, "", desk.said())
+    # it doesn't serve: once more, for what it says
+    return office.run("acd", "serve", "--file", "desk.db", "--port", free_port(), "--endless")
 
 
 COMMANDS = {"audit": by_audit, "report": by_report, "export": by_export, "lines": by_lines, "import": by_import, "serve": by_serve}
@@ -71,10 +71,10 @@ def answer(command, office):
     """What a command answers of a copy of the folder."""
     scratch = copy_of(office)
     try:
-        told = COMMANDS[command](scratch)
+        found = COMMANDS[command](scratch)
     finally:
         shutil.rmtree(scratch.folder)
-    return CLOSED if told == (1, "", "acd: cannot open desk.db\n") else told
+    return CLOSED if found == (1, "", "acd: cannot open desk.db\n") else found
 
 
 def seen(file):

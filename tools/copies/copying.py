@@ -10,23 +10,18 @@ import subprocess
 import time
 from pathlib import Path
 
-from ground import OTHER, PYTHON, Load, call, frames, free_port, kept, log_of, lost, spoil, sums
-from parts import Part
+from ground import OTHER, PYTHON, Load, Part, call, frames, kept, log_of, lost, spoil, sums
+from trial import free_port
 
 SOUND = r"sound: \S+/copies/\d{4}-\d\d-\d\dT\d{6}Z\n"
 
 
 class Copying(Part):
-    def try_all(self):
-        for case in (self.try_anywhere, self.try_modes, self.try_settings, self.try_torn, self.try_early, self.try_no_desk, self.try_fewer, self.try_damaged, self.try_busy, self.try_moved,
-                     self.try_moved_log, self.try_removed, self.try_moved_meanwhile, self.try_started_meanwhile, self.try_full_disk, self.try_one_second):
-            case()
-
     def good(self, what, office, *words, said=SOUND, **how):
         """A good copy, with nothing said but that."""
-        told = office.copy(*words, **how)
-        self.expect(f"{what}: a good copy, {told}", (told[0], bool(re.fullmatch(said, told[1])), told[2]), (0, True, ""))
-        return told[1].rpartition("/")[2].strip()
+        done = office.copy(*words, **how)
+        self.expect(f"{what}: a good copy, {done}", (done[0], bool(re.fullmatch(said, done[1])), done[2]), (0, True, ""))
+        return done[1].rpartition("/")[2].strip()
 
     def bad(self, what, office, pattern, *words):
         """No good copy: status 1, and one line that says why; the folder that it says it lies in."""
@@ -60,12 +55,12 @@ class Copying(Part):
         (office.folder / "acd.env").write_text(f"# a note\nACD_FILE={office.file}\nACD_COPY_FOLDER={office.folder}/others\nACD_COPIES=1\n")
         script = scripts / "acd-copy"
         script.write_text(script.read_text().replace("/etc/acd/acd.env", f"{office.folder}/acd.env"))
-        told = office.run(PYTHON, script)
-        self.expect(f"by the settings: {told}", (told[0], told[2], len(list((office.folder / "others").glob("*Z")))), (0, "", 1))
+        done = office.run(PYTHON, script)
+        self.expect(f"by the settings: {done}", (done[0], done[2], len(list((office.folder / "others").glob("*Z")))), (0, "", 1))
         # as another system's editor and somebody's quotes leave them, which systemd takes
         (office.folder / "acd.env").write_bytes(f"ACD_FILE=\"{office.file}\"\r\nACD_COPY_FOLDER='{office.folder}/quoted'\r\n".encode())
-        told = office.run(PYTHON, script)
-        self.expect(f"by quoted ones: {told}", (told[0], told[2], len(list((office.folder / "quoted").glob("*Z")))), (0, "", 1))
+        done = office.run(PYTHON, script)
+        self.expect(f"by quoted ones: {done}", (done[0], done[2], len(list((office.folder / "quoted").glob("*Z")))), (0, "", 1))
         self.expect("another file has its own folder", office.run(PYTHON, script, "--file", office.folder / "none")[2], f"acd-copy: there is no file {office.folder}/none\n")
 
     def try_one_second(self):
@@ -162,13 +157,17 @@ class Copying(Part):
 
     def loaded(self):
         office = self.office()
-        desk, port = office.serve()
-        load = Load(port)
-        self.loads.append(load)
+        desk = office.serve()
+        load = self.load(desk)
         self.expect("there is a load", load.until(30))
-        return office, desk, load
+        return office, desk.process, load
 
-    def told(self, what, office, load, pattern):
+    def load(self, desk):
+        load = Load(desk.port)
+        self.addCleanup(load.stop)
+        return load
+
+    def says_so(self, what, office, load, pattern):
         """What was moved is told, and what was answered by then is in a copy of what the desk has open; the desk goes on."""
         answered = [f"load {number}" for number in list(load.answered)]
         status, said, faults = office.copy()
@@ -188,14 +187,13 @@ class Copying(Part):
         looks = "import sys; sys.path.insert(0, sys.argv[1]); import acd_held; print({len(acd_held.opened(int(sys.argv[2]))) for _ in range(500)})"
         with subprocess.Popen([PYTHON, "-c", busy, file], stdout=subprocess.PIPE) as goes_on:
             goes_on.stdout.readline()
-            told = subprocess.run([PYTHON, "-c", looks, self.script.parent, str(goes_on.pid)], capture_output=True, text=True)
+            seen = subprocess.run([PYTHON, "-c", looks, self.script.parent, str(goes_on.pid)], capture_output=True, text=True)
             goes_on.kill()
-        self.expect(f"files that it has open {told.stderr[-200:]}", told.stdout, "{1}\n")
+        self.expect(f"files that it has open {seen.stderr[-200:]}", seen.stdout, "{1}\n")
 
     def started_again(self, what, office, load):
         """All that was answered is known to a desk that is started now."""
-        _, port = office.serve()
-        self.expect(f"{what}: {len(load.answered)} answered, lost of them", lost(load, port), [])
+        self.expect(f"{what}: {len(load.answered)} answered, lost of them", lost(load, office.serve().port), [])
         office.end()
 
     def try_moved(self):
@@ -203,7 +201,7 @@ class Copying(Part):
         office, desk, load = self.loaded()
         os.rename(office.file, office.folder / "elsewhere")
         load.until(10)
-        self.told("a moved file", office, load, rf"the file {office.file} was moved to {office.folder}/elsewhere under the desk, process {desk.pid}: what it answers goes there\n")
+        self.says_so("a moved file", office, load, rf"the file {office.file} was moved to {office.folder}/elsewhere under the desk, process {desk.pid}: what it answers goes there\n")
         load.stop()
         desk.send_signal(signal.SIGSTOP)
         self.expect("--continue", office.copy("--continue"), (0, "", ""))
@@ -216,7 +214,7 @@ class Copying(Part):
         office, desk, load = self.loaded()
         os.rename(log_of(office.file), office.folder / "log")
         load.until(10)
-        self.told("a moved log", office, load, rf"the log {office.file}-wal was moved to {office.folder}/log under the desk, process {desk.pid}: what it answers goes there\n")
+        self.says_so("a moved log", office, load, rf"the log {office.file}-wal was moved to {office.folder}/log under the desk, process {desk.pid}: what it answers goes there\n")
         load.stop()
         office.end()
         os.rename(office.folder / "log", log_of(office.file))
@@ -230,16 +228,16 @@ class Copying(Part):
                 part(office.file).unlink()
             load.until(10)
             load.stop()
-            made = self.told_at_rest(what, office, load)
+            made = self.says_so_at_rest(what, office, load)
             office.end()
             status, said, faults = office.copy("--restore", made.name)
             self.expect(f"{what} was removed, and the copy is put back ({faults})", status, 0)
             self.started_again(f"{what} was removed", office, load)
 
-    def told_at_rest(self, what, office, load):
+    def says_so_at_rest(self, what, office, load):
         load.goes_on, load.until = False, lambda count: True
         name = "log" if what == "the log" else "file"
-        return self.told(f"{what} was removed", office, load,
+        return self.says_so(f"{what} was removed", office, load,
                          rf"the {name} \S+ was removed from under the desk, process \d+: what it answered is lost where it is stopped before acd-copy made a copy\n")
 
     def try_moved_meanwhile(self):
@@ -269,12 +267,11 @@ class Copying(Part):
     def try_full_disk(self):
         office = self.office()
         office.feed([call(number) for number in range(30, 40)], kills=True)
-        desk, port = office.serve()
+        desk = office.serve()
         with self.disk("24k") as full:
             status, said, faults = office.run(*office.words()[:-1], full / "copies")
             self.expect(f"a full disk: {faults}", (status, "no copy is kept" in faults, list((full / "copies").iterdir())), (1, True, []))
-        load = Load(port)
-        self.loads.append(load)
+        load = self.load(desk)
         self.expect("the desk goes on beside it", load.until(3))
         load.stop()
         self.good("another disk", office, said=r"the desk was halted for \d+ ms\n" + SOUND)

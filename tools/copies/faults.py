@@ -78,9 +78,3 @@ RESTORE = [
     ("an empty log is made", "        log_of(new).unlink()\n", "        pass\n", "try_no_log"),
 ]
 FAULTS = {"acd-copy": COPY, "acd_audit.py": AUDIT, "acd_held.py": HELD, "acd_restore.py": RESTORE}
-
-
-def planted(text, old, new):
-    if text.count(old) != 1:
-        raise SystemExit(f"try-restore: a fault is planted at {text.count(old)} places, and not at one: {old!r}")
-    return text.replace(old, new)

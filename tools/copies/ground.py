@@ -2,11 +2,8 @@
 import contextlib
 import hashlib
 import http.client
-import json
 import os
 import shutil
-import signal
-import socket
 import sqlite3
 import struct
 import subprocess
@@ -15,39 +12,20 @@ import threading
 import time
 from pathlib import Path
 
+from trial import TOP, Connection, Desk, Lines, Plan, Requests, Trial, compact, line, ran
+
 # that of Debian, which the scripts are run by
 PYTHON = "/usr/bin/python3"
-PLAN = "kind,number,name,ring,wrap\ngroup,100,Billing,20,30\nstation,201,,,\nagent,7,Ana,,\n"
+PLAN = Plan([("100", "Billing", 20, 30)], ["201"], [("7", "Ana")]).text()
 PLANNED = 3
 # another user, who owns a file
 OTHER = "daemon"
-
-
-class Found(Exception):
-    """What goes otherwise, where a fault is planted."""
-
-
-class Cases:
-    def __init__(self):
-        self.tried = self.wrong = 0
-        self.is_planted = False
-
-    def expect(self, what, has, wanted=True):
-        self.tried += 1
-        if has != wanted:
-            if self.is_planted:
-                raise Found(f"{what}: {has!r}")
-            self.wrong += 1
-            print(f"{what}: {has!r} and not {wanted!r}", flush=True)
+OPERATING = TOP / "tools/operating"
 
 
 def call(number, requester="x"):
     """A caller who waits, by the request of this number; it brings one event, and one more who waits."""
-    return {"requester": requester, "invoke": number, "service": "arriveCall", "caller": f"0301{number}", "called": "100"}
-
-
-def line(request):
-    return f"5 {json.dumps(request)}\n"
+    return Requests(**{requester: number - 1})("arriveCall", requester, caller=f"0301{number}", called="100")
 
 
 def sums(*paths):
@@ -86,12 +64,6 @@ def spoil(path, offset):
         file.write(bytes([byte[0] ^ 1]))
 
 
-def free_port():
-    with socket.socket() as taken:
-        taken.bind(("127.0.0.1", 0))
-        return taken.getsockname()[1]
-
-
 class Office:
     """A folder with the file of a desk and its copies."""
 
@@ -102,10 +74,9 @@ class Office:
     def settings(self):
         return {"PATH": f"{self.program.parent}:/usr/sbin:/usr/bin:/sbin:/bin", "LC_ALL": "C.UTF-8"}
 
-    def run(self, *words, given="", cwd=None, user=None, **more):
+    def run(self, *words, given="", cwd=None, user=None):
         as_user = ["setpriv", "--reuid", user, "--regid", user, "--clear-groups", "--"] if user else []
-        told = subprocess.run([*as_user, *map(str, words)], input=given, capture_output=True, text=True, cwd=cwd or self.folder, env=self.settings(), timeout=120, **more)
-        return told.returncode, told.stdout, told.stderr
+        return ran(*as_user, *words, given=given, cwd=cwd or self.folder, env=self.settings())
 
     def words(self, *words):
         return [PYTHON, self.script, "--file", self.file, "--folder", self.copies, *words]
@@ -124,31 +95,21 @@ class Office:
 
     def feed(self, requests, kills=False):
         """The requests are answered; the desk is closed then, or killed, which leaves the last of them in the log."""
-        desk = subprocess.Popen(["acd", "lines", "--file", self.file], stdin=subprocess.PIPE, stdout=subprocess.PIPE, text=True, env=self.settings())
-        for request in requests:
-            desk.stdin.write(line(request))
-            desk.stdin.flush()
-            if not desk.stdout.readline().startswith("200 "):
-                raise ValueError(f"{request} isn't answered")
-        if kills:
-            desk.kill()
-        desk.communicate()
+        with Lines(self.program, self.file) as desk:
+            for request in requests:
+                if not desk.say(line(5, request)).startswith("200 "):
+                    raise ValueError(f"{request} isn't answered")
+            if not kills:
+                desk.ends()
 
-    def serve(self, user=None):
-        """A desk that serves, and its port."""
-        port = free_port()
-        as_user = ["setpriv", "--reuid", user, "--regid", user, "--clear-groups", "--"] if user else []
-        desk = subprocess.Popen([*as_user, "acd", "serve", "--file", self.file, "--port", str(port), "--endless"], stdout=subprocess.PIPE, text=True, env=self.settings(), cwd=self.folder)
-        self.started.append(desk)
-        if desk.stdout.readline() != f"listening on 127.0.0.1:{port}\n":
-            raise ValueError("no desk serves")
-        return desk, port
+    def serve(self):
+        """A desk that serves, until the office's end."""
+        self.started.append(Desk("acd", self.file, variables=self.settings(), cwd=self.folder))
+        return self.started[-1]
 
     def end(self):
         for desk in self.started:
-            desk.send_signal(signal.SIGCONT)
             desk.kill()
-            desk.communicate()
         self.started = []
 
     def copy_now(self):
@@ -163,15 +124,11 @@ class Office:
         return sorted((where or self.folder).glob(pattern))
 
 
-def ask(port, path, body=None, wait=5):
+def ask(port, request):
     """The status and the body of an answer."""
-    asks = http.client.HTTPConnection("127.0.0.1", port, timeout=wait)
-    try:
-        asks.request("POST" if body else "GET", path, json.dumps(body) if body else None)
-        said = asks.getresponse()
-        return said.status, said.read().decode()
-    finally:
-        asks.close()
+    with Connection(port, seconds=5) as desk:
+        reply = desk.ask("POST", "/csta", compact(request))
+    return reply.status, reply.text
 
 
 class Load:
@@ -187,7 +144,7 @@ class Load:
         while self.goes_on:
             number += 1
             try:
-                status, said = ask(self.port, "/csta", call(number, "load"))
+                status, said = ask(self.port, call(number, "load"))
             except (OSError, http.client.HTTPException):
                 time.sleep(0.01)
                 continue
@@ -210,7 +167,7 @@ class Load:
 
 def lost(load, port):
     """The answered requests that a desk knows nothing of: sent again, they don't bring their answer."""
-    return [number for number, said in load.answered.items() if ask(port, "/csta", call(number, "load")) != said]
+    return [number for number, said in load.answered.items() if ask(port, call(number, "load")) != said]
 
 
 def listing(folder):
@@ -221,3 +178,34 @@ def listing(folder):
         content = os.readlink(path) if path.is_symlink() else (hashlib.sha256(path.read_bytes()).hexdigest() if path.is_file() else "")
         found[str(path.relative_to(folder))] = (about.st_mode, about.st_uid, content)
     return found
+
+
+class Part(Trial):
+    """Over desks in folders of their own, by a script that may have a fault."""
+
+    script = OPERATING / "acd-copy"
+
+    @classmethod
+    def setUpClass(cls):
+        super().setUpClass()
+        cls.folder.chmod(0o755)
+
+    def office(self, owner=None):
+        """A desk with a plan and two callers."""
+        office = Office(tempfile.mkdtemp(dir=self.folder), self.program, self.script)
+        self.addCleanup(office.end)
+        office.plan()
+        office.feed([call(1), call(2)])
+        if owner:
+            subprocess.run(["chown", "-R", f"{owner}:{owner}", office.folder], check=True)
+        return office
+
+    @contextlib.contextmanager
+    def disk(self, size):
+        """A disk of this size."""
+        folder = Path(tempfile.mkdtemp(dir=self.folder))
+        subprocess.run(["mount", "-t", "tmpfs", "-o", f"mode=755,size={size}", "full", folder], check=True)
+        try:
+            yield folder
+        finally:
+            subprocess.run(["umount", "--lazy", folder], check=True)

@@ -7,7 +7,7 @@ import tempfile
 from pathlib import Path
 
 from answers import CLOSED, COMMANDS, Answers
-from ground import Office, call, kept, log_of, sums
+from ground import Office, Part, call, kept, log_of, sums
 
 CALLS = ("rename", "renameat", "renameat2", "link", "linkat", "symlink", "symlinkat", "unlink", "unlinkat", "mkdir", "mkdirat", "rmdir", "fsync", "write",
          "pwrite64", "sendfile", "copy_file_range", "ftruncate", "chmod", "fchmod", "fchmodat", "chown", "fchown", "lchown", "fchownat", "utimensat", "fcntl", "flock")
@@ -30,16 +30,15 @@ def lies(file):
     return sums(file, log_of(file), *(file.with_name(f"{file.name}{part}") for part in ARCHIVES))
 
 
-class Kills:
-    """Over one way in which file, log and copy may lie there."""
+class Kills(Part):
+    """Over one way in which file, log and copy may lie there: at each call, or at those that change names."""
 
-    def __init__(self, cases, folder, program, script, way):
-        self.cases, self.folder, self.program, self.script, self.way = cases, folder, program, script, way
-        self.answers, self.kills, self.states = Answers(), 0, set()
-        self.first = self.lying()
+    def __init__(self, way, some):
+        super().__init__("try_way")
+        self.way, self.some, self.answers, self.kills, self.states = way, some, Answers(), 0, set()
 
-    def expect(self, what, has, wanted=True):
-        self.cases.expect(f"{self.way}, {what}", has, wanted)
+    def expect(self, what, found, wanted=True):
+        super().expect(f"{self.way}, {what}", found, wanted)
 
     # what there is before
 
@@ -95,10 +94,10 @@ class Kills:
             # there was none before; what a command does then isn't a restore's
             self.expect(f"{what}: without a file all is as it was", lies(office.file), office.before)
             return
-        told = self.answers.of(office)
-        first = told["audit"]
+        answers = self.answers.of(office)
+        first = answers["audit"]
         self.states.add(str(first))
-        self.expect(f"{what}: one whole pair or none, {told}", first in (copied, copied + more, in_place, CLOSED) and all(told[name] == first for name in COMMANDS))
+        self.expect(f"{what}: one whole pair or none, {answers}", first in (copied, copied + more, in_place, CLOSED) and all(answers[name] == first for name in COMMANDS))
 
     def is_restored(self, office, what, more=0):
         copied, _ = self.numbers()
@@ -114,10 +113,10 @@ class Kills:
     def undo(self, office, what, said):
         """Back; of a restore that had been done, and that the same command did once more, in two steps."""
         for _ in range(2 if DONE in said else 1):
-            status, told, faults = office.copy("--undo")
+            status, printed, faults = office.copy("--undo")
             if lies(office.file) == office.before:
                 break
-        self.expect(f"{what}: --undo ({faults})", (status, UNDONE in told), (0, True))
+        self.expect(f"{what}: --undo ({faults})", (status, UNDONE in printed), (0, True))
         self.is_back(office, what)
 
     # what is killed
@@ -135,25 +134,25 @@ class Kills:
         self.kills += 1
         return said
 
-    def each(self, counts, some):
-        return [(name, number) for name, count in counts.items() if not some or name in FEW for number in range(1, count + 1)]
+    def each(self, counts):
+        return [(name, number) for name, count in counts.items() if not self.some or name in FEW for number in range(1, count + 1)]
 
-    def of_restores(self, some):
+    def of_restores(self):
         office = self.made()
-        for name, number in self.each(self.counts(office, "--restore", office.moment), some):
+        for name, number in self.each(self.counts(office, "--restore", office.moment)):
             what = f"restore killed at {name} {number}"
             for again in (True, False):
                 office = self.made()
                 said = self.killed(office, ("--restore", office.moment), name, number)
                 self.look(office, what)
                 if again:
-                    status, told, faults = office.copy("--restore", office.moment)
-                    self.expect(f"{what}, the same again ({faults})", (status, DONE in told), (0, True))
+                    status, printed, faults = office.copy("--restore", office.moment)
+                    self.expect(f"{what}, the same again ({faults})", (status, DONE in printed), (0, True))
                     self.is_restored(office, what)
                     self.undo(office, f"{what}, ended, and --undo", said)
                 else:
-                    status, told, faults = office.copy("--undo")
-                    self.expect(f"{what}, --undo ({faults})", (status, UNDONE in told) in ((0, True), (1, False)) and (status == 0 or NOTHING in faults))
+                    status, printed, faults = office.copy("--undo")
+                    self.expect(f"{what}, --undo ({faults})", (status, UNDONE in printed) in ((0, True), (1, False)) and (status == 0 or NOTHING in faults))
                     self.is_back(office, f"{what}, --undo")
                 shutil.rmtree(office.folder)
 
@@ -163,33 +162,26 @@ class Kills:
         office.feed([call(99)], kills=True)
         return office
 
-    def of_undos(self, some):
-        for name, number in self.each(self.counts(self.restored(), "--undo"), some):
+    def of_undos(self):
+        for name, number in self.each(self.counts(self.restored(), "--undo")):
             office, what = self.restored(), f"undo killed at {name} {number}"
             said = self.killed(office, ("--undo",), name, number)
             self.look(office, what, more=1)
-            status, told, faults = office.copy("--undo")
+            status, printed, faults = office.copy("--undo")
             done_before = UNDONE in said and NOTHING in faults
-            self.expect(f"{what}, the same again ({faults})", status == 0 and UNDONE in told or done_before)
+            self.expect(f"{what}, the same again ({faults})", status == 0 and UNDONE in printed or done_before)
             self.is_back(office, what)
             taken = office.folders("taken-back-*")
             self.expect(f"{what}: what was in place is kept", [sum(key.startswith("x ") for key in kept(one / office.file.name)) for one in taken], [self.numbers()[0] + 1])
             shutil.rmtree(office.folder)
 
-    def all(self, some=False):
-        self.of_restores(some)
-        self.of_undos(some)
+    def try_way(self):
+        self.first = self.lying()
+        self.of_restores()
+        self.of_undos()
         wanted = {CLOSED, str(self.numbers()[0])} | (set() if self.way in ("no file", "neither file nor log") else {str(self.numbers()[1])})
         self.expect("what was answered of in all", wanted <= self.states)
         print(f"    {self.way}: {self.kills} kills", flush=True)
 
 
 WAYS = ("file and log", "a copy without a log", "a copy whose log has callers", "no log", "no file", "neither file nor log", "archives of after the copy")
-
-
-def try_kills(cases, folder, program, script, ways=WAYS, some=False):
-    """At each call over the first way, and over the others at those that change names."""
-    for way in ways:
-        scratch = Path(tempfile.mkdtemp(dir=folder))
-        Kills(cases, scratch, program, script, way).all(some or way != WAYS[0])
-        shutil.rmtree(scratch)

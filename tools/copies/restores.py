@@ -7,8 +7,8 @@ import stat
 import subprocess
 from pathlib import Path
 
-from ground import OTHER, PYTHON, call, frames, free_port, kept, listing, log_of, spoil, sums
-from parts import Part
+from ground import OTHER, PYTHON, Part, call, frames, kept, listing, log_of, spoil, sums
+from trial import free_port
 
 DONE = r"%s is the copy of %s; what was in its place lies in (\S+), and acd-copy --undo puts it back\n"
 UNDONE = r"%s is what it was before the restore of %s(?:; what was in its place lies in (\S+))?\n"
@@ -16,11 +16,6 @@ HOLD = "import fcntl, sys, time; file = open(sys.argv[1], 'rb+'); fcntl.lockf(fi
 
 
 class Restores(Part):
-    def try_all(self):
-        for case in (self.try_one, self.try_no_log, self.try_journal, self.try_several, self.try_owner, self.try_mask, self.try_note, self.try_beside_a_desk, self.try_beside_others, self.try_unsound,
-                     self.try_names, self.try_node, self.try_broken_off, self.try_by_a_link, self.try_two_names, self.try_exchanged, self.try_room, self.try_two_desks, self.try_steps):
-            case()
-
     # what there is
 
     def copied(self, **how):
@@ -140,7 +135,7 @@ class Restores(Part):
 
     def try_beside_a_desk(self):
         office = self.copied()
-        desk, _ = office.serve()
+        desk = office.serve().process
         for words in (("--restore", office.moment), ("--undo",)):
             self.refused("beside a desk", office, rf"^acd-copy: {office.file} is open in process {desk.pid} \(acd serve --file {office.file}\): kill {desk.pid}; nothing was touched\n", *words)
         os.rename(office.file, office.folder / "elsewhere")
@@ -200,8 +195,8 @@ class Restores(Part):
     def is_not_started(self, office, says):
         """A start says what ends it, and touches nothing."""
         before = listing(office.folder)
-        told = office.run(PYTHON, self.script.parent / "acd-ready", "--serve", "--file", office.file, "--port", str(free_port()))
-        self.expect("a start meanwhile", told, (64, "", f"acd-ready: {says}\n"))
+        done = office.run(PYTHON, self.script.parent / "acd-ready", "--serve", "--file", office.file, "--port", free_port())
+        self.expect("a start meanwhile", done, (64, "", f"acd-ready: {says}\n"))
         self.expect("a start touches nothing", listing(office.folder) == before)
 
     def try_broken_off(self):

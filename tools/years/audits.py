@@ -5,7 +5,7 @@ import sqlite3
 
 # by cuts the folder of tests is among those that modules are looked for in
 from cuts import Cuts, Day
-from ground import firsts, log_of
+from ground import Ground, firsts, log_of
 import office
 
 # Each alters one thing: in the file, or in its archive. Where the tables alone differ by it, that is found at the last stamp and one.
@@ -41,7 +41,7 @@ class Audits:
         self.cuts = Cuts(ground, Day(office.MORNING._replace(seed=seed)), folder, self.chance)
 
     def said(self, file, archive, *more):
-        return self.ground.run("acd", "audit", "--file", file, "--archive", archive, *more)[:2]
+        return self.ground.ran("acd", "audit", "--file", file, "--archive", archive, *more)[:2]
 
     def begin(self):
         """Whether there was a place for a cut."""
@@ -64,7 +64,7 @@ class Audits:
             wanted = f"sound\nexecuted {self.end}\n" if more else "sound\n"
             self.ground.expect(f"{self.what}: {more}", self.said(self.file, self.archive, *more), (0, wanted))
         self.ground.expect(f"{self.what}: the archive's bytes", self.archive.read_bytes() == before)
-        alone = self.ground.run("acd", "audit", "--file", self.file)[:2]
+        alone = self.ground.ran("acd", "audit", "--file", self.file)[:2]
         self.ground.expect(f"{self.what}: without its archive it differs", alone, (3, "differs at request 1\n") if self.first > 1 else (0, "sound\n"))
 
     def see(self, change, of, place):
@@ -113,17 +113,18 @@ class Audits:
         swapped = 1 if self.first > 1 else self.last + 1
         self.ground.expect(f"{self.what}: in the wrong order", self.said(self.archive, self.file), (3, f"differs at request {swapped}\n"))
         self.ground.expect(f"{self.what}: behind itself", self.said(self.file, self.file)[0], 4)
-        absent = self.ground.run("acd", "audit", "--file", self.file, "--archive", "/absent/a.db")
+        absent = self.ground.ran("acd", "audit", "--file", self.file, "--archive", "/absent/a.db")
         self.ground.expect(f"{self.what}: no archive", absent, (1, "", "acd: cannot open /absent/a.db\n"))
 
 
-def try_all(ground, days=20):
-    done = 0
-    for seed in range(1, days + 1):
-        with ground.scratch() as folder:
-            audits = Audits(ground, seed, folder)
-            if audits.begin():
-                done += 1
-                for case in (audits.sound, audits.records, audits.events, audits.tables, audits.others):
-                    case()
-    ground.expect("days have places for cuts", done >= days * 0.8)
+class OfAudits(Ground):
+    def try_audits(self, days=20):
+        done = 0
+        for seed in range(1, days + 1):
+            with self.scratch() as folder:
+                audits = Audits(self, seed, folder)
+                if audits.begin():
+                    done += 1
+                    for case in (audits.sound, audits.records, audits.events, audits.tables, audits.others):
+                        case()
+        self.expect("days have places for cuts", done >= days * 0.8)

@@ -1,12 +1,11 @@
 """What acd-carry refuses, and how much it keeps: each time it says so by a line, and nothing is changed."""
 import contextlib
 import os
-import shutil
 import sqlite3
 import subprocess
 from pathlib import Path
 
-from ground import copied, firsts, held, log_of
+from ground import Ground, copied, firsts, held, log_of
 from kills import PLAN
 
 HOUR, DAY = 3600, 86400
@@ -58,7 +57,7 @@ class Cases:
         file = self.file("keeps")
         for words, wanted in (((), by_days[2]), (("--days", 1), by_days[1]), (("--days", 3), by_days[3]), (("--keep", 1000), in_hour), (("--keep", 4500), 4500)):
             new = file.with_name("new.db")
-            status, told, faults = self.ground.carry("--from", file, "--to", new, *words, short=False)
+            status, printed, faults = self.ground.carry("--from", file, "--to", new, *words, short=False)
             self.ground.expect(f"{words}: {faults}", (status, len(moments) + 1 - firsts(new)[0] if new.exists() else None), (0, wanted))
             new.unlink(missing_ok=True)
         self.ground.expect("the modes of both", (file.stat().st_mode, file.with_name("new.db").exists()), (file.stat().st_mode, False))
@@ -129,12 +128,12 @@ class Cases:
                                    ("it is sound", "echo sound", None)):
             program.write_text(f'#!/bin/sh\nif [ "$1" = audit ]; then {does}; exit; fi\nexec acd "$@"\n')
             program.chmod(0o755)
-            status, told, faults = self.ground.carry("--from", file, "--to", new, "--desk", program, short=False)
+            status, printed, faults = self.ground.carry("--from", file, "--to", new, "--desk", program, short=False)
             lies = {path.name for path in file.parent.iterdir()}
             if wanted:
                 self.ground.expect(f"{what}: {faults}", (status, wanted in faults, lies), (1, True, {"desk.db", "desk.db-wal"}))
             else:
-                self.ground.expect(f"{what}: {faults}", (status, told.splitlines()[1:], lies), (0, ["sound"], {"desk.db", "desk.db-wal", "new.db"}))
+                self.ground.expect(f"{what}: {faults}", (status, printed.splitlines()[1:], lies), (0, ["sound"], {"desk.db", "desk.db-wal", "new.db"}))
 
     def others(self):
         """Files that are none, or none that can be carried over."""
@@ -165,7 +164,7 @@ class Cases:
             folder.mkdir(exist_ok=True)
             with disk(folder, f"{size}k"):
                 new = folder / "new.db"
-                status, told, faults = self.ground.carry("--from", source, "--to", new, short=False)
+                status, printed, faults = self.ground.carry("--from", source, "--to", new, short=False)
                 states.add(status)
                 self.ground.expect(f"a disk of {size} kB: {faults}", (new.exists(), len(list(folder.iterdir()))), (True, 1) if status == 0 else (False, 0))
                 self.ground.expect("that is told", faults.count("\n"), 1 if status else 0)
@@ -177,6 +176,7 @@ class Cases:
             case()
 
 
-def try_all(ground):
-    with ground.scratch() as folder:
-        Cases(ground, folder).all()
+class OfCases(Ground):
+    def try_cases(self):
+        with self.scratch() as folder:
+            Cases(self, folder).all()

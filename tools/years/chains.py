@@ -9,7 +9,7 @@ import subprocess
 from pathlib import Path
 
 from cases import changed, disk, listing
-from ground import PYTHON, copied, from_on, held, log_of
+from ground import PYTHON, Ground, copied, from_on, held, log_of
 from kills import PLAN, Kills
 
 HOUR, DAY = 3600, 86400
@@ -53,13 +53,13 @@ class Office:
 
     def copy(self, *words, program=None):
         path = {"wrapped": ["env", f"PATH={program.parent}:{self.ground.program.parent}:/usr/sbin:/usr/bin:/sbin:/bin"]} if program else {}
-        return self.ground.run(PYTHON, self.ground.scripts / "acd-copy", "--file", self.file, "--folder", self.copies, *words, **path)
+        return self.ground.ran(PYTHON, self.ground.scripts / "acd-copy", "--file", self.file, "--folder", self.copies, *words, **path)
 
     def good(self, what, *words):
         """The folder of a good copy."""
-        status, told, faults = self.copy(*words)
-        made = re.search(r"^sound: (\S+)$", told, re.MULTILINE)
-        self.ground.expect(f"{what}: {told}{faults}", (status, faults, bool(made)), (0, "", True))
+        status, printed, faults = self.copy(*words)
+        made = re.search(r"^sound: (\S+)$", printed, re.MULTILINE)
+        self.ground.expect(f"{what}: {printed}{faults}", (status, faults, bool(made)), (0, "", True))
         return Path(made[1]) if made else self.copies / "none"
 
     def archives(self, folder=None):
@@ -92,7 +92,7 @@ class Chains:
         for day, last, first in (("1970-01-05", 162, 66), ("1970-01-07", 262, 166)):
             rows, was = held(office.file), identity(office.file)
             own = text_of(f"{office.file}.archive")
-            status, told, faults = office.carry()
+            status, printed, faults = office.carry()
             ground.expect(f"carried over: {faults}", (status, faults), (0, ""))
             archive = office.folder / f"desk.db-{day}-{last}"
             ground.expect("the archive's rows", archive.exists() and held(archive) == rows)
@@ -112,7 +112,7 @@ class Chains:
         for part in ("", ".archive"):
             Path(f"{taken}{part}").write_text("mine")
             before = listing(office.folder)
-            status, told, faults = office.carry()
+            status, printed, faults = office.carry()
             after = listing(office.folder)
             for found in (before, after):
                 found.pop("desk.db-wal", None)
@@ -128,14 +128,14 @@ class Chains:
         """What was broken off behind the exchange is ended beside a desk, too, which goes on."""
         ground, office = self.ground, self.office("beside")
         rows = held(office.file)
-        status, told, faults = office.carry(wrapped=["strace", "-qq", "-o", "/dev/null", "-e", "trace=renameat2", "-e", "inject=renameat2:signal=KILL:when=2"])
+        status, printed, faults = office.carry(wrapped=["strace", "-qq", "-o", "/dev/null", "-e", "trace=renameat2", "-e", "inject=renameat2:signal=KILL:when=2"])
         ground.expect("broken off behind the exchange", (status, len(held(office.file)["kept"]) < len(rows["kept"]), office.archives()),
                       (-signal.SIGKILL, True, []))
         desk = subprocess.Popen([ground.program, "lines", "--file", office.file], stdin=subprocess.PIPE, stdout=subprocess.PIPE, text=True)
         try:
             self.ask(desk, 81)
-            status, told, faults = office.carry()
-            ground.expect(f"ended: {faults}", (status, told.endswith("what was broken off is ended\n"),
+            status, printed, faults = office.carry()
+            ground.expect(f"ended: {faults}", (status, printed.endswith("what was broken off is ended\n"),
                                                [held(archive) == rows for archive in office.archives()]), (0, True, [True]))
             office.good("a copy")
             self.ask(desk, 82)
@@ -159,7 +159,7 @@ class Chains:
             with disk(folder, f"{size}k"):
                 office = Office(ground, folder)
                 shutil.copy(whole.file, folder)
-                status, told, faults = office.carry()
+                status, printed, faults = office.carry()
                 states.add(status)
                 lies = {path.name for path in folder.iterdir()} - {"desk.db-wal", "desk.db-pair"}
                 wanted = {"desk.db", "desk.db.archive", "desk.db-1970-01-05-162"} if status == 0 else {"desk.db"}
@@ -197,9 +197,9 @@ class Chains:
     def bad(self, what, office, name, said, *words, **how):
         """It fails, its copy has this name, and nothing is cleared away."""
         before = {path.name for path in office.copies.glob("*Z")}
-        status, told, faults = office.copy("--keep", "1", *words, **how)
+        status, printed, faults = office.copy("--keep", "1", *words, **how)
         lies = re.search(r"it lies in (\S+),", faults)
-        self.ground.expect(f"{what}: {told}{faults}", (status, said in faults, bool(lies and re.fullmatch(name, Path(lies[1]).name))), (1, True, bool(name)))
+        self.ground.expect(f"{what}: {printed}{faults}", (status, said in faults, bool(lies and re.fullmatch(name, Path(lies[1]).name))), (1, True, bool(name)))
         self.ground.expect(f"{what}: nothing is cleared away", before <= {path.name for path in office.copies.glob("*Z")})
 
     def fewer(self, office):
@@ -267,8 +267,8 @@ class Chains:
             if name:
                 self.bad(what, office, name, said, program=program)
             else:
-                status, told, faults = office.copy(program=program)
-                self.ground.expect(f"{what}: {told}{faults}", (status, faults), (0, ""))
+                status, printed, faults = office.copy(program=program)
+                self.ground.expect(f"{what}: {printed}{faults}", (status, faults), (0, ""))
 
     # restores
 
@@ -282,7 +282,7 @@ class Chains:
             office.serve(first, first + 50)
         for made, rows, archives in moments:
             before, all_archives = listing(office.folder), [path.name for path in office.archives()]
-            status, told, faults = office.copy("--restore", made.name)
+            status, printed, faults = office.copy("--restore", made.name)
             ground.expect(f"put back: {faults}", (status, held(office.file) == rows, [path.name for path in office.archives()]), (0, True, archives))
             ground.expect("its note", note_of(office.file).get("archive"), archives[-1] if archives else None)
             away, = office.folder.glob("put-away-*")
@@ -290,7 +290,7 @@ class Chains:
                           [name for name in all_archives if name not in archives])
             if not archives:
                 office.serve(81, 91)
-            status, told, faults = office.copy("--undo")
+            status, printed, faults = office.copy("--undo")
             for taken in office.folder.glob("taken-back-*"):
                 shutil.rmtree(taken)
             ground.expect(f"taken back: {faults}", (status, self.same(listing(office.folder), before)), (0, []))
@@ -308,7 +308,7 @@ class Chains:
         for path in office.folder.iterdir():
             if path.name != "copies":
                 path.unlink() if path.is_file() else shutil.rmtree(path)
-        status, told, faults = office.copy("--restore", made.name)
+        status, printed, faults = office.copy("--restore", made.name)
         self.ground.expect(f"of a lost disk: {faults}", status, 0)
         self.ground.expect("rows and archives", (held(office.file) == rows, {path.name: path.read_bytes() for path in office.archives()} == bytes_of),
                            (True, True))
@@ -340,12 +340,12 @@ class Places(Kills):
         # before they change places the other one may be half made, and can't be read
         places = [path for path in (archive, file.parent / "desk.db.carry/desk.db") if is_new and path.exists()]
         ground.expect(f"{what}: the old one is there", self.rows in (rows, *map(held, places)))
-        status, told, faults = ground.run(PYTHON, ground.scripts / "acd-copy", "--file", file, "--folder", file.parent / "copies")
+        status, printed, faults = ground.ran(PYTHON, ground.scripts / "acd-copy", "--file", file, "--folder", file.parent / "copies")
         done = not (is_new and (file.parent / "desk.db.carry/desk.db.archive").exists())
         ground.expect(f"{what}: a copy {faults}", (status, "was broken off" in faults), (0, False) if done else (1, True))
         shutil.rmtree(file.parent / "copies", ignore_errors=True)
-        status, told, faults = ground.carry(*self.words(file))
-        ground.expect(f"{what}, the same again: {told}{faults}", status in (0, 3) and (status == 0 or is_new))
+        status, printed, faults = ground.carry(*self.words(file))
+        ground.expect(f"{what}, the same again: {printed}{faults}", status in (0, 3) and (status == 0 or is_new))
         ground.expect(f"{what}, the same again: both", (held(file) == self.wanted, held(archive) == self.rows), (True, True))
         ground.expect(f"{what}, the same again: the note", note_of(file).get("digest"), sha256(archive))
         ground.expect(f"{what}, the same again: what lies there", {path.name for path in file.parent.iterdir()} - {"desk.db-wal"},
@@ -373,13 +373,15 @@ class Places(Kills):
                 self.ground.expect("the names as it is told", (exchanged, folders), (True, set()))
 
 
-def try_all(ground, case=None):
-    with ground.scratch() as folder:
-        Chains(ground, folder).all(case)
+class OfChains(Ground):
+    def try_chains(self):
+        with self.scratch() as folder:
+            Chains(self, folder).all(self.case)
 
 
-def try_places(ground):
-    with ground.scratch() as folder:
-        trial = Places(ground, folder)
-        trial.power()
-        print(f"{trial.all()} kills in its place", flush=True)
+class OfPlaces(Ground):
+    def try_places(self):
+        with self.scratch() as folder:
+            places = Places(self, folder)
+            places.power()
+            print(f"{places.all()} kills in its place", flush=True)

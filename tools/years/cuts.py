@@ -9,7 +9,7 @@ import sys
 from collections import Counter
 from pathlib import Path
 
-from ground import TOP, firsts, from_on, held, joined
+from ground import TOP, Ground, firsts, from_on, held, joined
 
 sys.path.append(str(TOP / "tests"))
 import limits  # noqa: E402
@@ -100,9 +100,9 @@ class Cuts:
         """Whether there was a place for it."""
         ground, day, wanted = self.ground, self.day, place_of(self.day, keep)
         new = self.folder / "new.db"
-        status, told, faults = ground.carry("--from", self.file, "--to", new, "--keep", keep)
+        status, printed, faults = ground.carry("--from", self.file, "--to", new, "--keep", keep)
         if wanted is None or wanted <= firsts(self.file)[0]:
-            ground.expect(f"{what}: no place for a cut: {told}{faults}", (status, new.exists()), (3, False))
+            ground.expect(f"{what}: no place for a cut: {printed}{faults}", (status, new.exists()), (3, False))
             return False
         ground.expect(f"{what}: {faults}", (status, [path.name for path in self.folder.glob("new*")]), (0, ["new.db"]))
         event = 1 + sum(row[1] < day.desk.moments[wanted - day.desk.laid - 1] for row in day.desk.rows()["events"])
@@ -166,30 +166,34 @@ def try_day(ground, seed, laid=0):
     return done
 
 
-def try_cuts(ground, days, laid):
-    cut = sum(try_day(ground, seed) for seed in range(1, days + 1))
-    ground.expect("days have places for cuts", cut >= days * 0.8)
-    print(f"{cut} cuts in {days} days; sent again: {', '.join(f'{service} {name} {count}' for (service, name), count in sorted(AGAIN.items()))}", flush=True)
-    for seed in range(laid):
-        cut = try_day(ground, 100000 + seed, LAID)
-        print(f"{cut} cuts in a day behind {LAID} requests", flush=True)
+class OfCuts(Ground):
+    def try_cuts(self):
+        """Where a fault is planted a few days find it."""
+        days, laid = (12, 0) if self.count.is_planted else (self.options.days, self.options.million)
+        cut = sum(try_day(self, seed) for seed in range(1, days + 1))
+        self.expect("days have places for cuts", cut >= days * 0.8)
+        print(f"{cut} cuts in {days} days; sent again: {', '.join(f'{service} {name} {count}' for (service, name), count in sorted(AGAIN.items()))}", flush=True)
+        for seed in range(laid):
+            cut = try_day(self, 100000 + seed, LAID)
+            print(f"{cut} cuts in a day behind {LAID} requests", flush=True)
 
 
-def try_limits(ground):
-    """An office at its limits, cut in the middle of its day, by the script as it is."""
-    course = limits.Course().day()
-    with ground.scratch() as folder:
-        file, new = folder / "desk.db", folder / "new.db"
-        lines, half = course.lines(), len(course.asked) * 2 // 3
-        ground.expect("the answers before", ground.feed(file, lines[:half]) == course.wanted[:half])
-        status, told, faults = ground.carry("--from", file, "--to", new, "--keep", 1000, short=False)
-        # the day is shorter than the hour that is kept in any case
-        ground.expect(f"within an hour: {faults}", status, 3)
-        status, told, faults = ground.carry("--from", file, "--to", new, "--keep", 1000)
-        ground.expect(f"at the limits: {faults}", status, 0)
-        ground.expect("the answers behind", ground.feed(new, lines[half:]) == course.wanted[half:])
-        first, event = firsts(new)
-        ground.expect("the rows", held(new) == from_on(tables.rows(course.desk), first, event))
-        whole = joined([file], new, folder / "joined.db")
-        ground.expect("together", ground.audit(whole), (0, f"sound\nexecuted {course.switch.stamp}\n", ""))
-        print(f"at the limits: {first - 1} of {course.switch.stamp} requests are left behind", flush=True)
+class OfLimits(Ground):
+    def try_limits(self):
+        """An office at its limits, cut in the middle of its day, by the script as it is."""
+        course = limits.Course().day()
+        with self.scratch() as folder:
+            file, new = folder / "desk.db", folder / "new.db"
+            lines, half = course.lines(), len(course.asked) * 2 // 3
+            self.expect("the answers before", self.feed(file, lines[:half]) == course.wanted[:half])
+            status, printed, faults = self.carry("--from", file, "--to", new, "--keep", 1000, short=False)
+            # the day is shorter than the hour that is kept in any case
+            self.expect(f"within an hour: {faults}", status, 3)
+            status, printed, faults = self.carry("--from", file, "--to", new, "--keep", 1000)
+            self.expect(f"at the limits: {faults}", status, 0)
+            self.expect("the answers behind", self.feed(new, lines[half:]) == course.wanted[half:])
+            first, event = firsts(new)
+            self.expect("the rows", held(new) == from_on(tables.rows(course.desk), first, event))
+            whole = joined([file], new, folder / "joined.db")
+            self.expect("together", self.audit(whole), (0, f"sound\nexecuted {course.switch.stamp}\n", ""))
+            print(f"at the limits: {first - 1} of {course.switch.stamp} requests are left behind", flush=True)

@@ -8,14 +8,14 @@ import sys
 import urllib.request
 
 from cases import changed
-from ground import TOP, copied, firsts, held, joined, log_of
+from ground import TOP, Ground, copied, firsts, held, joined, log_of
 from kills import PLAN, calls
 
-sys.path += [str(TOP / "tools/api"), str(TOP / "clients/python"), str(TOP / "board/gate")]
+sys.path += [str(TOP / "clients/python"), str(TOP / "board/gate")]
 import acd_client  # noqa: E402
 import acd_days as days  # noqa: E402
 import acd_following as following  # noqa: E402
-import trial  # noqa: E402
+from trial import Desk  # noqa: E402
 
 
 def module(ground):
@@ -50,7 +50,7 @@ class Exports:
             ground.shown(closed)
             self.whole = joined(self.archives, closed, folder / "joined.db")
         ground.expect("together they are sound", ground.audit(self.whole)[1], "sound\nexecuted 151\n")
-        self.text = ground.run("acd", "export", "--file", self.whole)[1]
+        self.text = ground.ran("acd", "export", "--file", self.whole)[1]
 
     def words(self, archives, file):
         return ["--file", file, *(word for archive in archives for word in ("--archive", archive))]
@@ -136,7 +136,7 @@ class Exports:
         """One whose last event is in the file goes on without a word; one whose last event was left behind sees another history, or, where it asks by the number alone, that it missed some."""
         moments = [int(line.split(",")[1]) for line in self.text.splitlines()[1:]]
         first = firsts(self.file)[1]
-        with (self.ground.scratch() as scratch, trial.Desk(self.ground.program, copied(self.file, scratch)) as desk,
+        with (self.ground.scratch() as scratch, Desk(self.ground.program, copied(self.file, scratch)) as desk,
               acd_client.Client(f"http://127.0.0.1:{desk.port}") as client):
             known, = client.page(first - 1)["events"][:1]
             self.ground.expect("the first event that is there", (known["number"], known["moment"]), (first, moments[first - 1]))
@@ -148,27 +148,27 @@ class Exports:
                 except acd_client.AnotherHistory as found:
                     self.ground.expect(what, type(found), fault)
 
-
     def pages(self):
         """The board and the gate over a file whose events are all left behind: what comes is handed on, once. And where a day begins that the file hasn't."""
         with self.ground.scratch() as scratch:
             file, new = scratch / "desk.db", scratch / "new.db"
             self.ground.feed(file, [*PLAN, *calls(1, 400), '90000 {"requester":"clock","invoke":1,"service":"tick"}'])
             self.ground.carry("--from", file, "--to", new, "--keep", 1)
-            with trial.Desk(self.ground.program, new) as desk:
+            with Desk(self.ground.program, new) as desk:
                 address = f"http://127.0.0.1:{desk.port}"
                 gate = following.Following(lambda method, path: asked(address, method, path))
                 gate.catch_up()
-                board = subprocess.Popen(["node", TOP / "tools/years/feed.mjs", address, "2000", "80000", "90000", "90001"], stdout=subprocess.PIPE, text=True)
+                board = subprocess.Popen(["node", TOP / "tools/years/feed.mjs", address, "409", "2000", "80000", "90000", "90001", str(2 ** 40)], stdout=subprocess.PIPE, text=True)
                 self.ground.expect("the board begins", board.stdout.readline(), "begun\n")
                 for number in range(500, 510):
-                    desk.ask("POST", "/csta", json.dumps({"requester": "pbx", "invoke": number, "service": "arriveCall", "caller": "0301", "called": "100"}).encode())
+                    desk.post({"requester": "pbx", "invoke": number, "service": "arriveCall", "caller": "0301", "called": "100"})
                 gate.catch_up()
                 self.ground.expect("what the gate knows", (gate.state.last, len(gate.state.groups["100"].waiting)), (409, 409))
-                told = json.loads(board.communicate(timeout=60)[0])
-                self.ground.expect("what the board takes", (told["taken"][:1], told["anew"], told["taken"] == list(range(400, 400 + len(told["taken"])))), ([400], 0, True))
-                self.ground.expect("where a day begins", (told["before"], told["reads"] < 40), ([399] * 4, True))
-                self.ground.expect("which events are there", told["there"], [True, False, True, True, False])
+                found = json.loads(board.communicate(timeout=60)[0])
+                self.ground.expect("what the board takes", (found["taken"], found["anew"]), (list(range(400, 410)), 0))
+                # events 1 to 399 were left behind, so that no day is whole that began before event 400
+                self.ground.expect("where a day begins, and whether it is whole", found["before"], [{"last": 399, "isWhole": False}] * 4 + [{"last": 409, "isWhole": True}])
+                self.ground.expect("in few reads", found["reads"] < 40)
                 self.ground.expect("as the gate finds it", [days.first_of(lambda after: gate.events(f"/events?after={after}"), 409, moment) for moment in (2000, 90000)], [399, 399])
 
 
@@ -177,11 +177,12 @@ def asked(address, method, path):
         return reply.status, "", reply.read()
 
 
-def try_all(ground):
-    with ground.scratch() as folder:
-        exports = Exports(ground, folder)
-        # the program lays a log in, so what is to read one comes first
-        exports.archives_are_read()
-        exports.follow()
-        exports.pages()
-        exports.exports()
+class OfExports(Ground):
+    def try_exports(self):
+        with self.scratch() as folder:
+            exports = Exports(self, folder)
+            # the program lays a log in, so what is to read one comes first
+            exports.archives_are_read()
+            exports.follow()
+            exports.pages()
+            exports.exports()

@@ -4,7 +4,7 @@ import json
 import subprocess
 
 from cuts import LAID, lay_history
-from ground import PYTHON, log_of
+from ground import PYTHON, Ground, log_of
 from kills import PLAN
 
 DAY = 86400
@@ -71,8 +71,9 @@ class Figures:
         self.opened("two days of 2,000 calls", self.carried("a million", file))
 
 
-def try_figures(ground):
-    with ground.scratch() as folder:
-        figures = Figures(ground, folder)
-        figures.nights()
-        figures.first_cut()
+class OfFigures(Ground):
+    def try_figures(self):
+        with self.scratch() as folder:
+            figures = Figures(self, folder)
+            figures.nights()
+            figures.first_cut()

@@ -11,7 +11,7 @@ from pathlib import Path
 
 from cases import changed, listing
 from chains import DAY, HOUR, Office, note_of, sha256, text_of
-from ground import PYTHON, copied, held, joined, log_of
+from ground import PYTHON, Ground, copied, held, joined
 from kills import PLAN
 
 # who is forgotten: of 11 digits, whose integers have 6 bytes, of 15, whose integers have 8, and of 6, whose integers have 3 and may stand in bytes by chance
@@ -114,12 +114,12 @@ class Forgets:
 
     def forget(self, office, *words, named=None, wrapped=()):
         archives = [word for archive in (office.archives() if named is None else named) for word in ("--archive", archive)]
-        return self.ground.run(PYTHON, self.ground.scripts / "acd-forget", "--file", office.file, "--folder", office.copies, "--desk", self.ground.program,
+        return self.ground.ran(PYTHON, self.ground.scripts / "acd-forget", "--file", office.file, "--folder", office.copies, "--desk", self.ground.program,
                                *words, *archives, wrapped=wrapped)
 
     def calls(self, office):
         words = [word for archive in office.archives() for word in ("--archive", archive)]
-        return self.ground.run(PYTHON, self.ground.scripts / "acd-calls", "--file", office.file, *words, "--legs")[1]
+        return self.ground.ran(PYTHON, self.ground.scripts / "acd-calls", "--file", office.file, *words, "--legs")[1]
 
     def whole(self, office):
         """What the program's audit says of all as one file."""
@@ -148,8 +148,8 @@ class Forgets:
         desk = {path: path.read_bytes() for path in office.folder.glob("desk.db*") if path.name in ("desk.db", "desk.db-wal")}
         ground.expect("it stands in archives, as text and as integer",
                       (all(stands(path, caller) for path in archives[:3]), all(integers(path, caller) for path in archives[:3])), (True, True))
-        status, told, faults = self.forget(office, "--caller", caller)
-        ground.expect(f"forgotten: {faults}", (status, faults, f"'{', '.join(['sound'] * (1 + len(archives)))}' of the new archives" in told), (0, "", True))
+        status, printed, faults = self.forget(office, "--caller", caller)
+        ground.expect(f"forgotten: {faults}", (status, faults, f"'{', '.join(['sound'] * (1 + len(archives)))}' of the new archives" in printed), (0, "", True))
         copies = office.archives(office.copies / "archives")
         ground.expect("in live and in free pages", [path.name for path in archives + copies if stands(path, caller)], [])
         ground.expect("nor as an integer of rows", [path.name for path in archives + copies if integers(path, caller)], [])
@@ -166,7 +166,7 @@ class Forgets:
         ground.expect("the audit of all", self.whole(office), sound)
         ground.expect("the desk's file", {path: path.read_bytes() for path in desk} == desk)
         self.digests(office, archives)
-        listed = {line.rpartition(" ")[2] for line in told.splitlines() if " still stands in " in line}
+        listed = {line.rpartition(" ")[2] for line in printed.splitlines() if " still stands in " in line}
         ground.expect("the copies that have it yet are listed", listed,
                       {str(path.parent) for path in office.copies.glob("*Z/desk.db") if f'"{caller}"'.encode() in path.read_bytes()})
         return {path: held(path) for path in archives}, self.calls(office)
@@ -186,8 +186,8 @@ class Forgets:
         away = sorted(office.folder.glob("put-away-*"))
         self.ground.expect("the archives of before, to the byte",
                            {path.name: path.read_bytes() for path in away[0].glob("desk.db-*")} == {path.name: data for path, data in before.items()})
-        status, told, faults = self.ground.run(PYTHON, self.ground.scripts / "acd-forget", "--confirm", "--file", office.file)
-        self.ground.expect(f"confirmed: {faults}", (status, told.count("gone: "), list(office.folder.glob("put-away-*"))), (0, len(away), []))
+        status, printed, faults = self.ground.ran(PYTHON, self.ground.scripts / "acd-forget", "--confirm", "--file", office.file)
+        self.ground.expect(f"confirmed: {faults}", (status, printed.count("gone: "), list(office.folder.glob("put-away-*"))), (0, len(away), []))
 
     # what is refused
 
@@ -201,8 +201,8 @@ class Forgets:
         self.says(office, CALLERS[0], "goes on from", named=[])
         for words in (("--caller", "05551"), ("--caller", "0305550123456789"), ("--caller", "x"), ("--confirm", "--caller", CALLERS[0]), ()):
             self.ground.expect(f"{words}", self.forget(office, *words)[0], 2)
-        status, told, faults = self.forget(office, "--caller", "99999999")
-        self.ground.expect(f"who never called: {faults}", (status, told), (0, "99999999 stands in no archive\n"))
+        status, printed, faults = self.forget(office, "--caller", "99999999")
+        self.ground.expect(f"who never called: {faults}", (status, printed), (0, "99999999 stands in no archive\n"))
         altered = office.archives()[1]
         digest = sha256(altered)
         changed(altered, "UPDATE events SET moment = moment + 1 WHERE number = (SELECT max(number) FROM events)")
@@ -215,8 +215,8 @@ class Forgets:
 
     def says(self, office, caller, *said, named=None):
         before = listing(office.folder)
-        status, told, faults = self.forget(office, "--caller", caller, named=named)
-        self.ground.expect(f"{caller}: {told}{faults}", (status, told, faults.count("\n"), all(text in faults for text in said),
+        status, printed, faults = self.forget(office, "--caller", caller, named=named)
+        self.ground.expect(f"{caller}: {printed}{faults}", (status, printed, faults.count("\n"), all(text in faults for text in said),
                                                          listing(office.folder) == before), (1, "", 1, True, True))
 
     def audited(self):
@@ -228,8 +228,8 @@ class Forgets:
             program.chmod(0o755)
             office = self.office("audited")
             before = listing(office.folder)
-            status, told, faults = self.forget(office, "--caller", CALLERS[0], "--desk", program)
-            self.ground.expect(f"{what}: {faults}", (status, "'sound, sound, sound, sound, sound' of the new archives" in told,
+            status, printed, faults = self.forget(office, "--caller", CALLERS[0], "--desk", program)
+            self.ground.expect(f"{what}: {faults}", (status, "'sound, sound, sound, sound, sound' of the new archives" in printed,
                                                      listing(office.folder) == before), (wanted, not wanted, bool(wanted)))
 
     def deleted(self):
@@ -238,7 +238,7 @@ class Forgets:
         oldest = office.archives()[0].name
         for path in (*office.folder.glob(f"{oldest}*"), *(office.copies / "archives").glob(f"{oldest}*")):
             path.unlink()
-        status, told, faults = self.forget(office, "--caller", CALLERS[1])
+        status, printed, faults = self.forget(office, "--caller", CALLERS[1])
         self.ground.expect(f"the oldest one was deleted: {faults}",
                            (status, len(office.archives()), [path.name for path in office.archives() if stands(path, CALLERS[1])]), (0, 3, []))
         self.digests(office, office.archives())
@@ -253,7 +253,7 @@ class Forgets:
                 desk.stdin.flush()
                 desk.stdout.readline()
             self.says(office, "0305559999", "stands in", "yet")
-            status, told, faults = self.forget(office, "--caller", CALLERS[0])
+            status, printed, faults = self.forget(office, "--caller", CALLERS[0])
             self.ground.expect(f"beside a desk: {faults}", (status, any(stands(path, CALLERS[0]) for path in office.archives())), (0, False))
         finally:
             desk.stdin.close()
@@ -274,14 +274,14 @@ class Forgets:
             office = self.office("killed")
             before = {path: path.read_bytes() for path in office.archives()}
             what = f"killed at {name} {number}"
-            status, told, faults = self.forget(office, "--caller", CALLERS[0],
+            status, printed, faults = self.forget(office, "--caller", CALLERS[0],
                                                wrapped=["strace", "-qq", "-o", trace, "-e", "trace=" + ",".join(names), "-e",
                                                         f"inject={name}:signal=KILL:when={number}"])
             self.ground.expect(f"{what}: it is", status, -signal.SIGKILL)
             states.add(sum(path.read_bytes() != data for path, data in before.items()))
             self.ground.expect(f"{what}: of before or behind",
                                [path.name for path, data in before.items() if path.read_bytes() != data and stands(path, CALLERS[0])], [])
-            status, told, faults = self.forget(office, "--caller", CALLERS[0])
+            status, printed, faults = self.forget(office, "--caller", CALLERS[0])
             self.ground.expect(f"{what}, the same again: {faults}", (status, [path.name for path in office.archives() if stands(path, CALLERS[0])]), (0, []))
             self.digests(office, office.archives())
             self.confirmed(office, before)
@@ -293,6 +293,7 @@ class Forgets:
             getattr(self, each)()
 
 
-def try_all(ground, case=None):
-    with ground.scratch() as folder:
-        Forgets(ground, folder).all(case)
+class OfForgets(Ground):
+    def try_forgets(self):
+        with self.scratch() as folder:
+            Forgets(self, folder).all(self.case)

@@ -2,65 +2,51 @@
 import contextlib
 import shutil
 import sqlite3
-import subprocess
 import sys
 import tempfile
 from pathlib import Path
 
-TOP = Path(__file__).resolve().parents[2]
+from trial import TOP, Lines, Trial, planted, ran
+
 OPERATING = TOP / "tools/operating"
 sys.path.append(str(TOP / "tests"))
 import tables  # noqa: E402
 
-SCRIPTS = ("acd-calls", "acd-carry", "acd-copy", "acd-export", "acd-forget", "acd-ready", "acd.service", "acd-carry.service")
+SCRIPTS = {file.name: file.read_text() for file in (*OPERATING.glob("acd_*.py"), *(OPERATING / name for name in (
+    "acd-calls", "acd-carry", "acd-copy", "acd-export", "acd-forget", "acd-ready", "acd.service", "acd-carry.service")))}
 # that of Debian, which the scripts are run by
 PYTHON = "/usr/bin/python3"
 HISTORY = {"kept": "stamp", "events": "number"}
 READS = "0 GET /snapshot\n0 GET /reports/queues\n"
-# how few requests acd-carry keeps at least, and of how many seconds all; a short day has neither
-LEAST, SHORT = "LEAST, HOUR, DAY = 1000, 3600, 86400", "LEAST, HOUR, DAY = 1, 0, 86400"
 
 
-class Found(Exception):
-    """What goes otherwise, where a fault is planted."""
+def short(carry):
+    """It keeps at least so few requests, and of no seconds all, since a short day has neither."""
+    return planted(carry, "LEAST, HOUR, DAY = 1000, 3600, 86400", "LEAST, HOUR, DAY = 1, 0, 86400")
 
 
-def planted(text, old, new):
-    if text.count(old) != 1:
-        raise SystemExit(f"try-years: {old!r} isn't there once")
-    return text.replace(old, new)
+class Ground(Trial):
+    """A class has the program as `acd`, the scripts, of which one may have a fault, and a copy of acd-carry that short days can be cut by. `case` is the one that is tried of a part
+    that has several."""
 
+    texts, short_carry, case = SCRIPTS, short(SCRIPTS["acd-carry"]), None
 
-class Ground:
-    """A folder with the program as `acd`, the scripts, and a copy of acd-carry that short days can be cut by."""
+    @classmethod
+    def lay(cls, faults):
+        """For all that are tried from here on: pairs of texts by the file's name."""
+        Ground.texts = {name: planted(text, *faults[name]) if name in faults else text for name, text in SCRIPTS.items()}
+        Ground.short_carry = short(Ground.texts["acd-carry"])
 
-    def __init__(self, folder, program):
-        self.folder, self.tried, self.wrong, self.is_planted = Path(folder), 0, 0, False
-        self.program, self.scripts, self.short = self.folder / "bin/acd", self.folder / "scripts", self.folder / "short"
-        self.program.parent.mkdir()
-        shutil.copy(program, self.program)
-        self.lay({})
-
-    def lay(self, faults):
-        """The scripts, of which some have faults: pairs of texts by the file's name."""
-        for folder in (self.scripts, self.short):
-            shutil.rmtree(folder, ignore_errors=True)
+    @classmethod
+    def setUpClass(cls):
+        super().setUpClass()
+        cls.scripts, cls.short, program = cls.folder / "scripts", cls.folder / "short", cls.folder / "bin/acd"
+        program.parent.mkdir()
+        cls.program = Path(shutil.copy(Trial.program, program))
+        for folder, texts in ((cls.scripts, cls.texts), (cls.short, {**cls.texts, "acd-carry": cls.short_carry})):
             folder.mkdir()
-            for file in (*OPERATING.glob("acd_*.py"), *(OPERATING / name for name in SCRIPTS)):
-                text = file.read_text()
-                if file.name in faults:
-                    text = planted(text, *faults[file.name])
-                if folder is self.short and file.name == "acd-carry":
-                    text = planted(text, LEAST, SHORT)
-                (folder / file.name).write_text(text)
-
-    def expect(self, what, has, wanted=True):
-        self.tried += 1
-        if has != wanted:
-            if self.is_planted:
-                raise Found(f"{what}: {str(has)[:200]}")
-            self.wrong += 1
-            print(f"WRONG {what}: {has!r} and not {wanted!r}"[:2000], flush=True)
+            for name, text in texts.items():
+                (folder / name).write_text(text)
 
     @contextlib.contextmanager
     def scratch(self):
@@ -69,39 +55,33 @@ class Ground:
 
     # what is run
 
-    def run(self, *words, given="", wrapped=(), **more):
-        done = subprocess.run([*wrapped, *map(str, words)], input=given, capture_output=True, text=True, timeout=3600,
-                              env={"PATH": f"{self.program.parent}:/usr/sbin:/usr/bin:/sbin:/bin", "LC_ALL": "C.UTF-8"}, **more)
-        return done.returncode, done.stdout, done.stderr
+    def ran(self, *words, wrapped=(), **how):
+        return ran(*wrapped, *words, seconds=3600, env={"PATH": f"{self.program.parent}:/usr/sbin:/usr/bin:/sbin:/bin", "LC_ALL": "C.UTF-8"}, **how)
 
     def carry(self, *words, short=True, wrapped=()):
-        return self.run(PYTHON, (self.short if short else self.scripts) / "acd-carry", *words, wrapped=wrapped)
+        return self.ran(PYTHON, (self.short if short else self.scripts) / "acd-carry", *words, wrapped=wrapped)
 
     def export(self, *words):
-        return self.run(PYTHON, self.scripts / "acd-export", *words)
+        return self.ran(PYTHON, self.scripts / "acd-export", *words)
 
     def feed(self, file, lines):
         """The answers to these lines."""
-        status, told, faults = self.run("acd", "lines", "--file", file, given="".join(f"{line}\n" for line in lines))
+        status, printed, faults = self.ran("acd", "lines", "--file", file, given="".join(f"{line}\n" for line in lines))
         self.expect(f"acd lines: {faults}", status, 0)
-        return told.splitlines()
+        return printed.splitlines()
 
     def kill_behind(self, file, lines):
         """The desk answers these, and is killed: the last ones are in its log alone."""
-        desk = subprocess.Popen([self.program, "lines", "--file", file], stdin=subprocess.PIPE, stdout=subprocess.PIPE, text=True)
-        for line in lines:
-            desk.stdin.write(f"{line}\n")
-            desk.stdin.flush()
-            desk.stdout.readline()
-        desk.kill()
-        desk.communicate()
+        with Lines(self.program, file) as desk:
+            for line in lines:
+                desk.say(line)
 
     def shown(self, file):
         """Snapshot and report."""
-        return self.run("acd", "lines", "--reads", "--file", file, given=READS)
+        return self.ran("acd", "lines", "--reads", "--file", file, given=READS)
 
     def audit(self, file, *more):
-        return self.run("acd", "audit", "--count", "--file", file, *more)
+        return self.ran("acd", "audit", "--count", "--file", file, *more)
 
 
 # What a file holds

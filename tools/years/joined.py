@@ -10,7 +10,7 @@ import tempfile
 from pathlib import Path
 
 sys.dont_write_bytecode = True
-sys.path[:0] = [str(Path(__file__).resolve().parent), str(Path(__file__).resolve().parents[1] / "operating")]
+sys.path[:0] = [str(Path(__file__).resolve().parents[1] / name) for name in ("years", "operating", "")]
 import acd_chain  # noqa: E402
 from ground import copied, joined  # noqa: E402
 

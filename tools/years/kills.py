@@ -4,7 +4,7 @@ import re
 import shutil
 import signal
 
-from ground import PYTHON, copied, held, log_of
+from ground import Ground, copied, held
 
 CALLS = ("mkdir", "rmdir", "unlink", "unlinkat", "rename", "renameat", "renameat2", "link", "chmod", "fchmod", "write", "pwrite64", "ftruncate", "fsync", "fdatasync",
          "flock", "fcntl", "vfork", "clone", "clone3", "fork")
@@ -48,7 +48,7 @@ class Kills:
     def counted(self):
         """How many calls of each kind there are, and what the new file then holds."""
         file = self.made()
-        status, told, faults = self.ground.carry(*self.words(file), wrapped=self.strace())
+        status, printed, faults = self.ground.carry(*self.words(file), wrapped=self.strace())
         self.ground.expect(f"it goes through: {faults}", status, 0)
         self.wanted = held(self.new_of(file))
         text = self.trace.read_text()
@@ -65,7 +65,7 @@ class Kills:
         ground.expect(f"{what}: the new one", not there or held(new) == self.wanted)
         ground.expect(f"{what}: nothing else lies there", {path.name for path in file.parent.iterdir()} - {"desk.db", "desk.db-wal", "new.db", "new.db.carry"}, set())
         if again:
-            status, told, faults = ground.carry(*self.words(file))
+            status, printed, faults = ground.carry(*self.words(file))
             ground.expect(f"{what}, the same again: {faults}", (status, "is there already" in faults), (1, True) if there else (0, False))
             ground.expect(f"{what}, the same again: the new one", held(new) == self.wanted and held(file) == self.rows)
             ground.expect(f"{what}, the same again: what lies there", {path.name for path in file.parent.iterdir()}, {"desk.db", "desk.db-wal", "new.db"})
@@ -91,7 +91,7 @@ class Kills:
         new = file.with_name("new.db")
         made, traced = f"{new}.carry", "trace=?write,?pwrite64,?ftruncate,?fsync,?fdatasync,?renameat2,?fchmod,?chmod,?unlink"
         self.ground.carry(*self.words(file), wrapped=["strace", "-f", "-qq", "-y", "-s", "999", "-o", self.trace, "-e", traced])
-        unsynced, named, told = set(), "not yet", None
+        unsynced, named, synced = set(), "not yet", None
         for name, path, line in re.findall(r"^\d+ +(\w+)\((?:\d+<([^>]*)>|)(.*)", self.trace.read_text(), re.MULTILINE):
             if name in ("write", "pwrite64", "ftruncate", "fchmod") and path.startswith(f"{made}/"):
                 unsynced.add(path)
@@ -105,12 +105,13 @@ class Kills:
                 self.ground.expect("not on the disk as the file gets its name", {path for path in unsynced if not path.endswith(("-wal", "-shm", "-journal"))}, set())
                 named = "named"
             elif name == "write" and " goes on from " in line:
-                told = named
-        self.ground.expect("the name as it is told", told, "synced")
+                synced = named
+        self.ground.expect("the name as it is told", synced, "synced")
 
 
-def try_all(ground):
-    with ground.scratch() as folder:
-        trial = Kills(ground, folder)
-        trial.power()
-        print(f"{trial.all()} kills", flush=True)
+class OfKills(Ground):
+    def try_kills(self):
+        with self.scratch() as folder:
+            kills = Kills(self, folder)
+            kills.power()
+            print(f"{kills.all()} kills", flush=True)

@@ -2,15 +2,14 @@
 and under load. A stand-in for systemd runs the units; tools/try-office has a systemd of its own."""
 import contextlib
 import fcntl
-import http.client
 import json
 import os
 import re
 import shutil
 import signal
-import socket
 import threading
 import time
+from http.client import HTTPException
 from pathlib import Path
 
 from cases import disk, listing
@@ -20,6 +19,7 @@ from disks import strace as strace_of_disks
 from ground import copied, held, joined
 from joined import knows_archives, stand_in
 from kills import CALLS, PLAN
+from trial import Connection, free_port
 from units import Carrying, Desk
 
 HOUR, DAY = 3600, 86400
@@ -30,12 +30,6 @@ TRACED = (*(name for name in CALLS if name not in ("fcntl", "flock")), "utimensa
 # of the calls of ExecStart those at which the power is cut, one of so many: `disks` has all of them
 ONE_OF = 4
 LIES = {"desk.db", "desk.db-wal", "desk.db-pair"}
-
-
-def free_port():
-    with socket.socket() as tried:
-        tried.bind(("127.0.0.1", 0))
-        return tried.getsockname()[1]
 
 
 def body(requester, invoke, service, **members):
@@ -106,15 +100,10 @@ class Service:
 
     def ask(self, how, path, text=None):
         """Status and reply; nothing where the desk isn't there."""
-        asked = http.client.HTTPConnection("127.0.0.1", self.port, timeout=5)
-        try:
-            asked.request(how, path, text)
-            told = asked.getresponse()
-            return told.status, told.read().decode()
-        except (OSError, http.client.HTTPException):
-            return None
-        finally:
-            asked.close()
+        with contextlib.suppress(OSError, HTTPException), Connection(self.port, seconds=5) as desk:
+            reply = desk.ask(how, path, text)
+            return reply.status, reply.text
+        return None
 
     def is_there(self, seconds=20):
         """Whether the desk answers within a time."""
@@ -265,13 +254,13 @@ class Service:
             self.ground.expect(f"down before, line {line} killed: {self.unit.said}", (ended, self.desk.process(), RUN.exists()),
                                ("failed" if line in (1, 2) else "done", None, False))
         self.laid(is_up=False)
-        told = []
-        carrying = threading.Thread(target=lambda: told.append(self.unit.start({1: self.strace("-e", "inject=utimensat:delay_enter=2000000:when=1")})))
+        results = []
+        carrying = threading.Thread(target=lambda: results.append(self.unit.start({1: self.strace("-e", "inject=utimensat:delay_enter=2000000:when=1")})))
         carrying.start()
         time.sleep(1.5)
         self.desk.start()
         carrying.join()
-        self.ground.expect(f"started before anything keeps it down: {self.unit.said}", told, ["done"])
+        self.ground.expect(f"started before anything keeps it down: {self.unit.said}", results, ["done"])
         self.answers("started before anything keeps it down", 1)
         for is_up in (True, False):
             self.laid(is_up)
@@ -339,8 +328,8 @@ class Service:
         fcntl.flock(holds, fcntl.LOCK_EX)
         self.refused("while another one is at it", "just now", is_stopped=False)
         os.close(holds)
-        told = []
-        first = threading.Thread(target=lambda: told.append(self.unit.start()))
+        results = []
+        first = threading.Thread(target=lambda: results.append(self.unit.start()))
         first.start()
         others = []
         while first.is_alive():
@@ -349,7 +338,7 @@ class Service:
         # a desk that found its file open has ended by now, and is started again, by Restart=always
         time.sleep(0.5)
         self.desk.start()
-        self.ground.expect(f"beside others: {told} {self.unit.said}", told in (["done"], ["failed"]))
+        self.ground.expect(f"beside others: {results} {self.unit.said}", results in (["done"], ["failed"]))
         self.ground.expect(f"one at most: {others}", sum(" goes on from " in said for _, said, _ in others) + self.unit.said.count(" goes on from ") <= 1)
         self.answers("beside others", 1)
         self.unit.start()
@@ -366,10 +355,10 @@ class Service:
             number = 0
             while not is_over.is_set():
                 number, begun = number + 1, time.monotonic()
-                while (told := self.ask("POST", "/csta", body("client", number, "arriveCall", caller="0309", called="100"))) is None or told[0] == 503:
+                while (reply := self.ask("POST", "/csta", body("client", number, "arriveCall", caller="0309", called="100"))) is None or reply[0] == 503:
                     time.sleep(0.01)
                 longest[0] = max(longest[0], time.monotonic() - begun)
-                answered.append((number, told))
+                answered.append((number, reply))
 
         client = threading.Thread(target=ask)
         client.start()
@@ -390,7 +379,7 @@ class Service:
         self.ground.expect(f"at the end it was carried over: {ended}", "done" in ended)
         archives = sorted((path for path in self.place.glob("desk.db-????-??-??-*") if not path.name.endswith(".archive")), key=lambda path: int(path.name.rpartition("-")[2]))
         # which lays the log in
-        self.ground.run("acd", "report", "--file", self.file)
+        self.ground.ran("acd", "report", "--file", self.file)
         whole = joined(archives, self.file, self.folder / "whole.db")
         kept = [(invoke, status, text) for _, requester, invoke, _, _, status, text in (row[:7] for row in held(whole)["kept"]) if requester == "client"]
         self.ground.expect("each acted once, and as it was answered", [(number, status, text.strip()) for number, (status, text) in answered] == kept)

@@ -7,7 +7,7 @@ import time
 
 from cuts import LAID, lay_history
 from figures import requests
-from ground import log_of
+from ground import Ground, log_of
 from kills import PLAN
 from service import DAY, Service, try_service
 
@@ -34,7 +34,7 @@ class Stops(Service):
         took = []
         for _ in range(2):
             begun = time.monotonic()
-            self.ground.expect(f"{words[0]}", self.ground.run(self.program, *words)[0], 0)
+            self.ground.expect(f"{words[0]}", self.ground.ran(self.program, *words)[0], 0)
             took.append(time.monotonic() - begun)
         return min(took)
 
@@ -86,16 +86,17 @@ def measure_all(ground, folder):
         stops.desk.stop()
 
 
-def try_all(ground, case=None):
-    with ground.scratch() as folder:
-        # the name space's own
-        subprocess.run(["mount", "-t", "tmpfs", "run", "/run"], check=True)
-        try:
-            if case != "stops":
-                (folder / "service").mkdir()
-                try_service(ground, folder / "service", case)
-            if case in (None, "stops"):
-                (folder / "stops").mkdir()
-                measure_all(ground, folder / "stops")
-        finally:
-            subprocess.run(["umount", "--lazy", "/run"], check=True)
+class OfService(Ground):
+    def try_service(self):
+        with self.scratch() as folder:
+            # the name space's own
+            subprocess.run(["mount", "-t", "tmpfs", "run", "/run"], check=True)
+            try:
+                if self.case != "stops":
+                    (folder / "service").mkdir()
+                    try_service(self, folder / "service", self.case)
+                if self.case in (None, "stops"):
+                    (folder / "stops").mkdir()
+                    measure_all(self, folder / "stops")
+            finally:
+                subprocess.run(["umount", "--lazy", "/run"], check=True)

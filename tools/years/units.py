@@ -73,8 +73,8 @@ class Desk:
             return
         values = environment(self.unit, self.settings)
         words = command(*lines_of(self.unit, "ExecStart"), self.settings["scripts"], values)
-        with open(self.state / "told", "ab") as told:
-            desk = subprocess.Popen(words, stdin=subprocess.DEVNULL, stdout=told, stderr=told, env=values, start_new_session=True)
+        with open(self.state / "log", "ab") as log:
+            desk = subprocess.Popen(words, stdin=subprocess.DEVNULL, stdout=log, stderr=log, env=values, start_new_session=True)
         (self.state / "process").write_text(str(desk.pid))
 
     def end(self, *how):

@@ -8,8 +8,9 @@ import subprocess
 import sys
 import time
 
-from ground import TOP, held, joined
+from ground import TOP, Ground, held, joined
 from joined import knows_archives, stand_in
+from trial import Lines
 from units import command, lines_of
 
 sys.path.append(str(TOP / "clients/python"))
@@ -19,21 +20,12 @@ DAY, HOUR, WEEKS, CALLS, TALK, STEP = 86400, 3600, 52, 20, 180, 10
 GROUPS, AGENTS = ("100", "110"), 4
 
 
-class Desk:
-    """`acd lines` over a file, each request at its moment."""
-
-    def __init__(self, program, file):
-        self.process = subprocess.Popen([program, "lines", "--reads", "--file", file], stdin=subprocess.PIPE, stdout=subprocess.PIPE, text=True)
+class Desk(Lines):
+    """Each request at its moment."""
 
     def line(self, moment, text):
-        self.process.stdin.write(f"{moment} {text}\n")
-        self.process.stdin.flush()
-        status, body = self.process.stdout.readline().split(" ", 1)
+        status, body = self.say(f"{moment} {text}").split(" ", 1)
         return int(status), json.loads(body)
-
-    def close(self):
-        self.process.stdin.close()
-        self.process.wait()
 
 
 class Office:
@@ -103,34 +95,35 @@ def carry(ground, program, file, count, chance):
         os.killpg(killed.pid, signal.SIGKILL)
         killed.wait()
         time.sleep(0.1)
-    status, told, faults = ground.run(*words)
+    status, printed, faults = ground.ran(*words)
     # status 3: the one that was killed had done all of it
     ground.expect(f"carried over: {faults}", (status in (0, 3), len(archives_of(file))), (True, count))
-    ground.expect(f"and audited: {told}", status == 3 or "what was broken off is ended" in told or told.splitlines()[1:] == ["sound"])
+    ground.expect(f"and audited: {printed}", status == 3 or "what was broken off is ended" in printed or printed.splitlines()[1:] == ["sound"])
 
 
-def try_year(ground, weeks=WEEKS):
-    chance = random.Random(73)
-    office, longest, greatest = Office(chance), 0.0, 0
-    with ground.scratch() as folder:
-        file = folder / "desk.db"
-        program = ground.program if knows_archives(ground.program) else stand_in(ground.program, folder)
-        for week in range(weeks):
-            begun = time.monotonic()
-            office.desk = Desk(ground.program, file)
-            office.snapshot()
-            opened = time.monotonic() - begun
-            if not week:
-                office.plan()
-            for day in range(7):
-                office.day((7 * week + day + 1) * DAY)
-            office.desk.close()
-            rows = held(file)["kept"]
-            greatest, longest = max(greatest, len(rows)), max(longest, opened)
-            carry(ground, program, file, week + 1, chance)
-        archives = archives_of(file)
-        ground.expect("archives and file together", ground.audit(joined(archives, file, folder / "joined.db")), (0, f"sound\nexecuted {office.asked}\n", ""))
-        ground.expect("no file has over nine days", greatest < office.asked / weeks / 7 * 9 + 400)
-        status, told, faults = ground.export("--file", file, *(word for archive in archives for word in ("--archive", archive)))
-        ground.expect(f"all events of the year: {faults}", (status, told), (0, ground.run("acd", "export", "--file", folder / "joined.db")[1]))
-    print(f"{weeks} weeks: {office.asked} requests, in files of {greatest} at most, opened in {longest:.3f} s at most", flush=True)
+class OfYear(Ground):
+    def try_year(self, weeks=WEEKS):
+        chance = random.Random(73)
+        office, longest, greatest = Office(chance), 0.0, 0
+        with self.scratch() as folder:
+            file = folder / "desk.db"
+            program = self.program if knows_archives(self.program) else stand_in(self.program, folder)
+            for week in range(weeks):
+                begun = time.monotonic()
+                office.desk = Desk(self.program, file, words=["--reads"])
+                office.snapshot()
+                opened = time.monotonic() - begun
+                if not week:
+                    office.plan()
+                for day in range(7):
+                    office.day((7 * week + day + 1) * DAY)
+                office.desk.ends()
+                rows = held(file)["kept"]
+                greatest, longest = max(greatest, len(rows)), max(longest, opened)
+                carry(self, program, file, week + 1, chance)
+            archives = archives_of(file)
+            self.expect("archives and file together", self.audit(joined(archives, file, folder / "joined.db")), (0, f"sound\nexecuted {office.asked}\n", ""))
+            self.expect("no file has over nine days", greatest < office.asked / weeks / 7 * 9 + 400)
+            status, printed, faults = self.export("--file", file, *(word for archive in archives for word in ("--archive", archive)))
+            self.expect(f"all events of the year: {faults}", (status, printed), (0, self.ran("acd", "export", "--file", folder / "joined.db")[1]))
+        print(f"{weeks} weeks: {office.asked} requests, in files of {greatest} at most, opened in {longest:.3f} s at most", flush=True)
