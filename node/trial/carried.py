@@ -6,7 +6,7 @@ import tempfile
 import time
 from pathlib import Path
 
-from trial.machines import HERE, LINE, Machines, run
+from machines import HERE, LINE, OfMachines, run
 
 OPERATING = HERE.parent / "tools/operating"
 DAY = 86400
@@ -14,23 +14,20 @@ DAY = 86400
 OLD, NEW = 1500, 400
 
 
-def carried(program, folder, encrypted, count, chance):
-    """Requests of four days; the machines are carried over; more requests: answers and events are those of a desk that keeps all."""
-    machines = Machines(program, folder, encrypted, count)
-    try:
-        machines.start()
+class Carried(OfMachines):
+    def try_carried(self):
+        """Requests of four days; the machines are carried over; more requests: answers and events are those of a desk that keeps all."""
+        machines, chance = self.begin(), self.chance
         put_old_days(machines, chance)
-        told, again = [], []
-        requests_of_today(machines, "08", chance, told)
-        place, log = carry_over(machines, program)
-        for it in list(told):
+        answered, again = [], []
+        requests_of_today(machines, "08", chance, answered)
+        place, log = carry_over(machines, self.program)
+        for it in list(answered):
             machines.ask_until_answered(it.body, chance, again)
-        machines.see("a repeat of these days has its first reply", [(it.status, it.reply) for it in again] == [(it.status, it.reply) for it in told], again[:1])
-        requests_of_today(machines, "09", chance, told)
-        machines.see("the places and digests are one behind it", machines.wait_until_equal(), machines.places())
-        look(machines, program, told, log + machines.log(place + 1))
-    finally:
-        machines.stop()
+        self.see("a repeat of these days has its first reply", [(it.status, it.reply) for it in again] == [(it.status, it.reply) for it in answered], again[:1])
+        requests_of_today(machines, "09", chance, answered)
+        self.see("the places and digests are one after it", machines.wait_until_equal(), machines.places())
+        look(machines, self.program, answered, log + machines.log(place + 1))
 
 
 def put_old_days(machines, chance):
@@ -47,15 +44,15 @@ def put_old_days(machines, chance):
         machines.see("an entry is put", "header" in put, put)
 
 
-def requests_of_today(machines, front, chance, told):
+def requests_of_today(machines, front, chance, answered):
     """Calls of which every third is cleared; no number is one of the old days."""
     for invoke in range(1, NEW + 1):
         caller = f"{front}{invoke:06}"
         body = {"requester": f"today{front}", "invoke": invoke, "service": "arriveCall", "caller": caller, "called": "100"}
         if invoke % 3 == 0:
-            last = told[-1]
+            last = answered[-1]
             body = {"requester": f"today{front}", "invoke": invoke, "service": "clearConnection", "call": json.loads(last.reply)["result"]["call"], "device": json.loads(last.body)["caller"]}
-        machines.ask_until_answered(json.dumps(body), chance, told)
+        machines.ask_until_answered(json.dumps(body), chance, answered)
 
 
 def carry_over(machines, program):
@@ -75,11 +72,11 @@ def carry_over(machines, program):
     return place, log
 
 
-def told_by(program, command, file):
+def printed_by(program, command, file):
     return run([program, command, "--file", file], stderr=subprocess.STDOUT).stdout
 
 
-def look(machines, program, told, log):
+def look(machines, program, answered, log):
     """The stopped machines hold, file and archive together, what a desk holds that keeps all of the log."""
     for n in (1, 2, 3):
         machines.kill_node(n)
@@ -88,13 +85,13 @@ def look(machines, program, told, log):
         answers = run([program, "lines", "--file", whole], input=b"".join(line + b"\n" for line in log)).stdout.splitlines()
         for line, answer in zip(log, answers):
             first.setdefault(line.partition(b" ")[2], answer)
-        other = [it for it in told if first.get(it.body.encode()) != b"%d " % it.status + it.reply]
+        other = [it for it in answered if first.get(it.body.encode()) != b"%d " % it.status + it.reply]
         machines.see("every client had the reply of a desk that keeps all", not other and len(answers) == len(log), other[:1])
-        events, report = told_by(program, "export", whole), told_by(program, "report", whole)
+        events, report = printed_by(program, "export", whole), printed_by(program, "report", whole)
     for folder in [machines.folder / f"m{n}" for n in (1, 2, 3)]:
         file = folder / "desk.db"
         words = [OPERATING / "acd-export", "--file", file, "--archive", next(folder.glob("desk.db-2*-*")), "--desk", program]
         joined = run(words, stderr=subprocess.STDOUT)
         machines.see(f"archive and file of {folder.name} have all events", (joined.returncode, joined.stdout) == (0, events), joined.stdout[-200:])
-        machines.see(f"the file of {folder.name} alone has fewer", told_by(program, "export", file).count(b"\n") < events.count(b"\n"))
-        machines.see(f"the report of {folder.name}", told_by(program, "report", file) == report)
+        machines.see(f"the file of {folder.name} alone has fewer", printed_by(program, "export", file).count(b"\n") < events.count(b"\n"))
+        machines.see(f"the report of {folder.name}", printed_by(program, "report", file) == report)

@@ -12,7 +12,7 @@ import tempfile
 import threading
 import time
 
-from trial.machines import HERE, LINE, Machines, wait_until
+from machines import HERE, LINE, OfMachines, wait_until
 
 CLOCK = "clock-abcdefghijkl"
 # Bytes, and requests of a thousand bytes a second: from the moment on that nearly all of the quota is used the nodes need a second to see it.
@@ -52,7 +52,7 @@ def three_tickers(machines, chance, many=5, step=2):
             ticker.kill()
             ticker.wait()
     time.sleep(step + 1)                                   # for a tick on its way
-    machines.see("the places and digests are one behind the ticks", machines.wait_until_equal(), machines.places())
+    machines.see("the places and digests are one after the ticks", machines.wait_until_equal(), machines.places())
     sent = sent_ticks(machines)
     for n in (1, 2, 3):
         machines.kill_node(n)
@@ -65,36 +65,33 @@ def three_tickers(machines, chance, many=5, step=2):
         machines.ask_until_answered('{"requester":"ticks","invoke":999,"service":"setAgentState","agent":"9","requested":"loggedOff"}', random.Random(n), [], [n])
 
 
-def small_quota(program, folder, encrypted, count, chance):
-    """A day that would pass etcd's quota, were nothing forgotten; alarms that are ended; machines that were away, and one that was gone too long."""
-    machines = Machines(program, folder, encrypted, count, names=True, quota=QUOTA)
-    try:
-        machines.start()
+class Quota(OfMachines):
+    def try_small_quota(self):
+        """A day that would pass etcd's quota, were nothing forgotten; alarms that are ended; machines that were away, and one that was gone too long."""
+        machines, chance = self.begin(names=True, quota=QUOTA), self.chance
         load(machines, "day", 2 * QUOTA // 1000, chance)
-        machines.see("behind twice the quota etcd isn't full", not is_full(machines))
-        machines.see("the places and digests are one", machines.wait_until_equal(), machines.places())
+        self.see("after twice the quota etcd isn't full", not is_full(machines))
+        self.see("the places and digests are one", machines.wait_until_equal(), machines.places())
         away_in_silence(machines, chance)
         nothing_forgotten(machines, chance)
         come_back(machines, chance, (3,), by_timer)
         come_back(machines, chance, (2, 3), by_hand)
         load(machines, "behind", QUOTA // 1000, chance)
-        machines.see("and all goes on, with one digest", not is_full(machines) and machines.wait_until_equal(), machines.places())
+        self.see("and all goes on, with one digest", not is_full(machines) and machines.wait_until_equal(), machines.places())
         gone_and_back(machines, chance)
-        told = count_of(machines, "desk/line/digest/")
-        machines.see("old digests are deleted", 3 <= told <= 3 * 12, told)
-    finally:
-        machines.stop()
+        digests = count_of(machines, "desk/line/digest/")
+        self.see("old digests are deleted", 3 <= digests <= 3 * 12, digests)
 
 
 def load(machines, requester, many, chance, nodes=(1, 2, 3)):
     """So many ticks of a thousand bytes, by eight clients, no faster than the nodes look at etcd's quota, however fast this machine is."""
     def client(number):
-        told = []
+        answered = []
         for invoke in range(1, many // 8 + 1):
             due = time.time() + 8 / RATE
-            machines.ask_until_answered(json.dumps({"requester": f"{requester}{number}", "invoke": invoke, "service": "tick"}).ljust(1000), random.Random(number * many + invoke), told, nodes)
+            machines.ask_until_answered(json.dumps({"requester": f"{requester}{number}", "invoke": invoke, "service": "tick"}).ljust(1000), random.Random(number * many + invoke), answered, nodes)
             time.sleep(max(0, due - time.time()))
-        machines.see("all are answered", all(it.status == 200 for it in told), told[:1])
+        machines.see("all are answered", all(it.status == 200 for it in answered), answered[:1])
     clients = [threading.Thread(target=client, args=(number,), daemon=True) for number in range(8)]
     for thread in clients:
         thread.start()
@@ -123,12 +120,12 @@ def last_place(machines):
     return int(machines.etcd_call(1, "/v3/kv/range", {"key": LINE})["kvs"][0]["mod_revision"])
 
 
-def have_told_all(machines, nodes):
-    """Whether the last place that each of these told is that of the log's last entry."""
+def have_sent_all(machines, nodes):
+    """Whether the last place that each of these has put into etcd is that of the log's last entry."""
     last = b"%d" % last_place(machines)
     keys = [base64.b64encode(b"desk/line/place/m%d" % n).decode() for n in nodes]
-    told = [machines.etcd_call(1, "/v3/kv/range", {"key": key}).get("kvs", []) for key in keys]
-    return all(kvs and base64.b64decode(kvs[0]["value"]) == last for kvs in told)
+    places = [machines.etcd_call(1, "/v3/kv/range", {"key": key}).get("kvs", []) for key in keys]
+    return all(kvs and base64.b64decode(kvs[0]["value"]) == last for kvs in places)
 
 
 def is_compacted(machines, place):
@@ -149,7 +146,7 @@ def put_until(machines, requester, so):
 
 def fill_up(machines, name, nodes):
     """Near the quota these nodes say so, take no more requests, and tell their places all the time; then etcd is filled on until it takes nothing more.
-    A request that is 503, and the last place that was told."""
+    A request that is 503, and the last place that was put into etcd."""
     heard = {n: len(machines.said(n)) for n in nodes}
     news = {}
 
@@ -161,7 +158,7 @@ def fill_up(machines, name, nodes):
     machines.see("etcd is nearly full", put_until(machines, f"{name}-near", lambda: 16 * most(machines, "dbSizeInUse") >= 15 * QUOTA))
     machines.see("the nodes say that more than half of the quota is used, and then that it is nearly full", wait_until(have_said), news)
     machines.see("a nearly full etcd is 503", machines.ask(1, full)[0] == 503)
-    machines.see("and has room for places", wait_until(lambda: have_told_all(machines, nodes)), machines.places())
+    machines.see("and has room for places", wait_until(lambda: have_sent_all(machines, nodes)), machines.places())
     near = last_place(machines)
     machines.see("etcd is full", put_until(machines, f"{name}-full", lambda: is_full(machines)))
     machines.see("a full etcd is 503", machines.ask(1, full)[0] == 503)
@@ -169,8 +166,8 @@ def fill_up(machines, name, nodes):
 
 
 def by_timer(machines):
-    status, told = machines.upkeep()
-    machines.see("the timer's command ends the alarm", status == 0 and "takes entries again" in told and told.count("is defragmented") == 3, told)
+    status, said = machines.upkeep()
+    machines.see("the timer's command ends the alarm", status == 0 and "takes entries again" in said and said.count("is defragmented") == 3, said)
 
 
 def by_hand(machines):
@@ -192,7 +189,7 @@ def see_room(machines):
 
 
 def nothing_forgotten(machines, chance):
-    """Nodes that know no other machine tell their places, and shorten nothing. So what is forgotten behind the alarm, given back and ended is so by the timer's command alone."""
+    """Nodes that know no other machine tell their places, and shorten nothing. So what is forgotten after the alarm, given back and ended is so by the timer's command alone."""
     machines.restart_nodes(names=False)
     full, _ = fill_up(machines, "unnamed", (1, 2, 3))
     by_timer(machines)

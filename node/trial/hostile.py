@@ -6,7 +6,8 @@ import ssl
 import subprocess
 import time
 
-from trial.machines import HERE, is_entry, run, wait_until
+from machines import HERE, is_entry, run, wait_until
+from trial import bytes_back
 
 TOKEN = b"00000000000000000000000000000bad"
 TICK = b'{"requester":"vandal","invoke":1,"service":"tick"}'
@@ -24,7 +25,7 @@ def vandal(machines, end):
     """Puts each bad entry, and each odd one, while others ask; deletes the line in between."""
     for number, entry in enumerate(BAD + ODD + BAD):
         words = ["del", "desk/line"] if number % 20 == 10 else ["put", "desk/line", *([] if entry else [""])]
-        if not wait_until(lambda: machines.etcdctl(*words, told=entry), step=0.2):  # what leads may just have been killed
+        if not wait_until(lambda: machines.etcdctl(*words, value=entry), step=0.2):  # what leads may just have been killed
             return machines.see("etcdctl puts what is no entry", False, entry)
         time.sleep(0 if end.is_set() else 0.2)
 
@@ -41,8 +42,8 @@ def bad_bodies(machines):
     """Bodies that a desk refuses, and that no log must have; and one of several lines, which is a request."""
     before = len(machines.everything())
     for body in ["", "GET /snapshot", "GET", "HEAD /snapshot"]:
-        told = [machines.ask(n, body) for n in (1, 2, 3)]
-        machines.see("a body that is no request", told == [(400, JSON)] * 3, (body, told))
+        replies = [machines.ask(n, body) for n in (1, 2, 3)]
+        machines.see("a body that is no request", replies == [(400, JSON)] * 3, (body, replies))
     machines.see("none of them is in the log", len(machines.everything()) == before)
     lines = '{\r\n"requester":"lines",\n"invoke":1,\r"service":"tick"\r\n}\r\n'
     machines.see("a body of several lines", machines.ask(1, lines) == (200, b'{"invoke":1,"requester":"lines","result":{}}'), machines.ask(1, lines))
@@ -54,16 +55,7 @@ def bad_bodies(machines):
 
 def send(machines, n, sent, context=None):
     """What a machine answers to these bytes."""
-    context, found = context or machines.context, b""
-    try:
-        with socket.create_connection(("127.0.0.1", machines.ports[n]), timeout=10) as plain:
-            with context.wrap_socket(plain, server_hostname="127.0.0.1") if context else plain as connection:
-                connection.sendall(sent)
-                while part := connection.recv(65536):
-                    found += part
-    except OSError:
-        pass
-    return found
+    return bytes_back(machines.ports[n], sent, context or machines.context, seconds=10)
 
 
 def strangers(machines):
@@ -75,8 +67,8 @@ def strangers(machines):
         bare = ssl.create_default_context(cafile=machines.folder / "ca.crt")
         for n in (1, 2, 3):
             for sent in (post, b"GET /snapshot HTTP/1.1\r\nHost: desk\r\n\r\n"):
-                told = send(machines, n, sent, bare)
-                machines.see("a stranger without a certificate gets nothing", told == b"", told)
+                reply = send(machines, n, sent, bare)
+                machines.see("a stranger without a certificate gets nothing", reply == b"", reply)
     requests(machines)
     for address in own_addresses():
         for n in (1, 2, 3):
@@ -93,14 +85,14 @@ def requests(machines):
     status = 403 if machines.context else 200
     for target, wanted in (("/requests", status), ("/requests?after=0", status), ("http://desk/requests", status), ("HTTP://desk/requests?/x", status),
                            ("//requests", status), ("/requests/", 404), ("/%72equests", 404)):
-        told = send(machines, 1, f"GET {target} HTTP/1.1\r\nHost: desk\r\n\r\n".encode(), machines.context)
-        machines.see(f"{target} of a node", told.startswith(b"HTTP/1.1 %d " % wanted) and (b'"requests":[' in told) == (wanted == 200), told[:200])
+        reply = send(machines, 1, f"GET {target} HTTP/1.1\r\nHost: desk\r\n\r\n".encode(), machines.context)
+        machines.see(f"{target} of a node", reply.startswith(b"HTTP/1.1 %d " % wanted) and (b'"requests":[' in reply) == (wanted == 200), reply[:200])
 
 
 def own_addresses():
     """This machine's addresses that aren't loopback."""
-    told = run(["hostname", "-I"], text=True).stdout.split()
-    return [address for address in told if ":" not in address]
+    addresses = run(["hostname", "-I"], text=True).stdout.split()
+    return [address for address in addresses if ":" not in address]
 
 
 def answers(address, port):

@@ -5,12 +5,13 @@ import json
 import os
 import re
 import signal
-import socket
 import ssl
 import subprocess
 import time
 from collections import namedtuple
 from pathlib import Path
+
+from trial import Connection, Trial, free_ports, until
 
 HERE = Path(__file__).resolve().parents[1]
 LINE = base64.b64encode(b"desk/line").decode()
@@ -20,7 +21,7 @@ ENTRY = re.compile(rb"[0-9a-fA-F]{32} ([0-9]{1,10} [^\r\n]{1,4096})", re.DOTALL)
 # Seconds: until a request has its answer, and what waits for the machines ends; and for a program that ends by itself.
 PATIENCE, LONGEST = 120, 600
 # A request that was answered: when it was first sent, how long it took, and how often it was sent.
-Told = namedtuple("Told", "body status reply start seconds tries machine")
+Answered = namedtuple("Answered", "body status reply start seconds tries machine")
 
 
 def is_entry(entry):
@@ -35,47 +36,22 @@ def run(words, **more):
 
 def wait_until(so, seconds=PATIENCE, step=1.0):
     """Whether it became so in time."""
-    end = time.time() + seconds
-    while not (found := so()) and time.time() < end:
-        time.sleep(step)
-    return bool(found)
-
-
-def free_ports(many):
-    sockets = [socket.create_server(("127.0.0.1", 0)) for _ in range(many)]
-    ports = [taken.getsockname()[1] for taken in sockets]
-    for taken in sockets:
-        taken.close()
-    return ports
+    return until(so, seconds, step)
 
 
 class NoAnswer(Exception):
-    """A request that had only 503 for so long that what comes behind it means nothing."""
-
-
-class Count:
-    """What was tried, and what was wrong."""
-
-    def __init__(self):
-        self.tried = self.wrong = 0
-
-    def see(self, what, good, told=""):
-        self.tried += 1
-        if not good:
-            self.wrong += 1
-            print(f"WRONG {what}: {told}", flush=True)
+    """A request that had only 503 for so long that what comes after it means nothing."""
 
 
 class Machines:
-    """With names each machine tells its place, and the log is shortened; a quota is etcd's."""
+    """With names each machine puts its place into etcd, and the log is shortened; a quota is etcd's."""
 
-    def __init__(self, program, folder, encrypted, count, names=False, quota=0, gone=72.0):
-        self.program, self.folder, self.count, self.etcd, self.nodes = program, Path(folder), count, {}, {}
+    def __init__(self, program, folder, encrypted, see, names=False, quota=0, gone=72.0):
+        self.program, self.folder, self.see, self.etcd, self.nodes = program, Path(folder), see, {}, {}
         self.names, self.quota, self.gone = names, quota, gone
         ports = free_ports(9)
         self.ports, self.clients, self.peers = ([0, *ports[at:at + 3]] for at in (0, 3, 6))
         self.ends = ",".join(f"127.0.0.1:{port}" for port in self.clients[1:])
-        self.see = count.see
         self.context = self.certify() if encrypted else None
 
     def certify(self):
@@ -106,18 +82,12 @@ class Machines:
             member.kill()
             member.wait()
 
-    def connect(self, port, wait):
-        if self.context:
-            return http.client.HTTPSConnection("127.0.0.1", port, timeout=wait, context=self.context)
-        return http.client.HTTPConnection("127.0.0.1", port, timeout=wait)
-
     def ask(self, machine, body, wait=15, target="/csta"):
         """The status and the body, or 503 where the machine doesn't answer. What has no body is a read."""
         try:
-            connection = self.connect(self.ports[machine], wait)
-            connection.request("GET" if body is None else "POST", target, body)
-            reply = connection.getresponse()
-            return reply.status, reply.read()
+            with Connection(self.ports[machine], self.context, wait) as connection:
+                reply = connection.ask("GET" if body is None else "POST", target, body)
+            return reply.status, reply.body
         except (OSError, http.client.HTTPException):
             return 503, b""
 
@@ -179,8 +149,8 @@ class Machines:
 
     def leads(self, n):
         try:
-            told = self.etcd_call(n, "/v3/maintenance/status", {})
-            return told["leader"] == told["header"]["member_id"]
+            status = self.etcd_call(n, "/v3/maintenance/status", {})
+            return status["leader"] == status["header"]["member_id"]
         except (OSError, http.client.HTTPException, KeyError, ValueError):
             return False
 
@@ -201,28 +171,27 @@ class Machines:
             self.start_node(n)
 
     def etcd_call(self, n, path, body):
-        connection = self.connect(self.clients[n], 20)
-        connection.request("POST", path, json.dumps(body))
-        return json.loads(connection.getresponse().read())
+        with Connection(self.clients[n], self.context, 20) as connection:
+            return connection.ask("POST", path, json.dumps(body)).value
 
-    def etcdctl(self, *words, told=None):
-        """Whether etcdctl did it; what it is told on its standard input is the value."""
+    def etcdctl(self, *words, value=None):
+        """Whether etcdctl did it; the value is its standard input."""
         ends = [f"https://{end}" if self.context else end for end in self.ends.split(",")]
         files = [f"--cacert={self.folder}/ca.crt", f"--cert={self.folder}/m.crt", f"--key={self.folder}/m.key"] if self.context else []
-        done = run(["etcdctl", f"--endpoints={','.join(ends)}", *files, *words], input=told, stderr=subprocess.STDOUT, env={**os.environ, "ETCDCTL_API": "3"})
+        done = run(["etcdctl", f"--endpoints={','.join(ends)}", *files, *words], input=value, stderr=subprocess.STDOUT, env={**os.environ, "ETCDCTL_API": "3"})
         return done.returncode == 0
 
     def everything(self, begin=1):
         """All that was put as an entry from this place on, as etcd keeps it; what was deleted is empty."""
         last = max([int(kv["mod_revision"]) for kv in self.etcd_call(1, "/v3/kv/range", {"key": LINE}).get("kvs", [])], default=0)
-        connection, place, found = self.connect(self.clients[1], 60), begin - 1, []
-        connection.request("POST", "/v3/watch", json.dumps({"create_request": {"key": LINE, "start_revision": str(begin)}}))
-        answer = connection.getresponse()
-        while place < last:
-            for event in json.loads(answer.readline())["result"].get("events", []):
-                place = int(event["kv"]["mod_revision"])
-                found.append(base64.b64decode(event["kv"].get("value", "")))
-        connection.close()
+        place, found = begin - 1, []
+        with Connection(self.clients[1], self.context) as watch:
+            watch.connection.request("POST", "/v3/watch", json.dumps({"create_request": {"key": LINE, "start_revision": str(begin)}}))
+            answer = watch.connection.getresponse()
+            while place < last:
+                for event in json.loads(answer.readline())["result"].get("events", []):
+                    place = int(event["kv"]["mod_revision"])
+                    found.append(base64.b64decode(event["kv"].get("value", "")))
         return found
 
     def log(self, begin=1):
@@ -237,23 +206,23 @@ class Machines:
         return [(self.folder / f"m{n}/at").read_text().split() if (self.folder / f"m{n}/at").exists() else None for n in (1, 2, 3)]
 
     def are_equal(self):
-        told = self.places()
-        if told[0] and told[0] == told[1] == told[2]:
+        places = self.places()
+        if places[0] and places[0] == places[1] == places[2]:
             time.sleep(1)
-            return told == self.places()
+            return places == self.places()
         return False
 
     def wait_until_equal(self, seconds=PATIENCE):
         return wait_until(self.are_equal, seconds, 0.3)
 
-    def ask_until_answered(self, body, chance, told, machines=(1, 2, 3)):
+    def ask_until_answered(self, body, chance, answered, machines=(1, 2, 3)):
         start, tries = time.time(), 0
         while True:
             machine = chance.choice(machines)
             status, reply = self.ask(machine, body)
             tries += 1
             if status != 503:
-                told.append(Told(body, status, reply, start, time.time() - start, tries, machine))
+                answered.append(Answered(body, status, reply, start, time.time() - start, tries, machine))
                 return
             if time.time() > start + PATIENCE:
                 self.see(f"a request has its answer within {PATIENCE} s", False, body.strip())
@@ -274,3 +243,16 @@ class Machines:
         self.start_node(to)
         time.sleep(3)
         self.start_node(source)
+
+
+class OfMachines(Trial):
+    """A part of the trial. `chance` is one for all parts."""
+
+    chance = None
+
+    def begin(self, program=None, **how):
+        """Three machines, which are stopped with the method."""
+        machines = Machines(program or self.program, self.folder, self.options.tls, self.see, **how)
+        self.addCleanup(machines.stop)
+        machines.start()
+        return machines
